@@ -3,9 +3,9 @@ use Rattle.std.proofs.Common.{◌≡◌, ℕ, Ok, Err, List, [], ◌∷◌, ◌+
 use Rattle.std.specs.Option.{option_or, option_map_or}
 use Rattle.toml.specs.Data.{Members}
 use Rattle.toml.specs.Parse.{parse_document}
-use Rattle.radio_settings.specs.declared.fault.SettingsFault.{SettingsFault}
-use Rattle.radio_settings.specs.declared.fault.SettingsFault.TheVariants.{NotToml}
-use Rattle.radio_settings.specs.Rows.{first_fault}
+use Rattle.radio_keys.specs.declared.fault.SettingsFault.{SettingsFault}
+use Rattle.radio_keys.specs.declared.fault.SettingsFault.TheVariants.{NotToml}
+use Rattle.radio_keys.specs.Rows.{first_fault}
 use Rattle.radio_settings.specs.Access.{access_fault}
 use Rattle.radio_settings.specs.Document.{access_faults, listen_faults, limits_faults, web_faults, mounts_faults, relays_faults, slave_faults, repeat_faults, name_faults}
 use Rattle.radio_settings.specs.Document.{document_faults, document_reading, settings_or_fault, settings_of, reading_of}

@@ -4,8 +4,8 @@ use Rattle.std.proofs.lemmas.List.{drop_all, drop_more, map_more, get_or-map}
 use Rattle.std.specs.List.{flat_map}
 use Rattle.std.specs.Option.{option_or}
 use Rattle.toml.specs.Data.{Members}
-use Rattle.radio_settings.specs.declared.fault.SettingsFault.{SettingsFault}
-use Rattle.radio_settings.specs.Rows.{Row, faults_in, first_fault}
+use Rattle.radio_keys.specs.declared.fault.SettingsFault.{SettingsFault}
+use Rattle.radio_keys.specs.Rows.{Row, faults_in, first_fault}
 
 or_assoc : {A : Type 0} (x y z : Option A) → option_or x (option_or y z) ≡ option_or (option_or x y) z
 or_assoc None y z = refl

@@ -5,10 +5,10 @@ use Rattle.std.proofs.lemmas.List.{append-nil}
 use Rattle.std.specs.Option.{option_map_or}
 use Rattle.toml.specs.Data.{Members}
 use Rattle.toml.specs.Parse.{parse_document}
-use Rattle.radio_settings.specs.declared.fault.SettingsFault.{SettingsFault}
-use Rattle.radio_settings.specs.declared.fault.SettingsFault.TheVariants.{NotToml}
+use Rattle.radio_keys.specs.declared.fault.SettingsFault.{SettingsFault}
+use Rattle.radio_keys.specs.declared.fault.SettingsFault.TheVariants.{NotToml}
+use Rattle.radio_keys.specs.Rows.{first_fault}
 use Rattle.radio_settings.specs.declared.settings.Settings.{Settings}
-use Rattle.radio_settings.specs.Rows.{first_fault}
 use Rattle.radio_settings.specs.Repeats.{first_repeat, first_repeat_after, is_among}
 use Rattle.radio_settings.specs.Document.{document_faults, document_reading, settings_or_fault, settings_of, reading_of}
 use Rattle.radio_settings.specs.Laws.{AreAllWell, AreApart, IsFirstFault, IsFaultOf, AreSettingsOf, IsFirstRepeat}

@@ -1,6 +1,5 @@
 mod RepeatLemmas
 mod PlaceLemmas
-mod TableLemmas
 mod FaultLemmas
 mod PartLemmas
 mod DocumentLemmas

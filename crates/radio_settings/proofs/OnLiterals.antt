@@ -2,11 +2,11 @@
 use Rattle.std.specs.Prelude.{⊤}
 use Rattle.std.specs.Str.{is_utf8, chars}
 use Rattle.toml.proofs.OnLiterals.{toml_on_literals}
-use Rattle.radio_settings.specs.Keys.{stream_word, word}
 use Rattle.radio_values.specs.AllowedOrigin.{is_allowed_origin}
-use Rattle.radio_settings.specs.Lookup.{value_at, text_at, text_or, flag_or, table_at, table_or_empty, list_at, tables_at}
 use Rattle.radio_values.specs.MountName.{is_mount_name}
-use Rattle.radio_settings.specs.Rows.{fault_at, table_fault, list_fault}
+use Rattle.radio_keys.specs.Keys.{stream_word, word}
+use Rattle.radio_keys.specs.Lookup.{value_at, text_at, text_or, flag_or, table_at, table_or_empty, list_at, tables_at}
+use Rattle.radio_keys.specs.Rows.{fault_at, table_fault, list_fault}
 use Rattle.radio_settings.specs.Repeats.{first_repeat}
 use Rattle.radio_settings.specs.Web.{web_of, web_path}
 use Rattle.radio_settings.specs.Mounts.{mount_of}

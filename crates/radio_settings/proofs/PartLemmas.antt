@@ -2,10 +2,10 @@
 use Rattle.std.proofs.Common.{◌≡◌, List, [], ◌∷◌, ◌++◌, Option, refl, ap, ◌∙◌}
 use Rattle.std.specs.Option.{option_or}
 use Rattle.toml.specs.Data.{Members}
-use Rattle.radio_settings.specs.declared.fault.SettingsFault.{SettingsFault}
-use Rattle.radio_settings.specs.declared.key.Key.TheVariants.{SourcePassword, AdminUser, AdminPassword, MountName, Server, Port, OnDemand}
-use Rattle.radio_settings.specs.declared.key.Key.TheVariants.{MasterServer, MasterPort, MasterUsername, MasterPassword, MasterUpdateInterval}
-use Rattle.radio_settings.specs.Rows.{fault_at, faults_in, first_fault, flag, mount_name, number, optional, required, row, text}
+use Rattle.radio_keys.specs.declared.fault.SettingsFault.{SettingsFault}
+use Rattle.radio_keys.specs.declared.key.Key.TheVariants.{SourcePassword, AdminUser, AdminPassword, MountName, Server, Port, OnDemand}
+use Rattle.radio_keys.specs.declared.key.Key.TheVariants.{MasterServer, MasterPort, MasterUsername, MasterPassword, MasterUpdateInterval}
+use Rattle.radio_keys.specs.Rows.{fault_at, faults_in, first_fault, flag, mount_name, number, optional, required, row, text}
 use Rattle.radio_settings.specs.Access.{access_fault, address_rows, addresses_fault, relay_access_fault, relay_access_rows}
 use Rattle.radio_settings.specs.Logins.{login_fault, login_rows}
 use Rattle.radio_settings.specs.Masters.{master_fault, master_rows}

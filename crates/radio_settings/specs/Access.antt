@@ -1,14 +1,14 @@
 -- The keys above all tables.
 use Rattle.std.specs.Prelude.{Option, List, [], ◌∷◌, ◌++◌, codes}
 use Rattle.toml.specs.Data.{Members}
-use Rattle.radio_settings.specs.declared.fault.SettingsFault.{SettingsFault}
-use Rattle.radio_settings.specs.declared.key.Key.TheVariants.{SourcePassword, AdminUser, AdminPassword, RelayUser, RelayPassword, DenyIp, AllowIp}
+use Rattle.radio_keys.specs.declared.fault.SettingsFault.{SettingsFault}
+use Rattle.radio_keys.specs.declared.key.Key.TheVariants.{SourcePassword, AdminUser, AdminPassword, RelayUser, RelayPassword, DenyIp, AllowIp}
+use Rattle.radio_keys.specs.Lookup.{text_at, text_or}
+use Rattle.radio_keys.specs.Rows.{Row, row, faults_in, first_fault, text, required, optional}
 use Rattle.radio_settings.specs.declared.settings.AccessSettings.{AccessSettings}
 use Rattle.radio_settings.specs.declared.settings.AddressLists.{AddressLists}
 use Rattle.radio_settings.specs.declared.settings.RelayAccess.{RelayAccess}
 use Rattle.radio_settings.specs.Logins.{login_rows, login_of}
-use Rattle.radio_settings.specs.Lookup.{text_at, text_or}
-use Rattle.radio_settings.specs.Rows.{Row, row, faults_in, first_fault, text, required, optional}
 
 abbrev pub relay_access_rows : List Row
 relay_access_rows = row RelayUser text optional ∷ row RelayPassword text optional ∷ []

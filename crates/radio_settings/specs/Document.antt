@@ -4,14 +4,14 @@ use Rattle.std.specs.List.{flat_map}
 use Rattle.std.specs.Option.{option_map, option_map_or}
 use Rattle.toml.specs.Data.{Members, no_members}
 use Rattle.toml.specs.Parse.{parse_document}
-use Rattle.radio_settings.specs.declared.key.Key.TheVariants.{Listen, Limits, Web, Mount, Relay, Slave}
-use Rattle.radio_settings.specs.declared.fault.SettingsFault.{SettingsFault}
-use Rattle.radio_settings.specs.declared.fault.SettingsFault.TheVariants.{NotToml, MountTwice}
+use Rattle.radio_keys.specs.declared.key.Key.TheVariants.{Listen, Limits, Web, Mount, Relay, Slave}
+use Rattle.radio_keys.specs.declared.fault.SettingsFault.{SettingsFault}
+use Rattle.radio_keys.specs.declared.fault.SettingsFault.TheVariants.{NotToml, MountTwice}
+use Rattle.radio_keys.specs.Lookup.{table_at, table_or_empty, tables_at}
+use Rattle.radio_keys.specs.Rows.{faults_in, table_fault, list_fault, first_fault}
 use Rattle.radio_settings.specs.declared.settings.MountSetting.{MountSetting}
 use Rattle.radio_settings.specs.declared.settings.RelaySetting.{RelaySetting}
 use Rattle.radio_settings.specs.declared.settings.Settings.{Settings}
-use Rattle.radio_settings.specs.Lookup.{table_at, table_or_empty, tables_at}
-use Rattle.radio_settings.specs.Rows.{faults_in, table_fault, list_fault, first_fault}
 use Rattle.radio_settings.specs.Repeats.{first_repeat}
 use Rattle.radio_settings.specs.Access.{access_rows, access_of}
 use Rattle.radio_settings.specs.Listen.{listen_rows, listen_of}

@@ -1,6 +1,3 @@
-pub mod Keys
-pub mod Lookup
-pub mod Rows
 pub mod Logins
 pub mod Masters
 pub mod Access
@@ -16,6 +13,4 @@ pub mod Places
 pub mod Document
 pub mod Parts
 pub mod Options
-pub mod Reading
 pub mod Laws
-pub mod Words

@@ -1,11 +1,11 @@
 -- The table `[limits]`.
 use Rattle.std.specs.Prelude.{Option, List, [], ◌∷◌}
 use Rattle.toml.specs.Data.{Members}
-use Rattle.radio_settings.specs.declared.fault.SettingsFault.{SettingsFault}
-use Rattle.radio_settings.specs.declared.key.Key.TheVariants.{Clients, Sources, QueueSize, BurstSize, SourceTimeout, HeaderTimeout}
+use Rattle.radio_keys.specs.declared.fault.SettingsFault.{SettingsFault}
+use Rattle.radio_keys.specs.declared.key.Key.TheVariants.{Clients, Sources, QueueSize, BurstSize, SourceTimeout, HeaderTimeout}
+use Rattle.radio_keys.specs.Lookup.{number_or}
+use Rattle.radio_keys.specs.Rows.{Row, row, faults_in, first_fault, number, optional}
 use Rattle.radio_settings.specs.declared.settings.LimitSettings.{LimitSettings}
-use Rattle.radio_settings.specs.Lookup.{number_or}
-use Rattle.radio_settings.specs.Rows.{Row, row, faults_in, first_fault, number, optional}
 
 abbrev pub limit_rows : List Row
 limit_rows =

@@ -1,11 +1,11 @@
 -- The table `[listen]`.
 use Rattle.std.specs.Prelude.{Option, List, [], ◌∷◌, codes}
 use Rattle.toml.specs.Data.{Members}
-use Rattle.radio_settings.specs.declared.fault.SettingsFault.{SettingsFault}
-use Rattle.radio_settings.specs.declared.key.Key.TheVariants.{Address, Port, Workers}
+use Rattle.radio_keys.specs.declared.fault.SettingsFault.{SettingsFault}
+use Rattle.radio_keys.specs.declared.key.Key.TheVariants.{Address, Port, Workers}
+use Rattle.radio_keys.specs.Lookup.{text_or, number_or}
+use Rattle.radio_keys.specs.Rows.{Row, row, faults_in, first_fault, text, number, optional}
 use Rattle.radio_settings.specs.declared.settings.ListenSettings.{ListenSettings}
-use Rattle.radio_settings.specs.Lookup.{text_or, number_or}
-use Rattle.radio_settings.specs.Rows.{Row, row, faults_in, first_fault, text, number, optional}
 
 abbrev pub listen_rows : List Row
 listen_rows =

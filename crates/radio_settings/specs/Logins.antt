@@ -1,11 +1,11 @@
 -- A user, who has a default, and a password.
 use Rattle.std.specs.Prelude.{ℕ, Option, List, [], ◌∷◌}
 use Rattle.toml.specs.Data.{Members}
-use Rattle.radio_settings.specs.declared.fault.SettingsFault.{SettingsFault}
-use Rattle.radio_settings.specs.declared.key.Key.{Key}
+use Rattle.radio_keys.specs.declared.fault.SettingsFault.{SettingsFault}
+use Rattle.radio_keys.specs.declared.key.Key.{Key}
+use Rattle.radio_keys.specs.Lookup.{text_or}
+use Rattle.radio_keys.specs.Rows.{Row, row, faults_in, first_fault, text, required, optional}
 use Rattle.radio_settings.specs.declared.settings.Login.{Login}
-use Rattle.radio_settings.specs.Lookup.{text_or}
-use Rattle.radio_settings.specs.Rows.{Row, row, faults_in, first_fault, text, required, optional}
 
 abbrev pub login_rows : Key → Key → List Row
 login_rows username password = row username text optional ∷ row password text required ∷ []

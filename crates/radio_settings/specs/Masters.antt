@@ -1,11 +1,11 @@
 -- A server that streams are pulled from.
 use Rattle.std.specs.Prelude.{Option, List, [], ◌∷◌}
 use Rattle.toml.specs.Data.{Members}
-use Rattle.radio_settings.specs.declared.fault.SettingsFault.{SettingsFault}
-use Rattle.radio_settings.specs.declared.key.Key.{Key}
+use Rattle.radio_keys.specs.declared.fault.SettingsFault.{SettingsFault}
+use Rattle.radio_keys.specs.declared.key.Key.{Key}
+use Rattle.radio_keys.specs.Lookup.{field_or_empty, number_or}
+use Rattle.radio_keys.specs.Rows.{Row, row, faults_in, first_fault, text, number, required, optional}
 use Rattle.radio_settings.specs.declared.settings.Master.{Master}
-use Rattle.radio_settings.specs.Lookup.{field_or_empty, number_or}
-use Rattle.radio_settings.specs.Rows.{Row, row, faults_in, first_fault, text, number, required, optional}
 
 abbrev pub master_rows : Key → Key → List Row
 master_rows server port = row server text required ∷ row port (number 1 65535) optional ∷ []

@@ -1,10 +1,12 @@
 -- The tables `[[mount]]`.
 use Rattle.std.specs.Prelude.{Option, false, true, List, [], ◌∷◌, ◌++◌, codes, map}
 use Rattle.toml.specs.Data.{Members}
-use Rattle.radio_settings.specs.declared.fault.SettingsFault.{SettingsFault}
-use Rattle.radio_settings.specs.declared.key.Key.TheVariants.{Mount, MountName, Username, Password, MaxListeners, MaxListenerDuration, FallbackMount}
-use Rattle.radio_settings.specs.declared.key.Key.TheVariants.{FallbackOverride, FallbackWhenFull, Hidden, BurstSize, Mp3MetadataInterval, StreamName, Genre}
-use Rattle.radio_settings.specs.declared.key.Key.TheVariants.{Htpasswd, AllowDuplicateUsers}
+use Rattle.radio_keys.specs.declared.fault.SettingsFault.{SettingsFault}
+use Rattle.radio_keys.specs.declared.key.Key.TheVariants.{Mount, MountName, Username, Password, MaxListeners, MaxListenerDuration, FallbackMount}
+use Rattle.radio_keys.specs.declared.key.Key.TheVariants.{FallbackOverride, FallbackWhenFull, Hidden, BurstSize, Mp3MetadataInterval, StreamName, Genre}
+use Rattle.radio_keys.specs.declared.key.Key.TheVariants.{Htpasswd, AllowDuplicateUsers}
+use Rattle.radio_keys.specs.Lookup.{text_at, text_or, field_at, number_at, number_or, flag_or, tables_at}
+use Rattle.radio_keys.specs.Rows.{Row, row, faults_in, first_fault, text, number, flag, mount_name, required, optional}
 use Rattle.radio_settings.specs.declared.settings.AccessSettings.{AccessSettings}
 use Rattle.radio_settings.specs.declared.settings.LimitSettings.{LimitSettings}
 use Rattle.radio_settings.specs.declared.settings.ListenerOptions.{ListenerOptions}
@@ -13,8 +15,6 @@ use Rattle.radio_settings.specs.declared.settings.MountOptions.{MountOptions}
 use Rattle.radio_settings.specs.declared.settings.MountSetting.{MountSetting}
 use Rattle.radio_settings.specs.declared.settings.StreamOptions.{StreamOptions}
 use Rattle.radio_settings.specs.declared.settings.UserOptions.{UserOptions}
-use Rattle.radio_settings.specs.Lookup.{text_at, text_or, field_at, number_at, number_or, flag_or, tables_at}
-use Rattle.radio_settings.specs.Rows.{Row, row, faults_in, first_fault, text, number, flag, mount_name, required, optional}
 
 abbrev pub source_rows : List Row
 source_rows = row Username text optional ∷ row Password text optional ∷ []

@@ -2,8 +2,10 @@
 use Rattle.std.specs.Prelude.{List, [], ◌∷◌, Option}
 use Rattle.std.specs.Option.{option_map}
 use Rattle.toml.specs.Data.{Members, no_members}
-use Rattle.radio_settings.specs.declared.key.Key.TheVariants.{Listen, Limits, Slave, Web}
-use Rattle.radio_settings.specs.declared.fault.SettingsFault.{SettingsFault}
+use Rattle.radio_keys.specs.declared.key.Key.TheVariants.{Listen, Limits, Slave, Web}
+use Rattle.radio_keys.specs.declared.fault.SettingsFault.{SettingsFault}
+use Rattle.radio_keys.specs.Lookup.{table_at, table_or_empty}
+use Rattle.radio_keys.specs.Rows.{first_fault}
 use Rattle.radio_settings.specs.declared.reading.document.Basics.{Basics}
 use Rattle.radio_settings.specs.declared.reading.document.NamedStreams.{NamedStreams}
 use Rattle.radio_settings.specs.declared.reading.document.StationTables.{StationTables}
@@ -18,10 +20,8 @@ use Rattle.radio_settings.specs.Access.{access_fault, access_of}
 use Rattle.radio_settings.specs.Document.{limits_faults, listen_faults, local_mounts, mount_names, mounts_faults, relays_faults, repeat_fault, slave_faults, web_faults}
 use Rattle.radio_settings.specs.Limits.{limits_of}
 use Rattle.radio_settings.specs.Listen.{listen_of}
-use Rattle.radio_settings.specs.Lookup.{table_at, table_or_empty}
 use Rattle.radio_settings.specs.Mounts.{mounts_of, options_of}
 use Rattle.radio_settings.specs.Relays.{relays_of}
-use Rattle.radio_settings.specs.Rows.{first_fault}
 use Rattle.radio_settings.specs.Slave.{slave_of}
 use Rattle.radio_settings.specs.Web.{web_of}
 use Rattle.radio_settings.specs.WebNames.{web_names_fault}

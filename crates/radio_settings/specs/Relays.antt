@@ -1,13 +1,13 @@
 -- The tables `[[relay]]`.
 use Rattle.std.specs.Prelude.{ℕ, false, List, [], ◌∷◌, ◌++◌, Option, None, Some, map}
 use Rattle.toml.specs.Data.{Members}
-use Rattle.radio_settings.specs.declared.fault.SettingsFault.{SettingsFault}
-use Rattle.radio_settings.specs.declared.key.Key.TheVariants.{Relay, Server, Port, Mount, LocalMount, Username, Password, OnDemand}
+use Rattle.radio_keys.specs.declared.fault.SettingsFault.{SettingsFault}
+use Rattle.radio_keys.specs.declared.key.Key.TheVariants.{Relay, Server, Port, Mount, LocalMount, Username, Password, OnDemand}
+use Rattle.radio_keys.specs.Lookup.{text_at, text_or, flag_or, tables_at}
+use Rattle.radio_keys.specs.Rows.{Row, row, faults_in, first_fault, text, flag, mount_name, required, optional, required_with}
 use Rattle.radio_settings.specs.declared.settings.Login.{Login}
 use Rattle.radio_settings.specs.declared.settings.RelaySetting.{RelaySetting}
-use Rattle.radio_settings.specs.Lookup.{text_at, text_or, flag_or, tables_at}
 use Rattle.radio_settings.specs.Masters.{master_rows, master_of}
-use Rattle.radio_settings.specs.Rows.{Row, row, faults_in, first_fault, text, flag, mount_name, required, optional, required_with}
 
 -- both a user and a password, or neither
 abbrev pub pair_rows : List Row

@@ -1,13 +1,13 @@
 -- The table `[slave]`.
 use Rattle.std.specs.Prelude.{Option, List, [], ◌∷◌, ◌++◌, codes}
 use Rattle.toml.specs.Data.{Members}
-use Rattle.radio_settings.specs.declared.fault.SettingsFault.{SettingsFault}
-use Rattle.radio_settings.specs.declared.key.Key.TheVariants.{MasterServer, MasterPort, MasterUsername, MasterPassword, MasterUpdateInterval}
+use Rattle.radio_keys.specs.declared.fault.SettingsFault.{SettingsFault}
+use Rattle.radio_keys.specs.declared.key.Key.TheVariants.{MasterServer, MasterPort, MasterUsername, MasterPassword, MasterUpdateInterval}
+use Rattle.radio_keys.specs.Lookup.{number_or}
+use Rattle.radio_keys.specs.Rows.{Row, row, faults_in, first_fault, number, optional}
 use Rattle.radio_settings.specs.declared.settings.SlaveSetting.{SlaveSetting}
 use Rattle.radio_settings.specs.Logins.{login_rows, login_of}
-use Rattle.radio_settings.specs.Lookup.{number_or}
 use Rattle.radio_settings.specs.Masters.{master_rows, master_of}
-use Rattle.radio_settings.specs.Rows.{Row, row, faults_in, first_fault, number, optional}
 
 abbrev pub slave_rows : List Row
 slave_rows =

@@ -2,13 +2,13 @@
 use Rattle.std.specs.Prelude.{ℕ, Bool, false, ◌&&◌, if◌then◌else◌, List, [], ◌∷◌, Option, None, Some, is_some, codes}
 use Rattle.std.specs.Str.{bytes_eq}
 use Rattle.toml.specs.Data.{Members}
-use Rattle.radio_settings.specs.declared.fault.SettingsFault.{SettingsFault}
-use Rattle.radio_settings.specs.declared.key.Key.TheVariants.{AllowOrigin, IcecastStatus, Page}
+use Rattle.radio_keys.specs.declared.fault.SettingsFault.{SettingsFault}
+use Rattle.radio_keys.specs.declared.key.Key.TheVariants.{AllowOrigin, IcecastStatus, Page}
+use Rattle.radio_keys.specs.Lookup.{text_at, flag_or}
+use Rattle.radio_keys.specs.Rows.{Row, row, faults_in, first_fault, flag, optional, origin}
 use Rattle.radio_settings.specs.declared.web.WebPath.{WebPath}
 use Rattle.radio_settings.specs.declared.web.WebPath.TheVariants.{IcecastStatus as AtIcecastStatus, Page as AtPage}
 use Rattle.radio_settings.specs.declared.web.WebSettings.{WebSettings}
-use Rattle.radio_settings.specs.Lookup.{text_at, flag_or}
-use Rattle.radio_settings.specs.Rows.{Row, row, faults_in, first_fault, flag, optional, origin}
 
 abbrev pub web_rows : List Row
 web_rows = row AllowOrigin origin optional ∷ row IcecastStatus flag optional ∷ row Page flag optional ∷ []

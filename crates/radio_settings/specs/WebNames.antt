@@ -2,13 +2,13 @@
 use Rattle.std.specs.Prelude.{ℕ, Bool, true, not, List, [], ◌∷◌, Option}
 use Rattle.std.specs.List.{list_all}
 use Rattle.std.specs.Option.{option_map_or}
-use Rattle.radio_settings.specs.declared.fault.SettingsFault.{SettingsFault}
-use Rattle.radio_settings.specs.declared.fault.SettingsFault.TheVariants.{BadName}
-use Rattle.radio_settings.specs.declared.key.Key.TheVariants.{MountName, FallbackMount, LocalMount}
+use Rattle.radio_keys.specs.declared.fault.SettingsFault.{SettingsFault}
+use Rattle.radio_keys.specs.declared.fault.SettingsFault.TheVariants.{BadName}
+use Rattle.radio_keys.specs.declared.key.Key.TheVariants.{MountName, FallbackMount, LocalMount}
+use Rattle.radio_keys.specs.Rows.{first_fault, unless}
 use Rattle.radio_settings.specs.declared.settings.MountSetting.{MountSetting}
 use Rattle.radio_settings.specs.declared.settings.RelaySetting.{RelaySetting}
 use Rattle.radio_settings.specs.declared.web.WebSettings.{WebSettings}
-use Rattle.radio_settings.specs.Rows.{first_fault, unless}
 use Rattle.radio_settings.specs.Web.{is_web_path}
 
 -- a mount can have the name

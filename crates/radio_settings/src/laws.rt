@@ -3,9 +3,9 @@
 //! Each law is a function that does nothing, and its contract is the law.
 //! A caller that needs a law in a proof calls the function, and cites its clause.
 ghost use Rattle.std.specs.Prelude.{◌≡◌, ◌↔◌, ℕ, List, Ok, Err, Some, None, codes};
-ghost use Rattle.radio_settings.specs.declared.fault.SettingsFault.{SettingsFault};
-ghost use Rattle.radio_settings.specs.declared.fault.SettingsFault.TheVariants.{BadName, Missing, MountTwice, NotToml, OutOfRange, WrongKind};
-ghost use Rattle.radio_settings.specs.declared.key.Key.TheVariants.{SourcePassword, Listen, Port, AllowOrigin, Mount, MountName};
+ghost use Rattle.radio_keys.specs.declared.fault.SettingsFault.{SettingsFault};
+ghost use Rattle.radio_keys.specs.declared.fault.SettingsFault.TheVariants.{BadName, Missing, MountTwice, NotToml, OutOfRange, WrongKind};
+ghost use Rattle.radio_keys.specs.declared.key.Key.TheVariants.{SourcePassword, Listen, Port, AllowOrigin, Mount, MountName};
 ghost use Rattle.radio_settings.specs.declared.settings.Settings.{Settings};
 ghost use Rattle.radio_settings.specs.Document.{reading_of};
 ghost use Rattle.radio_settings.specs.Repeats.{first_repeat};

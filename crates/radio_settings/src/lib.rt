@@ -1,7 +1,7 @@
 //! The settings of a station, read from TOML.
 //!
 //! - [`Settings::read`] gives the settings of a text, or its first fault in the order of the table in
-//!   `docs/FORMATS.md`: a [`SettingsFault`] that names a [`Key`].
+//!   `docs/FORMATS.md`: a [`SettingsFault`] that names a [`Key`], both of `radio_keys`.
 //! - [`WebSettings`] is the table `[web]`: which paths the web site has, and what [`AllowedOrigin`] its answers name.
 //! - The values that stand in the settings ([`MountName`], [`Text`], [`Field`], [`AllowedOrigin`], numbers [`Within`] a
 //!   range) are those of `radio_values`.
@@ -10,8 +10,6 @@
 //! Each table of the text has a file under `reading`, and one under `specs` with its keys, ranges and defaults.
 #![tactic(auto)]
 
-mod fault;
-mod key;
 pub mod laws;
 mod mounts;
 mod options;
@@ -20,9 +18,8 @@ mod reading;
 mod settings;
 mod web;
 
-pub use fault::SettingsFault;
-pub use key::Key;
 pub use mounts::{MountSettings, Named, NamedSettings, RelaySettings};
+pub use radio_keys::{Key, SettingsFault};
 pub use settings::{
     AccessSettings, AddressLists, Bytes, LimitSettings, ListenSettings, ListenerOptions, Login,
     Master, MountOptions, MountSetting, Port, RelayAccess, RelaySetting, SecondsOfDay, Settings,

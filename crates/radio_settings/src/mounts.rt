@@ -2,8 +2,8 @@
 ghost use Rattle.std.specs.Prelude.{◌≡◌, ℕ, List, None, find, map};
 ghost use Rattle.std.specs.Option.{option_copied};
 ghost use Rattle.std.specs.Str.{bytes_eq};
+ghost use Rattle.radio_keys.specs.Reading.{Reads, ReadsAs};
 ghost use Rattle.radio_settings.specs.Document.{repeat_fault};
-ghost use Rattle.radio_settings.specs.Reading.{Reads, ReadsAs};
 ghost use Rattle.radio_settings.specs.Repeats.{first_repeat};
 
 use crate::places::{item_at, places_of};

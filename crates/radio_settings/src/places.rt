@@ -2,10 +2,10 @@
 ghost use Rattle.std.specs.Prelude.{◌≡◌, ◌≢◌, IfOk, MatchResult, Some, None};
 ghost use Rattle.std.specs.List.{slice_get};
 ghost use Rattle.std.specs.Option.{option_copied};
+ghost use Rattle.radio_keys.specs.declared.fault.SettingsFault.TheVariants.{OutOfMemory as NoMemory};
 ghost use Rattle.radio_settings.specs.Document.{repeat_fault};
 ghost use Rattle.radio_settings.specs.Places.{HasPlaces};
 ghost use Rattle.radio_settings.specs.Repeats.{first_repeat};
-ghost use Rattle.radio_settings.specs.declared.fault.SettingsFault.TheVariants.{OutOfMemory as NoMemory};
 
 use crate::SettingsFault;
 use radio_values::MountName;

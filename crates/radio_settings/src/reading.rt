@@ -8,6 +8,4 @@ mod masters;
 mod mounts;
 mod relays;
 mod slave;
-mod tables;
-mod values;
 mod web;

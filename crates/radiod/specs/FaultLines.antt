@@ -2,9 +2,9 @@
 use Rattle.std.specs.Prelude.{ℕ, List, ◌++◌, codes}
 use Rattle.std.specs.Fmt.{decimal}
 use Rattle.std.specs.String.{string_bytes}
-use Rattle.radio_settings.specs.declared.fault.SettingsFault.{SettingsFault}
-use Rattle.radio_settings.specs.declared.fault.SettingsFault.TheVariants.{OutOfMemory as NoMemoryForSettings}
-use Rattle.radio_settings.specs.Words.{fault_text}
+use Rattle.radio_keys.specs.declared.fault.SettingsFault.{SettingsFault}
+use Rattle.radio_keys.specs.declared.fault.SettingsFault.TheVariants.{OutOfMemory as NoMemoryForSettings}
+use Rattle.radio_keys.specs.Words.{fault_text}
 use Rattle.radio_script.specs.Words.{play_fault_text}
 use Rattle.radio_sockets.specs.Faults.{fault_line as serve_fault_text}
 use Rattle.radiod.specs.declared.fault.Fault.{Fault}

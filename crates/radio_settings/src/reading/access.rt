@@ -1,13 +1,13 @@
 //! The keys above all tables.
 ghost use Rattle.toml.specs.View.{table_view};
+ghost use Rattle.radio_keys.specs.Reading.{Reads};
+ghost use Rattle.radio_keys.specs.Rows.{first_fault};
 ghost use Rattle.radio_settings.specs.Access.{access_fault, access_of, addresses_fault, addresses_of, relay_access_fault, relay_access_of};
 ghost use Rattle.std.specs.Prelude.{[], ◌∷◌};
-ghost use Rattle.radio_settings.specs.Reading.{Reads};
-ghost use Rattle.radio_settings.specs.Rows.{first_fault};
 
 use super::logins::login;
-use super::values::{required_text, text, text_or};
 use crate::{AccessSettings, AddressLists, Key, RelayAccess, SettingsFault};
+use radio_keys::{required_text, text, text_or};
 use std::alloc::Global;
 use toml::Table;
 

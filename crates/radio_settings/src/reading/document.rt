@@ -2,14 +2,14 @@
 ghost use Rattle.std.specs.Prelude.{◌≡◌, ◌≢◌, Ok, Err, IfOk, IfErr, None, Some, option_map};
 ghost use Rattle.toml.specs.Parse.{parse_document};
 ghost use Rattle.toml.specs.View.{table_view};
+ghost use Rattle.radio_keys.specs.Lookup.{table_at};
+ghost use Rattle.radio_keys.specs.declared.key.Key.TheVariants.{Slave};
+ghost use Rattle.radio_keys.specs.Reading.{Reads, ReadsAs};
+ghost use Rattle.radio_keys.specs.declared.fault.SettingsFault.TheVariants.{NotToml, OutOfMemory};
 ghost use Rattle.radio_settings.specs.Document.{reading_of, settings_of};
 ghost use Rattle.radio_settings.specs.Parts.{apart_fault, basics_fault, basics_of, fault_by_parts, listed, listed_in, lists_fault, named_fault};
 ghost use Rattle.radio_settings.specs.Parts.{optional_slave_fault, settings_with, station_fault, station_of, streams_fault, streams_of};
-ghost use Rattle.radio_settings.specs.Lookup.{table_at};
 ghost use Rattle.radio_settings.specs.Slave.{slave_of};
-ghost use Rattle.radio_settings.specs.declared.key.Key.TheVariants.{Slave};
-ghost use Rattle.radio_settings.specs.Reading.{Reads, ReadsAs};
-ghost use Rattle.radio_settings.specs.declared.fault.SettingsFault.TheVariants.{NotToml, OutOfMemory};
 
 use super::access::access;
 use super::limits::limits;
@@ -17,12 +17,12 @@ use super::listen::listen;
 use super::mounts::{default_options, mounts};
 use super::relays::relays;
 use super::slave::slave;
-use super::tables::table_at;
 use super::web::{names_fault, web};
 use crate::{
     AccessSettings, Key, LimitSettings, ListenSettings, MountOptions, MountSetting, MountSettings,
     RelaySetting, RelaySettings, Settings, SettingsFault, SlaveSetting, WebSettings,
 };
+use radio_keys::table_at;
 use std::alloc::Global;
 use toml::Table;
 
@@ -251,7 +251,7 @@ fn apart(
 }
 
 /// The table `[slave]`, if there is one.
-#[tactic(auto, unfolding(crate::specs::Parts::optional_slave_fault, crate::specs::Slave::slave_fault, crate::specs::Lookup::table_at))]
+#[tactic(auto, unfolding(crate::specs::Parts::optional_slave_fault, crate::specs::Slave::slave_fault, radio_keys::specs::Lookup::table_at))]
 fn optional_slave(alloc: Global, document: &Table) -> Result<Option<SlaveSetting>, SettingsFault>
     ensures { let d = table_view document.now in
         Reads (optional_slave_fault d) (option_map slave_of (table_at Slave d)) result }

@@ -1,14 +1,13 @@
 //! The table `[limits]`.
 ghost use Rattle.toml.specs.View.{table_view};
+ghost use Rattle.radio_keys.specs.Lookup.{table_or_empty};
+ghost use Rattle.radio_keys.specs.declared.key.Key.TheVariants.{Limits};
+ghost use Rattle.radio_keys.specs.Reading.{Reads};
 ghost use Rattle.radio_settings.specs.Limits.{limits_fault, limits_of};
-ghost use Rattle.radio_settings.specs.Lookup.{table_or_empty};
 ghost use Rattle.radio_settings.specs.Parts.{limits_table_fault};
-ghost use Rattle.radio_settings.specs.declared.key.Key.TheVariants.{Limits};
-ghost use Rattle.radio_settings.specs.Reading.{Reads};
 
-use super::tables::table_or;
-use super::values::number_or;
 use crate::{Key, LimitSettings, SettingsFault};
+use radio_keys::{number_or, table_or};
 use std::alloc::Global;
 use toml::Table;
 

@@ -1,14 +1,13 @@
 //! The table `[listen]`.
 ghost use Rattle.toml.specs.View.{table_view};
+ghost use Rattle.radio_keys.specs.Lookup.{table_or_empty};
+ghost use Rattle.radio_keys.specs.declared.key.Key.TheVariants.{Listen};
+ghost use Rattle.radio_keys.specs.Reading.{Reads};
 ghost use Rattle.radio_settings.specs.Listen.{listen_fault, listen_of};
-ghost use Rattle.radio_settings.specs.Lookup.{table_or_empty};
 ghost use Rattle.radio_settings.specs.Parts.{listen_table_fault};
-ghost use Rattle.radio_settings.specs.declared.key.Key.TheVariants.{Listen};
-ghost use Rattle.radio_settings.specs.Reading.{Reads};
 
-use super::tables::table_or;
-use super::values::{number_or, text_or};
 use crate::{Key, ListenSettings, SettingsFault};
+use radio_keys::{number_or, table_or, text_or};
 use std::alloc::Global;
 use toml::Table;
 

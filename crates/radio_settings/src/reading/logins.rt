@@ -1,10 +1,10 @@
 //! A user, who has a default, and a password.
 ghost use Rattle.toml.specs.View.{table_view};
+ghost use Rattle.radio_keys.specs.Reading.{Reads};
 ghost use Rattle.radio_settings.specs.Logins.{login_fault, login_of};
-ghost use Rattle.radio_settings.specs.Reading.{Reads};
 
-use super::values::{required_text, text_or};
 use crate::{Key, Login, SettingsFault};
+use radio_keys::{required_text, text_or};
 use std::alloc::Global;
 use toml::Table;
 

@@ -1,10 +1,10 @@
 //! A server that streams are pulled from.
 ghost use Rattle.toml.specs.View.{table_view};
+ghost use Rattle.radio_keys.specs.Reading.{Reads};
 ghost use Rattle.radio_settings.specs.Masters.{master_fault, master_of};
-ghost use Rattle.radio_settings.specs.Reading.{Reads};
 
-use super::values::{number_or, required_field};
 use crate::{Key, Master, SettingsFault};
+use radio_keys::{number_or, required_field};
 use std::alloc::Global;
 use toml::Table;
 

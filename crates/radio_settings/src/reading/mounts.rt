@@ -3,17 +3,18 @@ ghost use Rattle.std.specs.Prelude.{◌≡◌, IfOk, [], ◌∷◌, map};
 ghost use Rattle.toml.specs.Data.{no_members};
 ghost use Rattle.std.specs.List.{flat_map};
 ghost use Rattle.toml.specs.View.{table_view};
+ghost use Rattle.radio_keys.specs.Rows.{faults_in, first_fault};
+ghost use Rattle.radio_keys.specs.Reading.{Reads, ReadsAs};
 ghost use Rattle.radio_settings.specs.Parts.{mounts_fault};
 ghost use Rattle.radio_settings.specs.Mounts.{listeners_fault, listeners_of, mount_fault, mount_of, mount_rows, mounts_of};
 ghost use Rattle.radio_settings.specs.Mounts.{options_fault, options_of, source_fault, source_of, stream_fault, stream_of, users_fault, users_of};
-ghost use Rattle.radio_settings.specs.Rows.{faults_in, first_fault};
-ghost use Rattle.radio_settings.specs.Reading.{Reads, ReadsAs};
 
-use super::tables::tables_at;
-use super::values::{field, flag_or, name, number, number_or, required_name, text, text_or};
 use crate::{
     AccessSettings, Key, LimitSettings, ListenerOptions, Login, MountOptions, MountSetting,
     OutOfMemory, SettingsFault, StreamOptions, UserOptions,
+};
+use radio_keys::{
+    field, flag_or, name, number, number_or, required_name, tables_at, text, text_or,
 };
 use std::alloc::{AllocError, Global};
 use toml::Table;

@@ -2,16 +2,15 @@
 ghost use Rattle.std.specs.Prelude.{◌≡◌, map};
 ghost use Rattle.std.specs.List.{flat_map};
 ghost use Rattle.toml.specs.View.{table_view};
+ghost use Rattle.radio_keys.specs.Rows.{faults_in, first_fault};
+ghost use Rattle.radio_keys.specs.Reading.{Reads, ReadsAs};
 ghost use Rattle.radio_settings.specs.Parts.{relays_fault};
 ghost use Rattle.radio_settings.specs.Relays.{local_mount_of, login_from, pulled_mount_of, relay_mounts_fault, pair_fault};
 ghost use Rattle.radio_settings.specs.Relays.{pair_of, relay_fault, relay_rows, relay_of, relays_of};
-ghost use Rattle.radio_settings.specs.Rows.{faults_in, first_fault};
-ghost use Rattle.radio_settings.specs.Reading.{Reads, ReadsAs};
 
 use super::masters::master;
-use super::tables::tables_at;
-use super::values::{flag_or, name_or, required_name, text_with};
 use crate::{Key, Login, RelaySetting, SettingsFault};
+use radio_keys::{flag_or, name_or, required_name, tables_at, text_with};
 use radio_values::{MountName, Text};
 use std::alloc::Global;
 use toml::Table;

@@ -1,12 +1,12 @@
 //! The table `[slave]`.
 ghost use Rattle.toml.specs.View.{table_view};
+ghost use Rattle.radio_keys.specs.Reading.{Reads};
 ghost use Rattle.radio_settings.specs.Slave.{slave_fault, slave_of};
-ghost use Rattle.radio_settings.specs.Reading.{Reads};
 
 use super::logins::login;
 use super::masters::master;
-use super::values::number_or;
 use crate::{Key, SettingsFault, SlaveSetting};
+use radio_keys::number_or;
 use std::alloc::Global;
 use toml::Table;
 

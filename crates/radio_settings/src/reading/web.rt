@@ -2,16 +2,15 @@
 ghost use Rattle.std.specs.Prelude.{◌≡◌};
 ghost use Rattle.std.specs.List.{list_all};
 ghost use Rattle.toml.specs.View.{table_view};
-ghost use Rattle.radio_settings.specs.Lookup.{table_or_empty};
+ghost use Rattle.radio_keys.specs.Lookup.{table_or_empty};
+ghost use Rattle.radio_keys.specs.declared.key.Key.TheVariants.{Web};
+ghost use Rattle.radio_keys.specs.Reading.{Reads};
 ghost use Rattle.radio_settings.specs.Parts.{web_table_fault};
 ghost use Rattle.radio_settings.specs.Web.{web_fault, web_of};
 ghost use Rattle.radio_settings.specs.WebNames.{feeds_free_mount, has_free_fallback, has_free_name, web_names_fault};
-ghost use Rattle.radio_settings.specs.declared.key.Key.TheVariants.{Web};
-ghost use Rattle.radio_settings.specs.Reading.{Reads};
 
-use super::tables::table_or;
-use super::values::{flag_or, origin};
 use crate::{Key, MountSetting, RelaySetting, SettingsFault, WebSettings};
+use radio_keys::{flag_or, origin, table_or};
 use std::alloc::Global;
 use toml::Table;
 

@@ -2,7 +2,7 @@ use Rattle.std.proofs.Common.{◌≡◌, ◌<◌, ℕ, List, Option, true, false
 use Rattle.std.specs.BTreeMap.{get, is_at}
 use Rattle.std.specs.Map.{lookup}
 use Rattle.std.specs.Option.{option_map}
-use Rattle.radio_settings.specs.declared.fault.SettingsFault.TheVariants.{MountTwice}
+use Rattle.radio_keys.specs.declared.fault.SettingsFault.TheVariants.{MountTwice}
 use Rattle.radio_settings.specs.Repeats.{is_among}
 use Rattle.radio_settings.proofs.RepeatLemmas.{found_here, none_passed, order, passed_more}
 use Rattle.radio_settings.proofs.PlaceLemmas.{among_passed, none_from_not_some, places_more}

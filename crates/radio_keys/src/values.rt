@@ -1,26 +1,26 @@
-//! What a table holds at one key.
+//! What a table holds at one key. The contract of each reader names the row that it asks for; the fault is that row's.
 #![tactic(auto, unfolding(crate::specs::Lookup::text_at, crate::specs::Lookup::text_or, crate::specs::Lookup::field_at, crate::specs::Lookup::field_or_empty, crate::specs::Lookup::number_at, crate::specs::Lookup::number_or, crate::specs::Lookup::flag_or, crate::specs::Rows::fault_at))]
 
 ghost use Rattle.std.specs.Prelude.{◌≡◌, ◌≤◌, IfOk, codes, [], false, Some, None, if◌then◌else◌};
 ghost use Rattle.std.specs.Option.{option_copied, option_map};
 ghost use Rattle.toml.specs.View.{view, table_view};
-ghost use Rattle.radio_settings.specs.Lookup.{value_at, text_at, text_or, field_at, field_or_empty, number_at, number_or, flag_or, natural};
-ghost use Rattle.radio_settings.specs.Rows.{text, number, flag, mount_name, origin, required, optional, required_with, row, fault_at, is_between};
-ghost use Rattle.radio_settings.specs.Reading.{Reads, ReadsAs};
+ghost use Rattle.radio_keys.specs.Lookup.{value_at, text_at, text_or, field_at, field_or_empty, number_at, number_or, flag_or, natural};
+ghost use Rattle.radio_keys.specs.Rows.{text, number, flag, mount_name, origin, required, optional, required_with, row, fault_at, is_between};
+ghost use Rattle.radio_keys.specs.Reading.{Reads, ReadsAs};
 
 use crate::{Key, SettingsFault};
 use radio_values::{AllowedOrigin, Field, MountName, Text, Within};
 use std::alloc::Global;
 use toml::{Table, Value};
 
-/// The value at a key.
+/// The value at a key, of whatever kind; `None` where the key is absent.
 pub fn value_at(table: &Table, key: Key) -> Option<&Value>
     ensures { option_map (λ v. view v.now) result ≡ value_at key (table_view table.now) }
 {
     table.get(key.word())
 }
 
-/// The text at a key.
+/// The text at a key, as `text` reads it.
 fn read_text(table: &Table, key: Key) -> Result<Option<&str>, SettingsFault>
     ensures { let t = table_view table.now in
         ReadsAs option_copied (fault_at (row key text optional) t) (text_at key t) result }
@@ -34,7 +34,7 @@ fn read_text(table: &Table, key: Key) -> Result<Option<&str>, SettingsFault>
     }
 }
 
-/// The text at a key that must be there.
+/// The text at a key that must be there, as `required_text` reads it.
 fn read_required_text(table: &Table, key: Key) -> Result<&str, SettingsFault>
     ensures { let t = table_view table.now in
         ReadsAs (λ s. s.now) (fault_at (row key text required) t) (text_or key t []) result }
@@ -48,7 +48,9 @@ fn read_required_text(table: &Table, key: Key) -> Result<&str, SettingsFault>
     }
 }
 
-/// A copy of the text at a key.
+/// A copy of the text at a key; `None` where the key is absent.
+///
+/// `WrongKind`: the value is no text. `OutOfMemory`: there was no memory for the copy.
 pub fn text(alloc: Global, table: &Table, key: Key) -> Result<Option<Text>, SettingsFault>
     ensures { let t = table_view table.now in
         Reads (fault_at (row key text optional) t) (text_at key t) result }
@@ -59,7 +61,9 @@ pub fn text(alloc: Global, table: &Table, key: Key) -> Result<Option<Text>, Sett
     }
 }
 
-/// A copy of the text at a key, or of the default.
+/// A copy of the text at a key, or of the default where the key is absent.
+///
+/// `WrongKind`: the value is no text. `OutOfMemory`: there was no memory for the copy.
 pub fn text_or(alloc: Global, table: &Table, key: Key, default: &str) -> Result<Text, SettingsFault>
     ensures { let t = table_view table.now in
         Reads (fault_at (row key text optional) t) (text_or key t default.now) result }
@@ -71,6 +75,8 @@ pub fn text_or(alloc: Global, table: &Table, key: Key, default: &str) -> Result<
 }
 
 /// A copy of the text at a key that must be there.
+///
+/// `Missing`: the key is absent. `WrongKind`: the value is no text. `OutOfMemory`: there was no memory for the copy.
 pub fn required_text(alloc: Global, table: &Table, key: Key) -> Result<Text, SettingsFault>
     ensures { let t = table_view table.now in
         Reads (fault_at (row key text required) t) (text_or key t []) result }
@@ -79,7 +85,10 @@ pub fn required_text(alloc: Global, table: &Table, key: Key) -> Result<Text, Set
     Ok(Text::new(alloc, text)?)
 }
 
-/// A copy of the text at a key that must be there where the other key is.
+/// A copy of the text at a key that must be there where the other key is; `None` where both are absent.
+///
+/// `Missing`: the key is absent, and the other is there. `WrongKind`: the value is no text. `OutOfMemory`: there was no
+/// memory for the copy.
 pub fn text_with(
     alloc: Global,
     table: &Table,
@@ -95,7 +104,9 @@ pub fn text_with(
     text(alloc, table, key)
 }
 
-/// The text at a key, as heads show it.
+/// The text at a key, cleaned as heads show it; `None` where the key is absent.
+///
+/// `WrongKind`: the value is no text. `OutOfMemory`: there was no memory for the copy.
 pub fn field(alloc: Global, table: &Table, key: Key) -> Result<Option<Field>, SettingsFault>
     ensures { let t = table_view table.now in
         Reads (fault_at (row key text optional) t) (field_at key t) result }
@@ -106,7 +117,9 @@ pub fn field(alloc: Global, table: &Table, key: Key) -> Result<Option<Field>, Se
     }
 }
 
-/// The text at a key that must be there, as heads show it.
+/// The text at a key that must be there, cleaned as heads show it.
+///
+/// `Missing`: the key is absent. `WrongKind`: the value is no text. `OutOfMemory`: there was no memory for the copy.
 pub fn required_field(alloc: Global, table: &Table, key: Key) -> Result<Field, SettingsFault>
     ensures { let t = table_view table.now in
         Reads (fault_at (row key text required) t) (field_or_empty key t) result }
@@ -115,7 +128,10 @@ pub fn required_field(alloc: Global, table: &Table, key: Key) -> Result<Field, S
     Ok(Field::clean(alloc, text.as_bytes())?)
 }
 
-/// What may stand in `Access-Control-Allow-Origin`, at a key.
+/// What may stand in `Access-Control-Allow-Origin`, at a key; `None` where the key is absent.
+///
+/// `WrongKind`: the value is no text. `OutOfRange`: the text is not 1 to 255 visible characters of ASCII. `OutOfMemory`:
+/// there was no memory for the copy.
 pub fn origin(
     alloc: Global,
     table: &Table,
@@ -133,7 +149,9 @@ pub fn origin(
     }
 }
 
-/// The number at a key.
+/// The number at a key; `None` where the key is absent.
+///
+/// `WrongKind`: the value is no integer. `OutOfRange`: the integer does not lie from `LOW` to `HIGH`.
 pub fn number<const LOW: u32, const HIGH: u32>(
     table: &Table,
     key: Key,
@@ -153,7 +171,9 @@ pub fn number<const LOW: u32, const HIGH: u32>(
     }
 }
 
-/// The number at a key, or the default.
+/// The number at a key, or the default where the key is absent.
+///
+/// `WrongKind`: the value is no integer. `OutOfRange`: the integer does not lie from `LOW` to `HIGH`.
 pub fn number_or<const LOW: u32, const HIGH: u32>(
     table: &Table,
     key: Key,
@@ -170,7 +190,7 @@ pub fn number_or<const LOW: u32, const HIGH: u32>(
     }
 }
 
-/// The integer as a number of the range.
+/// The integer as a number of the range; `None` where it lies outside.
 fn within<const LOW: u32, const HIGH: u32>(integer: i64) -> Option<Within<LOW, HIGH>>
     ensures { result ≡ (if is_between LOW HIGH (natural integer) then natural integer else None) }
 {
@@ -186,7 +206,9 @@ fn within<const LOW: u32, const HIGH: u32>(integer: i64) -> Option<Within<LOW, H
     Some(Within::new(number))
 }
 
-/// The flag at a key, or the default.
+/// The flag at a key, or the default where the key is absent.
+///
+/// `WrongKind`: the value is no boolean.
 pub fn flag_or(table: &Table, key: Key, default: bool) -> Result<bool, SettingsFault>
     ensures { let t = table_view table.now in
         Reads (fault_at (row key flag optional) t) (flag_or key t default) result }
@@ -200,7 +222,9 @@ pub fn flag_or(table: &Table, key: Key, default: bool) -> Result<bool, SettingsF
     }
 }
 
-/// The name of a mount at a key.
+/// The name of a mount at a key; `None` where the key is absent.
+///
+/// `WrongKind`: the value is no text. `BadName`: the text is not the name of a mount.
 pub fn name(table: &Table, key: Key) -> Result<Option<MountName>, SettingsFault>
     ensures { let t = table_view table.now in
         Reads (fault_at (row key mount_name optional) t) (text_at key t) result }
@@ -214,7 +238,9 @@ pub fn name(table: &Table, key: Key) -> Result<Option<MountName>, SettingsFault>
     }
 }
 
-/// The name of a mount at a key, or the default.
+/// The name of a mount at a key, or the default where the key is absent.
+///
+/// `WrongKind`: the value is no text. `BadName`: the text is not the name of a mount.
 pub fn name_or(table: &Table, key: Key, default: MountName) -> Result<MountName, SettingsFault>
     ensures { let t = table_view table.now in
         Reads (fault_at (row key mount_name optional) t) (text_or key t default) result }
@@ -223,6 +249,8 @@ pub fn name_or(table: &Table, key: Key, default: MountName) -> Result<MountName,
 }
 
 /// The name of a mount at a key that must be there.
+///
+/// `Missing`: the key is absent. `WrongKind`: the value is no text. `BadName`: the text is not the name of a mount.
 pub fn required_name(table: &Table, key: Key) -> Result<MountName, SettingsFault>
     ensures { let t = table_view table.now in
         Reads (fault_at (row key mount_name required) t) (text_or key t []) result }

@@ -6,7 +6,7 @@ use Rattle.toml.specs.Data.{Members, as_table}
 use Rattle.toml.specs.View.{view, items_view}
 use Rattle.toml.specs.declared.value.Value.{Value}
 use Rattle.toml.proofs.Views.{items_view-drop}
-use Rattle.radio_settings.specs.Lookup.{tables_of}
+use Rattle.radio_keys.specs.Lookup.{tables_of}
 
 abbrev pub with_front : List Members → Option (List Members) → Option (List Members)
 with_front front rest = option_map (λ tables. front ++ tables) rest

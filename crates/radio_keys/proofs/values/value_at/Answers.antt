@@ -2,8 +2,8 @@ use Rattle.std.proofs.Common.{ℕ, List, ap, ◌∙◌}
 use Rattle.toml.specs.Data.{get_member}
 use Rattle.toml.specs.View.{table_view}
 use Rattle.toml.proofs.Views.{table_get}
-use Rattle.radio_settings.specs.Lookup.{value_at}
-use Rattle.radio_settings.proofs.reading.values.value_at.Goals as goal
+use Rattle.radio_keys.specs.Lookup.{value_at}
+use Rattle.radio_keys.proofs.values.value_at.Goals as goal
 
 pub returns : goal.returns
 unfolding value_at

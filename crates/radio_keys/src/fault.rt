@@ -1,8 +1,8 @@
 //! What can be wrong with the text of some settings.
 ghost use Rattle.std.specs.Prelude.{◌≡◌, ◌++◌, Some};
 ghost use Rattle.std.specs.Fmt.{WritesOnOk};
-ghost use Rattle.radio_settings.specs.Words.{fault_text};
-ghost use Rattle.radio_settings.specs.declared.fault.SettingsFault.TheVariants.{OutOfMemory as NoMemory};
+ghost use Rattle.radio_keys.specs.Words.{fault_text};
+ghost use Rattle.radio_keys.specs.declared.fault.SettingsFault.TheVariants.{OutOfMemory as NoMemory};
 
 use crate::{Key, OutOfMemory};
 use radio_values::MountName;

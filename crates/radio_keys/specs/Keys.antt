@@ -1,12 +1,12 @@
 -- The keys of the settings, and the words for them.
 use Rattle.std.specs.Prelude.{ℕ, List, [], codes}
-use Rattle.radio_settings.specs.declared.key.Key.{Key}
-use Rattle.radio_settings.specs.declared.key.Key.TheVariants.{SourcePassword, AdminUser, AdminPassword, RelayUser, RelayPassword, DenyIp, AllowIp, Listen}
-use Rattle.radio_settings.specs.declared.key.Key.TheVariants.{Address, Port, Workers, Limits, Clients, Sources, QueueSize, BurstSize, SourceTimeout}
-use Rattle.radio_settings.specs.declared.key.Key.TheVariants.{HeaderTimeout, Web, AllowOrigin, IcecastStatus, Page, Mount, MountName, Username, Password, MaxListeners, MaxListenerDuration}
-use Rattle.radio_settings.specs.declared.key.Key.TheVariants.{FallbackMount, FallbackOverride, FallbackWhenFull, Hidden, Mp3MetadataInterval, StreamName, Genre}
-use Rattle.radio_settings.specs.declared.key.Key.TheVariants.{Htpasswd, AllowDuplicateUsers, Relay, Server, LocalMount, OnDemand, Slave, MasterServer}
-use Rattle.radio_settings.specs.declared.key.Key.TheVariants.{MasterPort, MasterUsername, MasterPassword, MasterUpdateInterval}
+use Rattle.radio_keys.specs.declared.key.Key.{Key}
+use Rattle.radio_keys.specs.declared.key.Key.TheVariants.{SourcePassword, AdminUser, AdminPassword, RelayUser, RelayPassword, DenyIp, AllowIp, Listen}
+use Rattle.radio_keys.specs.declared.key.Key.TheVariants.{Address, Port, Workers, Limits, Clients, Sources, QueueSize, BurstSize, SourceTimeout}
+use Rattle.radio_keys.specs.declared.key.Key.TheVariants.{HeaderTimeout, Web, AllowOrigin, IcecastStatus, Page, Mount, MountName, Username, Password, MaxListeners, MaxListenerDuration}
+use Rattle.radio_keys.specs.declared.key.Key.TheVariants.{FallbackMount, FallbackOverride, FallbackWhenFull, Hidden, Mp3MetadataInterval, StreamName, Genre}
+use Rattle.radio_keys.specs.declared.key.Key.TheVariants.{Htpasswd, AllowDuplicateUsers, Relay, Server, LocalMount, OnDemand, Slave, MasterServer}
+use Rattle.radio_keys.specs.declared.key.Key.TheVariants.{MasterPort, MasterUsername, MasterPassword, MasterUpdateInterval}
 
 -- the word for a key of the tables of mounts and relays and of the slave, or for one of their names
 unfoldable pub stream_word : Key → List ℕ

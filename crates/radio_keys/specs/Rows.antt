@@ -2,12 +2,12 @@
 use Rattle.std.specs.Prelude.{ℕ, Bool, true, false, not, ◌&&◌, nat_le, if◌then◌else◌, List, [], ◌∷◌, Option, None, Some, is_some, map}
 use Rattle.std.specs.Option.{option_or}
 use Rattle.toml.specs.Data.{Data, Members, as_str, as_integer, as_bool, as_table}
-use Rattle.radio_settings.specs.declared.key.Key.{Key}
-use Rattle.radio_settings.specs.declared.fault.SettingsFault.{SettingsFault}
-use Rattle.radio_settings.specs.declared.fault.SettingsFault.TheVariants.{Missing, WrongKind, OutOfRange, BadName}
 use Rattle.radio_values.specs.AllowedOrigin.{is_allowed_origin}
 use Rattle.radio_values.specs.MountName.{is_mount_name}
-use Rattle.radio_settings.specs.Lookup.{value_at, natural, list_at}
+use Rattle.radio_keys.specs.declared.key.Key.{Key}
+use Rattle.radio_keys.specs.declared.fault.SettingsFault.{SettingsFault}
+use Rattle.radio_keys.specs.declared.fault.SettingsFault.TheVariants.{Missing, WrongKind, OutOfRange, BadName}
+use Rattle.radio_keys.specs.Lookup.{value_at, natural, list_at}
 
 -- what a value must be
 pub data Kind : Type 0 where

@@ -4,8 +4,8 @@ use Rattle.std.specs.Option.{option_map, option_and_then}
 use Rattle.toml.specs.Data.{Data, Items, no_items, item, Members, no_members, get_member, as_str, as_integer, as_bool, as_array, as_table}
 use Rattle.radio_icy.specs.Cleaning.{cleaned}
 use Rattle.radio_icy.specs.Limits.{max_field}
-use Rattle.radio_settings.specs.declared.key.Key.{Key}
-use Rattle.radio_settings.specs.Keys.{word}
+use Rattle.radio_keys.specs.declared.key.Key.{Key}
+use Rattle.radio_keys.specs.Keys.{word}
 
 -- the value at a key
 unfoldable pub value_at : Key → Members → Option Data

@@ -5,16 +5,17 @@ ghost use Rattle.std.specs.Prelude.{◌≡◌, None, map};
 ghost use Rattle.std.specs.Option.{option_map};
 ghost use Rattle.toml.specs.Data.{no_members};
 ghost use Rattle.toml.specs.View.{items_view, table_view};
-ghost use Rattle.radio_settings.specs.Lookup.{list_at, table_at, table_or_empty, tables_at, tables_of};
-ghost use Rattle.radio_settings.specs.Rows.{list_fault, table_fault};
-ghost use Rattle.radio_settings.specs.Reading.{ReadsAs};
+ghost use Rattle.radio_keys.specs.Lookup.{list_at, table_at, table_or_empty, tables_at, tables_of};
+ghost use Rattle.radio_keys.specs.Rows.{list_fault, table_fault};
+ghost use Rattle.radio_keys.specs.Reading.{ReadsAs};
 
-use super::values::value_at;
-use crate::{Key, SettingsFault};
+use crate::{Key, SettingsFault, value_at};
 use std::alloc::Global;
 use toml::{Table, Value};
 
-/// The table of a name.
+/// The table of a name; `None` where the document has nothing of that name.
+///
+/// `WrongKind`: what it has there is no table.
 pub fn table_at(document: &Table, key: Key) -> Result<Option<&Table>, SettingsFault>
     ensures { let d = table_view document.now in
         ReadsAs (option_map (λ t. table_view t.now)) (table_fault key d) (table_at key d) result }
@@ -28,7 +29,9 @@ pub fn table_at(document: &Table, key: Key) -> Result<Option<&Table>, SettingsFa
     }
 }
 
-/// The table of a name, or the empty one.
+/// The table of a name, or the empty one where the document has nothing of that name.
+///
+/// `WrongKind`: what it has there is no table.
 pub fn table_or<'a>(
     document: &'a Table,
     key: Key,
@@ -44,7 +47,10 @@ pub fn table_or<'a>(
     }
 }
 
-/// The tables of a list; none where there is no list.
+/// The tables of a list, in their order; none where the document has nothing of that name.
+///
+/// `WrongKind`: what it has there is no list, or not each value of the list is a table. `OutOfMemory`: there was no memory
+/// for the list.
 pub fn tables_at<'a>(
     alloc: Global,
     document: &'a Table,

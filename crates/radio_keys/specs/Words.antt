@@ -1,8 +1,8 @@
 -- The words for a fault.
 use Rattle.std.specs.Prelude.{ℕ, List, ◌++◌, codes}
-use Rattle.radio_settings.specs.declared.fault.SettingsFault.{SettingsFault}
-use Rattle.radio_settings.specs.declared.fault.SettingsFault.TheVariants.{NotToml, Missing, WrongKind, OutOfRange, MountTwice, BadName, OutOfMemory}
-use Rattle.radio_settings.specs.Keys.{word}
+use Rattle.radio_keys.specs.declared.fault.SettingsFault.{SettingsFault}
+use Rattle.radio_keys.specs.declared.fault.SettingsFault.TheVariants.{NotToml, Missing, WrongKind, OutOfRange, MountTwice, BadName, OutOfMemory}
+use Rattle.radio_keys.specs.Keys.{word}
 
 abbrev pub fault_text : SettingsFault → List ℕ
 fault_text NotToml = codes "not toml"

@@ -1,8 +1,8 @@
 -- What a reader says of its part of a text.
 use Rattle.std.specs.Prelude.{◌≡◌, ◌≢◌, Option, None, Some, Result}
 use Rattle.std.specs.Result.{MatchResult}
-use Rattle.radio_settings.specs.declared.fault.SettingsFault.{SettingsFault}
-use Rattle.radio_settings.specs.declared.fault.SettingsFault.TheVariants.{OutOfMemory}
+use Rattle.radio_keys.specs.declared.fault.SettingsFault.{SettingsFault}
+use Rattle.radio_keys.specs.declared.fault.SettingsFault.TheVariants.{OutOfMemory}
 
 -- There is no fault, and what was read is the value; or else the fault is the one that was found, if it was not for want
 -- of memory.

@@ -1,6 +1,6 @@
 //! The keys of the settings.
 ghost use Rattle.std.specs.Prelude.{◌≡◌};
-ghost use Rattle.radio_settings.specs.Keys.{stream_word, word};
+ghost use Rattle.radio_keys.specs.Keys.{stream_word, word};
 
 use std::fmt;
 
