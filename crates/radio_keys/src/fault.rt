@@ -22,11 +22,11 @@ pub enum SettingsFault {
     Missing { key: Key },
     /// A key has a value of another kind, or the name of a table is none.
     WrongKind { key: Key },
-    /// A number lies outside its range.
+    /// A number lies outside its range, or a text is not one that `Access-Control-Allow-Origin` may have.
     OutOfRange { key: Key },
     /// Two mounts have this name, or two relays feed it.
     MountTwice { name: MountName },
-    /// A text is not the name of a mount.
+    /// A text is not the name of a mount, or it is a path of the web site.
     BadName { key: Key },
     /// There was no memory. It says nothing of the text.
     OutOfMemory,
