@@ -4,7 +4,7 @@ use mio::Waker;
 use std::sync::atomic::{AtomicBool, AtomicU64, AtomicUsize, Ordering};
 
 /// How many bytes a draw brings at most.
-const DRAW_ROOM: u64 = 16_384;
+const DRAW_ROOM: u64 = 65_536;
 
 /// What one worker tells the others, and what they tell him. Moments are in milliseconds.
 #[derive(Drop)]
@@ -20,7 +20,7 @@ pub struct Desk {
     has_listeners: AtomicBool,
     /// How many connections were put for him that he has not taken.
     comings: AtomicUsize,
-    /// How many he has.
+    /// How many he has, a source counted as several.
     connections: AtomicUsize,
     /// How many of these linger.
     lingering: AtomicUsize,
@@ -120,7 +120,7 @@ impl Desk {
         self.comings.load(Ordering::SeqCst)
     }
 
-    /// So many connections he has, and whether one of them is a listener's.
+    /// So many connections he has, a source counted as several, and whether one of them is a listener's.
     pub fn set_connections(&self, connections: usize, has_listeners: bool) {
         self.connections.store(connections, Ordering::SeqCst);
         if has_listeners != self.has_listeners() {

@@ -19,7 +19,10 @@ use radio_settings::Settings;
 use radio_values::MountName;
 use std::alloc::Global;
 use std::sync::ledger::Blank;
-use std::sync::{Mutex, Wait};
+use std::sync::{Mutex, MutexGuard, Wait};
+
+/// How often a caller tries to take the lock before he sleeps until it is free: it is held for a moment alone.
+const TRIES: u32 = 64;
 
 /// A book that several threads call, one at a time.
 #[derive(Drop)]
@@ -78,7 +81,17 @@ impl<C: Chronicle, H: House> Hall<C, H> {
         // where nothing is stored, the end of a session and of a connection, and the clock, are never refused
         ensures frees { C.KEEPS ≡ false → TakesNoMemory event → IsOk result }
     {
-        self.book.lock(rt).apply(pass, event)
+        self.enter(rt).apply(pass, event)
+    }
+
+    /// The book, as soon as nobody else has it.
+    fn enter<R: Wait>(&self, rt: &R) -> MutexGuard<'_, Book<C, H>> {
+        for _ in 0..TRIES {
+            if let Some(book) = self.book.try_lock() {
+                return book;
+            }
+        }
+        self.book.lock(rt)
     }
 
     /// The mounts where somebody sits, which relays feed on demand, in the order of their bytes: a look

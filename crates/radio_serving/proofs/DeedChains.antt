@@ -9,7 +9,7 @@ use Rattle.radio_session.specs.Exchanges.{Steps}
 use Rattle.radio_serving.specs.Connections.{Connection, is_open}
 use Rattle.radio_serving.specs.declared.conn.Fate.TheVariants.{Open, Closed, Cut}
 use Rattle.radio_serving.specs.Duties.{IsReadOnce, LacksMemory}
-use Rattle.radio_serving.specs.Duties.{HasEnded, HasLeft, AreAtMostHeard, IsUnasked, IsAtMostDraw, room_for}
+use Rattle.radio_serving.specs.Duties.{HasEnded, HasLeft, AreAtMostHeard, IsUnasked, IsAtMostDraw, room_for, draw_room}
 use Rattle.radio_serving.specs.Turns.{Chain, IsServed, IsOneDraw}
 use Rattle.radio_serving.specs.Answering.{IsUnwritten, AreOf, IsHeardOn}
 use Rattle.radio_serving.specs.Leaving.{IsSame, Listens, Leaves, DrawsFor, Draws}
@@ -162,7 +162,7 @@ module _ {S : Type 0} (steps : Steps S) where
   }
 
   -- its moment is noted, and then it draws
-  pub draws_after : {ms room : ℕ} {news : Bool} {from to : S} {a c : Connection} → is_open a.status.fate ≡ true → (a.status.sits ≡ true → room ≡ 16384)
+  pub draws_after : {ms room : ℕ} {news : Bool} {from to : S} {a c : Connection} → is_open a.status.fate ≡ true → (a.status.sits ≡ true → room ≡ draw_room)
       → room ≡ room_for a.status.sits → DrawsFor steps room from (asked_at ms a) to c → Draws steps ms news from a to c
   draws_after {ms} {room} {news} {from} {to} {a} {c} goes full fits drew = record {
     entries = drew.entries;

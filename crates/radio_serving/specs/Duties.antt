@@ -183,9 +183,13 @@ pub record AreHeard (c : Connection) (entries : List Entry) (c' : Connection) : 
 abbrev pub AreAtMostHeard : Connection → List Entry → Connection → Type 0
 AreAtMostHeard c entries c' = (entries ≡ []) ⊎ AreHeard c entries c'
 
+-- for how many bytes a listener has room in a turn
+abbrev pub draw_room : ℕ
+draw_room = 65536
+
 -- the room of a draw for who has a seat, and for who has none
 abbrev pub room_for : Bool → ℕ
-room_for true = 16384
+room_for true = draw_room
 room_for false = 0
 
 -- nothing, or one draw with this room

@@ -10,7 +10,7 @@ use Rattle.radio_serving.specs.declared.line.Received.TheVariants.{Bytes, Nothin
 use Rattle.radio_serving.specs.Lines.{Calls}
 use Rattle.radio_serving.specs.Connections.{Connection, Refused, is_open, one_refusal}
 use Rattle.radio_serving.specs.Duties.{IsWritten, IsUnread, IsReadOnce, IsAskedOnce, IsGiven, IsAtMostLeaving, HasStalled, HasTakenSome, IsFinishedNow}
-use Rattle.radio_serving.specs.Duties.{LacksMemory, HasEnded, WhyClosed, Lingers, HasLeft, AreAtMostHeard, room_for, IsAtMostDraw, IsUnasked, NotesAsking}
+use Rattle.radio_serving.specs.Duties.{LacksMemory, HasEnded, WhyClosed, Lingers, HasLeft, AreAtMostHeard, room_for, IsAtMostDraw, IsUnasked, NotesAsking, draw_room}
 use Rattle.radio_serving.specs.Answering.{IsSpared, IsUnwritten}
 use Rattle.radio_serving.specs.Turns.{Chain, IsServed, IsOneDraw, HasDrawn}
 
@@ -174,7 +174,7 @@ module _ {S : Type 0} (steps : Steps S) where
     pub chain : Chain steps from entries to
     pub served : IsServed c entries c'
     pub goes : c'.status.fate ≡ Open → c.status.fate ≡ Open
-    pub drawn : news ≡ true → c.status.sits ≡ true → IsOneDraw c.id 16384 entries c'
+    pub drawn : news ≡ true → c.status.sits ≡ true → IsOneDraw c.id draw_room entries c'
     pub asked_for : IsUnasked ms c → c'.status.fate ≡ Open → entries ≡ [] → ⊥
     pub once : IsAtMostDraw c.id (room_for c.status.sits) entries
     pub sits : c'.status.sits ≡ c.status.sits

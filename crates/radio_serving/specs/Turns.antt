@@ -11,7 +11,7 @@ use Rattle.radio_serving.specs.declared.conn.Fate.TheVariants.{Open, Closed, Cut
 use Rattle.radio_serving.specs.Connections.{Connection, stays}
 use Rattle.radio_serving.specs.Course.{Standing, Course}
 use Rattle.radio_serving.specs.Duties.{IsLater, IsAsked, IsAskedOnce, IsGiven, HasWaited, IsCutFor, IsInTime, HasMoved, HasNotMoved, NotesTaking, IsClosedFor}
-use Rattle.radio_serving.specs.Duties.{IsLetGo, IsFinishedFor, HasLeft, IsOneTurn, IsAskedFor, NotesAsking}
+use Rattle.radio_serving.specs.Duties.{IsLetGo, IsFinishedFor, HasLeft, IsOneTurn, IsAskedFor, NotesAsking, draw_room}
 use Rattle.radio_serving.specs.Workers.{WorkerOf}
 
 -- What the line took, followed by what is owed to it, is what was told. Once it is closed, it took all; where it was cut off, the front.
@@ -59,7 +59,7 @@ IsOneDraw id room entries c' = c'.status.fate ≡ Open → (reply : Reply) × (e
 
 -- the last of these entries is a draw with the room of a turn
 abbrev pub EndsWithDraw : ℕ → List Entry → Type 0
-EndsWithDraw id entries = (others : List Entry) × (reply : Reply) × (entries ≡ others ++ entry (Draw id 16384) reply ∷ [])
+EndsWithDraw id entries = (others : List Entry) × (reply : Reply) × (entries ≡ others ++ entry (Draw id draw_room) reply ∷ [])
 
 -- Where there is news, one who has a seat and goes on has drawn, last of all, if nothing was owed to him when his turn came.
 abbrev pub HasDrawn : Bool → Connection → List Entry → Connection → Type 0

@@ -69,6 +69,11 @@ impl<S: Server + Drop> Watched<S> {
         self.has_more.replace(false)
     }
 
+    /// How many clients feed a mount by what was asked, as far as memory was not refused for their numbers.
+    pub fn sources(&self) -> usize {
+        self.sources.len()
+    }
+
     /// The server.
     pub fn into_server(self) -> S
         ensures { result ≡ self }

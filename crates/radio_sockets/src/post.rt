@@ -4,9 +4,9 @@ use crate::doors::Coming;
 use mio::net::TcpStream;
 use radio_addr::Peer;
 use radio_board::{Board, Desk, ServedTime};
-use radio_serving::Turn;
 use radio_lines::{Heard, SocketLine, Sockets, moment};
 use radio_notes::Log;
+use radio_serving::Turn;
 use radio_workers::{Call, Post, Seen};
 use std::sync::Wait;
 use std::time::Clock;
@@ -27,6 +27,10 @@ const TELL_AFTER_MS: u64 = 100;
 
 /// For how long a worker waits for the acceptor to begin.
 const MOST_ALONE_MS: u64 = 10_000;
+
+/// As how many connections more a source counts, where the next one is for the worker who has the fewest: the others wait
+/// for what he has pushed, so he is to have less beside.
+const SOURCE_WEIGHT: usize = 4;
 
 /// How many connections a worker takes before a turn at most.
 const MOST_AT_ONCE: usize = 64;
@@ -225,8 +229,7 @@ impl<'a, R: Clock + Wait> Post<Coming, SocketLine<TcpStream>> for SocketPost<'a,
 
     fn note(&mut self, seen: Seen, log: &Log) {
         self.has_more = seen.more;
-        self.desk
-            .set_connections(seen.connections, seen.has_listeners);
+        self.desk.set_connections(weight(seen), seen.has_listeners);
         self.desk.note_drawn(self.received, seen.more);
         if seen.news {
             self.board.tell_news();
@@ -239,4 +242,10 @@ impl<'a, R: Clock + Wait> Post<Coming, SocketLine<TcpStream>> for SocketPost<'a,
         }
         self.hand_lines(log);
     }
+}
+
+/// What a worker has to do in a turn, in connections.
+fn weight(seen: Seen) -> usize {
+    seen.connections
+        .saturating_add(seen.sources.saturating_mul(SOURCE_WEIGHT))
 }

@@ -1,8 +1,8 @@
 //! Where a worker's turns come from.
 
 use radio_addr::Peer;
-use radio_serving::{Line, Turn};
 use radio_notes::Log;
+use radio_serving::{Line, Turn};
 
 /// What a worker is told before a turn.
 #[derive(Clone, Copy)]
@@ -22,6 +22,8 @@ pub struct Seen {
     pub more: bool,
     /// How many connections the worker has.
     pub connections: usize,
+    /// How many of them feed a mount.
+    pub sources: usize,
     /// Whether one of them is a listener's.
     pub has_listeners: bool,
     /// Whether fewer are left than there were before the turn.

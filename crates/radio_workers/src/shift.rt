@@ -7,8 +7,10 @@ use crate::leaving::leave_all;
 use crate::{Call, Post, Seat, Seen, Workplace};
 use radio_book::{Chronicle, House, Pass};
 use radio_hall::Caller;
-use radio_serving::{Conn, Gate, Line, Server, Watched, Worker, close_first_lingering, count_lingering};
 use radio_intake::{Intake, IntakePass};
+use radio_serving::{
+    Conn, Gate, Line, Server, Watched, Worker, close_first_lingering, count_lingering,
+};
 use std::alloc::Global;
 use std::sync::Wait;
 
@@ -193,6 +195,7 @@ impl<S: Server + Drop, L: Line> Shift<S, L> {
             news: self.worker.server().take_news(),
             more: self.worker.server().take_more(),
             connections: self.conns.len(),
+            sources: self.worker.server().sources(),
             has_listeners: has_listeners(self.conns.as_slice()),
             has_closed: self.conns.len() < before,
         }

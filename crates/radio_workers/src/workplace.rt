@@ -5,8 +5,8 @@ ghost use Rattle.std.specs.Prelude.{◌≡◌, ◌-◌, ◌<◌, All, OnOk, OnEr
 use crate::OutOfMemory;
 use radio_book::{Chronicle, House, Pass};
 use radio_hall::Hall;
-use radio_serving::Gate;
 use radio_intake::{Intake, IntakePass};
+use radio_serving::Gate;
 
 /// What all workers share.
 #[derive(Drop)]

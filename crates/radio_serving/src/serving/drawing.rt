@@ -12,7 +12,7 @@ use radio_events::{Event, Reply};
 use radio_notes::{Log, Notice};
 
 /// For how many bytes of data a listener has room in a turn.
-pub const DRAW_ROOM: u32 = 16384;
+pub const DRAW_ROOM: u32 = 65536;
 
 /// A draw for the listener who has a seat, where there is news, or he was left behind what there was
 /// before. Where there is none, and nothing was asked for him for half a second, he draws too; who has
