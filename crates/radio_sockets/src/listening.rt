@@ -1,6 +1,6 @@
 //! A bound socket, and the service behind it.
 
-ghost use Rattle.std.specs.Prelude.{◌≡◌, ◌≤◌, All};
+ghost use Rattle.std.specs.Prelude.{◌≡◌, ◌+◌, ◌≤◌, All};
 ghost use Rattle.radio_intake.specs.Passes.{all_parts};
 
 use crate::acceptor::Acceptor;
@@ -208,8 +208,8 @@ where
     }
 }
 
-/// Serves connections through this intake: the acceptor has a hand of it, and workers with these sockets have the rest.
-/// `OutOfMemory` where memory was refused for their seats.
+/// Serves connections through this intake, whose pass the acceptor and the workers share. `OutOfMemory` where memory was
+/// refused for the workers' seats.
 fn serve_through<R, N, C, H, O>(
     rt: &R,
     station: &Station<'_, N, C, H>,
@@ -228,24 +228,28 @@ where
     requires parts { all_parts ≤ pass.old.parts }
 {
     let mut hand = intake.split(pass);
-    let fault = match seats_of(rt, station.hall, station.board, intake, pass, sockets) {
-        Ok(mut seats) => work_together(rt, station, intake, &mut hand, &mut seats, acceptor),
-        Err(_) => ServeFault::OutOfMemory,
-    };
+    let (fault, are_seated) = work_together(
+        rt, station, intake, &mut hand, pass, sockets, acceptor,
+    );
     drop(hand);
-    fault
+    if are_seated {
+        fault
+    } else {
+        ServeFault::OutOfMemory
+    }
 }
 
-/// The acceptor puts connections into this intake by his hand, and workers at these seats take them out, until all stop. His
-/// fault.
+/// The acceptor puts connections into this intake by his hand, and workers with these sockets take them out by their pass,
+/// until all stop. His fault, and whether there was memory for the workers' seats.
 fn work_together<R, N, C, H, O>(
     rt: &R,
     station: &Station<'_, N, C, H>,
     intake: &Intake<Coming>,
     hand: &mut IntakePass<Coming>,
-    seats: &mut Vec<Seat<C, H, Coming, SocketPost<'_, R>>>,
+    pass: &mut IntakePass<Coming>,
+    sockets: &mut Vec<Sockets>,
     acceptor: &mut Acceptor<O>,
-) -> ServeFault
+) -> (ServeFault, bool)
 where
     R: Clock + Threads + Wait + Sync,
     N: Reach + Sync,
@@ -253,39 +257,41 @@ where
     H: House + Send + Sync,
     O: Write + Drop + Send,
     requires hand { hand.old.intake ≡ intake.now }
-    requires seats { All (λ seat. seat.hand.intake ≡ intake.now) seats.old.items }
+    requires own { pass.old.intake ≡ intake.now }
+    requires parts { all_parts ≤ pass.old.parts + 1 }
 {
-    let (fault, _) = join_mut(
+    join_mut(
         rt,
         &mut || -> ServeFault
             requires { hand.now.intake ≡ intake.now }
         { acceptor.work(rt, station.board, intake, hand) },
-        &mut ||
-            requires { All (λ seat. seat.hand.intake ≡ intake.now) seats.now.items }
-        { work_beside_relays(rt, station, intake, seats) },
-    );
-    fault
+        &mut || -> bool
+            requires { (pass.now.intake ≡ intake.now) × (all_parts ≤ pass.now.parts + 1) }
+        { work_beside_relays(rt, station, intake, pass, sockets) },
+    )
 }
 
-/// The workers at these seats work, and relays are kept running beside them, if the settings wish some.
+/// The workers with these sockets work, and relays are kept running beside them, if the settings wish some. Whether there
+/// was memory for the workers' seats.
 fn work_beside_relays<R, N, C, H>(
     rt: &R,
     station: &Station<'_, N, C, H>,
     intake: &Intake<Coming>,
-    seats: &mut Vec<Seat<C, H, Coming, SocketPost<'_, R>>>,
-)
+    pass: &mut IntakePass<Coming>,
+    sockets: &mut Vec<Sockets>,
+) -> bool
 where
     R: Clock + Threads + Wait + Sync,
     N: Reach + Sync,
     C: Chronicle + Send + Sync,
     H: House + Send + Sync,
-    requires { All (λ seat. seat.hand.intake ≡ intake.now) seats.old.items }
+    requires own { pass.old.intake ≡ intake.now }
+    requires parts { all_parts ≤ pass.old.parts + 1 }
 {
     if !has_relays(station.settings) {
-        run_at(rt, station, intake, seats);
-        return;
+        return work_at(rt, station, intake, pass, sockets);
     }
-    join_mut(
+    let (_, are_seated) = join_mut(
         rt,
         &mut || keep_relays(
             rt,
@@ -294,10 +300,39 @@ where
             station.board,
             station.settings,
         ),
-        &mut ||
-            requires { All (λ seat. seat.hand.intake ≡ intake.now) seats.now.items }
-        { run_at(rt, station, intake, seats) },
+        &mut || -> bool
+            requires { (pass.now.intake ≡ intake.now) × (all_parts ≤ pass.now.parts + 1) }
+        { work_at(rt, station, intake, pass, sockets) },
     );
+    are_seated
+}
+
+/// The workers with these sockets work, until all are to stop. Whether there was memory for their seats.
+fn work_at<R, N, C, H>(
+    rt: &R,
+    station: &Station<'_, N, C, H>,
+    intake: &Intake<Coming>,
+    pass: &mut IntakePass<Coming>,
+    sockets: &mut Vec<Sockets>,
+) -> bool
+where
+    R: Clock + Threads + Wait + Sync,
+    N: Reach + Sync,
+    C: Chronicle + Send + Sync,
+    H: House + Send + Sync,
+    requires own { pass.old.intake ≡ intake.now }
+    requires parts { all_parts ≤ pass.old.parts + 1 }
+{
+    match seats_of(rt, station.hall, station.board, intake, pass, sockets) {
+        Ok(mut seats) => {
+            run_at(rt, station, intake, seats.as_mut_slice());
+            true
+        }
+        Err(_) => {
+            station.board.stop();
+            false
+        }
+    }
 }
 
 /// Workers at these seats work, until all are to stop.
@@ -305,14 +340,14 @@ fn run_at<R, N, C, H>(
     rt: &R,
     station: &Station<'_, N, C, H>,
     intake: &Intake<Coming>,
-    seats: &mut Vec<Seat<C, H, Coming, SocketPost<'_, R>>>,
+    seats: &mut [Seat<C, H, Coming, SocketPost<'_, R>>],
 )
 where
     R: Clock + Threads + Wait + Sync,
     N: Reach + Sync,
     C: Chronicle + Send + Sync,
     H: House + Send + Sync,
-    requires { All (λ seat. seat.hand.intake ≡ intake.now) seats.old.items }
+    requires { All (λ seat. seat.hand.intake ≡ intake.now) seats.old }
 {
     let place = Workplace {
         hall: station.hall,
@@ -325,6 +360,6 @@ where
         rt,
         station.board.alloc(),
         &place,
-        seats.as_mut_slice(),
+        seats,
     );
 }
