@@ -25,6 +25,7 @@ mod LocalityLemmas
 mod MountLemmas
 mod ObeyLemmas
 mod OnDemandLemmas
+mod PartLemmas
 mod ServiceLemmas
 mod SightLemmas
 mod SliceLemmas

@@ -1,6 +1,7 @@
 pub mod Denials
 pub mod FinishesTold
 pub mod Limits
+pub mod Parts
 pub mod Walks
 pub mod OnDemand
 pub mod Commanded

@@ -25,6 +25,7 @@ ghost use Rattle.radio_laws.specs.TitlesTold.{TitlesAreTold};
 ghost use Rattle.radio_house.specs.Timeouts.{TestsAreInNumbers};
 ghost use Rattle.radio_laws.specs.Outstaying.{NobodyOutstays};
 ghost use Rattle.radio_laws.specs.Locality.{AnswersAlike, LeavesAlone};
+ghost use Rattle.radio_laws.specs.Parts.{PartsDraw, PartsReceive, PartsAreTitled};
 ghost use Rattle.radio_laws.specs.Gone.{Leaving, HasLeft, IsOutOfPlace, StaysGone};
 
 use radio_policy::denials_name_the_first_rule;
@@ -217,4 +218,14 @@ pub fn events_go_by_their_mounts()
     // and what an event cannot reach is left alone: each other mount has the session that it had, and those sit there who sat there
     ensures alone { (settings : Settings) (lists : Lists) (events : List Event) (within : List ℕ → Bool) (event : Event)
         → LeavesAlone within (run_after settings lists events) event }
+{}
+
+/// The law of a mount's part of the state: its session, and those who sit there.
+pub fn parts_go_by_themselves()
+    // whatever has happened, one who sits there is handed what the part alone says, and but for his place in it nothing changes
+    ensures draws { (settings : Settings) (lists : Lists) (events : List Event) → PartsDraw (run_after settings lists events) }
+    // a block of its source that is not denied makes the stream longer, and those lose their seats who lag; nothing changes at another mount
+    ensures blocks { (settings : Settings) (lists : Lists) (events : List Event) → PartsReceive (run_after settings lists events) }
+    // a title of its source is the part's, and nothing changes at another mount
+    ensures titles { (settings : Settings) (lists : Lists) (events : List Event) → PartsAreTitled (run_after settings lists events) }
 {}

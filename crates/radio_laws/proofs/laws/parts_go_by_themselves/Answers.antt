@@ -1,0 +1,14 @@
+use Rattle.radio_core.specs.Run.{run_after}
+use Rattle.radio_core.proofs.SoundRuns.{sound_run}
+use Rattle.radio_laws.proofs.PartLemmas.{parts_draw, parts_receive, parts_titled}
+use Rattle.radio_laws.proofs.laws.parts_go_by_themselves.Goals as goal
+
+pub returns-clause-draws : goal.returns-clause-draws
+returns-clause-draws c settings lists events p id room o of =
+    parts_draw (run_after settings lists events) (sound_run settings lists events) p of id room o
+
+pub returns-clause-blocks : goal.returns-clause-blocks
+returns-clause-blocks c settings lists events p block of = parts_receive (run_after settings lists events) (sound_run settings lists events) p of block
+
+pub returns-clause-titles : goal.returns-clause-titles
+returns-clause-titles c settings lists events p text of = parts_titled (run_after settings lists events) (sound_run settings lists events) p of text
