@@ -76,16 +76,20 @@ clock_of fields = do
   ms ← number_of 10 18446744073709551615 fields
   Some (Clock ms)
 
--- the delivery of a word and its fields, if they are one
+-- the delivery of one of these words and its fields, if they are one
+abbrev pub other_fields_of : List ℕ → List ℕ → Option Delivery
+other_fields_of word fields =
+    if bytes_eq word (codes "title") then title_of fields else
+    (if bytes_eq word (codes "end") then end_of fields else
+    (if bytes_eq word (codes "pull") then pull_of fields else
+    (if bytes_eq word (codes "clock") then clock_of fields else None)))
+
+-- the delivery of any word and its fields
 abbrev pub fields_of : List ℕ → List ℕ → Option Delivery
 fields_of word fields =
     if bytes_eq word (codes "open") then open_of fields else
     (if bytes_eq word (codes "in") then in_of fields else
-    (if bytes_eq word (codes "room") then room_of fields else
-    (if bytes_eq word (codes "title") then title_of fields else
-    (if bytes_eq word (codes "end") then end_of fields else
-    (if bytes_eq word (codes "pull") then pull_of fields else
-    (if bytes_eq word (codes "clock") then clock_of fields else None))))))
+    (if bytes_eq word (codes "room") then room_of fields else other_fields_of word fields))
 
 -- the delivery that a line stands for, if it is one
 unfoldable pub delivery_of : List ℕ → Option Delivery

@@ -1,7 +1,7 @@
 //! What a script delivers, a line each.
 
 ghost use Rattle.std.specs.Prelude.{◌≡◌, IfOk};
-ghost use Rattle.radio_script.specs.Delivery.{clock_of, decimal_of, delivery_of, end_of, fields_of, in_of, label_of, open_of, pull_of, room_of, text_fields, title_of};
+ghost use Rattle.radio_script.specs.Delivery.{clock_of, decimal_of, delivery_of, end_of, fields_of, in_of, label_of, open_of, other_fields_of, pull_of, room_of, text_fields, title_of};
 
 use crate::OutOfMemory;
 use crate::escapes::unescape;
@@ -60,6 +60,17 @@ fn read_fields(alloc: Global, word: &[u8], fields: &[u8]) -> Result<Option<Deliv
     if word == b"room".as_slice() {
         return Ok(read_room(fields));
     }
+    read_other_fields(alloc, word, fields)
+}
+
+/// The same of a word that opens nothing, brings nothing and tells of no room.
+fn read_other_fields(
+    alloc: Global,
+    word: &[u8],
+    fields: &[u8],
+) -> Result<Option<Delivery>, OutOfMemory>
+    ensures { IfOk result (λ delivery. delivery ≡ other_fields_of word.now fields.now) }
+{
     if word == b"title".as_slice() {
         return read_title(alloc, fields);
     }

@@ -151,7 +151,12 @@ impl<L: Line> Conn<L> {
         let mut session = Session::new(alloc, 0, peer);
         match told_first(alloc, &mut session, &account, denial) {
             Ok(owed) => Ok(Conn::ended(line, session, owed, account, ms)),
-            Err(refused) => Err(refused),
+            Err(refused) => {
+                drop(line);
+                drop(session);
+                drop(account);
+                Err(refused)
+            }
         }
     }
 

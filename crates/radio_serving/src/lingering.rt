@@ -20,7 +20,7 @@ pub fn close_first_lingering<L: Line>(conns: &mut Vec<Conn<L>>)
     let Some(at) = first_lingering(conns.as_slice()) else {
         return;
     };
-    conns.remove(at);
+    drop(conns.remove(at));
 }
 
 /// Where the first of those stands who linger.
