@@ -168,30 +168,33 @@ where
     H: House + Send + Sync,
 {
     'rounds: for _ in rt.forever() {
-        if station.board.is_over() {
+        if !goes_on(scope, keeper, rt, station) {
             return;
         }
-        make_round(scope, keeper, rt, station);
     }
 }
 
-/// Starts the relay that is to start now, or rests where none is.
-fn make_round<'s, E, R, N, C, H>(
+/// Starts the relay that is to start now, or rests where none is, unless all are to stop. Whether they are not.
+fn goes_on<'s, E, R, N, C, H>(
     scope: &Scope<'s, E>,
     keeper: &mut Keeper,
     rt: &'s R,
     station: &'s Station<'s, N, C, H>,
-)
+) -> bool
 where
     R: Clock + Threads + Wait + Sync,
     N: Reach + Sync,
     C: Chronicle + Send + Sync,
     H: House + Send + Sync,
 {
+    if station.board.is_over() {
+        return false;
+    }
     match keeper.next_start(rt, station) {
         Some(relay) => keeper.note_start(begin(scope, rt, station, relay)),
         None => rest(rt),
     }
+    true
 }
 
 /// Pulls this relay in by a thread of the scope. Whether there is one for it.
