@@ -293,18 +293,30 @@ where
     }
     let (_, are_seated) = join_mut(
         rt,
-        &mut || keep_relays(
-            rt,
-            station.net,
-            station.hall,
-            station.board,
-            station.settings,
-        ),
+        &mut || keep_all(rt, station),
         &mut || -> bool
             requires { (pass.now.intake ≡ intake.now) × (all_parts ≤ pass.now.parts + 1) }
         { work_at(rt, station, intake, pass, sockets) },
     );
     are_seated
+}
+
+/// Relays are kept running, until all are to stop.
+fn keep_all<R, N, C, H>(rt: &R, station: &Station<'_, N, C, H>)
+where
+    R: Clock + Threads + Wait + Sync,
+    N: Reach + Sync,
+    C: Chronicle + Send + Sync,
+    H: House + Send + Sync,
+{
+    let Station {
+        net,
+        hall,
+        settings,
+        board,
+        ..
+    } = station;
+    keep_relays(rt, *net, *hall, *board, *settings)
 }
 
 /// The workers with these sockets work, until all are to stop. Whether there was memory for their seats.
