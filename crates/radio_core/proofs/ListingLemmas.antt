@@ -10,9 +10,9 @@ use Rattle.radio_listing.specs.Admin.{stats_text, mounts_text}
 use Rattle.radio_listing.specs.Public.{status_text, stream_text}
 use Rattle.radio_parts.specs.Kept.{kept_live}
 use Rattle.radio_core.specs.Kept.{kept_of}
-use Rattle.radio_house.specs.Listings.{shown, mount_row, mount_rows}
+use Rattle.radio_status.specs.Listings.{shown, mount_row, mount_rows}
 use Rattle.radio_core.specs.Pages.{IsShownBy, IsListing, IsAtPath}
-use Rattle.radio_house.specs.Pages.{page_at, server_as}
+use Rattle.radio_status.specs.Pages.{page_at, server_as}
 use Rattle.radio_core.specs.Planned.{told_counts}
 use Rattle.radio_settings.specs.declared.web.WebPath.{WebPath}
 use Rattle.radio_settings.specs.declared.web.WebPath.TheVariants.{IcecastStatus, Page as AtPage}

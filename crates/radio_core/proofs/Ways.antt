@@ -39,9 +39,9 @@ use Rattle.radio_core.specs.Arrive.{admits_client}
 use Rattle.radio_core.specs.Source.{begins}
 use Rattle.radio_core.specs.Push.{takes_in}
 use Rattle.radio_core.specs.Listen.{takes_seat, sits_where}
-use Rattle.radio_house.specs.Listings.{shown}
+use Rattle.radio_status.specs.Listings.{shown}
 use Rattle.radio_core.specs.Pages.{IsListing, IsAtPath, asks_by}
-use Rattle.radio_house.specs.Pages.{page_at}
+use Rattle.radio_status.specs.Pages.{page_at}
 use Rattle.radio_core.specs.Draw.{hands_out, hands_out_at}
 use Rattle.radio_core.specs.Closing.{OfClient, OfRelay}
 use Rattle.radio_core.specs.Leave.{leaves_from}

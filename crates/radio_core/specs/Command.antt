@@ -14,7 +14,7 @@ use Rattle.radio_core.specs.declared.outcome.Change.TheVariants.{Nothing, Answer
 use Rattle.radio_core.specs.declared.outcome.Outcome.{Outcome}
 use Rattle.radio_house.specs.CommandFacts.{rows_to_command}
 use Rattle.radio_core.specs.Counts.{counts_by}
-use Rattle.radio_house.specs.Listings.{shown}
+use Rattle.radio_status.specs.Listings.{shown}
 use Rattle.radio_house.specs.World.{World, standing_of}
 use Rattle.radio_core.specs.Outcomes.{says, on_verdict, if_undecided}
 

@@ -12,8 +12,8 @@ use Rattle.radio_core.specs.declared.outcome.Change.TheVariants.{Answer}
 use Rattle.radio_core.specs.declared.outcome.Outcome.{Outcome}
 use Rattle.radio_core.specs.Allowed.{IsListed}
 use Rattle.radio_core.specs.Listen.{asks_to_hear}
-use Rattle.radio_house.specs.Listings.{shown}
-use Rattle.radio_house.specs.Pages.{page_at}
+use Rattle.radio_status.specs.Listings.{shown}
+use Rattle.radio_status.specs.Pages.{page_at}
 use Rattle.radio_core.specs.Outcomes.{says, if_undecided}
 use Rattle.radio_house.specs.World.{World, standing_of}
 

@@ -8,8 +8,6 @@ pub mod Waiting
 pub mod Wanted
 pub mod Facts
 pub mod CommandFacts
-pub mod Listings
-pub mod Pages
 pub mod Timeouts
 pub mod Due
 pub mod HouseChanges

@@ -108,8 +108,9 @@ impl House {
         (facts, landing)
     }
 
-    /// The mount to which the listeners of this one fall back, if they do.
-    pub(crate) fn fallback_name(&self, mount: &MountName) -> Option<&MountName>
+    /// The mount to which the listeners of this one fall back, if to any: what a command has set,
+    /// else what the settings say.
+    pub fn fallback_name(&self, mount: &MountName) -> Option<&MountName>
         ensures { option_copied result ≡ fallback_of self.now mount.now }
     {
         match self.fallbacks.get(mount) {

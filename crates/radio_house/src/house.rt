@@ -1,6 +1,6 @@
 //! All of the server's state but the table of listeners.
 
-ghost use Rattle.std.specs.Prelude.{◌≡◌, find, map, IfOk};
+ghost use Rattle.std.specs.Prelude.{◌≡◌, find, length, map, IfOk};
 ghost use Rattle.std.specs.Cmp.Lexicographic.{slice_cmp};
 ghost use Rattle.std.specs.List.Sorted.{IsStrictlySortedBy};
 ghost use Rattle.std.specs.Option.{option_copied};
@@ -106,6 +106,20 @@ impl House {
         ensures { result ≡ self.now.last_id }
     {
         self.last_id
+    }
+
+    /// How many clients there are, who asks among them; relays are none.
+    pub fn client_count(&self) -> u64
+        ensures { result ≡ length self.now.clients }
+    {
+        self.clients.len() as u64
+    }
+
+    /// The live mounts' sessions, in the order of the mounts' names.
+    pub fn sessions(&self) -> &Table<Session>
+        ensures { result.now ≡ self.now.live }
+    {
+        &self.live
     }
 
     /// The session of the mount, if it is live.

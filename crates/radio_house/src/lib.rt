@@ -1,9 +1,9 @@
 //! The house, which is the server's state without its listeners: who is there beside them, what is
-//! looked up in it and shown of it, and what can be changed in it.
+//! looked up in it, and what can be changed in it.
 //!
 //! - [`House`]: the moment, the settings and their lists, the live mounts' sessions, the fallbacks
 //!   that were set, clients and relays. It is looked at by [`House::standing`], `*_facts`,
-//!   [`House::shown`] and others, beside the listeners where these are asked for, and is what a
+//!   [`House::sessions`] and others, beside the listeners where these are asked for, and is what a
 //!   walk sees (`View` of `radio_fallback`). Each other call makes one change; [`House::end_outsiders`]
 //!   makes it among the listeners, who are lent.
 //!   At a mount that a relay feeds on demand listeners may sit while it waits for a session
@@ -18,9 +18,7 @@ mod due;
 mod facts;
 mod fallbacks;
 mod house;
-mod listings;
 mod outsiders;
-mod pages;
 mod relays;
 mod standing;
 mod streams;

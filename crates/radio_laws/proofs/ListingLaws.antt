@@ -32,9 +32,9 @@ use Rattle.radio_core.specs.Command.{does_asked, shows}
 use Rattle.radio_core.specs.Allowed.{IsListed}
 use Rattle.radio_house.specs.CommandFacts.{is_live, facts_asked, rows_to_command}
 use Rattle.radio_core.specs.Counts.{counts_by}
-use Rattle.radio_house.specs.Listings.{shown}
+use Rattle.radio_status.specs.Listings.{shown}
 use Rattle.radio_core.specs.Pages.{IsShownBy, IsListing, IsAtPath}
-use Rattle.radio_house.specs.Pages.{page_at}
+use Rattle.radio_status.specs.Pages.{page_at}
 use Rattle.radio_events.specs.Events.{client_in}
 use Rattle.radio_core.specs.Outcomes.{if_undecided, on_verdict}
 use Rattle.radio_core.specs.Step.{outcome, reply_to, world_after}

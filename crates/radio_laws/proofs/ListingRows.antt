@@ -16,7 +16,7 @@ use Rattle.radio_events.specs.declared.command.Listing.{Listing}
 use Rattle.radio_events.specs.declared.command.Listing.TheVariants.{Status, Stats, Mounts, Clients, Streams}
 use Rattle.radio_house.specs.Facts.{fallback_of}
 use Rattle.radio_house.specs.Fallbacks.{Fallback}
-use Rattle.radio_house.specs.Listings.{shown, mount_row, mount_rows, listener_row, listener_rows, seconds_since, user_of}
+use Rattle.radio_status.specs.Listings.{shown, mount_row, mount_rows, listener_row, listener_rows, seconds_since, user_of}
 use Rattle.radio_parts.specs.Sessions.{Session}
 use Rattle.radio_house.specs.World.{World}
 use Rattle.radio_laws.specs.Shown.{TellsOf, TellOf, TellsOfListener, TellOfListeners, Tells}

@@ -23,11 +23,11 @@ use Rattle.radio_settings.specs.declared.web.WebPath.TheVariants.{IcecastStatus}
 use Rattle.radio_listing.specs.declared.rows.Server.{Server}
 use Rattle.radio_listing.specs.Icecast.{icecast_data, icecast_text}
 use Rattle.radio_core.specs.Pages.{IsShownBy, IsListing, IsAtPath}
-use Rattle.radio_house.specs.Pages.{page_at, server_as}
+use Rattle.radio_status.specs.Pages.{page_at, server_as}
 use Rattle.radio_events.specs.declared.reply.Reply.TheVariants.{Text as SaysText}
 use Rattle.radio_events.specs.declared.text.Text.{Text}
 use Rattle.radio_events.specs.declared.text.Text.TheVariants.{Json, Streams as StreamList, Public}
-use Rattle.radio_house.specs.Listings.{shown, mount_row, mount_rows, public_row}
+use Rattle.radio_status.specs.Listings.{shown, mount_row, mount_rows, public_row}
 use Rattle.radio_parts.specs.Sessions.{Session}
 use Rattle.radio_core.specs.Step.{reply_to}
 use Rattle.radio_house.specs.World.{World}

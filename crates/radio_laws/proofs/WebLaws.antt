@@ -24,10 +24,10 @@ use Rattle.radio_house.specs.declared.standing.Standing.{Standing}
 use Rattle.radio_house.specs.declared.standing.Standing.TheVariants.{Undecided, Answered}
 use Rattle.radio_core.specs.Changes.{changed}
 use Rattle.radio_house.specs.Facts.{names_mount, source_facts_at}
-use Rattle.radio_house.specs.Listings.{mount_rows}
+use Rattle.radio_status.specs.Listings.{mount_rows}
 use Rattle.radio_core.specs.Outcomes.{says, if_undecided, on_verdict}
 use Rattle.radio_core.specs.Pages.{asks_by, shows_page}
-use Rattle.radio_house.specs.Pages.{page_at, server_as}
+use Rattle.radio_status.specs.Pages.{page_at, server_as}
 use Rattle.radio_core.specs.Source.{begins}
 use Rattle.radio_core.specs.Step.{outcome, reply_to, world_after}
 use Rattle.radio_house.specs.World.{World, standing_of}

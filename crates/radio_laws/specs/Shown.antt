@@ -34,7 +34,7 @@ use Rattle.radio_events.specs.declared.text.Text.{Text}
 use Rattle.radio_events.specs.declared.text.Text.TheVariants.{Json, Streams as StreamList, Public, Page}
 use Rattle.radio_events.specs.Texts.{IsShort}
 use Rattle.radio_house.specs.declared.standing.Standing.TheVariants.{Undecided, Answered}
-use Rattle.radio_house.specs.Listings.{mount_rows, listener_rows}
+use Rattle.radio_status.specs.Listings.{mount_rows, listener_rows}
 use Rattle.radio_parts.specs.Sessions.{Session}
 use Rattle.radio_core.specs.Step.{reply_to, world_after}
 use Rattle.radio_house.specs.World.{World, standing_of}

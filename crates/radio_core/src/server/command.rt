@@ -13,6 +13,7 @@ use crate::outcome::{Change, Outcome};
 use radio_events::{Asked, Command, CommandRequest, Reply, Text};
 use radio_house::Standing;
 use radio_policy::{Action, Verdict, judge};
+use radio_status::shown;
 
 impl State {
     /// A client gives a command. Where its reply tells how many were moved, or have finished, that is
@@ -59,7 +60,7 @@ impl State {
         let CommandRequest { id, asked, .. } = asked;
         match asked {
             Asked::Listing(listing) => Ok(Outcome {
-                reply: Reply::Text(self.house.shown(self.alloc, &self.seats, &listing)?),
+                reply: Reply::Text(shown(self.alloc, &self.house, &self.seats, &listing)?),
                 change: Change::Answer { id },
             }),
             Asked::Command(command) => Ok(Outcome {

@@ -11,6 +11,7 @@ use crate::outcome::{Change, Outcome};
 use radio_events::{ListenRequest, Reply};
 use radio_house::Standing;
 use radio_settings::WebPath;
+use radio_status::page;
 
 impl State {
     /// A client asks by a path: to be shown what is there where it is one of the web site's, and else
@@ -34,10 +35,13 @@ impl State {
     {
         match self.standing(asked.id) {
             Standing::Undecided(_) => Ok(Outcome {
-                reply: Reply::Text(
-                    self.house
-                        .page(self.alloc, &self.seats, path, asked.host.as_slice())?,
-                ),
+                reply: Reply::Text(page(
+                    self.alloc,
+                    &self.house,
+                    &self.seats,
+                    path,
+                    asked.host.as_slice(),
+                )?),
                 change: Change::Answer { id: asked.id },
             }),
             Standing::Finished(rule) => Ok(Outcome::finished(rule)),

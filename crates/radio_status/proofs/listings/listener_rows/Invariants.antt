@@ -1,7 +1,7 @@
 use Rattle.std.proofs.Common.{◌≡◌, ◌++◌, map, drop}
 use Rattle.radio_seats.specs.Listed.{lent_guest}
-use Rattle.radio_house.specs.Listings.{listener_row}
-use Rattle.radio_house.proofs.listings.listener_rows.Given as goal
+use Rattle.radio_status.specs.Listings.{listener_row}
+use Rattle.radio_status.proofs.listings.listener_rows.Given as goal
 
 abbrev pub invariant-loop-listener : goal.invariant-loop-listener
 invariant-loop-listener l =

@@ -8,7 +8,7 @@ use Rattle.radio_listing.specs.Icecast.{icecast_text}
 use Rattle.radio_listing.specs.Reached.{base_url}
 use Rattle.radio_events.specs.declared.text.Text.{Text}
 use Rattle.radio_events.specs.declared.text.Text.TheVariants.{Public, Page}
-use Rattle.radio_house.specs.Listings.{mount_rows}
+use Rattle.radio_status.specs.Listings.{mount_rows}
 use Rattle.radio_house.specs.World.{World}
 
 -- the server, as it tells of itself to one who calls it by this host

@@ -1,0 +1,214 @@
+//! What of the station a client is shown.
+
+ghost use Rattle.std.specs.Prelude.{◌≡◌, [], map, unwrap_or, IfOk};
+ghost use Rattle.std.specs.Option.{option_map};
+ghost use Rattle.radio_listing.specs.Listeners.{listeners_text};
+ghost use Rattle.radio_listing.specs.Public.{status_text};
+ghost use Rattle.radio_seats.specs.Listed.{lent_guest};
+ghost use Rattle.radio_status.specs.Listings.{shown, public_row, mount_row, mount_rows, listener_row, listener_rows, user_of};
+ghost use Rattle.radio_house.specs.World.{world};
+ghost use Rattle.radio_events.specs.declared.command.Listing.TheVariants.{Status, Stats, Mounts, Streams};
+ghost use Rattle.radio_events.specs.declared.text.Text.{Text as TextOf};
+
+use crate::OutOfMemory;
+use bytes::Bytes;
+use radio_creds::Pair;
+use radio_events::{Listing, Text};
+use radio_house::House;
+use radio_icy::Title;
+use radio_listing::{
+    ListenerRow, MountRow, PublicRow, Text as Shown, list_clients, list_mounts, stats, status,
+    stream_list,
+};
+use radio_parts::Session;
+use radio_seats::{LentListener, Seats};
+use radio_values::MountName;
+use std::alloc::Global;
+
+/// How many milliseconds a second has.
+const SECOND: u64 = 1000;
+
+/// What is shown of the station, where these listen. The time grows as the number of live mounts, or of listeners where these are
+/// listed. `OutOfMemory` where memory was refused.
+pub fn shown(
+    alloc: Global,
+    house: &House,
+    seats: &Seats,
+    listing: &Listing,
+) -> Result<Text, OutOfMemory>
+    ensures { IfOk result (λ text. text ≡ shown (world house.now seats.now.seats) listing.now) }
+{
+    match listing {
+        Listing::Status => status_shown(alloc, house, seats),
+        Listing::Stats => stats_shown(alloc, house, seats),
+        Listing::Mounts => mounts_shown(alloc, house, seats),
+        Listing::Clients(mount) => json(listeners_shown(alloc, house, seats, mount)?),
+        Listing::Streams => streams_shown(alloc, house, seats),
+    }
+}
+
+/// What the server does as a whole. `OutOfMemory` where memory was refused.
+fn stats_shown(alloc: Global, house: &House, seats: &Seats) -> Result<Text, OutOfMemory>
+    ensures { IfOk result (λ text. text ≡ shown (world house.now seats.now.seats) Stats) }
+{
+    let clients = house.client_count();
+    let rows = mount_rows(alloc, house, seats)?;
+    json(stats(alloc, clients, rows.as_slice())?)
+}
+
+/// All live mounts. `OutOfMemory` where memory was refused.
+fn mounts_shown(alloc: Global, house: &House, seats: &Seats) -> Result<Text, OutOfMemory>
+    ensures { IfOk result (λ text. text ≡ shown (world house.now seats.now.seats) Mounts) }
+{
+    let rows = mount_rows(alloc, house, seats)?;
+    json(list_mounts(alloc, rows.as_slice())?)
+}
+
+/// The mounts that a relay may pull. `OutOfMemory` where memory was refused.
+fn streams_shown(alloc: Global, house: &House, seats: &Seats) -> Result<Text, OutOfMemory>
+    ensures { IfOk result (λ text. text ≡ shown (world house.now seats.now.seats) Streams) }
+{
+    let rows = mount_rows(alloc, house, seats)?;
+    streams(stream_list(alloc, rows.as_slice())?)
+}
+
+/// What everybody may see. `OutOfMemory` where memory was refused.
+fn status_shown(alloc: Global, house: &House, seats: &Seats) -> Result<Text, OutOfMemory>
+    ensures { IfOk result (λ text. text ≡ shown (world house.now seats.now.seats) Status) }
+{
+    let bytes = status_bytes(alloc, house, seats)?;
+    Ok(Text::Public {
+        bytes,
+        allow_origin: house.settings().web.allow_origin.clone()?,
+    })
+}
+
+fn status_bytes(alloc: Global, house: &House, seats: &Seats) -> Result<Bytes, OutOfMemory>
+    ensures { IfOk result (λ bytes. bytes ≡ status_text (mount_rows (world house.now seats.now.seats))) }
+{
+    let rows = mount_rows(alloc, house, seats)?;
+    Ok(Bytes::from_vec(status(alloc, rows.as_slice())?)?)
+}
+
+/// The live mounts, in the order of their names. `OutOfMemory` where memory was refused.
+pub(crate) fn mount_rows<'a>(
+    alloc: Global,
+    house: &'a House,
+    seats: &Seats,
+) -> Result<Vec<MountRow<'a>>, OutOfMemory>
+    ensures { IfOk result (λ rows. rows.items ≡ mount_rows (world house.now seats.now.seats)) }
+{
+    let mut rows = Vec::new(alloc);
+    for session in house.sessions().iter() {
+        rows.push(mount_row(house, seats, session))?;
+    }
+    Ok(rows)
+}
+
+/// What listings tell of a live mount.
+fn mount_row<'a>(house: &'a House, seats: &Seats, session: &'a Session) -> MountRow<'a>
+    ensures { result ≡ mount_row (world house.now seats.now.seats) session.now }
+{
+    let mount = session.mount.get();
+    MountRow {
+        public: public_row(house, seats, session),
+        hidden: house.settings().options(mount).stream.hidden,
+        session: session.number,
+        fallback: match house.fallback_name(mount) {
+            Some(fallback) => Some(Shown::of(fallback.as_bytes())),
+            None => None,
+        },
+    }
+}
+
+/// What everybody may see of a live mount.
+fn public_row<'a>(house: &House, seats: &Seats, session: &'a Session) -> PublicRow<'a>
+    ensures { result ≡ public_row (world house.now seats.now.seats) session.now }
+{
+    let mount = session.mount.get();
+    PublicRow {
+        mount: Shown::of(mount.as_bytes()),
+        name: Shown::of(session.shown.name.as_bytes()),
+        genre: Shown::of(session.shown.genre.as_bytes()),
+        content_type: Shown::of(session.shown.content_type.as_bytes()),
+        title: title_shown(&session.title),
+        listeners: seats.count(mount),
+    }
+}
+
+/// The listeners of the mount. `OutOfMemory` where memory was refused.
+fn listeners_shown(
+    alloc: Global,
+    house: &House,
+    seats: &Seats,
+    mount: &MountName,
+) -> Result<Vec<u8>, OutOfMemory>
+    ensures { IfOk result (λ bytes. bytes.items ≡ listeners_text mount.now (listener_rows (world house.now seats.now.seats) mount.now)) }
+{
+    let listeners = seats.guests_at(alloc, mount)?;
+    let rows = listener_rows(alloc, house.time(), listeners.as_slice())?;
+    list_clients(alloc, &Shown::of(mount.as_bytes()), rows.as_slice())
+}
+
+/// The listeners as rows, each with how long he has listened. `OutOfMemory` where memory was refused.
+fn listener_rows<'a>(
+    alloc: Global,
+    now: u64,
+    listeners: &[LentListener<'a>],
+) -> Result<Vec<ListenerRow<'a>>, OutOfMemory>
+    ensures { IfOk result (λ rows. rows.items ≡ map (listener_row now) (map lent_guest listeners.now)) }
+{
+    let mut rows = Vec::new(alloc);
+    for listener in listeners {
+        rows.push(listener_row(now, listener))?;
+    }
+    Ok(rows)
+}
+
+/// A listener, and how long he has listened.
+fn listener_row<'a>(now: u64, listener: &LentListener<'a>) -> ListenerRow<'a>
+    ensures { result ≡ listener_row now (lent_guest listener.now) }
+{
+    let guest = listener.guest;
+    ListenerRow {
+        home: Shown::of(guest.home.get().as_bytes()),
+        id: listener.id,
+        peer: guest.peer,
+        seconds: now.saturating_sub(guest.since) / SECOND,
+        user: user_shown(&guest.pair),
+    }
+}
+
+/// The user of a pair.
+fn user_shown(pair: &Option<Pair>) -> Option<Shown<'_>>
+    ensures { result ≡ option_map user_of pair.now }
+{
+    match pair {
+        Some(pair) => Some(Shown::of(pair.user())),
+        None => None,
+    }
+}
+
+/// A title, which is empty where none was set.
+fn title_shown(title: &Option<Title>) -> Shown<'_>
+    ensures { result ≡ unwrap_or title.now [] }
+{
+    match title {
+        Some(title) => Shown::of(title.as_slice()),
+        None => Shown::of(b""),
+    }
+}
+
+/// A listing in JSON.
+fn json(bytes: Vec<u8>) -> Result<Text, OutOfMemory>
+    ensures { IfOk result (λ text. text ≡ TextOf.Json bytes.items) }
+{
+    Ok(Text::Json(Bytes::from_vec(bytes)?))
+}
+
+/// A list of streams.
+fn streams(bytes: Vec<u8>) -> Result<Text, OutOfMemory>
+    ensures { IfOk result (λ text. text ≡ TextOf.Streams bytes.items) }
+{
+    Ok(Text::Streams(Bytes::from_vec(bytes)?))
+}
