@@ -309,14 +309,13 @@ where
     C: Chronicle + Send + Sync,
     H: House + Send + Sync,
 {
-    let Station {
-        net,
-        hall,
-        settings,
-        board,
-        ..
-    } = station;
-    keep_relays(rt, *net, *hall, *board, *settings)
+    keep_relays(
+        rt,
+        station.net,
+        station.hall,
+        station.board,
+        station.settings,
+    )
 }
 
 /// The workers with these sockets work, until all are to stop. Whether there was memory for their seats.
