@@ -3,7 +3,7 @@ use Rattle.std.specs.Prelude.{◌≡◌, ℕ, List, Option}
 use Rattle.radio_house.specs.World.{World}
 use Rattle.radio_seats.specs.Seats.{last_mount_of}
 use Rattle.radio_events.specs.declared.entry.Entry.{Entry}
-use Rattle.radio_book.specs.History.{IsRun, world_of}
+use Rattle.radio_chronicle.specs.History.{IsRun, world_of}
 
 -- the listener sits there, or sat there last, in the state after a history that is a run from the opening state
 pub record WasAt (opening : World) (id : ℕ) (mount : Option (List ℕ)) : Type 0 where

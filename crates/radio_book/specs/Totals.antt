@@ -4,7 +4,7 @@ use Rattle.radio_house.specs.World.{World}
 use Rattle.radio_core.specs.Step.{world_after}
 use Rattle.radio_core.specs.Totals.{arrivals, departures, relays_up, relays_down, seatings, listeners_leaving, clients_there, relays_there, seats_there, seats_lost}
 use Rattle.radio_events.specs.declared.entry.Entry.{Entry}
-use Rattle.radio_book.specs.History.{world_of}
+use Rattle.radio_chronicle.specs.History.{world_of}
 
 -- how many clients have come, and how many have left
 abbrev pub clients_come : List Entry → ℕ

@@ -9,8 +9,8 @@ ghost use Rattle.radio_book.specs.Newcomers.{is_arrival, room_for};
 
 use crate::debt::Debt;
 use crate::holdings::Holdings;
-use crate::story::Story;
 use crate::{Chronicle, House, OutOfMemory, Receipt};
+use radio_chronicle::Story;
 use radio_events::Event;
 use std::alloc::{AllocError, Global};
 use std::sync::ledger::Share;

@@ -4,7 +4,8 @@ ghost use Rattle.std.specs.Prelude.{◌≡◌, ◌<◌, ◌^◌, ◌∷◌, [], 
 ghost use Rattle.radio_house.specs.World.{World, opening};
 ghost use Rattle.radio_core.specs.Step.{Represents, reply_to, world_after};
 ghost use Rattle.radio_events.specs.Events.{TakesNoMemory};
-ghost use Rattle.radio_book.specs.History.{IsLegal, IsTold, entry_of};
+ghost use Rattle.radio_chronicle.specs.History.{IsRun, IsTold};
+ghost use Rattle.radio_book.specs.History.{IsLegal, entry_of};
 ghost use Rattle.radio_book.specs.Wanted.{AreWanted};
 ghost use Rattle.radio_book.specs.LastMounts.{WasAt};
 ghost use Rattle.radio_seats.specs.Seats.{last_mount_of};
@@ -14,9 +15,9 @@ ghost use Rattle.radio_book.specs.declared.newcomer.Newcomer.{Newcomer};
 
 use crate::accounts::Accounts;
 use crate::debt::Debt;
-use crate::story::Story;
 use crate::{Chronicle, Entry, House, Kept, OutOfMemory, Pass, Receipt};
 use radio_access::Lists;
+use radio_chronicle::Story;
 use radio_core::Core;
 use radio_events::Event;
 use radio_settings::Settings;
@@ -143,13 +144,25 @@ impl<C: Chronicle, H: House> Book<C, H> {
 }
 
 impl<H: House> Book<Kept, H> {
-    ghost use Rattle.radio_book.specs.History.{IsRun};
-
     /// Its history, which is a run from the opening state.
     pub(crate) fn into_history(self) -> Vec<Entry>
         ensures history { result.items ≡ self.history }
         ensures run { ∥ IsRun H.opening result.items ∥₁ }
     {
-        self.accounts.story.into_history()
+        entries_of(self.accounts.story)
     }
+}
+
+/// The entries of a story that is over, which are a run from the opening state.
+fn entries_of<H: House>(story: Story<Kept, H>) -> Vec<Entry>
+    ensures history { result.items ≡ ⟦<Kept as Chronicle>⟧.entries story.chronicle }
+    ensures run { ∥ IsRun H.opening result.items ∥₁ }
+{
+    let Story {
+        core,
+        chronicle,
+        ..
+    } = story;
+    drop(core);
+    chronicle.into_entries()
 }

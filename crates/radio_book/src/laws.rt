@@ -5,7 +5,7 @@ ghost use Rattle.radio_settings.specs.declared.settings.Settings.{Settings};
 ghost use Rattle.radio_access.specs.Lists.{Lists};
 ghost use Rattle.radio_house.specs.World.{opening};
 ghost use Rattle.radio_events.specs.declared.entry.Entry.{Entry};
-ghost use Rattle.radio_book.specs.History.{IsRun};
+ghost use Rattle.radio_chronicle.specs.History.{IsRun};
 ghost use Rattle.radio_book.specs.Totals.{AddsUp};
 
 use radio_core::{clients_and_seats_add_up, events_are_of_their_clients};

@@ -1,4 +1,4 @@
-//! One legal history: a core, what happened to it, and receipts of it for those who called.
+//! One legal history: a core with its chronicle, and receipts of it for those who called.
 //!
 //! - [`Book`]: a core and its chronicle; [`Book::apply`] is one event, noted.
 //! - [`Chronicle`]: what becomes of the entries. [`Kept`] stores each, [`Unkept`] none.
@@ -11,23 +11,19 @@
 
 mod accounts;
 mod book;
-mod chronicle;
 mod debt;
 mod holdings;
-mod house;
 mod laws;
 mod newcomer;
 mod pass;
 mod receipt;
 mod settling;
-mod story;
 
 pub use book::{Book, PASSES};
-pub use chronicle::{Chronicle, Kept, Unkept};
-pub use house::House;
 pub use laws::histories_add_up;
 pub use newcomer::Newcomer;
 pub use pass::Pass;
+pub use radio_chronicle::{Chronicle, House, Kept, Unkept};
 pub use radio_events::Entry;
 pub use receipt::Receipt;
 pub use settling::{SettleFault, settle};

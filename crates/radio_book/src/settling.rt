@@ -4,7 +4,8 @@ ghost use Rattle.std.specs.Prelude.{◌≡◌, ◌↔◌, ◌<◌, ◌≤◌, �
 ghost use Rattle.std.specs.Prelude.{All, sum_by};
 ghost use Rattle.std.specs.Fmt.{IsPlainFormatter, WritesOnOk};
 ghost use Rattle.std.specs.List.{range_with_len};
-ghost use Rattle.radio_book.specs.History.{IsRun, StandsIn};
+ghost use Rattle.radio_chronicle.specs.History.{IsRun};
+ghost use Rattle.radio_book.specs.History.{StandsIn};
 ghost use Rattle.radio_book.specs.Words.{count_text, order_text};
 ghost use Rattle.radio_book.specs.Settling.{Falls, IsStrange, Rises, Shows, ShowsBySerials, all_serials, serials, times, HasNoTwins};
 

@@ -4,7 +4,7 @@ use Rattle.std.proofs.Math.Logic.{∥∥₁_map}
 use Rattle.radio_house.specs.World.{World}
 use Rattle.radio_events.specs.declared.entry.Entry.{Entry}
 use Rattle.radio_book.specs.declared.settling.SettleFault.{SettleFault}
-use Rattle.radio_book.specs.History.{IsRun, IsTold}
+use Rattle.radio_chronicle.specs.History.{IsRun, IsTold}
 use Rattle.radio_book.specs.Settling.{Shows}
 use Rattle.radio_book.specs.Stamp.{Stamp}
 

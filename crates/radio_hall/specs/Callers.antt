@@ -8,7 +8,8 @@ use Rattle.radio_house.specs.World.{World}
 use Rattle.radio_book.specs.declared.newcomer.Newcomer.{Newcomer}
 use Rattle.radio_book.specs.Newcomers.{is_here, leaver_of}
 use Rattle.radio_events.specs.declared.entry.Entry.{Entry}
-use Rattle.radio_book.specs.History.{IsRun, entry_of, world_of}
+use Rattle.radio_chronicle.specs.History.{IsRun, world_of}
+use Rattle.radio_book.specs.History.{entry_of}
 use Rattle.radio_book.specs.Stamp.{Stamp, stamped}
 use Rattle.radio_serving.specs.Turns.{Chain}
 

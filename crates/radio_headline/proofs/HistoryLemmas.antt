@@ -13,7 +13,7 @@ use Rattle.radio_house.specs.World.{World, opening}
 use Rattle.radio_laws.specs.Stretches.{sittings, AreStretches}
 use Rattle.radio_session.specs.Told.{draws_of}
 use Rattle.radio_events.specs.declared.entry.Entry.{Entry}
-use Rattle.radio_book.specs.History.{IsRun}
+use Rattle.radio_chronicle.specs.History.{IsRun}
 use Rattle.radio_headline.specs.Histories.{HistoriesAreLawful, draws_noted, events_noted}
 use Rattle.radio_headline.specs.Listeners.{DrawsAreStretches, IsLawful, draws_to}
 use Rattle.radio_headline.specs.Sources.{NobodyDelivers}

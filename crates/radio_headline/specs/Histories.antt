@@ -12,7 +12,7 @@ use Rattle.radio_house.specs.World.{opening}
 use Rattle.radio_laws.specs.Stretches.{sittings, AreStretches}
 use Rattle.radio_session.specs.Told.{draws_of}
 use Rattle.radio_events.specs.declared.entry.Entry.{Entry}
-use Rattle.radio_book.specs.History.{IsRun}
+use Rattle.radio_chronicle.specs.History.{IsRun}
 use Rattle.radio_headline.specs.Listeners.{IsLawful}
 use Rattle.radio_headline.specs.Sources.{NobodyDelivers}
 

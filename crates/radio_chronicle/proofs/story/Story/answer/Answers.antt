@@ -1,5 +1,5 @@
-use Rattle.radio_book.proofs.Telling.{answered}
-use Rattle.radio_book.proofs.story.Story.answer.Goals as goal
+use Rattle.radio_chronicle.proofs.Telling.{answered}
+use Rattle.radio_chronicle.proofs.story.Story.answer.Goals as goal
 
 pub invariant_of-self : goal.invariant_of-self
 invariant_of-self g c =

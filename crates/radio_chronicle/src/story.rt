@@ -4,26 +4,29 @@ ghost use Rattle.std.specs.Prelude.{◌≡◌, ◌+◌, ◌≤◌, ◌<◌, ◌�
 ghost use Rattle.radio_house.specs.World.{World};
 ghost use Rattle.radio_core.specs.Step.{Represents, reply_to, world_after};
 ghost use Rattle.radio_events.specs.Events.{TakesNoMemory, entry};
-ghost use Rattle.radio_book.specs.History.{IsTold};
+ghost use Rattle.radio_chronicle.specs.History.{IsTold};
 
-use crate::{Chronicle, Entry, House, Kept, OutOfMemory};
+use crate::{Chronicle, Entry, House, OutOfMemory};
 use radio_core::Core;
 use radio_events::{Event, Reply};
 use std::marker::PhantomData;
 
 /// A core and its chronicle: the core stands for the state after a history that is a run, and where
-/// entries are stored, they are that history.
+/// entries are stored, they are that history. Whoever changes one of the two has to prove that this is
+/// so still.
 #[derive(Drop)]
-pub(crate) struct Story<C: Chronicle, H: House> {
-    pub(crate) core: Core,
-    pub(crate) chronicle: C,
+pub struct Story<C: Chronicle, H: House> {
+    /// What answers events.
+    pub core: Core,
+    /// Where its entries go.
+    pub chronicle: C,
     of: PhantomData<H>,
-    pub(crate) ghost told: { ∥ IsTold C.KEEPS H.opening (C.entries chronicle) core ∥₁ },
+    pub ghost told: { ∥ IsTold C.KEEPS H.opening (C.entries chronicle) core ∥₁ },
 }
 
 impl<C: Chronicle, H: House> Story<C, H> {
     /// Nothing has happened yet.
-    pub(crate) fn new(core: Core, chronicle: C) -> Story<C, H>
+    pub fn new(core: Core, chronicle: C) -> Story<C, H>
         requires opening { Represents core H.opening }
         requires empty { C.entries chronicle ≡ [] }
         ensures { (result.core ≡ core) × (result.chronicle ≡ chronicle) }
@@ -37,7 +40,7 @@ impl<C: Chronicle, H: House> Story<C, H> {
 
     /// One event, where nothing is stored. `OutOfMemory` where memory was refused; nothing has
     /// changed then.
-    pub(crate) fn answer(&mut self, event: Event) -> Result<Reply, OutOfMemory>
+    pub fn answer(&mut self, event: Event) -> Result<Reply, OutOfMemory>
         requires { C.KEEPS ≡ false }
         ensures step { (w : World) → Represents self.old.core w
             → IfOk result (λ reply. (reply ≡ reply_to w event) × Represents self.new.core (world_after w event)) }
@@ -50,11 +53,7 @@ impl<C: Chronicle, H: House> Story<C, H> {
 
     /// One event, whose copy is noted with its reply, and the reply twice more. `OutOfMemory` where
     /// memory was refused; nothing has changed then.
-    pub(crate) fn record(
-        &mut self,
-        event: Event,
-        copy: Event,
-    ) -> Result<(Reply, Reply), OutOfMemory>
+    pub fn record(&mut self, event: Event, copy: Event) -> Result<(Reply, Reply), OutOfMemory>
         requires keeps { C.KEEPS ≡ true }
         requires copy { copy ≡ event }
         requires room { 0 < C.room self.old.chronicle }
@@ -80,24 +79,6 @@ impl<C: Chronicle, H: House> Story<C, H> {
                 Err(refused)
             }
         }
-    }
-}
-
-impl<H: House> Story<Kept, H> {
-    ghost use Rattle.radio_book.specs.History.{IsRun};
-
-    /// Its entries, which are a run from the opening state.
-    pub(crate) fn into_history(self) -> Vec<Entry>
-        ensures history { result.items ≡ ⟦<Kept as Chronicle>⟧.entries self.chronicle }
-        ensures run { ∥ IsRun H.opening result.items ∥₁ }
-    {
-        let Story {
-            core,
-            chronicle,
-            of: _,
-        } = self;
-        drop(core);
-        chronicle.into_entries()
     }
 }
 

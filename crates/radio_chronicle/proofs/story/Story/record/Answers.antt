@@ -2,8 +2,8 @@ use Rattle.std.proofs.Common.{[], ◌∷◌, ◌++◌, sym, ap, ◌∙◌}
 use Rattle.radio_events.specs.declared.event.Event.{Event}
 use Rattle.radio_events.specs.declared.reply.Reply.{Reply}
 use Rattle.radio_events.specs.Events.{entry}
-use Rattle.radio_book.proofs.Telling.{alike, core_steps3, goes_on}
-use Rattle.radio_book.proofs.story.Story.record.Goals as goal
+use Rattle.radio_chronicle.proofs.Telling.{alike, core_steps3, goes_on}
+use Rattle.radio_chronicle.proofs.story.Story.record.Goals as goal
 
 pub invariant_of-self : goal.invariant_of-self
 invariant_of-self g c =

@@ -1,5 +1,0 @@
-use Rattle.radio_book.proofs.Telling.{stored_run}
-use Rattle.radio_book.proofs.story.Story+Kept+H.into_history.Goals as goal
-
-pub returns-clause-run : goal.returns-clause-run
-returns-clause-run g c = rw c.into_entries.ensures (stored_run g.H.House.opening _ c.args.self.core c.args.self.told)
