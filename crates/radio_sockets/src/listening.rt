@@ -119,13 +119,14 @@ where
         Ok((board, mut sockets)) => {
             let fault = {
                 let station = Station {
+                    rt,
                     net,
                     hall,
                     settings,
                     service,
                     board: &board,
                 };
-                serve_at(rt, &station, &mut sockets, acceptor)
+                serve_at(&station, &mut sockets, acceptor)
             };
             drop(sockets);
             drop(board);
@@ -155,7 +156,8 @@ fn open_board<N: Reach, O: Write + Drop>(
 
 /// What is served, how, and by what all threads tell each other.
 #[derive(Drop)]
-struct Station<'a, N: Reach, C: Chronicle, H: House> {
+struct Station<'a, R, N: Reach, C: Chronicle, H: House> {
+    rt: &'a R,
     net: &'a N,
     hall: &'a Hall<C, H>,
     settings: &'a Settings,
@@ -165,8 +167,7 @@ struct Station<'a, N: Reach, C: Chronicle, H: House> {
 
 /// Serves connections by workers with these sockets, whom this acceptor hands them, and writes the rest of the log.
 fn serve_at<R, N, C, H, O>(
-    rt: &R,
-    station: &Station<'_, N, C, H>,
+    station: &Station<'_, R, N, C, H>,
     sockets: &mut Vec<Sockets>,
     acceptor: &mut Acceptor<O>,
 ) -> ServeFault
@@ -177,16 +178,15 @@ where
     H: House + Send + Sync,
     O: Write + Drop + Send,
 {
-    let fault = serve_all(rt, station, sockets, acceptor);
-    acceptor.write_rest(rt, station.board);
+    let fault = serve_all(station, sockets, acceptor);
+    acceptor.write_rest(station.rt, station.board);
     fault
 }
 
 /// Serves connections through an intake, until all stop. `OutOfMemory` where memory was refused for it, or for the
 /// workers' seats.
 fn serve_all<R, N, C, H, O>(
-    rt: &R,
-    station: &Station<'_, N, C, H>,
+    station: &Station<'_, R, N, C, H>,
     sockets: &mut Vec<Sockets>,
     acceptor: &mut Acceptor<O>,
 ) -> ServeFault
@@ -199,7 +199,7 @@ where
 {
     match Intake::new(station.board.alloc()) {
         Ok((intake, mut pass)) => {
-            let fault = serve_through(rt, station, &intake, &mut pass, sockets, acceptor);
+            let fault = serve_through(station, &intake, &mut pass, sockets, acceptor);
             drop(pass);
             drop(intake);
             fault
@@ -211,8 +211,7 @@ where
 /// Serves connections through this intake, whose pass the acceptor and the workers share. `OutOfMemory` where memory was
 /// refused for the workers' seats.
 fn serve_through<R, N, C, H, O>(
-    rt: &R,
-    station: &Station<'_, N, C, H>,
+    station: &Station<'_, R, N, C, H>,
     intake: &Intake<Coming>,
     pass: &mut IntakePass<Coming>,
     sockets: &mut Vec<Sockets>,
@@ -228,9 +227,7 @@ where
     requires parts { all_parts ≤ pass.old.parts }
 {
     let mut hand = intake.split(pass);
-    let (fault, are_seated) = work_together(
-        rt, station, intake, &mut hand, pass, sockets, acceptor,
-    );
+    let (fault, are_seated) = work_together(station, intake, &mut hand, pass, sockets, acceptor);
     drop(hand);
     if are_seated {
         fault
@@ -242,8 +239,7 @@ where
 /// The acceptor puts connections into this intake by his hand, and workers with these sockets take them out by their pass,
 /// until all stop. His fault, and whether there was memory for the workers' seats.
 fn work_together<R, N, C, H, O>(
-    rt: &R,
-    station: &Station<'_, N, C, H>,
+    station: &Station<'_, R, N, C, H>,
     intake: &Intake<Coming>,
     hand: &mut IntakePass<Coming>,
     pass: &mut IntakePass<Coming>,
@@ -261,21 +257,20 @@ where
     requires parts { all_parts ≤ pass.old.parts + 1 }
 {
     join_mut(
-        rt,
+        station.rt,
         &mut || -> ServeFault
             requires { hand.now.intake ≡ intake.now }
-        { acceptor.work(rt, station.board, intake, hand) },
+        { acceptor.work(station.rt, station.board, intake, hand) },
         &mut || -> bool
             requires { (pass.now.intake ≡ intake.now) × (all_parts ≤ pass.now.parts + 1) }
-        { work_beside_relays(rt, station, intake, pass, sockets) },
+        { work_beside_relays(station, intake, pass, sockets) },
     )
 }
 
 /// The workers with these sockets work, and relays are kept running beside them, if the settings wish some. Whether there
 /// was memory for the workers' seats.
 fn work_beside_relays<R, N, C, H>(
-    rt: &R,
-    station: &Station<'_, N, C, H>,
+    station: &Station<'_, R, N, C, H>,
     intake: &Intake<Coming>,
     pass: &mut IntakePass<Coming>,
     sockets: &mut Vec<Sockets>,
@@ -289,20 +284,20 @@ where
     requires parts { all_parts ≤ pass.old.parts + 1 }
 {
     if !has_relays(station.settings) {
-        return work_at(rt, station, intake, pass, sockets);
+        return work_at(station, intake, pass, sockets);
     }
     let (_, are_seated) = join_mut(
-        rt,
-        &mut || keep_all(rt, station),
+        station.rt,
+        &mut || keep_all(station),
         &mut || -> bool
             requires { (pass.now.intake ≡ intake.now) × (all_parts ≤ pass.now.parts + 1) }
-        { work_at(rt, station, intake, pass, sockets) },
+        { work_at(station, intake, pass, sockets) },
     );
     are_seated
 }
 
 /// Relays are kept running, until all are to stop.
-fn keep_all<R, N, C, H>(rt: &R, station: &Station<'_, N, C, H>)
+fn keep_all<R, N, C, H>(station: &Station<'_, R, N, C, H>)
 where
     R: Clock + Threads + Wait + Sync,
     N: Reach + Sync,
@@ -310,7 +305,7 @@ where
     H: House + Send + Sync,
 {
     keep_relays(
-        rt,
+        station.rt,
         station.net,
         station.hall,
         station.board,
@@ -320,8 +315,7 @@ where
 
 /// The workers with these sockets work, until all are to stop. Whether there was memory for their seats.
 fn work_at<R, N, C, H>(
-    rt: &R,
-    station: &Station<'_, N, C, H>,
+    station: &Station<'_, R, N, C, H>,
     intake: &Intake<Coming>,
     pass: &mut IntakePass<Coming>,
     sockets: &mut Vec<Sockets>,
@@ -334,9 +328,16 @@ where
     requires own { pass.old.intake ≡ intake.now }
     requires parts { all_parts ≤ pass.old.parts + 1 }
 {
-    match seats_of(rt, station.hall, station.board, intake, pass, sockets) {
+    match seats_of(
+        station.rt,
+        station.hall,
+        station.board,
+        intake,
+        pass,
+        sockets,
+    ) {
         Ok(mut seats) => {
-            run_at(rt, station, intake, seats.as_mut_slice());
+            run_at(station, intake, seats.as_mut_slice());
             true
         }
         Err(_) => {
@@ -348,8 +349,7 @@ where
 
 /// Workers at these seats work, until all are to stop.
 fn run_at<R, N, C, H>(
-    rt: &R,
-    station: &Station<'_, N, C, H>,
+    station: &Station<'_, R, N, C, H>,
     intake: &Intake<Coming>,
     seats: &mut [Seat<C, H, Coming, SocketPost<'_, R>>],
 )
@@ -368,7 +368,7 @@ where
         turns: u64::MAX,
     };
     run_workers::<R, C, H, Coming, SocketLine<TcpStream>, SocketPost<'_, R>, OpenGate>(
-        rt,
+        station.rt,
         station.board.alloc(),
         &place,
         seats,
