@@ -260,11 +260,29 @@ where
         station.rt,
         &mut || -> ServeFault
             requires { hand.now.intake ≡ intake.now }
-        { acceptor.work(station.rt, station.board, intake, hand) },
+        { accept(station, intake, hand, acceptor) },
         &mut || -> bool
             requires { (pass.now.intake ≡ intake.now) × (all_parts ≤ pass.now.parts + 1) }
         { work_beside_relays(station, intake, pass, sockets) },
     )
+}
+
+/// The acceptor puts connections into this intake by his hand, until all stop. His fault.
+fn accept<R, N, C, H, O>(
+    station: &Station<'_, R, N, C, H>,
+    intake: &Intake<Coming>,
+    hand: &mut IntakePass<Coming>,
+    acceptor: &mut Acceptor<O>,
+) -> ServeFault
+where
+    R: Clock + Wait,
+    N: Reach,
+    C: Chronicle,
+    H: House,
+    O: Write + Drop,
+    requires { hand.old.intake ≡ intake.now }
+{
+    acceptor.work(station.rt, station.board, intake, hand)
 }
 
 /// The workers with these sockets work, and relays are kept running beside them, if the settings wish some. Whether there
