@@ -11,11 +11,11 @@ use Rattle.radio_events.specs.declared.event.Event.{Event}
 use Rattle.radio_house.specs.declared.clients.ClientState.{ClientState}
 use Rattle.radio_house.specs.declared.clients.ClientState.TheVariants.{Undecided as IsNew, Feeds as IsSource, Listens, Answered as HasHisAnswer}
 use Rattle.radio_core.specs.declared.outcome.Outcome.{Outcome}
-use Rattle.radio_core.specs.declared.outcome.Change.TheVariants.{Admit, Obey}
+use Rattle.radio_changes.specs.declared.change.Change.TheVariants.{Admit, Obey}
 use Rattle.radio_house.specs.declared.standing.Standing.TheVariants.{Unknown}
 use Rattle.radio_house.specs.House.{House}
 use Rattle.radio_house.specs.Streams.{shown_for}
-use Rattle.radio_core.specs.Changes.{answered, session_killed, changed, before_silence, session_silenced, silent_in, ticked, session_begun, session_raised}
+use Rattle.radio_changes.specs.Changes.{answered, session_killed, changed, before_silence, session_silenced, silent_in, ticked, session_begun, session_raised}
 use Rattle.radio_core.specs.ClientSteps.{ArrivalsStay}
 use Rattle.radio_house.specs.Clients.{Client, client_of, with_state, in_state, without_client}
 use Rattle.radio_parts.specs.Sessions.{Session, session_of}

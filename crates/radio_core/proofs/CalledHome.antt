@@ -14,11 +14,11 @@ use Rattle.radio_fallback.specs.declared.moves.Move.TheVariants.{Up}
 use Rattle.radio_fallback.specs.declared.moves.Turn.TheVariants.{GoesTo}
 use Rattle.radio_fallback.specs.Carry.{at_his_turn}
 use Rattle.radio_fallback.proofs.Faring.{comes_home, never_out}
-use Rattle.radio_core.specs.declared.outcome.Change.TheVariants.{Begin, Raise}
+use Rattle.radio_changes.specs.declared.change.Change.TheVariants.{Begin, Raise}
 use Rattle.radio_house.specs.declared.standing.Standing.TheVariants.{Undecided, Feeds}
 use Rattle.radio_addr.specs.declared.peer.Peer.{Peer}
 use Rattle.radio_values.specs.declared.field.Shown.{Shown}
-use Rattle.radio_core.specs.Changes.{changed, carried_along, called_home, session_begun, session_raised}
+use Rattle.radio_changes.specs.Changes.{changed, carried_along, called_home, session_begun, session_raised}
 use Rattle.radio_house.specs.HouseChanges.{begun, raised}
 use Rattle.radio_house.specs.Facts.{sight_of}
 use Rattle.radio_core.specs.Moves.{his_turn, moved_into}

@@ -16,7 +16,7 @@ use Rattle.radio_fallback.proofs.FaresLemmas.{numbers_kept}
 use Rattle.radio_fallback.proofs.Faring.{Faring, HasStayed, HasGone, HasLost, fares}
 use Rattle.radio_house.specs.House.{House}
 use Rattle.radio_house.specs.declared.standing.Standing.TheVariants.{Sits}
-use Rattle.radio_core.specs.Changes.{carried_along}
+use Rattle.radio_changes.specs.Changes.{carried_along}
 use Rattle.radio_house.specs.Clients.{Client, client_of}
 use Rattle.radio_house.specs.Relays.{Relay, relay_of}
 use Rattle.radio_house.specs.Facts.{sight_of, live_end}

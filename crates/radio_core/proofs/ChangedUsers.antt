@@ -14,7 +14,7 @@ use Rattle.radio_house.specs.Outsiders.{is_shut_out}
 use Rattle.radio_house.specs.World.{World}
 use Rattle.radio_parts.specs.Sessions.{Session}
 use Rattle.radio_core.specs.Allowed.{ChangesUsers}
-use Rattle.radio_core.specs.Changes.{outsiders_ended}
+use Rattle.radio_changes.specs.Changes.{outsiders_ended}
 use Rattle.radio_core.specs.Finishes.{Cause, IsNotAccepted}
 use Rattle.radio_core.specs.Sound.{IsSound}
 use Rattle.radio_core.proofs.Fates.{Fates, Nobody, seats_fates}

@@ -10,7 +10,7 @@ use Rattle.radio_events.specs.Events.{client_in}
 use Rattle.radio_core.specs.declared.outcome.Outcome.{Outcome}
 use Rattle.radio_house.specs.declared.standing.Standing.{Standing}
 use Rattle.radio_house.specs.declared.standing.Standing.TheVariants.{Unknown, Undecided, Feeds, Finished as HasFinished}
-use Rattle.radio_core.specs.Changes.{changed, taken_in}
+use Rattle.radio_changes.specs.Changes.{changed, taken_in}
 use Rattle.radio_core.specs.ClientSteps.{ClientStep, Stays, Arrives, IsAnswered, IsObeyed, IsShown, BeginsToFeed, SitsDown, StopsFeeding, ClientsStep}
 use Rattle.radio_core.specs.ClientSteps.{Leaves as HeLeaves, ComesUp as ItComesUp, GoesDown as ItGoesDown, IsFinished as HeIsFinished}
 use Rattle.radio_core.specs.Finishes.{Cause, Finishes}
@@ -19,7 +19,7 @@ use Rattle.radio_house.specs.Facts.{rows_to_raise}
 use Rattle.radio_core.specs.Others.{StandsOn, HasCome, AsClient, AsRelay}
 use Rattle.radio_core.specs.Outcomes.{on_verdict}
 use Rattle.radio_core.specs.RelayUp.{raises}
-use Rattle.radio_core.specs.declared.outcome.Change.TheVariants.{Nothing}
+use Rattle.radio_changes.specs.declared.change.Change.TheVariants.{Nothing}
 use Rattle.radio_policy.specs.declared.judgement.Verdict.{Verdict}
 use Rattle.radio_policy.specs.declared.judgement.Verdict.TheVariants.{Allow, Deny as Denied}
 use Rattle.radio_policy.specs.Verdicts.{verdict_in}

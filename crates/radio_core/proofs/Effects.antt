@@ -7,7 +7,7 @@ use Rattle.radio_events.specs.declared.event.Event.TheVariants.{Push, SourceEnd,
 use Rattle.radio_tables.proofs.KeyLaws.{by_number}
 use Rattle.radio_events.specs.declared.command.Command.{Command}
 use Rattle.radio_core.specs.Allowed.{IsCommanded}
-use Rattle.radio_core.specs.declared.outcome.Change.TheVariants.{End, EndAndLeave, Obey}
+use Rattle.radio_changes.specs.declared.change.Change.TheVariants.{End, EndAndLeave, Obey}
 use Rattle.radio_core.specs.declared.outcome.Outcome.{Outcome}
 use Rattle.radio_events.specs.declared.reply.Reply.{Reply}
 use Rattle.radio_events.specs.declared.reply.Reply.TheVariants.{Arrived}
@@ -15,7 +15,7 @@ use Rattle.radio_house.specs.declared.standing.Standing.{Standing}
 use Rattle.radio_house.specs.declared.standing.Standing.TheVariants.{Unknown, Undecided, Feeds, Sits, Answered, Finished}
 use Rattle.radio_access.specs.Lists.{passes}
 use Rattle.radio_house.specs.World.{World, standing_of}
-use Rattle.radio_core.specs.Changes.{changed, taken_in, ticked}
+use Rattle.radio_changes.specs.Changes.{changed, taken_in, ticked}
 use Rattle.radio_core.specs.Finishes.{Cause}
 use Rattle.radio_core.specs.Moves.{TakesTo}
 use Rattle.radio_core.specs.Listen.{first_seat}

@@ -28,7 +28,7 @@ use Rattle.radio_events.specs.declared.event.Event.TheVariants.{Arrive, Source, 
 use Rattle.radio_events.specs.declared.event.Event.TheVariants.{RelayUp, RelayDown, Clock}
 use Rattle.radio_values.specs.declared.field.Shown.{Shown}
 use Rattle.radio_house.specs.House.{House}
-use Rattle.radio_core.specs.declared.outcome.Change.TheVariants.{Nothing, Answer, TakeSeat, Advance, Obey}
+use Rattle.radio_changes.specs.declared.change.Change.TheVariants.{Nothing, Answer, TakeSeat, Advance, Obey}
 use Rattle.radio_core.specs.declared.outcome.Outcome.{Outcome}
 use Rattle.radio_events.specs.declared.reply.Reply.TheVariants.{Seated, Drawn, Text as SaysText}
 use Rattle.radio_creds.specs.Credentials.{Credentials}
@@ -45,7 +45,7 @@ use Rattle.radio_fallback.specs.declared.moves.Move.TheVariants.{To}
 use Rattle.radio_fallback.specs.Carry.{carried}
 use Rattle.radio_core.specs.Command.{said_of, does_asked, gives_command}
 use Rattle.radio_house.specs.CommandFacts.{sits_at, needs_of, facts_for, facts_asked, access_to, needs_to_list, opened_by, rows_to_command}
-use Rattle.radio_core.specs.Counts.{counts_by}
+use Rattle.radio_changes.specs.Counts.{counts_by}
 use Rattle.radio_core.specs.Draw.{hands_out, hands_out_at}
 use Rattle.radio_fallback.specs.declared.walking.Landing.{Landing}
 use Rattle.radio_fallback.specs.declared.walking.Landing.TheVariants.{Lands, Stops}

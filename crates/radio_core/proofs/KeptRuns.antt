@@ -8,7 +8,7 @@ use Rattle.radio_tables.proofs.FindLaws.{found_has}
 use Rattle.radio_seats.specs.declared.seat.Seat.{Seat}
 use Rattle.radio_seats.specs.Seats.{seat_of, AreByNumber}
 use Rattle.radio_events.specs.declared.event.Event.{Event}
-use Rattle.radio_core.specs.Changes.{changed}
+use Rattle.radio_changes.specs.Changes.{changed}
 use Rattle.radio_parts.specs.Kept.{first_start, kept_from, kept_session, kept_live}
 use Rattle.radio_core.specs.Lagging.{EachSeat, NobodyLags}
 use Rattle.radio_core.specs.Run.{world_after_all, run_after}

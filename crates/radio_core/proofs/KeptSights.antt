@@ -11,7 +11,7 @@ use Rattle.radio_fallback.specs.declared.moves.Move.TheVariants.{Up}
 use Rattle.radio_fallback.specs.Walk.{Sight}
 use Rattle.radio_fallback.specs.Carry.{carried}
 use Rattle.radio_house.specs.House.{House}
-use Rattle.radio_core.specs.Changes.{carried_along, called_home}
+use Rattle.radio_changes.specs.Changes.{carried_along, called_home}
 use Rattle.radio_house.specs.Facts.{sight_of, live_number, live_end, fallback_of}
 use Rattle.radio_parts.specs.Kept.{kept_session}
 use Rattle.radio_core.specs.Kept.{kept_of}

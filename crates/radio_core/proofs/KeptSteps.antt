@@ -10,17 +10,17 @@ use Rattle.radio_tables.specs.Lists.{Each}
 use Rattle.radio_tables.proofs.EachLaws.{Each_kept, Each_updated, Each_placed}
 use Rattle.radio_seats.specs.Seats.{with_ended}
 use Rattle.radio_house.specs.declared.clients.ClientState.TheVariants.{Answered}
-use Rattle.radio_core.specs.declared.outcome.Change.{Change}
-use Rattle.radio_core.specs.declared.outcome.Change.TheVariants.{Nothing, Answer, Admit, Begin, Raise, Receive, SetTitle, TakeSeat, Advance, End}
-use Rattle.radio_core.specs.declared.outcome.Change.TheVariants.{EndAndLeave, Forget, Tick, Obey}
+use Rattle.radio_changes.specs.declared.change.Change.{Change}
+use Rattle.radio_changes.specs.declared.change.Change.TheVariants.{Nothing, Answer, Admit, Begin, Raise, Receive, SetTitle, TakeSeat, Advance, End}
+use Rattle.radio_changes.specs.declared.change.Change.TheVariants.{EndAndLeave, Forget, Tick, Obey}
 use Rattle.radio_house.specs.House.{House}
-use Rattle.radio_core.specs.Changes.{answered, done, session_ended_by, session_killed, changed, carried_along, session_over, session_ended, called_home, client_gone, laggards_ended, session_begun, session_raised}
+use Rattle.radio_changes.specs.Changes.{answered, done, session_ended_by, session_killed, changed, carried_along, session_over, session_ended, called_home, client_gone, laggards_ended, session_begun, session_raised}
 use Rattle.radio_house.specs.HouseChanges.{finished_in}
-use Rattle.radio_core.specs.Changes.{before_silence, session_silenced, silent_in, ticked}
+use Rattle.radio_changes.specs.Changes.{before_silence, session_silenced, silent_in, ticked}
 use Rattle.radio_house.specs.Clients.{in_state}
 use Rattle.radio_parts.specs.Kept.{kept_session, kept_live}
 use Rattle.radio_core.specs.Kept.{kept_of}
-use Rattle.radio_core.specs.KeptChanges.{kept_changed}
+use Rattle.radio_changes.specs.KeptChanges.{kept_changed}
 use Rattle.radio_parts.specs.Sessions.{Session, session_of, is_of, by_mount, opened, with_session, longer, fed, with_title, HasRisingStarts}
 use Rattle.radio_parts.specs.Stream.{end_of, with_block}
 use Rattle.radio_parts.specs.Timeouts.{lags_behind}

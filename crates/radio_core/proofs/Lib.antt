@@ -1,7 +1,6 @@
 pub mod AllowedCommands
 pub mod CommandLemmas
 mod CoreReplyLemmas
-mod DueLemmas
 pub mod HeardLemmas
 pub mod GivenSeats
 pub mod HeardApart
@@ -11,11 +10,11 @@ mod KeptRuns
 pub mod KeptSeats
 mod KeptSights
 mod KeptSteps
+mod LentState
 pub mod ChangedUsers
 pub mod ListsSteps
 pub mod Obeyed
 mod PlannedLemmas
-mod PreparedSeats
 mod SourceReplyLemmas
 pub mod ArrivalLemmas
 pub mod CalledHome

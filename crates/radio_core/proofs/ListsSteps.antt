@@ -4,14 +4,14 @@ use Rattle.radio_access.specs.Lists.{Lists}
 use Rattle.radio_events.specs.declared.command.Command.{Command}
 use Rattle.radio_events.specs.declared.command.Command.TheVariants.{MoveClients, KillClient, KillSource, SetTitle, SetFallback, AddUser, DeleteUser}
 use Rattle.radio_events.specs.declared.event.Event.{Event}
-use Rattle.radio_core.specs.declared.outcome.Change.TheVariants.{Obey}
+use Rattle.radio_changes.specs.declared.change.Change.TheVariants.{Obey}
 use Rattle.radio_core.specs.declared.outcome.Outcome.{Outcome}
 use Rattle.radio_house.specs.House.{House}
 use Rattle.radio_house.specs.Streams.{shown_for}
 use Rattle.radio_house.specs.World.{World}
 use Rattle.radio_parts.specs.Sessions.{session_of}
 use Rattle.radio_core.specs.Allowed.{IsCommanded}
-use Rattle.radio_core.specs.Changes.{answered, changed, session_begun, session_raised}
+use Rattle.radio_changes.specs.Changes.{answered, changed, session_begun, session_raised}
 use Rattle.radio_core.specs.ListsSteps.{ListsStep, Stay, IsAdded, IsDeleted, ListsAreStepped}
 use Rattle.radio_core.specs.Sound.{IsSound}
 use Rattle.radio_core.specs.Step.{outcome, world_after}

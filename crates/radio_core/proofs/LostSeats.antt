@@ -7,7 +7,7 @@ use Rattle.radio_house.specs.declared.standing.Standing.TheVariants.{Unknown, Si
 use Rattle.radio_policy.specs.declared.rule.Rule.{Rule}
 use Rattle.radio_seats.specs.declared.seat.Seat.{Seat}
 use Rattle.radio_seats.specs.Seats.{seat_of}
-use Rattle.radio_core.specs.Changes.{changed}
+use Rattle.radio_changes.specs.Changes.{changed}
 use Rattle.radio_core.specs.Finishes.{Finishes}
 use Rattle.radio_core.specs.Others.{StandsOn, LosesNoSeatElse}
 use Rattle.radio_core.specs.Sound.{IsSound}

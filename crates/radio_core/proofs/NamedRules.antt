@@ -7,7 +7,7 @@ use Rattle.radio_events.specs.Events.{client_in}
 use Rattle.radio_events.specs.declared.event.Event.{Event}
 use Rattle.radio_events.specs.declared.reply.Reply.{Reply}
 use Rattle.radio_events.specs.declared.reply.Reply.TheVariants.{Deny, Finished}
-use Rattle.radio_core.specs.declared.outcome.Change.TheVariants.{Nothing, Answer}
+use Rattle.radio_changes.specs.declared.change.Change.TheVariants.{Nothing, Answer}
 use Rattle.radio_core.specs.declared.outcome.Outcome.{Outcome}
 use Rattle.radio_house.specs.declared.standing.Standing.TheVariants.{Finished as HasFinished}
 use Rattle.radio_core.specs.Outcomes.{says}

@@ -16,7 +16,7 @@ use Rattle.radio_house.specs.declared.clients.ClientState.{ClientState}
 use Rattle.radio_house.specs.declared.clients.ClientState.TheVariants.{Undecided as IsNew, Feeds as IsSource, Listens, Answered as HasHisAnswer, Ended}
 use Rattle.radio_events.specs.declared.event.Event.{Event}
 use Rattle.radio_events.specs.declared.event.Event.TheVariants.{Push}
-use Rattle.radio_core.specs.declared.outcome.Change.TheVariants.{TakeSeat, Forget}
+use Rattle.radio_changes.specs.declared.change.Change.TheVariants.{TakeSeat, Forget}
 use Rattle.radio_core.specs.declared.outcome.Outcome.{Outcome}
 use Rattle.radio_events.specs.Events.{client_in}
 use Rattle.radio_house.specs.declared.standing.Standing.{Standing}
@@ -28,8 +28,8 @@ use Rattle.radio_house.specs.Clients.{Client, client_of, newcomer}
 use Rattle.radio_house.specs.Relays.{Relay, relay_of, risen}
 use Rattle.radio_parts.specs.Sessions.{session_of}
 use Rattle.radio_core.specs.Finishes.{Cause}
-use Rattle.radio_core.specs.Changes.{changed, session_ended, taken_in}
-use Rattle.radio_core.specs.Changes.{ticked}
+use Rattle.radio_changes.specs.Changes.{changed, session_ended, taken_in}
+use Rattle.radio_changes.specs.Changes.{ticked}
 use Rattle.radio_core.specs.Listen.{first_seat}
 use Rattle.radio_core.specs.Sound.{IsSound}
 use Rattle.radio_house.specs.Streams.{shown_for}

@@ -11,7 +11,7 @@ use Rattle.radio_house.specs.declared.clients.ClientState.{ClientState}
 use Rattle.radio_house.specs.declared.clients.ClientState.TheVariants.{Feeds as IsSource, Answered as HasHisAnswer, Ended}
 use Rattle.radio_events.specs.declared.command.Command.{Command}
 use Rattle.radio_events.specs.declared.command.Command.TheVariants.{MoveClients, KillClient, KillSource, SetTitle, SetFallback, AddUser, DeleteUser}
-use Rattle.radio_core.specs.declared.outcome.Change.TheVariants.{Begin, Obey}
+use Rattle.radio_changes.specs.declared.change.Change.TheVariants.{Begin, Obey}
 use Rattle.radio_house.specs.Clients.{Client, is_client, in_state, with_state}
 use Rattle.radio_house.specs.Relays.{Relay, is_relay, ended, with_relay_ended}
 use Rattle.radio_settings.specs.Options.{options_for}
@@ -19,9 +19,9 @@ use Rattle.radio_values.specs.declared.field.Shown.{Shown}
 use Rattle.radio_fallback.specs.declared.moves.Move.{Move}
 use Rattle.radio_fallback.specs.declared.moves.Move.TheVariants.{Ended as SessionEnds, Up, To}
 use Rattle.radio_fallback.proofs.FaresLemmas.{numbers_kept}
-use Rattle.radio_core.specs.Changes.{answered, session_killed, changed, carried_along, session_over, session_ended, called_home, taken_in, session_begun}
+use Rattle.radio_changes.specs.Changes.{answered, session_killed, changed, carried_along, session_over, session_ended, called_home, taken_in, session_begun}
 use Rattle.radio_house.specs.HouseChanges.{received}
-use Rattle.radio_core.specs.Changes.{before_silence, session_silenced, silent_in, ticked}
+use Rattle.radio_changes.specs.Changes.{before_silence, session_silenced, silent_in, ticked}
 use Rattle.radio_house.specs.Facts.{live_end, sight_of}
 use Rattle.radio_parts.specs.Sessions.{Session, session_of}
 use Rattle.radio_parts.specs.Timeouts.{lags_behind, has_sat_out}
@@ -32,7 +32,7 @@ use Rattle.radio_access.specs.Lists.{Lists, with_user_at, without_user_at}
 use Rattle.radio_house.specs.Outsiders.{is_shut_out}
 use Rattle.radio_core.proofs.ChangedUsers.{with_lists}
 use Rattle.radio_policy.specs.declared.rule.Rule.TheVariants.{ListenerPassword}
-use Rattle.radio_core.specs.Changes.{outsiders_ended}
+use Rattle.radio_changes.specs.Changes.{outsiders_ended}
 use Rattle.radio_seats.proofs.GivenLaws.{numbers_hearing}
 
 -- the numbers of the clients, those of the relays, and those of the listeners

@@ -19,10 +19,10 @@ use Rattle.radio_events.specs.declared.command.Command.{Command}
 use Rattle.radio_events.specs.declared.command.Command.TheVariants.{MoveClients, KillClient, KillSource, SetTitle, SetFallback, AddUser, DeleteUser}
 use Rattle.radio_events.specs.declared.event.Event.{Event}
 use Rattle.radio_house.specs.declared.clients.ClientState.TheVariants.{Ended}
-use Rattle.radio_core.specs.declared.outcome.Change.TheVariants.{Obey}
+use Rattle.radio_changes.specs.declared.change.Change.TheVariants.{Obey}
 use Rattle.radio_house.specs.declared.standing.Standing.{Standing}
 use Rattle.radio_house.specs.declared.standing.Standing.TheVariants.{Unknown, Undecided, Feeds, Sits, Answered, Finished}
-use Rattle.radio_core.specs.Changes.{answered, changed, session_over, session_ended, session_ended_by, session_killed, outsiders_ended}
+use Rattle.radio_changes.specs.Changes.{answered, changed, session_over, session_ended, session_ended_by, session_killed, outsiders_ended}
 use Rattle.radio_house.specs.Clients.{client_of}
 use Rattle.radio_house.specs.Relays.{relay_of}
 use Rattle.radio_access.specs.Lists.{Lists, with_user_at, without_user_at}

@@ -12,7 +12,7 @@ use Rattle.radio_fallback.specs.declared.moves.Carried.{Carried}
 use Rattle.radio_core.specs.declared.outcome.Outcome.{Outcome}
 use Rattle.radio_core.specs.Command.{obeys}
 use Rattle.radio_core.specs.Pages.{IsShownBy}
-use Rattle.radio_core.specs.Counts.{counted, nobody}
+use Rattle.radio_changes.specs.Counts.{counted, nobody}
 use Rattle.radio_core.specs.Planned.{told_counts, with_counts, uncounted, planned}
 use Rattle.radio_core.specs.Step.{outcome}
 use Rattle.radio_core.specs.Ways.{Way, Misplaced, IsFinished, IsDenied, IsRefused, IsAdmitted, Begins, ComesUp, Receives, SetsTitle, TakesSeat, HandsOut, Ends}

@@ -11,7 +11,7 @@ use Rattle.radio_core.specs.declared.outcome.Outcome.{Outcome}
 use Rattle.radio_events.specs.declared.reply.Reply.TheVariants.{Arrived, Feeding, Seated}
 use Rattle.radio_house.specs.declared.standing.Standing.TheVariants.{Unknown, Undecided, Feeds, Sits}
 use Rattle.radio_house.specs.World.{World, standing_of}
-use Rattle.radio_core.specs.Changes.{changed}
+use Rattle.radio_changes.specs.Changes.{changed}
 use Rattle.radio_core.specs.Arrive.{admits_client}
 use Rattle.radio_house.specs.Streams.{shown_for}
 use Rattle.radio_core.specs.RelayUp.{raises}

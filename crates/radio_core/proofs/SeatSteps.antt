@@ -11,12 +11,12 @@ use Rattle.radio_tables.proofs.KeyLaws.{by_number}
 use Rattle.radio_events.specs.declared.event.Event.{Event}
 use Rattle.radio_events.specs.declared.event.Event.TheVariants.{Push, SourceEnd, Listen, Draw, Leave, Clock}
 use Rattle.radio_events.specs.declared.event.ListenRequest.{ListenRequest}
-use Rattle.radio_core.specs.declared.outcome.Change.TheVariants.{TakeSeat, Advance, End, EndAndLeave, Forget, Obey}
+use Rattle.radio_changes.specs.declared.change.Change.TheVariants.{TakeSeat, Advance, End, EndAndLeave, Forget, Obey}
 use Rattle.radio_core.specs.declared.outcome.Outcome.{Outcome}
 use Rattle.radio_seats.specs.declared.seat.Seat.{Seat}
 use Rattle.radio_house.specs.declared.standing.Standing.TheVariants.{Undecided, Feeds, Sits, Unknown}
 use Rattle.radio_house.specs.World.{World, standing_of, world}
-use Rattle.radio_core.specs.Changes.{changed, called_home, taken_in, ticked}
+use Rattle.radio_changes.specs.Changes.{changed, called_home, taken_in, ticked}
 use Rattle.radio_house.specs.HouseChanges.{begun, raised}
 use Rattle.radio_core.specs.Handing.{data_in, of_client, handed_at}
 use Rattle.radio_house.specs.Facts.{sight_of, rows_to_listen, walks_to}

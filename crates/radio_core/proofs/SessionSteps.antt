@@ -13,11 +13,11 @@ use Rattle.radio_house.specs.Clients.{Client}
 use Rattle.radio_core.specs.Closing.{Closes, OfClient, OfRelay}
 use Rattle.radio_house.specs.Relays.{relay_of}
 use Rattle.radio_house.specs.declared.clients.ClientState.TheVariants.{Undecided as IsNew}
-use Rattle.radio_core.specs.declared.outcome.Change.TheVariants.{Receive, SetTitle, Obey}
+use Rattle.radio_changes.specs.declared.change.Change.TheVariants.{Receive, SetTitle, Obey}
 use Rattle.radio_core.specs.declared.outcome.Outcome.{Outcome}
 use Rattle.radio_house.specs.declared.standing.Standing.TheVariants.{Undecided, Feeds, Sits}
 use Rattle.radio_house.specs.House.{House}
-use Rattle.radio_core.specs.Changes.{answered, changed, called_home, session_ended, session_killed, ticked}
+use Rattle.radio_changes.specs.Changes.{answered, changed, called_home, session_ended, session_killed, ticked}
 use Rattle.radio_house.specs.HouseChanges.{begun, raised}
 use Rattle.radio_core.specs.Moves.{TakesTo}
 use Rattle.radio_core.specs.Finishes.{Cause, SessionIsOver, IsFarBehind, HasSatOut, HasAskedNothing, HasSentNothing, IsKilled, HisSessionIsKilled, IsNotAccepted}

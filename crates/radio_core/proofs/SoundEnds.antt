@@ -15,12 +15,12 @@ use Rattle.radio_events.specs.declared.event.Event.TheVariants.{SourceEnd}
 use Rattle.radio_events.specs.Events.{client_in}
 use Rattle.radio_house.specs.declared.clients.ClientState.{ClientState}
 use Rattle.radio_house.specs.declared.clients.ClientState.TheVariants.{Answered as HasHisAnswer}
-use Rattle.radio_core.specs.declared.outcome.Change.TheVariants.{End, EndAndLeave}
+use Rattle.radio_changes.specs.declared.change.Change.TheVariants.{End, EndAndLeave}
 use Rattle.radio_seats.specs.declared.seat.Seat.{Seat}
 use Rattle.radio_house.specs.declared.standing.Standing.{Standing}
 use Rattle.radio_house.specs.declared.standing.Standing.TheVariants.{Unknown, Feeds, Sits, Answered}
 use Rattle.radio_house.specs.World.{World, standing_of, has_relay}
-use Rattle.radio_core.specs.Changes.{changed, carried_along, session_over, session_ended}
+use Rattle.radio_changes.specs.Changes.{changed, carried_along, session_over, session_ended}
 use Rattle.radio_house.specs.Clients.{Client, client_of, with_state, in_state}
 use Rattle.radio_core.specs.Closing.{Closes}
 use Rattle.radio_house.specs.Facts.{sight_of}

@@ -11,7 +11,7 @@ use Rattle.radio_events.specs.declared.event.Event.TheVariants.{Push}
 use Rattle.radio_house.specs.declared.standing.Standing.TheVariants.{Feeds}
 use Rattle.radio_core.specs.declared.outcome.Outcome.{Outcome}
 use Rattle.radio_house.specs.World.{World, opening, standing_of}
-use Rattle.radio_core.specs.Changes.{changed, taken_in, ticked}
+use Rattle.radio_changes.specs.Changes.{changed, taken_in, ticked}
 use Rattle.radio_house.specs.HouseChanges.{received}
 use Rattle.radio_house.specs.Facts.{live_end}
 use Rattle.radio_core.specs.Finishes.{Cause, IsFarBehind}

@@ -7,14 +7,14 @@ use Rattle.std.proofs.lemmas.Slice.Eq.{bytes_eq-Decides}
 use Rattle.radio_addr.specs.declared.peer.Peer.{Peer}
 use Rattle.radio_values.specs.declared.field.Shown.{Shown}
 use Rattle.radio_tables.proofs.KeyLaws.{by_number, by_name}
-use Rattle.radio_core.specs.declared.outcome.Change.TheVariants.{Advance}
+use Rattle.radio_changes.specs.declared.change.Change.TheVariants.{Advance}
 use Rattle.radio_seats.specs.declared.seat.Seat.{Seat}
 use Rattle.radio_seats.specs.declared.seat.Seating.{Seating}
 use Rattle.radio_seats.specs.declared.seat.Seating.TheVariants.{Sits as HasSeat, Finished as HasFinished}
 use Rattle.radio_house.specs.declared.standing.Standing.TheVariants.{Unknown, Undecided, Feeds, Sits}
 use Rattle.radio_house.specs.House.{House}
 use Rattle.radio_house.specs.World.{World, standing_of}
-use Rattle.radio_core.specs.Changes.{changed, session_begun, session_raised}
+use Rattle.radio_changes.specs.Changes.{changed, session_begun, session_raised}
 use Rattle.radio_house.specs.HouseChanges.{begun, raised, received}
 use Rattle.radio_seats.specs.Seats.{seat_of, seat_in, seat_held, heard_to, with_session_at}
 use Rattle.radio_parts.specs.Sessions.{Session, AreApart, is_of, session_of, opened, with_session, longer}

@@ -2,10 +2,10 @@
 use Rattle.std.proofs.Common.{◌≡◌, false, ℕ, Some, List, refl, ap, sym, subst, ◌∙◌, arith}
 use Rattle.std.specs.Str.{bytes_eq}
 use Rattle.radio_tables.proofs.KeyLaws.{by_name}
-use Rattle.radio_core.specs.declared.outcome.Change.TheVariants.{SetTitle}
+use Rattle.radio_changes.specs.declared.change.Change.TheVariants.{SetTitle}
 use Rattle.radio_house.specs.declared.standing.Standing.TheVariants.{Feeds}
 use Rattle.radio_house.specs.World.{World, standing_of}
-use Rattle.radio_core.specs.Changes.{changed}
+use Rattle.radio_changes.specs.Changes.{changed}
 use Rattle.radio_parts.specs.Sessions.{Session, is_of, session_of, with_title}
 use Rattle.radio_parts.specs.Stream.{AreRising, WholeStream, end_of}
 use Rattle.radio_core.specs.Sound.{IsSound}

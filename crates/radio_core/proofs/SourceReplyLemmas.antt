@@ -14,14 +14,14 @@ use Rattle.radio_events.specs.declared.reply.Reply.TheVariants.{Noted, Deny, Fin
 use Rattle.radio_house.specs.declared.standing.Standing.{Standing}
 use Rattle.radio_house.specs.declared.standing.Standing.TheVariants.{Unknown, Undecided as IsUndecided, Feeds as IsFeeding, Sits}
 use Rattle.radio_house.specs.declared.standing.Standing.TheVariants.{Answered as IsAnswered, Finished as IsFinished}
-use Rattle.radio_core.specs.Changes.{changed}
+use Rattle.radio_changes.specs.Changes.{changed}
 use Rattle.radio_house.specs.HouseChanges.{received}
 use Rattle.radio_house.specs.Clients.{Client, client_of}
 use Rattle.radio_house.specs.Relays.{Relay, relay_of}
 use Rattle.radio_house.specs.Facts.{largest_number, live_end, rows_to_push}
 use Rattle.radio_core.specs.Outcomes.{says, on_verdict, if_feeding, unless_relayed}
 use Rattle.radio_core.specs.Push.{delivers, takes_in}
-use Rattle.radio_core.specs.declared.outcome.Change.TheVariants.{Nothing, End}
+use Rattle.radio_changes.specs.declared.change.Change.TheVariants.{Nothing, End}
 use Rattle.radio_core.specs.declared.outcome.Outcome.{Outcome}
 use Rattle.radio_policy.specs.declared.judgement.Verdict.TheVariants.{Allow, Deny as Denied}
 use Rattle.radio_policy.specs.Verdicts.{verdict_in}

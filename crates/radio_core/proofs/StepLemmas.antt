@@ -9,18 +9,19 @@ use Rattle.radio_house.specs.declared.standing.Standing.{Standing}
 use Rattle.radio_house.specs.declared.standing.Standing.TheVariants.{Unknown, Undecided, Feeds, Sits, Answered, Finished}
 use Rattle.radio_events.specs.declared.reply.Reply.{Reply}
 use Rattle.radio_events.specs.declared.reply.Reply.TheVariants.{Noted, Stray}
-use Rattle.radio_core.specs.declared.outcome.Change.TheVariants.{Nothing, End, Tick}
+use Rattle.radio_changes.specs.declared.change.Change.TheVariants.{Nothing, End, Tick}
 use Rattle.radio_core.specs.Leave.{leaves_from}
 use Rattle.radio_core.specs.RelayDown.{goes_down_from}
 use Rattle.radio_core.specs.Outcomes.{says, if_feeding, unless_relayed}
 use Rattle.radio_events.specs.Replies.{HoldsNoText}
-use Rattle.radio_core.specs.Changes.{changed}
+use Rattle.radio_changes.specs.Changes.{changed}
 use Rattle.radio_parts.specs.Kept.{first_start}
-use Rattle.radio_core.specs.KeptChanges.{kept_changed}
-use Rattle.radio_core.specs.Counts.{counted}
+use Rattle.radio_changes.specs.KeptChanges.{kept_changed}
+use Rattle.radio_changes.specs.Counts.{counted}
 use Rattle.radio_core.specs.Planned.{with_counts, uncounted, planned}
 use Rattle.radio_parts.specs.Sessions.{Session, session_of}
-use Rattle.radio_core.specs.Step.{outcome, reply_to, world_after, Step, Represents, StandsForSome, NeedsNoMemory}
+use Rattle.radio_changes.specs.Changes.{NeedsNoMemory}
+use Rattle.radio_core.specs.Step.{outcome, reply_to, world_after, Step, Represents, StandsForSome}
 use Rattle.radio_events.specs.Events.{TakesNoMemory}
 use Rattle.radio_parts.specs.Stream.{end_of}
 use Rattle.radio_house.specs.World.{World, opening, standing_of, has_relay}

@@ -15,7 +15,7 @@ use Rattle.radio_house.specs.declared.clients.ClientState.TheVariants.{Undecided
 use Rattle.radio_events.specs.declared.event.Event.TheVariants.{Clock}
 use Rattle.radio_house.specs.declared.standing.Standing.{Standing}
 use Rattle.radio_house.specs.declared.standing.Standing.TheVariants.{Undecided, Feeds, Sits, Finished}
-use Rattle.radio_core.specs.Changes.{session_over, session_ended, before_silence, silent_in, session_silenced, ticked}
+use Rattle.radio_changes.specs.Changes.{session_over, session_ended, before_silence, silent_in, session_silenced, ticked}
 use Rattle.radio_house.specs.HouseChanges.{timed_out_by}
 use Rattle.radio_house.specs.Clients.{Client, is_client, client_of, with_state}
 use Rattle.radio_house.specs.Relays.{Relay, relay_of}

@@ -16,12 +16,12 @@ use Rattle.radio_core.specs.declared.outcome.Outcome.{Outcome}
 use Rattle.radio_events.specs.declared.reply.Reply.{Reply}
 use Rattle.radio_events.specs.declared.reply.Reply.TheVariants.{Noted, Stray}
 use Rattle.radio_house.specs.declared.standing.Standing.TheVariants.{Unknown, Feeds}
-use Rattle.radio_core.specs.declared.outcome.Change.TheVariants.{Nothing, EndAndLeave, Forget}
+use Rattle.radio_changes.specs.declared.change.Change.TheVariants.{Nothing, EndAndLeave, Forget}
 use Rattle.radio_house.specs.Clients.{Client, client_of, newcomer, without_client}
 use Rattle.radio_house.specs.Relays.{Relay, risen, without_relay}
 use Rattle.radio_core.specs.Closing.{Closes, OfClient, OfRelay}
 use Rattle.radio_core.specs.Outcomes.{says, unless_relayed}
-use Rattle.radio_core.specs.Changes.{changed, session_ended}
+use Rattle.radio_changes.specs.Changes.{changed, session_ended}
 use Rattle.radio_core.specs.Leave.{leaves_from}
 use Rattle.radio_core.specs.Listen.{first_seat}
 use Rattle.radio_core.specs.Run.{world_after_all, run_after}

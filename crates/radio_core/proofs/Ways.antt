@@ -19,8 +19,8 @@ use Rattle.radio_events.specs.declared.event.Event.TheVariants.{Arrive, Source, 
 use Rattle.radio_events.specs.declared.event.Event.TheVariants.{RelayUp, RelayDown, Clock}
 use Rattle.radio_values.specs.declared.field.Shown.{Shown}
 use Rattle.radio_house.specs.House.{House}
-use Rattle.radio_core.specs.declared.outcome.Change.{Change}
-use Rattle.radio_core.specs.declared.outcome.Change.TheVariants.{Nothing, Answer, End, Tick}
+use Rattle.radio_changes.specs.declared.change.Change.{Change}
+use Rattle.radio_changes.specs.declared.change.Change.TheVariants.{Nothing, Answer, End, Tick}
 use Rattle.radio_core.specs.declared.outcome.Outcome.{Outcome}
 use Rattle.radio_events.specs.declared.reply.Reply.TheVariants.{Deny, Noted, Stray}
 use Rattle.radio_seats.specs.declared.seat.Seat.{Seat}

@@ -2,7 +2,7 @@ use Rattle.std.specs.Prelude.{◌+◌}
 use Rattle.radio_policy.specs.Verdicts.{verdict_in}
 use Rattle.radio_addr.specs.declared.peer.Peer.{Peer}
 use Rattle.radio_events.specs.declared.reply.Reply.TheVariants.{Arrived}
-use Rattle.radio_core.specs.declared.outcome.Change.TheVariants.{Nothing, Admit}
+use Rattle.radio_changes.specs.declared.change.Change.TheVariants.{Nothing, Admit}
 use Rattle.radio_core.specs.declared.outcome.Outcome.{Outcome}
 use Rattle.radio_house.specs.World.{World}
 use Rattle.radio_house.specs.Facts.{rows_to_arrive}

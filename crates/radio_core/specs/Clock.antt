@@ -1,6 +1,6 @@
 use Rattle.std.specs.Prelude.{ℕ, nat_lt, if◌then◌else◌}
 use Rattle.radio_events.specs.declared.reply.Reply.TheVariants.{Noted}
-use Rattle.radio_core.specs.declared.outcome.Change.TheVariants.{Nothing, Tick}
+use Rattle.radio_changes.specs.declared.change.Change.TheVariants.{Nothing, Tick}
 use Rattle.radio_core.specs.declared.outcome.Outcome.{Outcome}
 use Rattle.radio_house.specs.World.{World}
 use Rattle.radio_core.specs.Outcomes.{says}

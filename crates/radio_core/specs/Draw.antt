@@ -1,7 +1,7 @@
 use Rattle.std.specs.Prelude.{ℕ, ◌+◌, length, Option, Some, None}
 use Rattle.radio_house.specs.House.{House}
 use Rattle.radio_events.specs.declared.reply.Reply.TheVariants.{Drawn, Stray}
-use Rattle.radio_core.specs.declared.outcome.Change.TheVariants.{Nothing, Advance}
+use Rattle.radio_changes.specs.declared.change.Change.TheVariants.{Nothing, Advance}
 use Rattle.radio_core.specs.declared.outcome.Outcome.{Outcome}
 use Rattle.radio_seats.specs.declared.seat.Seat.{Seat}
 use Rattle.radio_parts.specs.Sessions.{Session}

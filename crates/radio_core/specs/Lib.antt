@@ -15,14 +15,9 @@ pub mod Clock
 pub mod Allowed
 pub mod Command
 pub mod Planned
-pub mod Prepared
-pub mod Changes
-pub mod Counts
 pub mod Moves
 pub mod Sound
-pub mod Due
 pub mod Kept
-pub mod KeptChanges
 pub mod Lagging
 pub mod StandsFor
 pub mod Step

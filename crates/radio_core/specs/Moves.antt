@@ -16,7 +16,7 @@ use Rattle.radio_events.specs.declared.event.Event.{Event}
 use Rattle.radio_events.specs.declared.event.Event.TheVariants.{Source, SourceEnd, RelayUp, Clock}
 use Rattle.radio_events.specs.declared.event.SourceRequest.{SourceRequest}
 use Rattle.radio_house.specs.declared.standing.Standing.TheVariants.{Undecided, Feeds}
-use Rattle.radio_core.specs.Changes.{session_begun, session_raised, session_over, before_silence, silent_in, session_silenced}
+use Rattle.radio_changes.specs.Changes.{session_begun, session_raised, session_over, before_silence, silent_in, session_silenced}
 use Rattle.radio_events.specs.declared.command.Command.TheVariants.{MoveClients, KillSource}
 use Rattle.radio_core.specs.Closing.{Closes}
 use Rattle.radio_core.specs.Allowed.{IsCommanded}

@@ -8,7 +8,7 @@ use Rattle.radio_events.specs.declared.event.Event.TheVariants.{Listen}
 use Rattle.radio_events.specs.declared.event.ListenRequest.{ListenRequest}
 use Rattle.radio_events.specs.declared.reply.Reply.TheVariants.{Text as SaysText}
 use Rattle.radio_events.specs.declared.text.Text.{Text}
-use Rattle.radio_core.specs.declared.outcome.Change.TheVariants.{Answer}
+use Rattle.radio_changes.specs.declared.change.Change.TheVariants.{Answer}
 use Rattle.radio_core.specs.declared.outcome.Outcome.{Outcome}
 use Rattle.radio_core.specs.Allowed.{IsListed}
 use Rattle.radio_core.specs.Listen.{asks_to_hear}

@@ -8,7 +8,7 @@ use Rattle.radio_events.specs.declared.text.Text.TheVariants.{Moved, Ended}
 use Rattle.radio_core.specs.declared.outcome.Outcome.{Outcome}
 use Rattle.radio_fallback.specs.declared.moves.Carried.{Carried}
 use Rattle.radio_core.specs.Command.{gives_command}
-use Rattle.radio_core.specs.Counts.{nobody}
+use Rattle.radio_changes.specs.Counts.{nobody}
 use Rattle.radio_core.specs.Step.{outcome}
 use Rattle.radio_house.specs.World.{World}
 

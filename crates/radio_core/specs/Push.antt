@@ -1,7 +1,7 @@
 use Rattle.std.specs.Prelude.{ℕ, List}
 use Rattle.radio_policy.specs.Verdicts.{verdict_in}
 use Rattle.radio_events.specs.declared.reply.Reply.TheVariants.{Noted}
-use Rattle.radio_core.specs.declared.outcome.Change.TheVariants.{Nothing, Receive}
+use Rattle.radio_changes.specs.declared.change.Change.TheVariants.{Nothing, Receive}
 use Rattle.radio_core.specs.declared.outcome.Outcome.{Outcome}
 use Rattle.radio_house.specs.World.{World, standing_of}
 use Rattle.radio_house.specs.Facts.{rows_to_push}

@@ -3,7 +3,7 @@ use Rattle.radio_policy.specs.Verdicts.{verdict_in}
 use Rattle.radio_values.specs.declared.field.Shown.{Shown}
 use Rattle.radio_events.specs.declared.reply.Reply.TheVariants.{Arrived}
 use Rattle.radio_house.specs.House.{House}
-use Rattle.radio_core.specs.declared.outcome.Change.TheVariants.{Nothing, Raise}
+use Rattle.radio_changes.specs.declared.change.Change.TheVariants.{Nothing, Raise}
 use Rattle.radio_core.specs.declared.outcome.Outcome.{Outcome}
 use Rattle.radio_house.specs.World.{World}
 use Rattle.radio_house.specs.Facts.{rows_to_raise}

@@ -2,7 +2,7 @@ use Rattle.radio_policy.specs.Verdicts.{verdict_in}
 use Rattle.radio_house.specs.House.{House}
 use Rattle.radio_events.specs.declared.event.SourceRequest.{SourceRequest}
 use Rattle.radio_events.specs.declared.reply.Reply.TheVariants.{Feeding}
-use Rattle.radio_core.specs.declared.outcome.Change.TheVariants.{Answer, Begin}
+use Rattle.radio_changes.specs.declared.change.Change.TheVariants.{Answer, Begin}
 use Rattle.radio_core.specs.declared.outcome.Outcome.{Outcome}
 use Rattle.radio_house.specs.World.{World, standing_of}
 use Rattle.radio_house.specs.Facts.{rows_to_feed}

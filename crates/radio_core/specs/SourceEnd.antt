@@ -1,6 +1,6 @@
 use Rattle.std.specs.Prelude.{ℕ}
 use Rattle.radio_events.specs.declared.reply.Reply.TheVariants.{Noted}
-use Rattle.radio_core.specs.declared.outcome.Change.TheVariants.{End}
+use Rattle.radio_changes.specs.declared.change.Change.TheVariants.{End}
 use Rattle.radio_core.specs.declared.outcome.Outcome.{Outcome}
 use Rattle.radio_house.specs.World.{World, standing_of, has_relay}
 use Rattle.radio_core.specs.Outcomes.{says, if_feeding, unless_relayed}

@@ -4,8 +4,6 @@ use Rattle.radio_events.specs.declared.event.Event.{Event}
 use Rattle.radio_events.specs.declared.event.Event.TheVariants.{Arrive, Source, Push, SourceEnd, Title, Listen, Draw, Command, Leave}
 use Rattle.radio_events.specs.declared.event.Event.TheVariants.{RelayUp, RelayDown, Clock}
 use Rattle.radio_events.specs.declared.reply.Reply.{Reply}
-use Rattle.radio_core.specs.declared.outcome.Change.{Change}
-use Rattle.radio_core.specs.declared.outcome.Change.TheVariants.{Nothing, Answer, SetTitle, Advance, End, EndAndLeave, Forget, Tick}
 use Rattle.radio_core.specs.declared.outcome.Outcome.{Outcome}
 use Rattle.radio_house.specs.World.{World}
 use Rattle.radio_core.specs.Arrive.{arrives}
@@ -20,7 +18,7 @@ use Rattle.radio_core.specs.Leave.{leaves}
 use Rattle.radio_core.specs.RelayUp.{comes_up}
 use Rattle.radio_core.specs.RelayDown.{goes_down}
 use Rattle.radio_core.specs.Clock.{hears_clock}
-use Rattle.radio_core.specs.Changes.{changed}
+use Rattle.radio_changes.specs.Changes.{changed}
 use Rattle.radio_core.specs.StandsFor.{StandsFor}
 
 -- what comes of each event
@@ -56,15 +54,3 @@ Represents core w = StandsFor core w
 -- there is a state for which it stands
 unfoldable pub StandsForSome : World → Type 0
 StandsForSome core = (w : World) × Represents core w
-
--- these changes are never refused for want of memory
-abbrev pub NeedsNoMemory : Change → Type 0
-NeedsNoMemory Nothing = Unit {0}
-NeedsNoMemory (Answer id) = Unit {0}
-NeedsNoMemory (SetTitle mount title) = Unit {0}
-NeedsNoMemory (Advance id place) = Unit {0}
-NeedsNoMemory (End id mount) = Unit {0}
-NeedsNoMemory (EndAndLeave id mount) = Unit {0}
-NeedsNoMemory (Forget id) = Unit {0}
-NeedsNoMemory (Tick ms) = Unit {0}
-NeedsNoMemory _ = ⊥

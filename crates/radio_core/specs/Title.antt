@@ -1,6 +1,6 @@
 use Rattle.std.specs.Prelude.{ℕ, List}
 use Rattle.radio_events.specs.declared.reply.Reply.TheVariants.{Noted}
-use Rattle.radio_core.specs.declared.outcome.Change.TheVariants.{SetTitle}
+use Rattle.radio_changes.specs.declared.change.Change.TheVariants.{SetTitle}
 use Rattle.radio_core.specs.declared.outcome.Outcome.{Outcome}
 use Rattle.radio_house.specs.World.{World, standing_of}
 use Rattle.radio_core.specs.Outcomes.{says, if_feeding}

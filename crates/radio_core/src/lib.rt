@@ -7,9 +7,8 @@
 //! - [`Outcome`], [`Change`]: the words in which contracts and laws speak of what comes of an event.
 //!   No call takes or gives one.
 //!
-//! The state has two parts: the house (`radio_house`), and the table of those who listen
-//! (`radio_seats`). What comes of an event is worked out first (a file for each event
-//! under `server`): a reply and a change, which is then committed whole or not at all.
+//! What comes of an event is worked out first (a file for each event under `server`): a reply and a
+//! change of the state (`radio_changes`), which is then committed whole or not at all.
 #![tactic(auto)]
 
 mod laws;
@@ -22,7 +21,8 @@ pub use laws::{
     lists_are_their_commands, nobody_lags, seats_are_their_listeners, sessions_are_their_sources,
     sources_are_told_by_their_data,
 };
-pub use outcome::{Change, Outcome};
+pub use outcome::Outcome;
+pub use radio_changes::Change;
 pub use server::Core;
 pub use totals::clients_and_seats_add_up;
 

@@ -1,83 +1,8 @@
 //! What comes of an event: worked out first, and then committed.
 
-use radio_addr::Peer;
-use radio_blocks::{Block, Place};
-use radio_events::{Command, Reply};
-use radio_icy::Title;
+use radio_changes::Change;
+use radio_events::Reply;
 use radio_policy::Rule;
-use radio_seats::Seat;
-use radio_values::{MountName, Shown};
-
-/// What an event changes.
-#[derive(Drop)]
-pub enum Change {
-    /// Nothing.
-    Nothing,
-    /// The client has had his answer.
-    Answer {
-        id: u64,
-    },
-    /// A client has come, and has this number.
-    Admit {
-        id: u64,
-        peer: Peer,
-    },
-    /// The client feeds the mount from now on: a session begins.
-    Begin {
-        id: u64,
-        mount: MountName,
-        shown: Shown,
-    },
-    /// A relay has come up, has this number, and feeds the mount from now on: a session begins.
-    Raise {
-        id: u64,
-        mount: MountName,
-        shown: Shown,
-    },
-    /// The mount's session has delivered a block; listeners too far behind lose their seats.
-    Receive {
-        mount: MountName,
-        block: Block,
-    },
-    /// The mount's session has this title from now on.
-    SetTitle {
-        mount: MountName,
-        title: Title,
-    },
-    /// The client has this seat from now on.
-    TakeSeat {
-        id: u64,
-        seat: Seat,
-    },
-    /// The listener has heard his stream up to this place.
-    Advance {
-        id: u64,
-        place: Place,
-    },
-    /// The mount's session ends, and its source has had his answer.
-    End {
-        id: u64,
-        mount: MountName,
-    },
-    /// The mount's session ends, and nothing is left of its source or relay.
-    EndAndLeave {
-        id: u64,
-        mount: MountName,
-    },
-    /// Nothing is left of the client or relay.
-    Forget {
-        id: u64,
-    },
-    /// It is this moment, and what has had its time ends.
-    Tick {
-        ms: u64,
-    },
-    /// The command is done, and the client who gave it has had his answer.
-    Obey {
-        id: u64,
-        command: Command,
-    },
-}
 
 /// What comes of an event.
 #[derive(Drop)]

@@ -17,18 +17,16 @@ use radio_access::Lists;
 use radio_events::{Event, Reply};
 use radio_settings::Settings;
 use radio_values::MountName;
+use state::State;
 use std::alloc::Global;
 use std::marker::Model;
-use timed_state::TimedState;
 
 mod arrive;
 mod clock;
 mod command;
-mod commit;
 mod draw;
 mod leave;
 mod listen;
-mod obey;
 mod pages;
 mod push;
 mod relay;
@@ -36,16 +34,13 @@ mod source;
 mod source_end;
 mod state;
 mod telling;
-mod tick;
-mod timed_state;
 mod title;
-mod users;
 
 /// The server's state, seen as a `World` in which of each stream the last blocks are kept. There is
 /// always a state of a server that keeps whole streams for which it stands.
 #[derive(Drop)]
 pub struct Core {
-    state: TimedState,
+    state: State,
 }
 
 impl Model for Core {
@@ -71,7 +66,7 @@ impl Core {
         ensures { Represents result (opening settings lists) }
     {
         Core {
-            state: TimedState::new(alloc, settings, lists),
+            state: State::new(alloc, settings, lists),
         }
     }
 

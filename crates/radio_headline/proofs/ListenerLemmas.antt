@@ -31,7 +31,7 @@ use Rattle.radio_house.specs.declared.standing.Standing.TheVariants.{Unknown, Un
 use Rattle.radio_core.specs.ClientSteps.{ClientsStep}
 use Rattle.radio_core.specs.Handing.{is_number}
 use Rattle.radio_core.specs.Others.{RepliesFit}
-use Rattle.radio_core.specs.declared.outcome.Change.TheVariants.{Answer}
+use Rattle.radio_changes.specs.declared.change.Change.TheVariants.{Answer}
 use Rattle.radio_core.specs.declared.outcome.Outcome.{Outcome}
 use Rattle.radio_core.specs.Listen.{sits_where}
 use Rattle.radio_core.specs.Outcomes.{if_undecided, on_verdict}

@@ -11,7 +11,7 @@ use Rattle.radio_events.specs.declared.text.Text.{Text as CommandText}
 use Rattle.radio_policy.specs.declared.judgement.Verdict.{Verdict}
 use Rattle.radio_policy.specs.declared.judgement.Verdict.TheVariants.{Allow, Deny as Denied}
 use Rattle.radio_policy.specs.Verdicts.{verdict_in}
-use Rattle.radio_core.specs.declared.outcome.Change.TheVariants.{Nothing}
+use Rattle.radio_changes.specs.declared.change.Change.TheVariants.{Nothing}
 use Rattle.radio_core.specs.declared.outcome.Outcome.{Outcome}
 use Rattle.radio_house.specs.declared.standing.Standing.{Standing}
 use Rattle.radio_house.specs.Facts.{rows_to_push}
@@ -21,7 +21,7 @@ use Rattle.radio_house.specs.declared.standing.Standing.TheVariants.{Feeds, Sits
 use Rattle.radio_core.specs.Closing.{OfClient, OfRelay}
 use Rattle.radio_core.specs.Handing.{block_in}
 use Rattle.radio_core.specs.Pages.{IsListing, IsAtPath}
-use Rattle.radio_core.specs.Changes.{changed}
+use Rattle.radio_changes.specs.Changes.{changed}
 use Rattle.radio_core.specs.Step.{outcome, reply_to, world_after}
 use Rattle.radio_values.specs.declared.field.Shown.{Shown}
 use Rattle.radio_core.specs.Ways.{Way, Misplaced, IsFinished, IsDenied, IsRefused, IsAdmitted, Begins, ComesUp, Receives, SetsTitle, TakesSeat, HandsOut, Ends}

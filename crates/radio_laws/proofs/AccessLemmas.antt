@@ -11,7 +11,7 @@ use Rattle.radio_events.specs.declared.reply.Reply.TheVariants.{Drawn, Seated}
 use Rattle.radio_house.specs.World.{World}
 use Rattle.radio_laws.specs.Access.{IsHis, AccessIsKept}
 use Rattle.radio_laws.specs.Admission.{IsBlockStart, IsEarliestStart, IsSeated, BeginsAtABlock}
-use Rattle.radio_core.specs.Changes.{changed}
+use Rattle.radio_changes.specs.Changes.{changed}
 use Rattle.radio_house.specs.House.{House}
 use Rattle.radio_settings.specs.Options.{options_for}
 use Rattle.radio_core.specs.Listen.{first_seat}

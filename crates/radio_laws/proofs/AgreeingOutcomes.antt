@@ -27,7 +27,7 @@ use Rattle.radio_events.specs.declared.event.Event.TheVariants.{RelayUp, RelayDo
 use Rattle.radio_events.specs.declared.event.ListenRequest.{ListenRequest}
 use Rattle.radio_house.specs.declared.clients.ClientState.{ClientState}
 use Rattle.radio_house.specs.declared.clients.ClientState.TheVariants.{Undecided, Feeds, Listens, Answered, Ended}
-use Rattle.radio_core.specs.declared.outcome.Change.TheVariants.{Nothing, Answer}
+use Rattle.radio_changes.specs.declared.change.Change.TheVariants.{Nothing, Answer}
 use Rattle.radio_house.specs.declared.standing.Standing.{Standing}
 use Rattle.radio_house.specs.declared.standing.Standing.TheVariants.{Unknown, Undecided as IsUndecided, Feeds as IsFeeding, Sits, Answered as IsAnswered, Finished}
 use Rattle.radio_house.specs.Clients.{Client, client_of}

@@ -4,7 +4,7 @@ use Rattle.radio_values.specs.declared.field.Shown.{Shown}
 use Rattle.radio_events.specs.declared.event.SourceRequest.{SourceRequest}
 use Rattle.radio_house.specs.House.{House}
 use Rattle.radio_house.specs.declared.standing.Standing.TheVariants.{Feeds}
-use Rattle.radio_core.specs.Changes.{changed, called_home}
+use Rattle.radio_changes.specs.Changes.{changed, called_home}
 use Rattle.radio_house.specs.HouseChanges.{begun, raised}
 use Rattle.radio_core.specs.RelayUp.{raises}
 use Rattle.radio_core.specs.Sound.{IsSound}

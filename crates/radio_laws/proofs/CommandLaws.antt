@@ -18,9 +18,9 @@ use Rattle.radio_fallback.proofs.MovedCounts.{moved_as_counted}
 use Rattle.radio_events.specs.declared.command.Command.{Command as TheCommand}
 use Rattle.radio_events.specs.declared.command.Command.TheVariants.{MoveClients, KillClient, KillSource, SetTitle, SetFallback, AddUser, DeleteUser}
 use Rattle.radio_events.specs.declared.event.Event.{Event}
-use Rattle.radio_core.specs.declared.outcome.Change.TheVariants.{Obey}
+use Rattle.radio_changes.specs.declared.change.Change.TheVariants.{Obey}
 use Rattle.radio_house.specs.declared.standing.Standing.TheVariants.{Unknown, Sits, Answered, Finished}
-use Rattle.radio_core.specs.Changes.{answered, carried_along, changed, session_over}
+use Rattle.radio_changes.specs.Changes.{answered, carried_along, changed, session_over}
 use Rattle.radio_core.specs.Allowed.{IsCommanded}
 use Rattle.radio_house.specs.CommandFacts.{opened_by, opens_as_source, is_live, sits_at}
 use Rattle.radio_policy.specs.declared.rule.Rule.TheVariants.{NoMount, NoDestination, SameMount, NoClient, Killed}
@@ -31,7 +31,7 @@ use Rattle.radio_fallback.specs.declared.moves.Move.{Move}
 use Rattle.radio_fallback.specs.declared.moves.Move.TheVariants.{Ended, To}
 use Rattle.radio_fallback.specs.Carry.{concerns}
 use Rattle.radio_fallback.proofs.Faring.{Faring, HasStayed, HasGone, HasLost, fares}
-use Rattle.radio_core.specs.Counts.{counts_by}
+use Rattle.radio_changes.specs.Counts.{counts_by}
 use Rattle.radio_house.specs.Facts.{sight_of}
 use Rattle.radio_house.specs.Fallbacks.{Fallback, set_for}
 use Rattle.radio_parts.specs.Sessions.{Session, session_of, without_session}

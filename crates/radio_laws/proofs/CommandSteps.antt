@@ -9,14 +9,14 @@ use Rattle.radio_events.specs.declared.command.Asked.TheVariants.{Command as Ask
 use Rattle.radio_events.specs.declared.command.Command.{Command as TheCommand}
 use Rattle.radio_events.specs.declared.event.Event.{Event}
 use Rattle.radio_events.specs.declared.reply.Reply.TheVariants.{Text as SaysText}
-use Rattle.radio_core.specs.declared.outcome.Change.TheVariants.{Answer, Obey}
+use Rattle.radio_changes.specs.declared.change.Change.TheVariants.{Answer, Obey}
 use Rattle.radio_core.specs.declared.outcome.Outcome.{Outcome}
 use Rattle.radio_house.specs.declared.standing.Standing.{Standing}
 use Rattle.radio_house.specs.declared.standing.Standing.TheVariants.{Undecided}
 use Rattle.radio_core.specs.Allowed.{IsCommanded}
-use Rattle.radio_core.specs.Changes.{changed}
+use Rattle.radio_changes.specs.Changes.{changed}
 use Rattle.radio_core.specs.Command.{obeys, does_asked, said_of}
-use Rattle.radio_core.specs.Counts.{counts_by}
+use Rattle.radio_changes.specs.Counts.{counts_by}
 use Rattle.radio_core.specs.Outcomes.{on_verdict, if_undecided}
 use Rattle.radio_core.specs.Step.{outcome, reply_to, world_after}
 use Rattle.radio_house.specs.CommandFacts.{rows_to_command}

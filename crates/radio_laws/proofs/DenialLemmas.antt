@@ -26,10 +26,10 @@ use Rattle.radio_events.specs.declared.event.ListenRequest.{ListenRequest}
 use Rattle.radio_events.specs.declared.reply.Reply.TheVariants.{Feeding, Deny}
 use Rattle.radio_events.specs.Events.{client_in}
 use Rattle.radio_house.specs.declared.clients.ClientState.TheVariants.{Undecided as IsNew, Answered as HasHisAnswer}
-use Rattle.radio_core.specs.declared.outcome.Change.TheVariants.{Nothing, Answer}
+use Rattle.radio_changes.specs.declared.change.Change.TheVariants.{Nothing, Answer}
 use Rattle.radio_core.specs.declared.outcome.Outcome.{Outcome}
 use Rattle.radio_house.specs.declared.standing.Standing.TheVariants.{Undecided}
-use Rattle.radio_core.specs.Changes.{changed}
+use Rattle.radio_changes.specs.Changes.{changed}
 use Rattle.radio_house.specs.Clients.{Client, client_of, in_state}
 use Rattle.radio_house.specs.Relays.{Relay, relay_of}
 use Rattle.radio_laws.specs.Denials.{IsOnlyAnswered, DenialsAreThePolicys, AddressesAreDenied, FeedsAsItsSource, OnlySourcesFeed}

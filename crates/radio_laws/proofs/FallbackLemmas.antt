@@ -5,9 +5,9 @@ use Rattle.radio_events.specs.declared.command.Command.{Command as TheCommand}
 use Rattle.radio_events.specs.declared.command.Command.TheVariants.{MoveClients, KillClient, KillSource, SetTitle as NewTitle, SetFallback, AddUser, DeleteUser}
 use Rattle.radio_events.specs.declared.event.Event.{Event}
 use Rattle.radio_house.specs.House.{House}
-use Rattle.radio_core.specs.declared.outcome.Change.TheVariants.{Obey}
+use Rattle.radio_changes.specs.declared.change.Change.TheVariants.{Obey}
 use Rattle.radio_core.specs.declared.outcome.Outcome.{Outcome}
-use Rattle.radio_core.specs.Changes.{answered, changed, before_silence, silent_in, session_killed, session_begun, session_raised}
+use Rattle.radio_changes.specs.Changes.{answered, changed, before_silence, silent_in, session_killed, session_begun, session_raised}
 use Rattle.radio_core.specs.Allowed.{IsCommanded}
 use Rattle.radio_house.specs.Fallbacks.{Fallback, set_for}
 use Rattle.radio_parts.specs.Sessions.{Session, session_of}

@@ -7,7 +7,7 @@ use Rattle.radio_access.specs.Lists.{Lists}
 use Rattle.radio_events.specs.declared.event.Event.{Event}
 use Rattle.radio_events.specs.declared.event.Event.TheVariants.{Arrive, Source, Push, SourceEnd, Title, Listen, Draw, Command, Leave}
 use Rattle.radio_events.specs.declared.event.Event.TheVariants.{RelayUp, RelayDown, Clock}
-use Rattle.radio_core.specs.declared.outcome.Change.TheVariants.{Nothing}
+use Rattle.radio_changes.specs.declared.change.Change.TheVariants.{Nothing}
 use Rattle.radio_events.specs.declared.reply.Reply.TheVariants.{Noted, Stray}
 use Rattle.radio_core.specs.Outcomes.{says, unless_relayed}
 use Rattle.radio_core.specs.RelayDown.{goes_down_from}
@@ -15,7 +15,7 @@ use Rattle.radio_core.specs.declared.outcome.Outcome.{Outcome}
 use Rattle.radio_house.specs.declared.standing.Standing.{Standing}
 use Rattle.radio_house.specs.declared.standing.Standing.TheVariants.{Unknown, Undecided, Feeds, Sits, Answered, Finished}
 use Rattle.radio_house.specs.World.{World, standing_of, has_relay}
-use Rattle.radio_core.specs.Changes.{changed, session_ended, session_begun, session_raised}
+use Rattle.radio_changes.specs.Changes.{changed, session_ended, session_begun, session_raised}
 use Rattle.radio_house.specs.Streams.{shown_for}
 use Rattle.radio_house.specs.House.{House}
 use Rattle.radio_core.proofs.CommandLemmas.{obeyed_last}
@@ -31,7 +31,7 @@ use Rattle.radio_core.specs.Ways.{Way, Misplaced, IsFinished, IsDenied, IsRefuse
 use Rattle.radio_settings.specs.Web.{web_path}
 use Rattle.radio_settings.specs.declared.web.WebPath.{WebPath}
 use Rattle.radio_events.specs.declared.event.ListenRequest.{ListenRequest}
-use Rattle.radio_core.specs.declared.outcome.Change.TheVariants.{Nothing}
+use Rattle.radio_changes.specs.declared.change.Change.TheVariants.{Nothing}
 use Rattle.radio_core.specs.Outcomes.{says}
 use Rattle.radio_core.specs.Pages.{asks_by}
 use Rattle.radio_events.specs.declared.reply.Reply.TheVariants.{Stray}

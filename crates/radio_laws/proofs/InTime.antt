@@ -7,7 +7,7 @@ use Rattle.radio_policy.specs.declared.rule.Rule.TheVariants.{TimeOver, HeaderTi
 use Rattle.radio_tables.proofs.FindLaws.{found_has}
 use Rattle.radio_seats.proofs.EndLaws.{kept_seat}
 use Rattle.radio_house.specs.declared.clients.ClientState.TheVariants.{Ended}
-use Rattle.radio_core.specs.Changes.{before_silence, session_silenced, silent_in, ticked}
+use Rattle.radio_changes.specs.Changes.{before_silence, session_silenced, silent_in, ticked}
 use Rattle.radio_house.specs.Clients.{Client, client_of, with_state}
 use Rattle.radio_laws.specs.Outstaying.{IsInTime}
 use Rattle.radio_parts.specs.Sessions.{Session, is_of, session_of, AreApart}

@@ -17,7 +17,7 @@ use Rattle.radio_fallback.specs.Walk.{MaySit, is_full, is_twice_for, sits_alread
 use Rattle.radio_events.specs.declared.event.Event.{Event}
 use Rattle.radio_events.specs.declared.event.ListenRequest.{ListenRequest}
 use Rattle.radio_core.specs.declared.outcome.Outcome.{Outcome}
-use Rattle.radio_core.specs.declared.outcome.Change.TheVariants.{TakeSeat, Obey}
+use Rattle.radio_changes.specs.declared.change.Change.TheVariants.{TakeSeat, Obey}
 use Rattle.radio_house.specs.declared.standing.Standing.TheVariants.{Undecided}
 use Rattle.std.specs.Prelude.{if◌then◌else◌, fold}
 use Rattle.std.proofs.lemmas.Bool.{and_parts}
@@ -30,8 +30,8 @@ use Rattle.radio_fallback.proofs.TurnLemmas.{lands_where_he_fits}
 use Rattle.radio_house.specs.Streams.{shown_for}
 use Rattle.radio_events.specs.declared.command.Command.{Command as TheCommand}
 use Rattle.radio_events.specs.declared.command.Command.TheVariants.{MoveClients, KillClient, KillSource, SetTitle as NewTitle, SetFallback, AddUser, DeleteUser}
-use Rattle.radio_core.specs.Changes.{answered, session_killed, changed, carried_along, session_over, session_ended, called_home}
-use Rattle.radio_core.specs.Changes.{before_silence, session_silenced, silent_in, session_begun, session_raised}
+use Rattle.radio_changes.specs.Changes.{answered, session_killed, changed, carried_along, session_over, session_ended, called_home}
+use Rattle.radio_changes.specs.Changes.{before_silence, session_silenced, silent_in, session_begun, session_raised}
 use Rattle.radio_house.specs.HouseChanges.{received}
 use Rattle.radio_laws.specs.Limits.{IsWithinLimits, SentUser, SitsThereAs, most_at, allows_duplicates_at}
 use Rattle.radio_core.specs.Listen.{first_seat}

@@ -23,15 +23,15 @@ use Rattle.radio_events.specs.declared.event.Event.TheVariants.{Command}
 use Rattle.radio_events.specs.declared.reply.Reply.TheVariants.{Text as SaysText}
 use Rattle.radio_events.specs.declared.text.Text.{Text}
 use Rattle.radio_events.specs.Texts.{IsShort}
-use Rattle.radio_core.specs.declared.outcome.Change.TheVariants.{Answer}
+use Rattle.radio_changes.specs.declared.change.Change.TheVariants.{Answer}
 use Rattle.radio_core.specs.declared.outcome.Outcome.{Outcome}
 use Rattle.radio_house.specs.declared.standing.Standing.{Standing}
 use Rattle.radio_house.specs.declared.standing.Standing.TheVariants.{Undecided, Answered}
-use Rattle.radio_core.specs.Changes.{changed}
+use Rattle.radio_changes.specs.Changes.{changed}
 use Rattle.radio_core.specs.Command.{does_asked, shows}
 use Rattle.radio_core.specs.Allowed.{IsListed}
 use Rattle.radio_house.specs.CommandFacts.{is_live, facts_asked, rows_to_command}
-use Rattle.radio_core.specs.Counts.{counts_by}
+use Rattle.radio_changes.specs.Counts.{counts_by}
 use Rattle.radio_status.specs.Listings.{shown}
 use Rattle.radio_core.specs.Pages.{IsShownBy, IsListing, IsAtPath}
 use Rattle.radio_status.specs.Pages.{page_at}

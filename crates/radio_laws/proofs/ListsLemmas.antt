@@ -29,7 +29,7 @@ use Rattle.radio_policy.specs.declared.rule.Rule.TheVariants.{ListenerPassword}
 use Rattle.radio_tables.proofs.KeyLaws.{by_name}
 use Rattle.radio_seats.proofs.EndLaws.{had_seat}
 use Rattle.radio_house.specs.Outsiders.{is_shut_out}
-use Rattle.radio_core.specs.Changes.{answered, outsiders_ended}
+use Rattle.radio_changes.specs.Changes.{answered, outsiders_ended}
 use Rattle.radio_core.specs.ListsSteps.{ListsStep, Stay, IsAdded, IsDeleted}
 use Rattle.radio_core.proofs.ChangedUsers.{with_lists}
 use Rattle.radio_core.proofs.ListsSteps.{lists_step}

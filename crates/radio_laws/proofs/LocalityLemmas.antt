@@ -16,12 +16,12 @@ use Rattle.radio_events.specs.declared.command.Command.{Command as TheCommand}
 use Rattle.radio_events.specs.declared.command.Command.TheVariants.{MoveClients, KillClient, KillSource, SetTitle as NewTitle, SetFallback, AddUser, DeleteUser}
 use Rattle.radio_events.specs.declared.event.Event.{Event}
 use Rattle.radio_events.specs.declared.event.Event.TheVariants.{Command}
-use Rattle.radio_core.specs.declared.outcome.Change.{Change}
-use Rattle.radio_core.specs.declared.outcome.Change.TheVariants.{Nothing, Begin, Raise, Receive, End}
-use Rattle.radio_core.specs.declared.outcome.Change.TheVariants.{EndAndLeave, Tick, Obey}
+use Rattle.radio_changes.specs.declared.change.Change.{Change}
+use Rattle.radio_changes.specs.declared.change.Change.TheVariants.{Nothing, Begin, Raise, Receive, End}
+use Rattle.radio_changes.specs.declared.change.Change.TheVariants.{EndAndLeave, Tick, Obey}
 use Rattle.radio_core.specs.declared.outcome.Outcome.{Outcome}
 use Rattle.radio_house.specs.declared.standing.Standing.TheVariants.{Feeds}
-use Rattle.radio_core.specs.Changes.{changed, session_over, session_ended, session_killed, answered}
+use Rattle.radio_changes.specs.Changes.{changed, session_over, session_ended, session_killed, answered}
 use Rattle.radio_house.specs.HouseChanges.{received}
 use Rattle.radio_core.specs.Closing.{Closes, OfClient, OfRelay}
 use Rattle.radio_core.specs.Allowed.{IsCommanded}

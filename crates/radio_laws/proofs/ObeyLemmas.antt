@@ -9,8 +9,8 @@ use Rattle.radio_seats.specs.Seats.{is_listener, is_seat_at, lost_by, loses, sea
 use Rattle.radio_seats.proofs.CountLaws.{NobodyCame}
 use Rattle.radio_events.specs.declared.command.Command.{Command as TheCommand}
 use Rattle.radio_events.specs.declared.event.Event.{Event}
-use Rattle.radio_core.specs.declared.outcome.Change.TheVariants.{Obey}
-use Rattle.radio_core.specs.Changes.{changed}
+use Rattle.radio_changes.specs.declared.change.Change.TheVariants.{Obey}
+use Rattle.radio_changes.specs.Changes.{changed}
 use Rattle.radio_core.specs.Allowed.{IsCommanded}
 use Rattle.radio_parts.specs.Sessions.{Session, session_of}
 use Rattle.radio_core.specs.SessionSteps.{SessionStep, Stays, Begins, BeginsForRelay, Grows, IsTitled, IsRetitled, Ends, IsKilled}

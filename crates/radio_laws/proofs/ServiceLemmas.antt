@@ -14,15 +14,15 @@ use Rattle.radio_events.specs.declared.event.Event.TheVariants.{Arrive, Source, 
 use Rattle.radio_events.specs.declared.event.SourceRequest.{SourceRequest}
 use Rattle.radio_events.specs.declared.event.ListenRequest.{ListenRequest}
 use Rattle.radio_house.specs.declared.clients.ClientState.TheVariants.{Undecided as IsNew}
-use Rattle.radio_core.specs.declared.outcome.Change.{Change}
-use Rattle.radio_core.specs.declared.outcome.Change.TheVariants.{Nothing, SetTitle, End, EndAndLeave}
+use Rattle.radio_changes.specs.declared.change.Change.{Change}
+use Rattle.radio_changes.specs.declared.change.Change.TheVariants.{Nothing, SetTitle, End, EndAndLeave}
 use Rattle.radio_core.specs.declared.outcome.Outcome.{Outcome}
 use Rattle.radio_events.specs.declared.reply.Reply.TheVariants.{Noted, Finished, Stray}
 use Rattle.radio_seats.specs.declared.seat.Seat.{Seat}
 use Rattle.radio_house.specs.declared.standing.Standing.{Standing}
 use Rattle.radio_house.specs.declared.standing.Standing.TheVariants.{Unknown, Undecided, Feeds, Sits, Answered}
 use Rattle.radio_house.specs.World.{World, standing_of, has_relay}
-use Rattle.radio_core.specs.Changes.{changed}
+use Rattle.radio_changes.specs.Changes.{changed}
 use Rattle.radio_fallback.specs.declared.walking.Landing.TheVariants.{Lands}
 use Rattle.radio_house.specs.Facts.{rows_to_arrive, rows_to_feed, rows_to_raise, rows_to_push, rows_to_listen, walks_to}
 use Rattle.radio_laws.specs.Walks.{ComesBy}

@@ -13,12 +13,12 @@ use Rattle.radio_tables.proofs.KeyLaws.{by_number, by_name}
 use Rattle.radio_events.specs.declared.event.Event.{Event}
 use Rattle.radio_events.specs.declared.event.Event.TheVariants.{Push, Title}
 use Rattle.radio_laws.proofs.BegunLemmas.{source_begins, relay_begins}
-use Rattle.radio_core.specs.declared.outcome.Change.TheVariants.{Receive, SetTitle}
+use Rattle.radio_changes.specs.declared.change.Change.TheVariants.{Receive, SetTitle}
 use Rattle.radio_core.specs.declared.outcome.Outcome.{Outcome}
 use Rattle.radio_seats.specs.declared.seat.Seat.{Seat}
 use Rattle.radio_house.specs.declared.standing.Standing.TheVariants.{Unknown, Undecided, Feeds}
 use Rattle.radio_house.specs.World.{World, opening, standing_of}
-use Rattle.radio_core.specs.Changes.{changed}
+use Rattle.radio_changes.specs.Changes.{changed}
 use Rattle.radio_core.specs.Handing.{block_in, of_client, handed_at, handed, delivered_at, delivered}
 use Rattle.radio_seats.specs.Seats.{seat_of}
 use Rattle.radio_parts.specs.Sessions.{Session, session_of, without_session}

@@ -14,8 +14,8 @@ use Rattle.radio_parts.specs.Timeouts.{has_sat_out, is_silent}
 use Rattle.radio_parts.proofs.SessionLookups.{is_over}
 use Rattle.radio_house.specs.Waiting.{is_on_demand}
 use Rattle.radio_house.specs.World.{World}
-use Rattle.radio_core.specs.declared.outcome.Change.TheVariants.{Nothing, Tick}
-use Rattle.radio_core.specs.Changes.{changed, session_over, session_ended, before_silence, session_silenced, silent_in, ticked}
+use Rattle.radio_changes.specs.declared.change.Change.TheVariants.{Nothing, Tick}
+use Rattle.radio_changes.specs.Changes.{changed, session_over, session_ended, before_silence, session_silenced, silent_in, ticked}
 use Rattle.radio_core.specs.Moves.{Brings, BySilence}
 use Rattle.radio_core.specs.Sound.{IsSound}
 use Rattle.radio_core.specs.Step.{outcome, world_after}

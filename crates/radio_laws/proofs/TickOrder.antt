@@ -29,7 +29,7 @@ use Rattle.radio_events.specs.declared.event.Event.TheVariants.{Clock}
 use Rattle.radio_house.specs.declared.clients.ClientState.TheVariants.{Undecided as IsNew, Ended}
 use Rattle.radio_house.specs.declared.standing.Standing.{Standing}
 use Rattle.radio_house.specs.declared.standing.Standing.TheVariants.{Undecided, Feeds, Sits, Finished}
-use Rattle.radio_core.specs.Changes.{session_over, session_ended, before_silence, session_silenced, silent_in, ticked}
+use Rattle.radio_changes.specs.Changes.{session_over, session_ended, before_silence, session_silenced, silent_in, ticked}
 use Rattle.radio_house.specs.Clients.{Client, client_of, with_state}
 use Rattle.radio_house.specs.Relays.{Relay, relay_of}
 use Rattle.radio_house.specs.Facts.{sight_of, fallback_of}

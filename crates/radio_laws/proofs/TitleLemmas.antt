@@ -18,13 +18,13 @@ use Rattle.radio_events.specs.declared.command.Command.TheVariants.{MoveClients,
 use Rattle.radio_events.specs.declared.event.Event.{Event}
 use Rattle.radio_events.specs.declared.event.Event.TheVariants.{Push, Title}
 use Rattle.radio_laws.proofs.BegunLemmas.{source_begins, relay_begins}
-use Rattle.radio_core.specs.declared.outcome.Change.TheVariants.{Receive, SetTitle, Answer}
+use Rattle.radio_changes.specs.declared.change.Change.TheVariants.{Receive, SetTitle, Answer}
 use Rattle.radio_core.specs.Outcomes.{says}
 use Rattle.radio_events.specs.declared.reply.Reply.TheVariants.{Text as SaysText}
 use Rattle.radio_core.specs.declared.outcome.Outcome.{Outcome}
 use Rattle.radio_house.specs.declared.standing.Standing.TheVariants.{Unknown, Undecided, Feeds}
 use Rattle.radio_house.specs.World.{World, opening, standing_of}
-use Rattle.radio_core.specs.Changes.{answered, changed, session_killed}
+use Rattle.radio_changes.specs.Changes.{answered, changed, session_killed}
 use Rattle.radio_core.specs.Command.{obeys as obeys_it}
 use Rattle.radio_events.specs.declared.text.Text.{Text}
 use Rattle.radio_events.specs.declared.text.Text.TheVariants.{Done, Moved, Json, Streams, Public, Page, Ended as ListenersEnded}

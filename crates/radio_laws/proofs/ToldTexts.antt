@@ -10,7 +10,7 @@ use Rattle.radio_core.specs.declared.outcome.Outcome.{Outcome}
 use Rattle.radio_house.specs.declared.standing.Standing.TheVariants.{Undecided}
 use Rattle.radio_core.specs.Command.{said_of}
 use Rattle.radio_core.specs.Allowed.{IsCommanded}
-use Rattle.radio_core.specs.Counts.{counts_by}
+use Rattle.radio_changes.specs.Counts.{counts_by}
 use Rattle.radio_core.specs.Pages.{IsShownBy}
 use Rattle.radio_core.specs.Step.{outcome, reply_to}
 use Rattle.radio_core.specs.Ways.{Way, Misplaced, IsFinished, IsDenied, IsRefused, IsAdmitted, Begins, ComesUp, Receives, SetsTitle, TakesSeat, HandsOut, Ends}

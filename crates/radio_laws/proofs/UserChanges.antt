@@ -32,7 +32,7 @@ use Rattle.radio_house.specs.Relays.{relay_of}
 use Rattle.radio_house.specs.declared.standing.Standing.TheVariants.{Sits}
 use Rattle.radio_house.specs.World.{World, standing_of, standing_in}
 use Rattle.radio_core.specs.Allowed.{IsCommanded, ChangesUsers}
-use Rattle.radio_core.specs.Changes.{answered, outsiders_ended}
+use Rattle.radio_changes.specs.Changes.{answered, outsiders_ended}
 use Rattle.radio_core.specs.ListsSteps.{ListsStep, Stay, IsAdded, IsDeleted}
 use Rattle.radio_core.specs.Sound.{IsSound}
 use Rattle.radio_core.specs.Step.{reply_to, world_after}

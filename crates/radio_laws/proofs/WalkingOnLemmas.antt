@@ -26,11 +26,11 @@ use Rattle.radio_core.proofs.ClosingLemmas.{closes_his}
 use Rattle.radio_events.specs.declared.event.SourceRequest.{SourceRequest}
 use Rattle.radio_seats.specs.declared.seat.Seating.TheVariants.{Finished as HasFinished}
 use Rattle.radio_events.specs.declared.reply.Reply.TheVariants.{Noted, Stray}
-use Rattle.radio_core.specs.declared.outcome.Change.TheVariants.{Nothing, Answer, End, EndAndLeave}
+use Rattle.radio_changes.specs.declared.change.Change.TheVariants.{Nothing, Answer, End, EndAndLeave}
 use Rattle.radio_core.specs.declared.outcome.Outcome.{Outcome}
 use Rattle.radio_house.specs.declared.standing.Standing.{Standing}
 use Rattle.radio_house.specs.declared.standing.Standing.TheVariants.{Undecided, Feeds}
-use Rattle.radio_core.specs.Changes.{changed, carried_along, called_home, session_over, session_ended, before_silence, session_silenced}
+use Rattle.radio_changes.specs.Changes.{changed, carried_along, called_home, session_over, session_ended, before_silence, session_silenced}
 use Rattle.radio_house.specs.Facts.{sight_of, rows_to_feed, rows_to_raise, live_end}
 use Rattle.radio_core.specs.Moves.{Brings, ByItsEnd, ByItsLeaving, BySilence, ByComingUp, ByRelayUp, ByKilling, ByMoving, his_turn}
 use Rattle.radio_core.specs.Outcomes.{says, if_feeding, unless_relayed, if_undecided, on_verdict}

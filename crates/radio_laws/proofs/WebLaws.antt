@@ -18,11 +18,11 @@ use Rattle.radio_events.specs.declared.event.ListenRequest.{ListenRequest}
 use Rattle.radio_events.specs.declared.event.SourceRequest.{SourceRequest}
 use Rattle.radio_events.specs.declared.reply.Reply.TheVariants.{Text as SaysText, Deny}
 use Rattle.radio_events.specs.declared.text.Text.{Text}
-use Rattle.radio_core.specs.declared.outcome.Change.TheVariants.{Answer}
+use Rattle.radio_changes.specs.declared.change.Change.TheVariants.{Answer}
 use Rattle.radio_core.specs.declared.outcome.Outcome.{Outcome}
 use Rattle.radio_house.specs.declared.standing.Standing.{Standing}
 use Rattle.radio_house.specs.declared.standing.Standing.TheVariants.{Undecided, Answered}
-use Rattle.radio_core.specs.Changes.{changed}
+use Rattle.radio_changes.specs.Changes.{changed}
 use Rattle.radio_house.specs.Facts.{names_mount, source_facts_at}
 use Rattle.radio_status.specs.Listings.{mount_rows}
 use Rattle.radio_core.specs.Outcomes.{says, if_undecided, on_verdict}

@@ -1,7 +1,7 @@
 use Rattle.std.specs.Prelude.{◌≡◌, ℕ, ◌≤◌, false, List, []}
 use Rattle.radio_events.specs.declared.event.Event.{Event}
 use Rattle.radio_events.specs.declared.event.Event.TheVariants.{Leave, RelayDown}
-use Rattle.radio_core.specs.declared.outcome.Change.TheVariants.{Nothing}
+use Rattle.radio_changes.specs.declared.change.Change.TheVariants.{Nothing}
 use Rattle.radio_events.specs.declared.reply.Reply.TheVariants.{Noted, Stray}
 use Rattle.radio_house.specs.declared.standing.Standing.TheVariants.{Unknown}
 use Rattle.radio_core.specs.Handing.{handed, delivered}

@@ -12,7 +12,7 @@ use Rattle.radio_events.specs.declared.event.Event.{Event}
 use Rattle.radio_events.specs.declared.event.Event.TheVariants.{Source, SourceEnd, RelayUp}
 use Rattle.radio_events.specs.declared.event.SourceRequest.{SourceRequest}
 use Rattle.radio_events.specs.declared.command.Command.TheVariants.{MoveClients, KillSource}
-use Rattle.radio_core.specs.Changes.{carried_along, session_over}
+use Rattle.radio_changes.specs.Changes.{carried_along, session_over}
 use Rattle.radio_core.specs.Closing.{Closes}
 use Rattle.radio_core.specs.Allowed.{IsCommanded}
 use Rattle.radio_core.specs.Moves.{Brings, his_turn}

@@ -3,8 +3,9 @@ ghost use Rattle.radio_house.specs.Facts.{largest_number};
 ghost use Rattle.radio_core.specs.Arrive.{arrives, admits_client};
 
 use super::state::State;
-use crate::outcome::{Change, Outcome};
+use crate::outcome::Outcome;
 use radio_addr::Peer;
+use radio_changes::Change;
 use radio_events::Reply;
 use radio_policy::{Action, Verdict, judge};
 
@@ -13,7 +14,7 @@ impl State {
     pub(super) fn arrive(&self, peer: Peer) -> Outcome
         ensures { result ≡ arrives self.now peer }
     {
-        let facts = self.house.arrive_facts(peer);
+        let facts = self.house().arrive_facts(peer);
         match judge(&Action::Arrive(facts)) {
             Verdict::Deny(rule) => Outcome {
                 reply: Reply::Deny(rule),
@@ -27,7 +28,7 @@ impl State {
         requires { (self.now.house.last_id == largest_number) ≡ false }
         ensures { result ≡ admits_client self.now peer }
     {
-        let id = self.house.last_number() + 1;
+        let id = self.house().last_number() + 1;
         Outcome {
             reply: Reply::Arrived(id),
             change: Change::Admit { id, peer },

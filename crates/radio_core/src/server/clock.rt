@@ -2,7 +2,8 @@ ghost use Rattle.std.specs.Prelude.{◌≡◌};
 ghost use Rattle.radio_core.specs.Clock.{hears_clock};
 
 use super::state::State;
-use crate::outcome::{Change, Outcome};
+use crate::outcome::Outcome;
+use radio_changes::Change;
 use radio_events::Reply;
 
 impl State {
@@ -12,7 +13,7 @@ impl State {
     {
         Outcome {
             reply: Reply::Noted,
-            change: if ms < self.house.time() {
+            change: if ms < self.house().time() {
                 Change::Nothing
             } else {
                 Change::Tick { ms }

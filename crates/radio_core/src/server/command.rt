@@ -2,14 +2,15 @@ ghost use Rattle.std.specs.Prelude.{◌≡◌, IfOk};
 ghost use Rattle.radio_core.specs.Command.{gives_command, does_asked, said_of};
 ghost use Rattle.radio_house.specs.CommandFacts.{rows_to_command};
 ghost use Rattle.radio_core.specs.Outcomes.{on_verdict};
-ghost use Rattle.radio_core.specs.Counts.{nobody};
+ghost use Rattle.radio_changes.specs.Counts.{nobody};
 ghost use Rattle.radio_core.specs.Planned.{uncounted, told_counts};
 ghost use Rattle.radio_fallback.specs.declared.moves.Carried.{Carried as CarriedOf};
 ghost use Rattle.radio_policy.specs.Verdicts.{verdict_in};
 
 use super::state::State;
 use crate::OutOfMemory;
-use crate::outcome::{Change, Outcome};
+use crate::outcome::Outcome;
+use radio_changes::Change;
 use radio_events::{Asked, Command, CommandRequest, Reply, Text};
 use radio_house::Standing;
 use radio_policy::{Action, Verdict, judge};
@@ -40,8 +41,8 @@ impl State {
             (on_verdict (verdict_in (rows_to_command self.now asked)) (Change.Answer asked.id) (does_asked self.now asked.id asked.asked))) }
     {
         let facts = self
-            .house
-            .command_facts(&self.seats, &asked.asked, asked.pair.as_ref());
+            .house()
+            .command_facts(self.seats(), &asked.asked, asked.pair.as_ref());
         match judge(&Action::Command(facts)) {
             Verdict::Deny(rule) => {
                 let id = asked.id;
@@ -60,7 +61,7 @@ impl State {
         let CommandRequest { id, asked, .. } = asked;
         match asked {
             Asked::Listing(listing) => Ok(Outcome {
-                reply: Reply::Text(shown(self.alloc, &self.house, &self.seats, &listing)?),
+                reply: Reply::Text(shown(self.alloc, self.house(), self.seats(), &listing)?),
                 change: Change::Answer { id },
             }),
             Asked::Command(command) => Ok(Outcome {

@@ -10,8 +10,9 @@ ghost use Rattle.radio_house.specs.World.{standing_of};
 
 use super::state::State;
 use crate::OutOfMemory;
-use crate::outcome::{Change, Outcome};
+use crate::outcome::Outcome;
 use radio_blocks::{Pieces, Place};
+use radio_changes::Change;
 use radio_events::Reply;
 use radio_house::Standing;
 use radio_seats::LentSeat;
@@ -24,7 +25,7 @@ impl State {
         requires { StandsForSome self.now }
         ensures { IfOk result (λ o. o ≡ draws self.now id room) }
     {
-        match self.seats.seat(id) {
+        match self.seats().seat(id) {
             Some(seat) => self.hand_out(id, seat, room),
             None => Ok(self.draw_without_seat(id)),
         }
@@ -46,7 +47,7 @@ impl State {
         requires sits { seat_of self.now.seats id ≡ Some (lent_seat seat) }
         ensures { IfOk result (λ o. o ≡ hands_out id (lent_seat seat.entry) room (heard_at self.now.house seat.entry.mount.now)) }
     {
-        let Some(session) = self.house.session(seat.mount) else {
+        let Some(session) = self.house().session(seat.mount) else {
             return Ok(self.hand_out_nothing(id, seat.place, seat.mount));
         };
         let mut pieces = Pieces::new(self.alloc);
@@ -62,7 +63,7 @@ impl State {
     fn hand_out_nothing(&self, id: u64, place: Place, mount: &MountName) -> Outcome
         ensures { (room : _) (seat : SeatOf) → seat.place ≡ place → result ≡ hands_out id seat room (silence_of self.now.house mount.now) }
     {
-        if !self.house.is_on_demand(mount) {
+        if !self.house().is_on_demand(mount) {
             return Outcome::stray();
         }
         Outcome {

@@ -3,7 +3,8 @@ ghost use Rattle.radio_core.specs.Leave.{leaves, leaves_from};
 ghost use Rattle.radio_house.specs.World.{standing_of};
 
 use super::state::State;
-use crate::outcome::{Change, Outcome};
+use crate::outcome::Outcome;
+use radio_changes::Change;
 use radio_events::Reply;
 use radio_house::Standing;
 

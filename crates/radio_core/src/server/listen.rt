@@ -1,14 +1,15 @@
 ghost use Rattle.std.specs.Prelude.{◌≡◌, Some, IfOk, MatchResult};
 ghost use Rattle.radio_house.specs.Waiting.{heard_at, silence_at, silence_of};
 ghost use Rattle.radio_events.specs.declared.reply.Reply.TheVariants.{Seated};
-ghost use Rattle.radio_core.specs.declared.outcome.Change.TheVariants.{TakeSeat};
+ghost use Rattle.radio_changes.specs.declared.change.Change.TheVariants.{TakeSeat};
 ghost use Rattle.radio_core.specs.Outcomes.{says};
 ghost use Rattle.radio_core.specs.Listen.{asks_to_hear, sits_where, takes_seat, first_seat};
 
 use super::state::State;
 use crate::OutOfMemory;
-use crate::outcome::{Change, Outcome};
+use crate::outcome::Outcome;
 use radio_addr::Peer;
+use radio_changes::Change;
 use radio_events::{ListenRequest, Reply, StreamHead};
 use radio_fallback::Landing;
 use radio_house::Standing;
@@ -50,12 +51,11 @@ impl State {
             Standing::Finished(rule) => return Err(Outcome::finished(rule)),
             _ => return Err(Outcome::stray()),
         };
-        let Some(home) = self.house.mount_named(asked.mount.as_slice()) else {
+        let house = self.house();
+        let Some(home) = house.mount_named(asked.mount.as_slice()) else {
             return Err(Outcome::refused(Rule::BadMount, asked.id));
         };
-        let (facts, landing) = self
-            .house
-            .listen_facts(&self.seats, &home, asked.pair.as_ref());
+        let (facts, landing) = house.listen_facts(self.seats(), &home, asked.pair.as_ref());
         match judge(&Action::Listen(Some(facts))) {
             Verdict::Deny(rule) => Err(Outcome::refused(rule, asked.id)),
             Verdict::Allow => Ok(Welcome {
@@ -88,7 +88,7 @@ impl State {
         requires { welcome.home ≡ asked.mount }
         ensures { IfOk result (λ o. o ≡ takes_seat self.now.house asked welcome.peer (heard_at self.now.house mount.now)) }
     {
-        match self.house.session(mount) {
+        match self.house().session(mount) {
             Some(session) => self.welcome(asked, welcome, session),
             None => self.wait_there(asked, welcome, mount),
         }
@@ -104,7 +104,7 @@ impl State {
         requires { welcome.home ≡ asked.mount }
         ensures { IfOk result (λ o. o ≡ takes_seat self.now.house asked welcome.peer (silence_of self.now.house mount.now)) }
     {
-        if self.house.is_on_demand(mount) {
+        if self.house().is_on_demand(mount) {
             self.await_session(asked, welcome, mount)
         } else {
             drop(asked);
@@ -122,7 +122,7 @@ impl State {
         requires { welcome.home ≡ asked.mount }
         ensures { IfOk result (λ o. o ≡ takes_seat self.now.house asked welcome.peer (Some (silence_at self.now.house mount.now))) }
     {
-        match self.house.silence(self.alloc, *mount) {
+        match self.house().silence(self.alloc, *mount) {
             Ok(silence) => {
                 let outcome = self.welcome(asked, welcome, &silence);
                 drop(silence);
@@ -147,7 +147,7 @@ impl State {
     {
         let id = asked.id;
         let seat = self.first_seat(asked, welcome, session)?;
-        match self.house.head_of(&session.shown) {
+        match self.house().head_of(&session.shown) {
             Ok(head) => Ok(seated(id, head, seat)),
             Err(refused) => {
                 drop(seat);
@@ -171,10 +171,11 @@ impl State {
             home: asked_for,
             ..
         } = welcome;
-        let home = self.house.shared_name(self.alloc, asked_for)?;
+        let house = self.house();
+        let home = house.shared_name(self.alloc, asked_for)?;
         let mount = session.mount.get();
-        let burst = self.house.burst_of(mount);
-        let interval = self.house.interval_for(&asked_for, asked.wants_metadata);
+        let burst = house.burst_of(mount);
+        let interval = house.interval_for(&asked_for, asked.wants_metadata);
         Ok(Seat {
             home,
             mount: *mount,
@@ -183,7 +184,7 @@ impl State {
             peer,
             pair: asked.pair,
             interval,
-            since: self.house.time(),
+            since: house.time(),
         })
     }
 }

@@ -7,7 +7,8 @@ ghost use Rattle.radio_house.specs.World.{standing_of};
 
 use super::state::State;
 use crate::OutOfMemory;
-use crate::outcome::{Change, Outcome};
+use crate::outcome::Outcome;
+use radio_changes::Change;
 use radio_events::{ListenRequest, Reply};
 use radio_house::Standing;
 use radio_settings::WebPath;
@@ -19,7 +20,7 @@ impl State {
     pub(super) fn get(&self, asked: ListenRequest) -> Result<Outcome, OutOfMemory>
         ensures { IfOk result (λ o. o ≡ asks_by_path self.now asked) }
     {
-        match self.house.settings().web.path(asked.mount.as_slice()) {
+        match self.house().settings().web.path(asked.mount.as_slice()) {
             Some(path) => {
                 let outcome = self.visit(&asked, path);
                 drop(asked);
@@ -37,8 +38,8 @@ impl State {
             Standing::Undecided(_) => Ok(Outcome {
                 reply: Reply::Text(page(
                     self.alloc,
-                    &self.house,
-                    &self.seats,
+                    self.house(),
+                    self.seats(),
                     path,
                     asked.host.as_slice(),
                 )?),

@@ -2,8 +2,9 @@ ghost use Rattle.std.specs.Prelude.{◌≡◌};
 ghost use Rattle.radio_core.specs.Push.{delivers};
 
 use super::state::State;
-use crate::outcome::{Change, Outcome};
+use crate::outcome::Outcome;
 use radio_blocks::Block;
+use radio_changes::Change;
 use radio_events::Reply;
 use radio_house::Standing;
 use radio_policy::{Action, Verdict, judge};
@@ -18,7 +19,7 @@ impl State {
             Standing::Finished(rule) => return Outcome::finished(rule),
             _ => return Outcome::stray(),
         };
-        let facts = self.house.push_facts(&mount, &block);
+        let facts = self.house().push_facts(&mount, &block);
         match judge(&Action::Push(facts)) {
             Verdict::Deny(rule) => Outcome::denied(rule),
             Verdict::Allow => Outcome {

@@ -1,18 +1,16 @@
-//! Relays: what comes of their coming and going, and a relay that comes up.
+//! Relays: what comes of their coming and going.
 
-ghost use Rattle.std.specs.Prelude.{◌≡◌, ◌==◌, false, MatchResult, IfOk, OnOk, OnErr};
+ghost use Rattle.std.specs.Prelude.{◌≡◌, ◌==◌, false, MatchResult, IfOk};
 ghost use Rattle.radio_policy.specs.Verdicts.{verdict_in};
-ghost use Rattle.radio_core.specs.Changes.{changed};
-ghost use Rattle.radio_core.specs.Counts.{counted};
 ghost use Rattle.radio_house.specs.Facts.{largest_number, rows_to_raise};
 ghost use Rattle.radio_core.specs.RelayUp.{comes_up, raises};
 ghost use Rattle.radio_core.specs.RelayDown.{goes_down};
 
 use super::state::State;
 use crate::OutOfMemory;
-use crate::outcome::{Change, Outcome};
+use crate::outcome::Outcome;
+use radio_changes::Change;
 use radio_events::Reply;
-use radio_fallback::Carried;
 use radio_house::Standing;
 use radio_policy::{Action, Rule, Verdict, judge};
 use radio_values::{MountName, Shown};
@@ -34,10 +32,11 @@ impl State {
             (λ name. (name ≡ mount.now) × (verdict_in (rows_to_raise self.now.house mount.now shown.now) ≡ Verdict.Allow))
             (λ rule. verdict_in (rows_to_raise self.now.house mount.now shown.now) ≡ Verdict.Deny rule) }
     {
-        let Some(name) = self.house.mount_named(mount) else {
+        let house = self.house();
+        let Some(name) = house.mount_named(mount) else {
             return Err(Rule::BadMount);
         };
-        let facts = self.house.relay_facts(&name, shown);
+        let facts = house.relay_facts(&name, shown);
         match judge(&Action::RelayUp(Some(facts))) {
             Verdict::Deny(rule) => Err(rule),
             Verdict::Allow => Ok(name),
@@ -49,8 +48,9 @@ impl State {
         requires { (self.now.house.last_id == largest_number) ≡ false }
         ensures { IfOk result (λ o. o ≡ raises self.now.house mount shown.now) }
     {
-        let shown = self.house.shown_for(&mount, shown)?;
-        let id = self.house.last_number() + 1;
+        let house = self.house();
+        let shown = house.shown_for(&mount, shown)?;
+        let id = house.last_number() + 1;
         Ok(Outcome {
             reply: Reply::Arrived(id),
             change: Change::Raise { id, mount, shown },
@@ -74,29 +74,6 @@ impl State {
                 change: Change::Forget { id },
             },
             _ => Outcome::stray(),
-        }
-    }
-
-    /// A relay has come up and feeds the mount from now on, listeners can be seated there, those hear
-    /// it who sat there waiting for a session, and those come home whom the mount calls. `OutOfMemory` where memory was refused; nothing has changed
-    /// then.
-    pub(super) fn raise(
-        &mut self,
-        id: u64,
-        mount: MountName,
-        shown: Shown,
-    ) -> Result<Carried, OutOfMemory>
-        ensures ok { OnOk result (self.new ≡ changed self.old (Change.Raise id mount shown)) }
-        ensures counts { IfOk result (λ counts. counts ≡ counted self.old (Change.Raise id mount shown)) }
-        ensures err { OnErr result (self.new ≡ self.old) }
-    {
-        self.seats.prepare(&mount)?;
-        match self.house.raise(self.alloc, id, mount, shown) {
-            Ok(()) => Ok(self.open_session(mount, id)),
-            Err(refused) => {
-                self.release_idle(&mount);
-                Err(refused)
-            }
         }
     }
 }

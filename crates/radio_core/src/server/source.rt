@@ -1,5 +1,5 @@
 ghost use Rattle.std.specs.Prelude.{◌≡◌, MatchResult, IfOk};
-ghost use Rattle.radio_core.specs.declared.outcome.Change.TheVariants.{Begin};
+ghost use Rattle.radio_changes.specs.declared.change.Change.TheVariants.{Begin};
 ghost use Rattle.radio_events.specs.declared.reply.Reply.TheVariants.{Feeding};
 ghost use Rattle.radio_core.specs.Outcomes.{says};
 ghost use Rattle.radio_core.specs.Source.{asks_to_feed, begins};
@@ -7,7 +7,8 @@ ghost use Rattle.radio_house.specs.Streams.{shown_for};
 
 use super::state::State;
 use crate::OutOfMemory;
-use crate::outcome::{Change, Outcome};
+use crate::outcome::Outcome;
+use radio_changes::Change;
 use radio_events::{Reply, SourceRequest};
 use radio_house::Standing;
 use radio_policy::{Action, Rule, Verdict, judge};
@@ -33,7 +34,7 @@ impl State {
     ) -> Result<Outcome, OutOfMemory>
         ensures { IfOk result (λ o. o ≡ says Feeding (Begin id mount (shown_for self.now.house mount shown.now))) }
     {
-        let shown = self.house.shown_for(&mount, shown)?;
+        let shown = self.house().shown_for(&mount, shown)?;
         Ok(Outcome {
             reply: Reply::Feeding,
             change: Change::Begin { id, mount, shown },
@@ -50,10 +51,11 @@ impl State {
             Standing::Finished(rule) => return Err(Outcome::finished(rule)),
             _ => return Err(Outcome::stray()),
         }
-        let Some(mount) = self.house.mount_named(asked.mount.as_slice()) else {
+        let house = self.house();
+        let Some(mount) = house.mount_named(asked.mount.as_slice()) else {
             return Err(Outcome::refused(Rule::BadMount, asked.id));
         };
-        let facts = self.house.source_facts(&mount, asked);
+        let facts = house.source_facts(&mount, asked);
         match judge(&Action::Source(Some(facts))) {
             Verdict::Deny(rule) => Err(Outcome::refused(rule, asked.id)),
             Verdict::Allow => Ok(mount),

@@ -4,7 +4,8 @@ ghost use Rattle.radio_core.specs.SourceEnd.{stops_feeding};
 ghost use Rattle.radio_house.specs.World.{has_relay};
 
 use super::state::State;
-use crate::outcome::{Change, Outcome};
+use crate::outcome::Outcome;
+use radio_changes::Change;
 use radio_events::Reply;
 use radio_house::Standing;
 use radio_values::MountName;

@@ -1,18 +1,24 @@
-//! All of the server's state, and what an event does to it.
+//! What comes of an event in the state, and the state after it.
 
-ghost use Rattle.std.specs.Prelude.{◌≡◌, IsOk, IfOk};
+ghost use Rattle.std.specs.Prelude.{◌≡◌, map, IsOk, IfOk, OnOk, OnErr};
 ghost use Rattle.std.specs.Option.{option_copied};
 ghost use Rattle.radio_seats.specs.Seats.{last_mount_of};
 ghost use Rattle.radio_house.specs.Wanted.{wanted};
 ghost use Rattle.radio_house.specs.World.{opening, standing_of, has_relay};
-ghost use Rattle.radio_core.specs.Planned.{planned};
+ghost use Rattle.radio_changes.specs.Changes.{NeedsNoMemory};
+ghost use Rattle.radio_changes.specs.Counts.{counted};
+ghost use Rattle.radio_changes.specs.KeptChanges.{kept_changed};
+ghost use Rattle.radio_core.specs.Planned.{planned, with_counts};
 ghost use Rattle.radio_core.specs.Step.{StandsForSome};
+ghost use Rattle.radio_events.specs.declared.reply.Reply.{Reply as ReplyOf};
 ghost use Rattle.radio_events.specs.Events.{TakesNoMemory};
 
+use super::telling::{all_with_counts, with_counts};
 use crate::OutOfMemory;
 use crate::outcome::Outcome;
 use radio_access::Lists;
-use radio_events::Event;
+use radio_changes::{Change, TimedState};
+use radio_events::{Event, Reply};
 use radio_house::{House, Standing};
 use radio_seats::Seats;
 use radio_settings::Settings;
@@ -20,20 +26,16 @@ use radio_values::MountName;
 use std::alloc::Global;
 use std::marker::Model;
 
-/// The house, and the table of those who listen in it. Contracts see it as a `World` in which of
-/// each stream the last blocks are kept. Each live mount is prepared for listeners, and as long as
-/// there are some, so is each that waits for a session.
+/// The state, in which events are looked at. Contracts see it as a `World` in which of each stream
+/// the last blocks are kept.
 #[derive(Drop)]
 pub(super) struct State {
     pub(super) alloc: Global,
-    pub(super) house: House,
-    pub(super) seats: Seats,
+    state: TimedState,
 }
 
 impl Model for State {
     ghost use Rattle.radio_house.specs.World.{World};
-    ghost use Rattle.radio_parts.specs.Prepared.{LiveArePrepared};
-    ghost use Rattle.radio_core.specs.Prepared.{OnDemandArePrepared};
     ghost use Rattle.std.specs.Coded.{codes};
     ghost use Rattle.radio_creds.specs.contracts.user_list.Users as creds_users;
 
@@ -41,9 +43,7 @@ impl Model for State {
 
     ghost coded = { Prim.hlevel (codes, creds_users.the_row.coded) };
 
-    ghost view = { λ c. record { house = c.house; seats = c.seats.seats } };
-
-    ghost invariant = { λ c. LiveArePrepared c.house.live c.seats.prepared × OnDemandArePrepared c.house.settings c.seats };
+    ghost view = { λ c. c.state };
 }
 
 impl State {
@@ -53,9 +53,29 @@ impl State {
     {
         State {
             alloc,
-            house: House::new(alloc, settings, lists),
-            seats: Seats::new(alloc),
+            state: TimedState::new(alloc, settings, lists),
         }
+    }
+
+    /// The house, which is all of the state but the table of listeners.
+    pub(super) fn house(&self) -> &House
+        ensures { result.now ≡ self.now.house }
+    {
+        self.state.house()
+    }
+
+    /// The table of listeners.
+    pub(super) fn seats(&self) -> &Seats
+        ensures { result.now.seats ≡ self.now.seats }
+    {
+        self.state.seats()
+    }
+
+    /// The settings.
+    pub(super) fn settings(&self) -> &Settings
+        ensures { result.now ≡ self.now.house.settings }
+    {
+        self.house().settings()
     }
 
     /// What comes of an event, before its change is made. `OutOfMemory` where memory was refused.
@@ -81,19 +101,57 @@ impl State {
         }
     }
 
+    /// Makes a change, and gives back the reply that was worked out for it, which tells how many were
+    /// moved or have finished, if it is such a one. `OutOfMemory` where memory was refused; nothing has changed then.
+    pub(super) fn commit_for(&mut self, change: Change, reply: Reply) -> Result<Reply, OutOfMemory>
+        ensures ok { OnOk result (self.new ≡ kept_changed self.old change) }
+        ensures told { IfOk result (λ told. told ≡ with_counts reply (counted self.old change)) }
+        ensures err { OnErr result (self.new ≡ self.old) }
+        ensures frees { NeedsNoMemory change → IsOk result }
+    {
+        match self.state.commit(change) {
+            Ok(counts) => Ok(with_counts(reply, counts)),
+            Err(refused) => {
+                drop(reply);
+                Err(refused)
+            }
+        }
+    }
+
+    /// Makes a change, and gives back so the three replies that were worked out for it. `OutOfMemory`
+    /// where memory was refused; nothing has changed then.
+    pub(super) fn commit_for_each(
+        &mut self,
+        change: Change,
+        replies: [Reply; 3],
+    ) -> Result<[Reply; 3], OutOfMemory>
+        ensures ok { OnOk result (self.new ≡ kept_changed self.old change) }
+        ensures told { IfOk result (λ told. told ≡ map (λ (reply : ReplyOf). with_counts reply (counted self.old change)) replies) }
+        ensures err { OnErr result (self.new ≡ self.old) }
+        ensures frees { NeedsNoMemory change → IsOk result }
+    {
+        match self.state.commit(change) {
+            Ok(counts) => Ok(all_with_counts(replies, counts)),
+            Err(refused) => {
+                drop(replies);
+                Err(refused)
+            }
+        }
+    }
+
     /// The mounts where somebody sits, which relays feed on demand, in the order of their bytes.
     /// `OutOfMemory` where memory was refused.
     pub(super) fn wanted(&self) -> Result<Vec<MountName>, OutOfMemory>
         ensures { IfOk result (λ mounts. mounts.items ≡ wanted self.now) }
     {
-        self.house.wanted(self.alloc, &self.seats)
+        self.house().wanted(self.alloc, self.seats())
     }
 
     /// How the client, or the relay, of this number stands.
     pub(super) fn standing(&self, id: u64) -> Standing
         ensures { result ≡ standing_of self.now id }
     {
-        self.house.standing(&self.seats, id)
+        self.house().standing(self.seats(), id)
     }
 
     /// The mount where the listener of this number sits, or sat last; none where there is no such
@@ -101,13 +159,13 @@ impl State {
     pub(super) fn last_mount(&self, id: u64) -> Option<&MountName>
         ensures { option_copied result ≡ last_mount_of self.now.seats id }
     {
-        self.seats.last_mount(id)
+        self.seats().last_mount(id)
     }
 
     /// Whether there is a relay of this number.
     pub(super) fn has_relay(&self, id: u64) -> bool
         ensures { result ≡ has_relay self.now id }
     {
-        self.house.has_relay(id)
+        self.house().has_relay(id)
     }
 }

@@ -2,7 +2,8 @@ ghost use Rattle.std.specs.Prelude.{◌≡◌};
 ghost use Rattle.radio_core.specs.Title.{sets_title};
 
 use super::state::State;
-use crate::outcome::{Change, Outcome};
+use crate::outcome::Outcome;
+use radio_changes::Change;
 use radio_events::Reply;
 use radio_house::Standing;
 use radio_icy::Title;

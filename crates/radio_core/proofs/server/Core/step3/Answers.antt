@@ -1,7 +1,7 @@
 use Rattle.std.proofs.Common.{◌≡◌, [], ◌∷◌, ◌∙◌, ap, sym, subst}
 use Rattle.std.specs.Prelude.{map}
 use Rattle.radio_events.specs.declared.reply.Reply.{Reply}
-use Rattle.radio_core.specs.Counts.{counted}
+use Rattle.radio_changes.specs.Counts.{counted}
 use Rattle.radio_core.specs.Planned.{with_counts}
 use Rattle.std.proofs.lemmas.Result.{IfOk-weaker}
 use Rattle.radio_core.specs.Step.{Represents}

@@ -1,4 +1,4 @@
-use Rattle.std.proofs.Common.{◌≡◌, ℕ, Option, None, Some, IfOk, refl, ap, sym, subst, ◌∙◌}
+use Rattle.std.proofs.Common.{◌≡◌, ℕ, List, Option, None, Some, IfOk, refl, ap, sym, subst, ◌∙◌}
 use Rattle.std.specs.Option.{option_map}
 use Rattle.radio_house.specs.House.{House}
 use Rattle.radio_core.specs.declared.outcome.Outcome.{Outcome}
@@ -6,10 +6,11 @@ use Rattle.radio_house.specs.declared.standing.Standing.{Standing}
 use Rattle.radio_house.specs.declared.standing.Standing.TheVariants.{Unknown, Undecided, Feeds, Sits, Answered, Finished}
 use Rattle.radio_core.specs.Draw.{hands_out, hands_out_at}
 use Rattle.radio_core.specs.Outcomes.{if_sitting, out_of_place}
-use Rattle.radio_house.specs.World.{World, standing_of}
+use Rattle.radio_house.specs.World.{standing_of}
 use Rattle.radio_core.proofs.StepLemmas.{seat_sits}
 use Rattle.radio_core.proofs.server.state.State.draw.Goals as goal
 use Rattle.radio_seats.specs.declared.seat.Seat.{Seat}
+use Rattle.radio_seats.specs.declared.seat.Listener.{Listener}
 use Rattle.radio_seats.specs.Lent.{lent_seat}
 use Rattle.radio_house.specs.Waiting.{heard_at}
 use Rattle.radio_seats.specs.Seats.{seat_of}
@@ -31,7 +32,7 @@ returns-in-Some c =
     let w = c.args.self.now in
     let seat = lent_seat c.in-Some.seat in
     let has : seat_of w.seats c.args.id ≡ Some seat
-    = ap (λ (x : World). seat_of x.seats c.args.id) (sym c.self.view_is) ∙ sym c.seat.ensures ∙ ap (option_map lent_seat) c.in-Some.is in
+    = ap (λ (seats : List Listener). seat_of seats c.args.id) (sym c.seats.ensures) ∙ sym c.seat.ensures ∙ ap (option_map lent_seat) c.in-Some.is in
     subst (λ (o : Outcome). IfOk c.hand_out.result (λ told. told ≡ o))
     (draws_seated (standing_of w c.args.id) (seat_of w.seats c.args.id) w.house c.args.id c.args.room seat (seat_sits w c.requires c.args.id seat has) has)
     c.hand_out.ensures
@@ -40,6 +41,6 @@ pub returns-in-None : goal.returns-in-None
 returns-in-None c =
     let w = c.args.self.now in
     let none : seat_of w.seats c.args.id ≡ None
-    = ap (λ (x : World). seat_of x.seats c.args.id) (sym c.self.view_is) ∙ sym c.seat.ensures ∙ ap (option_map lent_seat) c.in-None.is in
+    = ap (λ (seats : List Listener). seat_of seats c.args.id) (sym c.seats.ensures) ∙ sym c.seat.ensures ∙ ap (option_map lent_seat) c.in-None.is in
     c.draw_without_seat.ensures ∙ draws_by (standing_of w c.args.id) w.house c.args.id c.args.room
     ∙ ap (λ (x : Option Seat). if_sitting (standing_of w c.args.id) (hands_out_at w.house c.args.id c.args.room x)) (sym none)

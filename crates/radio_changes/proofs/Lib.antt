@@ -1,0 +1,4 @@
+mod DueLemmas
+mod KilledLemmas
+mod PreparedSeats
+mod SilentLemmas

@@ -1,0 +1,140 @@
+-- mounts that relays feed on demand are prepared as long as there are listeners, after each change
+use Rattle.std.proofs.Common.{◌≡◌, Bool, true, false, ℕ, ◌<◌, ◌≤◌, List, [], ◌∷◌, length, not, refl, ap, sym, ◌∙◌, arith, Option, Some, None}
+use Rattle.std.specs.Prelude.{◌&&◌, filter, if◌then◌else◌, is_some}
+use Rattle.std.specs.Str.{bytes_eq}
+use Rattle.std.proofs.lemmas.List.{length-map}
+use Rattle.radio_tables.specs.Lists.{update_first}
+use Rattle.radio_tables.proofs.KeyLaws.{by_name}
+use Rattle.radio_settings.specs.declared.settings.Settings.{Settings}
+use Rattle.radio_seats.specs.declared.seat.Listener.{Listener}
+use Rattle.radio_seats.specs.Board.{Board, is_prepared}
+use Rattle.radio_fallback.specs.declared.moves.Move.{Move}
+use Rattle.radio_fallback.specs.Carry.{carried}
+use Rattle.radio_fallback.specs.Walk.{Sight}
+use Rattle.radio_fallback.proofs.FaresLemmas.{numbers_kept}
+use Rattle.radio_parts.specs.Prepared.{LiveArePrepared}
+use Rattle.radio_house.specs.House.{House}
+use Rattle.radio_house.specs.Waiting.{is_on_demand, heard_at, silence_at, silence_of}
+use Rattle.radio_changes.specs.Prepared.{OnDemandArePrepared}
+use Rattle.radio_parts.specs.Sessions.{session_of, Session}
+use Rattle.std.specs.Option.{option_or}
+use Rattle.radio_parts.proofs.PreparedLemmas.{still_prepared}
+
+-- of as many listeners, or fewer
+pub fewer_seated : (settings : Settings) (board later : Board) (seats : List Listener) → later ≡ record board { seats = seats }
+    → length seats ≤ length board.seats → OnDemandArePrepared settings board → OnDemandArePrepared settings later
+fewer_seated settings board later seats is fewer are = record {
+  each = λ some mount on.
+      ap (λ (b : Board). is_prepared b.prepared mount) is
+      ∙ are.each (let many = ap (λ (b : Board). length b.seats) is in omega (arith, some, fewer, many)) mount on;
+}
+
+pub still_seated : (settings other : Settings) (board later : Board) → other ≡ settings → later ≡ board → OnDemandArePrepared settings board
+    → OnDemandArePrepared other later
+still_seated settings other board later same is are = record {
+  each = λ some mount on.
+      ap (λ (b : Board). is_prepared b.prepared mount) is
+      ∙ are.each (let many = ap (λ (b : Board). length b.seats) is in omega (arith, some, many)) mount
+      (ap (λ (set : Settings). is_on_demand set mount) (sym same) ∙ on);
+}
+
+-- how many there are
+module _ {X : Type 0} (p : X → Bool) where
+  updated_at : (f : X → X) (x : X) (xs : List X) (b : Bool) → length (update_first p f xs) ≡ length xs
+      → length (if b then f x ∷ xs else x ∷ update_first p f xs) ≡ length (x ∷ xs)
+  updated_at f x xs true e = refl
+  updated_at f x xs false e = omega (arith, e)
+
+  pub as_many_updated : (f : X → X) (xs : List X) → length (update_first p f xs) ≡ length xs
+  as_many_updated f [] = refl
+  as_many_updated f (x ∷ xs) = updated_at f x xs (p x) (as_many_updated f xs)
+
+  filtered_at : (x : X) (xs : List X) (b : Bool) → length (filter p xs) ≤ length xs → length (if b then x ∷ filter p xs else filter p xs) ≤ length (x ∷ xs)
+  filtered_at x xs true h = omega (arith, h)
+  filtered_at x xs false h = omega (arith, h)
+
+  pub no_more_filtered : (xs : List X) → length (filter p xs) ≤ length xs
+  no_more_filtered [] = omega arith
+  no_more_filtered (x ∷ xs) = filtered_at x xs (p x) (no_more_filtered xs)
+
+pub as_many_carried : (sight : Sight) (move : Move) (seats : List Listener) → length (carried sight move seats).seats ≡ length seats
+as_many_carried sight move seats =
+    sym (length-map (carried sight move seats).seats (λ (l : Listener). l.id)) ∙ ap length (numbers_kept sight move seats)
+    ∙ length-map seats (λ (l : Listener). l.id)
+
+-- a mount that nothing is to be heard at is released
+pub unheard_released : (house : House) (board later : Board) (name : List ℕ) (nobody : Bool) → is_some (heard_at house name) ≡ false
+    → ((mount : List ℕ) → is_prepared later.prepared mount ≡ (is_prepared board.prepared mount && not (bytes_eq name mount && nobody)))
+    → later.seats ≡ board.seats → OnDemandArePrepared house.settings board → OnDemandArePrepared house.settings later
+unheard_released house board later name nobody unheard released same are = record {
+  each = λ some mount on.
+      released mount ∙ by_name name mount
+      (λ here. let heard : is_some (heard_at house name) ≡ true = on_demand_heard (ap (is_on_demand house.settings) here ∙ on) in cc)
+      (λ apart. rw (are.each (let many = ap length same in omega (arith, some, many)) mount on, apart) refl);
+} where
+  open_by : (found : Option Session) (b : Bool) → b ≡ true → is_some (option_or found (if b then Some (silence_at house name) else None)) ≡ true
+  open_by None true e = refl
+  open_by None false e = cc
+  open_by (Some session) b e = refl
+
+  on_demand_heard : is_on_demand house.settings name ≡ true → is_some (heard_at house name) ≡ true
+  on_demand_heard e = open_by (session_of house.live name) (is_on_demand house.settings name) e
+
+-- wherever a walk can land is prepared
+pub heard_prepared : (house : House) (board : Board) (mount : List ℕ) → 0 < length board.seats → LiveArePrepared house.live board.prepared
+    → OnDemandArePrepared house.settings board → is_some (heard_at house mount) ≡ true → is_prepared board.prepared mount ≡ true
+heard_prepared house board mount some live on_demand heard = by_found (session_of house.live mount) refl heard where
+  by_test : (b : Bool) → is_on_demand house.settings mount ≡ b → is_some (if b then Some (silence_at house mount) else None) ≡ true
+      → is_prepared board.prepared mount ≡ true
+  by_test true on h = on_demand.each some mount on
+  by_test false on h = cc
+
+  by_found : (found : Option Session) → session_of house.live mount ≡ found → is_some (option_or found (silence_of house mount)) ≡ true
+      → is_prepared board.prepared mount ≡ true
+  by_found None none h = by_test (is_on_demand house.settings mount) refl h
+  by_found (Some session) there h = live.each mount (ap is_some there)
+
+-- nobody is carried along where nobody listens
+pub nobody_carried : (sight : Sight) (move : Move) (seats : List Listener) → length seats ≡ 0 → (carried sight move seats) ≡ record {
+  seats = seats;
+  counts = record { moved = 0; ended = 0 };
+}
+nobody_carried sight move [] e = refl
+nobody_carried sight move (x ∷ xs) e = cc
+
+-- both: each live mount is prepared, and as long as there are listeners, so is each that a relay feeds on demand
+abbrev pub AllPrepared : Settings → List Session → Board → Type 0
+AllPrepared settings live board = LiveArePrepared live board.prepared × OnDemandArePrepared settings board
+
+-- the seats have changed, and there are as many listeners, or fewer
+pub seats_changed : (settings : Settings) (live : List Session) (board later : Board) (seats : List Listener) → later ≡ record board { seats = seats }
+    → length seats ≤ length board.seats → AllPrepared settings live board → AllPrepared settings live later
+seats_changed settings live board later seats is fewer are = (
+  still_prepared live live board.prepared later.prepared refl (ap (λ (b : Board). b.prepared) is) are.0,
+  fewer_seated settings board later seats is fewer are.1,
+)
+
+-- more is prepared
+pub more_is_prepared : (settings : Settings) (live : List Session) (board later : Board) → later.seats ≡ board.seats
+    → ((mount : List ℕ) → is_prepared board.prepared mount ≡ true → is_prepared later.prepared mount ≡ true) → AllPrepared settings live board
+    → AllPrepared settings live later
+more_is_prepared settings live board later same more are = (
+  record { each = λ mount lives. more mount (are.0.each mount lives) },
+  record { each = λ some mount on. more mount (are.1.each (let many = ap length same in omega (arith, some, many)) mount on) },
+)
+
+-- the house has changed, but for its settings
+pub house_changed : (settings other : Settings) (live later : List Session) (board : Board) → other ≡ settings → LiveArePrepared later board.prepared
+    → AllPrepared settings live board → AllPrepared other later board
+house_changed settings other live later board same prepared are = (prepared, still_seated settings other board board same refl are.1)
+
+-- a mount that nothing is to be heard at has no session
+pub unheard_idle : (house : House) (mount : List ℕ) → is_some (heard_at house mount) ≡ false → session_of house.live mount ≡ None
+unheard_idle house mount unheard = by_found (session_of house.live mount) unheard where
+  by_found : (found : Option Session) → is_some (option_or found (silence_of house mount)) ≡ false → found ≡ None
+  by_found None e = refl
+  by_found (Some session) e = cc
+
+pub some_listen : (seats : List Listener) (many : ℕ) → many ≡ length seats → (many ≡ 0 → ⊥) → 0 < length seats
+some_listen [] many is some = absurd (some is)
+some_listen (listener ∷ seats) many is some = omega arith

@@ -1,0 +1,152 @@
+-- What each change makes of the state.
+use Rattle.std.specs.Prelude.{ℕ, if◌then◌else◌, List, Option, None, Some, filter, fold}
+use Rattle.radio_policy.specs.declared.rule.Rule.{Rule}
+use Rattle.radio_policy.specs.declared.rule.Rule.TheVariants.{Lagged, TimeOver, SourceSilent, Killed, SourceKilled, ListenerPassword}
+use Rattle.radio_settings.specs.Options.{options_for}
+use Rattle.radio_fallback.specs.declared.moves.Move.{Move}
+use Rattle.radio_fallback.specs.declared.moves.Move.TheVariants.{Ended as HasEnded, Up, To}
+use Rattle.radio_fallback.specs.Carry.{carried}
+use Rattle.radio_events.specs.declared.command.Command.{Command}
+use Rattle.radio_events.specs.declared.command.Command.TheVariants.{MoveClients, KillClient, KillSource, SetTitle as NewTitle, SetFallback, AddUser, DeleteUser}
+use Rattle.radio_house.specs.declared.clients.ClientState.TheVariants.{Listens, Answered}
+use Rattle.radio_changes.specs.declared.change.Change.{Change}
+use Rattle.radio_changes.specs.declared.change.Change.TheVariants.{Nothing, Answer, Admit, Begin, Raise, Receive, SetTitle, TakeSeat, Advance, End}
+use Rattle.radio_changes.specs.declared.change.Change.TheVariants.{EndAndLeave, Forget, Tick, Obey}
+use Rattle.radio_house.specs.Clients.{without_client}
+use Rattle.radio_house.specs.Relays.{without_relay}
+use Rattle.radio_values.specs.declared.field.Shown.{Shown}
+use Rattle.radio_house.specs.HouseChanges.{now_in_state, admitted, begun, raised, finished_in, received, retitled, falling_back, timed_out_by, with_user, without_user}
+use Rattle.radio_house.specs.Outsiders.{is_shut_out}
+use Rattle.radio_parts.specs.Sessions.{Session, session_of, without_session}
+use Rattle.radio_seats.specs.Seats.{with_seat, with_place, with_end, with_ended, with_session_at, without_listener}
+use Rattle.radio_house.specs.Facts.{live_end, sight_of}
+use Rattle.radio_parts.specs.Timeouts.{lags_behind, has_sat_out, is_silent}
+use Rattle.radio_house.specs.World.{World}
+
+-- a move has carried listeners along
+abbrev pub carried_along : World → Move → World
+carried_along w move = record w { seats = (carried (sight_of w.house) move w.seats).seats }
+
+-- the mount's session is over, and its listeners have not had their turns yet
+abbrev pub session_over : World → List ℕ → World
+session_over w mount = record w { house = record w.house { live = without_session w.house.live mount } }
+
+-- the mount's session has ended; each of its listeners has gone where his walk lands, or has finished by the rule that stops it
+abbrev pub session_ended : World → List ℕ → World
+session_ended w mount = carried_along (session_over w mount) (HasEnded mount)
+
+-- the client feeds the mount, and those hear him who sat there waiting for a session; nobody has been called home yet
+abbrev pub session_begun : World → ℕ → List ℕ → Shown → World
+session_begun w id mount shown = record { house = begun w.house id mount shown; seats = with_session_at w.seats mount id }
+
+-- a relay has come up on the mount, and those hear it who sat there waiting for a session; nobody has been called home yet
+abbrev pub session_raised : World → ℕ → List ℕ → Shown → World
+session_raised w id mount shown = record { house = raised w.house id mount shown; seats = with_session_at w.seats mount id }
+
+-- a source, or a relay, has come up on the mount: where its settings say so, those have come home who had asked for it
+abbrev pub called_home : World → List ℕ → World
+called_home w mount = (if (options_for w.house.settings mount).listeners.fallback_override then carried_along w (Up mount) else w)
+
+-- nothing is left of the client, or of the relay
+abbrev pub client_gone : World → ℕ → World
+client_gone w id = record {
+  house = record w.house { clients = without_client w.house.clients id; relays = without_relay w.house.relays id };
+  seats = without_listener w.seats id;
+}
+
+-- the listeners of the mount who are further behind than a queue is long have lost their seats
+abbrev pub laggards_ended : World → List ℕ → World
+laggards_ended w mount =
+    record w { seats = with_ended w.seats (lags_behind mount (live_end w.house mount) w.house.settings.limits.queue_size) Lagged }
+
+-- the block has come, and the listeners who are too far behind then have lost their seats
+abbrev pub taken_in : World → List ℕ → List ℕ → World
+taken_in w mount block = laggards_ended (record w { house = received w.house mount block }) mount
+
+-- the listeners who have had their time have lost their seats
+abbrev pub durations_over : World → World
+durations_over w = record w { seats = with_ended w.seats (has_sat_out w.house.settings w.house.time) TimeOver }
+
+-- it is this moment, and clients and listeners who have had their time are finished; no session has ended yet
+abbrev pub before_silence : World → ℕ → World
+before_silence w ms = durations_over (record w { house = timed_out_by w.house ms })
+
+-- the sessions whose sources have sent nothing in their time, in the order of their mounts
+abbrev pub silent_in : World → List Session
+silent_in w = filter (is_silent w.house.settings.limits.source_timeout w.house.time) w.house.live
+
+-- the session ends, and its source is finished by the rule
+abbrev pub session_ended_by : Rule → World → Session → World
+session_ended_by rule w session = let after = session_ended w session.mount in record after { house = finished_in after.house session.number rule }
+
+abbrev pub session_silenced : World → Session → World
+session_silenced w session = session_ended_by SourceSilent w session
+
+-- it is this moment, and what has had its time ends: clients and listeners, and then sessions, one after another
+abbrev pub ticked : World → ℕ → World
+ticked w ms = let later = before_silence w ms in fold session_silenced later (silent_in later)
+
+-- the session, if there is one, is ended by a command
+abbrev pub session_killed : World → Option Session → World
+session_killed w None = w
+session_killed w (Some session) = session_ended_by SourceKilled w session
+
+-- those have lost their seats at the mount whom its users do not let in
+abbrev pub outsiders_ended : World → List ℕ → World
+outsiders_ended w mount = record w { seats = with_ended w.seats (is_shut_out w.house.lists mount) ListenerPassword }
+
+-- the users of the mount let this one in with this password, and nobody has lost his seat yet
+abbrev pub user_added : World → List ℕ → List ℕ → List ℕ → World
+user_added w mount user password = record w { house = with_user w.house mount user password }
+
+-- the users of the mount do not let this one in, and nobody has lost his seat yet
+abbrev pub user_deleted : World → List ℕ → List ℕ → World
+user_deleted w mount user = record w { house = without_user w.house mount user }
+
+-- what a command does
+abbrev pub done : World → Command → World
+done w (MoveClients mount destination) = carried_along w (To mount destination)
+done w (KillClient mount listener) = record w { seats = with_end w.seats listener Killed }
+done w (KillSource mount) = session_killed w (session_of w.house.live mount)
+done w (NewTitle mount title) = record w { house = retitled w.house mount title }
+done w (SetFallback mount fallback) = record w { house = falling_back w.house mount fallback }
+done w (AddUser mount user password) = outsiders_ended (user_added w mount user password) mount
+done w (DeleteUser mount user) = outsiders_ended (user_deleted w mount user) mount
+
+-- all but the setting of a fallback and of a user takes no memory
+abbrev pub TakesNoRoom : Command → Type 0
+TakesNoRoom (SetFallback mount fallback) = ⊥
+TakesNoRoom (AddUser mount user password) = ⊥
+TakesNoRoom command = Unit {0}
+
+-- the client has had his answer
+abbrev pub answered : World → ℕ → World
+answered w id = record w { house = now_in_state w.house id Answered }
+
+abbrev pub changed : World → Change → World
+changed w Nothing = w
+changed w (Answer id) = answered w id
+changed w (Admit id peer) = record w { house = admitted w.house id peer }
+changed w (Begin id mount shown) = called_home (session_begun w id mount shown) mount
+changed w (Raise id mount shown) = called_home (session_raised w id mount shown) mount
+changed w (Receive mount block) = taken_in w mount block
+changed w (SetTitle mount title) = record w { house = retitled w.house mount title }
+changed w (TakeSeat id seat) = record { house = now_in_state w.house id Listens; seats = with_seat w.seats id seat }
+changed w (Advance id place) = record w { seats = with_place w.seats id place }
+changed w (End id mount) = let after = session_ended w mount in record after { house = now_in_state after.house id Answered }
+changed w (EndAndLeave id mount) = client_gone (session_ended w mount) id
+changed w (Forget id) = client_gone w id
+changed w (Tick ms) = ticked w ms
+changed w (Obey id command) = done (answered w id) command
+
+-- these changes are never refused for want of memory
+abbrev pub NeedsNoMemory : Change → Type 0
+NeedsNoMemory Nothing = Unit {0}
+NeedsNoMemory (Answer id) = Unit {0}
+NeedsNoMemory (SetTitle mount title) = Unit {0}
+NeedsNoMemory (Advance id place) = Unit {0}
+NeedsNoMemory (End id mount) = Unit {0}
+NeedsNoMemory (EndAndLeave id mount) = Unit {0}
+NeedsNoMemory (Forget id) = Unit {0}
+NeedsNoMemory (Tick ms) = Unit {0}
+NeedsNoMemory _ = ⊥

@@ -1,0 +1,5 @@
+pub mod Prepared
+pub mod Changes
+pub mod Counts
+pub mod Due
+pub mod KeptChanges

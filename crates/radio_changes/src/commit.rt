@@ -1,0 +1,237 @@
+ghost use Rattle.std.specs.Prelude.{◌≡◌, IsOk, IfOk, OnOk, OnErr};
+ghost use Rattle.radio_seats.specs.Seats.{with_ended, with_session_at};
+ghost use Rattle.radio_parts.specs.Timeouts.{lags_behind};
+ghost use Rattle.radio_changes.specs.Changes.{changed, carried_along, called_home, session_ended, client_gone};
+ghost use Rattle.radio_changes.specs.Counts.{nobody, counted, counts_along, counts_home, counts_ended};
+ghost use Rattle.radio_changes.specs.KeptChanges.{kept_changed, kept_taken_in};
+ghost use Rattle.radio_changes.specs.Changes.{NeedsNoMemory};
+
+use crate::OutOfMemory;
+use crate::change::Change;
+use crate::state::State;
+use radio_blocks::{Block, Place};
+use radio_fallback::{Carried, Move, carry};
+use radio_house::ClientState;
+use radio_icy::Title;
+use radio_parts::LagsBehind;
+use radio_policy::Rule;
+use radio_seats::Seat;
+use radio_values::{MountName, Shown};
+
+/// What a change answers that carries nobody along.
+pub(crate) const NOBODY: Carried = Carried { moved: 0, ended: 0 };
+
+impl State {
+    /// Makes a change, and answers how many listeners it has moved and finished. `OutOfMemory` where
+    /// memory was refused; nothing has changed then.
+    pub(crate) fn commit(&mut self, change: Change) -> Result<Carried, OutOfMemory>
+        ensures ok { OnOk result (self.new ≡ kept_changed self.old change) }
+        ensures counts { IfOk result (λ counts. counts ≡ counted self.old change) }
+        ensures err { OnErr result (self.new ≡ self.old) }
+        ensures frees { NeedsNoMemory change → IsOk result }
+    {
+        match change {
+            Change::Admit { id, peer } => {
+                self.house.admit(id, peer)?;
+                Ok(NOBODY)
+            }
+            Change::Begin { id, mount, shown } => self.begin(id, mount, shown),
+            Change::Raise { id, mount, shown } => self.raise(id, mount, shown),
+            Change::Receive { mount, block } => self.take_in(mount, block),
+            Change::TakeSeat { id, seat } => self.seat_listener(id, seat),
+            Change::Obey { id, command } => self.obey(id, command),
+            change => Ok(self.commit_in_place(change)),
+        }
+    }
+
+    /// Makes a change that takes no memory, and answers how many listeners it has moved and finished.
+    fn commit_in_place(&mut self, change: Change) -> Carried
+        ensures state { NeedsNoMemory change → self.new ≡ changed self.old change }
+        ensures counts { NeedsNoMemory change → result ≡ counted self.old change }
+    {
+        match change {
+            Change::End { id, mount } => {
+                let counts = self.end_session(mount);
+                self.house.set_state(id, ClientState::Answered);
+                counts
+            }
+            Change::EndAndLeave { id, mount } => {
+                let counts = self.end_session(mount);
+                self.forget(id);
+                counts
+            }
+            Change::Answer { id } => {
+                self.house.set_state(id, ClientState::Answered);
+                NOBODY
+            }
+            Change::SetTitle { mount, title } => {
+                self.set_title(&mount, title);
+                NOBODY
+            }
+            Change::Advance { id, place } => {
+                self.seats.advance(id, place);
+                NOBODY
+            }
+            Change::Forget { id } => {
+                self.forget(id);
+                NOBODY
+            }
+            Change::Tick { ms } => {
+                self.tick(ms);
+                NOBODY
+            }
+            other => {
+                drop(other);
+                NOBODY
+            }
+        }
+    }
+
+    /// What the mount's source feeds has this title from now on. It takes no memory.
+    pub(crate) fn set_title(&mut self, mount: &MountName, title: Title)
+        ensures { self.new ≡ changed self.old (Change.SetTitle mount.now title) }
+    {
+        self.house.set_title(mount, title);
+    }
+
+    /// The mount's session has delivered a block, and the listeners of the mount lose their seats
+    /// who are further behind than a queue is long; nobody is carried along.
+    fn take_in(&mut self, mount: MountName, block: Block) -> Result<Carried, OutOfMemory>
+        ensures ok { OnOk result (self.new ≡ kept_taken_in self.old mount block) }
+        ensures counts { IfOk result (λ counts. counts ≡ nobody) }
+        ensures err { OnErr result (self.new ≡ self.old) }
+    {
+        let end = self.house.receive(&mount, &block)?;
+        self.end_laggards(&mount, end);
+        Ok(NOBODY)
+    }
+
+    /// The listeners of the mount, whose stream ends there, lose their seats who are further behind
+    /// than a queue is long.
+    fn end_laggards(&mut self, mount: &MountName, end: u64)
+        ensures { self.new ≡ record self.old { seats = with_ended self.old.seats (lags_behind mount.now end self.old.house.settings.limits.queue_size) Rule.Lagged } }
+    {
+        let end = Place::new(end);
+        let queue = self.house.settings().limits.queue_size.get() as u64;
+        let _lost = self
+            .seats
+            .finish_at_if(mount, &LagsBehind { end, queue }, Rule::Lagged);
+    }
+
+    /// The client has this seat from now on; nobody is carried along.
+    fn seat_listener(&mut self, id: u64, seat: Seat) -> Result<Carried, OutOfMemory>
+        ensures ok { OnOk result (self.new ≡ changed self.old (Change.TakeSeat id seat)) }
+        ensures counts { IfOk result (λ counts. counts ≡ nobody) }
+        ensures err { OnErr result (self.new ≡ self.old) }
+    {
+        self.house.prepare_to_seat(&mut self.seats, &seat.mount)?;
+        self.seats.add(id, seat)?;
+        self.house.set_state(id, ClientState::Listens);
+        Ok(NOBODY)
+    }
+
+    /// The client feeds the mount from now on, listeners can be seated there, those hear him who sat
+    /// there waiting for a session, and those come home whom the mount calls.
+    fn begin(&mut self, id: u64, mount: MountName, shown: Shown) -> Result<Carried, OutOfMemory>
+        ensures ok { OnOk result (self.new ≡ changed self.old (Change.Begin id mount shown)) }
+        ensures counts { IfOk result (λ counts. counts ≡ counted self.old (Change.Begin id mount shown)) }
+        ensures err { OnErr result (self.new ≡ self.old) }
+    {
+        self.seats.prepare(&mount)?;
+        match self.house.begin(self.alloc, id, mount, shown) {
+            Ok(()) => Ok(self.open_session(mount, id)),
+            Err(refused) => {
+                self.release_idle(&mount);
+                Err(refused)
+            }
+        }
+    }
+
+    /// A relay has come up and feeds the mount from now on, listeners can be seated there, those hear
+    /// it who sat there waiting for a session, and those come home whom the mount calls. `OutOfMemory` where memory was refused; nothing has changed
+    /// then.
+    fn raise(&mut self, id: u64, mount: MountName, shown: Shown) -> Result<Carried, OutOfMemory>
+        ensures ok { OnOk result (self.new ≡ changed self.old (Change.Raise id mount shown)) }
+        ensures counts { IfOk result (λ counts. counts ≡ counted self.old (Change.Raise id mount shown)) }
+        ensures err { OnErr result (self.new ≡ self.old) }
+    {
+        self.seats.prepare(&mount)?;
+        match self.house.raise(self.alloc, id, mount, shown) {
+            Ok(()) => Ok(self.open_session(mount, id)),
+            Err(refused) => {
+                self.release_idle(&mount);
+                Err(refused)
+            }
+        }
+    }
+
+    /// A mount that is not live, and waits for no session, and where no listener sits or sat last, is
+    /// not prepared any more. It takes no memory.
+    pub(crate) fn release_idle(&mut self, mount: &MountName)
+        ensures { self.new ≡ self.old }
+    {
+        if !self.house.can_be_heard(mount) {
+            self.seats.release(mount);
+        }
+    }
+
+    /// The session of this number has begun on the mount: those hear it who sat there waiting for
+    /// one, and those come home whom the mount calls. It takes no memory.
+    pub(crate) fn open_session(&mut self, mount: MountName, number: u64) -> Carried
+        ensures state { self.new ≡ called_home (record self.old { seats = with_session_at self.old.seats mount number }) mount }
+        ensures counts { result ≡ counts_home (record self.old { seats = with_session_at self.old.seats mount number }) mount }
+    {
+        self.seats.give_session(&mount, number);
+        self.call_home(mount)
+    }
+
+    /// A move carries listeners along; how many. It takes no memory.
+    pub(crate) fn carry_along(&mut self, moving: &Move) -> Carried
+        ensures state { self.new ≡ carried_along self.old moving.now }
+        ensures counts { result ≡ counts_along self.old moving.now }
+    {
+        // before anybody has sat, not all mounts are prepared that wait for a session
+        if self.seats.len() == 0 {
+            return NOBODY;
+        }
+        carry(&self.house, &mut self.seats, moving)
+    }
+
+    /// Where the mount calls its listeners home, those come who had asked for it and sit elsewhere.
+    /// It takes no memory.
+    pub(crate) fn call_home(&mut self, mount: MountName) -> Carried
+        ensures state { self.new ≡ called_home self.old mount }
+        ensures counts { result ≡ counts_home self.old mount }
+    {
+        let options = self.house.settings().options(&mount);
+        if options.listeners.fallback_override {
+            self.carry_along(&Move::Up(mount))
+        } else {
+            NOBODY
+        }
+    }
+
+    /// The mount's session ends, and its listeners go where their walks land, or finish. It takes no
+    /// memory.
+    pub(crate) fn end_session(&mut self, mount: MountName) -> Carried
+        ensures state { self.new ≡ session_ended self.old mount }
+        ensures counts { result ≡ counts_ended self.old mount }
+    {
+        self.house.close(&mount);
+        let counts = self.carry_along(&Move::Ended(mount));
+        self.release_idle(&mount);
+        counts
+    }
+
+    /// Nothing is left of the client or relay. It takes no memory.
+    fn forget(&mut self, id: u64)
+        ensures { self.new ≡ client_gone self.old id }
+    {
+        let mount = self.last_mount(id).copied();
+        self.seats.remove(id);
+        self.house.forget(id);
+        if let Some(mount) = mount {
+            self.release_idle(&mount);
+        }
+    }
+}

@@ -1,0 +1,23 @@
+//! The server's state, and what can be changed in it.
+//!
+//! - [`Change`]: what an event can change.
+//! - [`TimedState`]: the house (`radio_house`), and the table of those who listen in it
+//!   (`radio_seats`). Both are looked at by [`TimedState::house`] and [`TimedState::seats`];
+//!   [`TimedState::commit`] makes a change, whole or not at all.
+//!
+//! What comes of an event is `radio_core`'s.
+#![tactic(auto)]
+
+mod change;
+mod commit;
+mod obey;
+mod state;
+mod tick;
+mod timed_state;
+mod users;
+
+pub use change::Change;
+pub use timed_state::TimedState;
+
+/// What a call answers where memory was refused. Nothing has changed then, unless it is said.
+pub type OutOfMemory = std::alloc::AllocError;

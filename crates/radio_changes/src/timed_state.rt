@@ -1,0 +1,145 @@
+//! The state, with a moment before which a clock ends nobody.
+
+ghost use Rattle.std.specs.Prelude.{◌≡◌, IsOk, IfOk, OnOk, OnErr};
+ghost use Rattle.radio_changes.specs.Changes.{ticked, NeedsNoMemory};
+ghost use Rattle.radio_changes.specs.Counts.{counted};
+ghost use Rattle.radio_changes.specs.Due.{at_moment, due_by};
+ghost use Rattle.radio_house.specs.Due.{first_due};
+ghost use Rattle.radio_changes.specs.KeptChanges.{kept_changed};
+ghost use Rattle.radio_house.specs.World.{opening};
+
+use crate::OutOfMemory;
+use crate::change::Change;
+use crate::commit::NOBODY;
+use crate::state::State;
+use radio_access::Lists;
+use radio_fallback::Carried;
+use radio_house::House;
+use radio_parts::{LAST_MOMENT, due_at, seat_due};
+use radio_seats::Seats;
+use radio_settings::Settings;
+use std::alloc::Global;
+use std::marker::Model;
+
+/// The state, and a moment before which nothing in it is due: a clock before that moment walks
+/// nobody. Contracts see the state alone.
+#[derive(Drop)]
+pub struct TimedState {
+    state: State,
+    /// Each client, each listener and each session is due then or later.
+    due_from: u64,
+}
+
+impl Model for TimedState {
+    ghost use Rattle.radio_house.specs.World.{World};
+    ghost use Rattle.radio_changes.specs.Due.{IsDueFrom};
+    ghost use Rattle.std.specs.Coded.{codes};
+    ghost use Rattle.radio_creds.specs.contracts.user_list.Users as creds_users;
+
+    ghost Value = { World };
+
+    ghost coded = { Prim.hlevel (codes, creds_users.the_row.coded) };
+
+    ghost view = { λ t. t.state };
+
+    ghost invariant = { λ t. IsDueFrom t.due_from t.state };
+}
+
+impl TimedState {
+    /// Nothing has happened yet. It takes no memory.
+    pub fn new(alloc: Global, settings: Settings, lists: Lists) -> TimedState
+        ensures { result ≡ opening settings lists }
+    {
+        TimedState {
+            state: State::new(alloc, settings, lists),
+            due_from: LAST_MOMENT,
+        }
+    }
+
+    /// The house, which is all of the state but the table of listeners.
+    pub fn house(&self) -> &House
+        ensures { result.now ≡ self.now.house }
+    {
+        &self.state.house
+    }
+
+    /// The table of listeners.
+    pub fn seats(&self) -> &Seats
+        ensures { result.now.seats ≡ self.now.seats }
+    {
+        &self.state.seats
+    }
+
+    /// Makes a change, and answers how many listeners it has moved and finished. `OutOfMemory` where
+    /// memory was refused; nothing has changed then.
+    pub fn commit(&mut self, change: Change) -> Result<Carried, OutOfMemory>
+        ensures ok { OnOk result (self.new ≡ kept_changed self.old change) }
+        ensures counts { IfOk result (λ counts. counts ≡ counted self.old change) }
+        ensures err { OnErr result (self.new ≡ self.old) }
+        ensures frees { NeedsNoMemory change → IsOk result }
+    {
+        match change {
+            Change::Tick { ms } => {
+                self.tick(ms);
+                Ok(NOBODY)
+            }
+            change => self.commit_noting_due(change),
+        }
+    }
+
+    /// Makes a change, and notes when what it brings is due; answers how many listeners it has moved
+    /// and finished. `OutOfMemory` where memory was refused; nothing has changed then.
+    fn commit_noting_due(&mut self, change: Change) -> Result<Carried, OutOfMemory>
+        ensures ok { OnOk result (self.new ≡ kept_changed self.old change) }
+        ensures counts { IfOk result (λ counts. counts ≡ counted self.old change) }
+        ensures err { OnErr result (self.new ≡ self.old) }
+        ensures frees { NeedsNoMemory change → IsOk result }
+    {
+        self.due_from = self.due_from.min(self.state.due_by(&change));
+        self.state.commit(change)
+    }
+
+    /// It is this moment, and what has had its time ends. It takes no memory.
+    fn tick(&mut self, ms: u64)
+        ensures { self.new ≡ ticked self.old ms }
+    {
+        if ms < self.due_from {
+            self.state.set_time(ms);
+            return;
+        }
+        self.state.tick(ms);
+        self.due_from = self.state.first_due();
+    }
+}
+
+impl State {
+    /// It is this moment, and nothing else changes.
+    fn set_time(&mut self, ms: u64)
+        ensures { self.new ≡ at_moment self.old ms }
+    {
+        self.house.set_time(ms);
+    }
+
+    /// When what the change brings is due.
+    fn due_by(&self, change: &Change) -> u64
+        ensures { result ≡ due_by self.now change.now }
+    {
+        let limits = &self.house.settings().limits;
+        match change {
+            Change::Admit { .. } => due_at(limits.header_timeout.get(), self.house.time()),
+            Change::Begin { .. } | Change::Raise { .. } | Change::Receive { .. } => {
+                due_at(limits.source_timeout.get(), self.house.time())
+            }
+            Change::TakeSeat { seat, .. } => seat_due(self.house.settings(), seat),
+            _ => LAST_MOMENT,
+        }
+    }
+
+    /// The earliest moment at which a client, a listener or a session is due. The time grows as
+    /// their number.
+    fn first_due(&self) -> u64
+        ensures { result ≡ first_due self.now }
+    {
+        self.house.first_due(&self.seats)
+    }
+}
