@@ -1,10 +1,9 @@
 ghost use Rattle.std.specs.Prelude.{◌≡◌, IsOk, IfOk, OnOk, OnErr};
 ghost use Rattle.radio_seats.specs.Seats.{with_ended, with_session_at};
 ghost use Rattle.radio_parts.specs.Timeouts.{lags_behind};
-ghost use Rattle.radio_changes.specs.Changes.{changed, carried_along, called_home, session_ended, client_gone};
+ghost use Rattle.radio_changes.specs.Changes.{changed, carried_along, called_home, session_ended, client_gone, NeedsNoMemory};
 ghost use Rattle.radio_changes.specs.Counts.{nobody, counted, counts_along, counts_home, counts_ended};
 ghost use Rattle.radio_changes.specs.KeptChanges.{kept_changed, kept_taken_in};
-ghost use Rattle.radio_changes.specs.Changes.{NeedsNoMemory};
 
 use crate::OutOfMemory;
 use crate::change::Change;
@@ -167,7 +166,7 @@ impl State {
 
     /// A mount that is not live, and waits for no session, and where no listener sits or sat last, is
     /// not prepared any more. It takes no memory.
-    pub(crate) fn release_idle(&mut self, mount: &MountName)
+    fn release_idle(&mut self, mount: &MountName)
         ensures { self.new ≡ self.old }
     {
         if !self.house.can_be_heard(mount) {
@@ -177,7 +176,7 @@ impl State {
 
     /// The session of this number has begun on the mount: those hear it who sat there waiting for
     /// one, and those come home whom the mount calls. It takes no memory.
-    pub(crate) fn open_session(&mut self, mount: MountName, number: u64) -> Carried
+    fn open_session(&mut self, mount: MountName, number: u64) -> Carried
         ensures state { self.new ≡ called_home (record self.old { seats = with_session_at self.old.seats mount number }) mount }
         ensures counts { result ≡ counts_home (record self.old { seats = with_session_at self.old.seats mount number }) mount }
     {
@@ -199,7 +198,7 @@ impl State {
 
     /// Where the mount calls its listeners home, those come who had asked for it and sit elsewhere.
     /// It takes no memory.
-    pub(crate) fn call_home(&mut self, mount: MountName) -> Carried
+    fn call_home(&mut self, mount: MountName) -> Carried
         ensures state { self.new ≡ called_home self.old mount }
         ensures counts { result ≡ counts_home self.old mount }
     {
