@@ -26,9 +26,9 @@ use Rattle.radio_house.specs.declared.standing.Standing.TheVariants.{Feeds}
 use Rattle.radio_house.specs.Facts.{rows_to_push}
 use Rattle.radio_house.specs.Waiting.{heard_at, silence_of}
 use Rattle.radio_house.specs.World.{World, standing_of}
-use Rattle.radio_core.specs.declared.outcome.Change.TheVariants.{Nothing, Receive, SetTitle, Advance}
+use Rattle.radio_changes.specs.declared.change.Change.TheVariants.{Nothing, Receive, SetTitle, Advance}
 use Rattle.radio_core.specs.declared.outcome.Outcome.{Outcome}
-use Rattle.radio_core.specs.Changes.{changed}
+use Rattle.radio_changes.specs.Changes.{changed}
 use Rattle.radio_core.specs.Draw.{hands_out, hands_out_at}
 use Rattle.radio_core.specs.Outcomes.{says, if_sitting, if_feeding, on_verdict}
 use Rattle.radio_core.specs.Push.{takes_in}

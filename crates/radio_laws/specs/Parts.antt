@@ -9,7 +9,7 @@ use Rattle.radio_parts.specs.Stream.{end_of}
 use Rattle.radio_parts.specs.Timeouts.{lags_behind}
 use Rattle.radio_events.specs.declared.event.Event.TheVariants.{Push, Title, Draw}
 use Rattle.radio_events.specs.declared.reply.Reply.TheVariants.{Noted}
-use Rattle.radio_core.specs.declared.outcome.Change.TheVariants.{Advance}
+use Rattle.radio_changes.specs.declared.change.Change.TheVariants.{Advance}
 use Rattle.radio_core.specs.declared.outcome.Outcome.{Outcome}
 use Rattle.radio_core.specs.Draw.{hands_out}
 use Rattle.radio_core.specs.Step.{outcome, reply_to, world_after}
