@@ -128,12 +128,26 @@ fn visit_with<H: House + Send + Sync, R: Clock + Net + Threads + Wait + Sync>(
     match visit {
         Visit::TwoCallers => are_served(rt, alloc, hall, passes),
         Visit::LeftOut => leaves_one_out(rt, alloc, hall, passes),
+        Visit::Rush(rush) => workers::are_served(rt, alloc, hall, passes, rush),
+        Visit::Loopback => are_heard(rt, alloc, hall, passes),
+        alone => visit_alone(rt, alloc, hall, passes, alone),
+    }
+}
+
+/// The same of a visit that wants one thread alone; no other goes so.
+fn visit_alone<H: House, R: Wait>(
+    rt: &R,
+    alloc: Global,
+    hall: &Hall<Kept, H>,
+    passes: &mut Vec<Pass<Kept, H>>,
+    visit: Visit,
+) -> bool {
+    match visit {
         Visit::Unused => takes_pass(rt, hall, passes),
         Visit::Titling => is_title_heard(rt, alloc, hall, passes),
         Visit::Knocking => is_lock_free(rt, alloc, hall, passes),
         Visit::Row(kept) => is_row_played(rt, alloc, hall, passes, kept),
-        Visit::Rush(rush) => workers::are_served(rt, alloc, hall, passes, rush),
-        Visit::Loopback => are_heard(rt, alloc, hall, passes),
+        Visit::TwoCallers | Visit::LeftOut | Visit::Rush(_) | Visit::Loopback => false,
     }
 }
 

@@ -4,7 +4,7 @@ use Rattle.radio_events.specs.declared.command.Listing.TheVariants.{Status, Stat
 use Rattle.radio_events.specs.declared.reply.Reply.TheVariants.{Text as SaysText}
 use Rattle.radio_events.specs.declared.text.Text.{Text}
 use Rattle.radio_changes.specs.declared.change.Change.TheVariants.{Answer}
-use Rattle.radio_house.specs.Listings.{shown}
+use Rattle.radio_status.specs.Listings.{shown}
 use Rattle.radio_house.specs.World.{World}
 use Rattle.radio_core.specs.Command.{shows}
 use Rattle.radio_core.specs.Outcomes.{says}

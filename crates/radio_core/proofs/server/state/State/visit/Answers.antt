@@ -2,7 +2,7 @@ use Rattle.std.proofs.Common.{◌≡◌, ℕ, List, ap, sym, ◌∙◌}
 use Rattle.radio_events.specs.declared.reply.Reply.TheVariants.{Text as SaysText}
 use Rattle.radio_events.specs.declared.text.Text.{Text}
 use Rattle.radio_changes.specs.declared.change.Change.TheVariants.{Answer}
-use Rattle.radio_house.specs.Pages.{page_at}
+use Rattle.radio_status.specs.Pages.{page_at}
 use Rattle.radio_house.specs.World.{World, world}
 use Rattle.radio_core.specs.Outcomes.{says}
 use Rattle.radio_core.proofs.LentState.{lent_state}
