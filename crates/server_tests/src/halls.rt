@@ -126,11 +126,24 @@ fn visit_with<H: House + Send + Sync, R: Clock + Net + Threads + Wait + Sync>(
     visit: Visit,
 ) -> bool {
     match visit {
-        Visit::TwoCallers => are_served(rt, alloc, hall, passes),
-        Visit::LeftOut => leaves_one_out(rt, alloc, hall, passes),
         Visit::Rush(rush) => workers::are_served(rt, alloc, hall, passes, rush),
         Visit::Loopback => are_heard(rt, alloc, hall, passes),
-        alone => visit_alone(rt, alloc, hall, passes, alone),
+        other => visit_by_calls(rt, alloc, hall, passes, other),
+    }
+}
+
+/// The same of a visit without sockets and workers' threads; no other goes so.
+fn visit_by_calls<H: House + Send + Sync, R: Threads + Wait + Sync>(
+    rt: &R,
+    alloc: Global,
+    hall: &Hall<Kept, H>,
+    passes: &mut Vec<Pass<Kept, H>>,
+    visit: Visit,
+) -> bool {
+    match visit {
+        Visit::TwoCallers => are_served(rt, alloc, hall, passes),
+        Visit::LeftOut => leaves_one_out(rt, alloc, hall, passes),
+        other => visit_alone(rt, alloc, hall, passes, other),
     }
 }
 
