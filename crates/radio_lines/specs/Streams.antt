@@ -1,10 +1,10 @@
 -- What a call of a stream came to, as far as the bytes of the stream are known.
 use Rattle.std.specs.Prelude.{◌<◌, ◌≤◌, ℕ, List, length, take, Option}
 use Rattle.std.specs.Io.KnownBytes.{Keeps, Appends, Consumes, IsAtEnd}
-use Rattle.radio_serving.specs.declared.line.Received.{Received}
-use Rattle.radio_serving.specs.declared.line.Received.TheVariants.{Bytes, Nothing, Closed, Fault}
-use Rattle.radio_serving.specs.declared.line.Sent.{Sent}
-use Rattle.radio_serving.specs.declared.line.Sent.TheVariants.{Took, Nothing as TookNothing, Fault as HasFailed}
+use Rattle.radio_connections.specs.declared.line.Received.{Received}
+use Rattle.radio_connections.specs.declared.line.Received.TheVariants.{Bytes, Nothing, Closed, Fault}
+use Rattle.radio_connections.specs.declared.line.Sent.{Sent}
+use Rattle.radio_connections.specs.declared.line.Sent.TheVariants.{Took, Nothing as TookNothing, Fault as HasFailed}
 
 -- by this answer to these bytes, what the stream holds has grown by what it took, and by nothing else
 abbrev pub IsTakenBy : Option (List ℕ) → Option (List ℕ) → List ℕ → Sent → Type 0

@@ -1,7 +1,7 @@
 //! A connection's socket as a line.
 
 ghost use Rattle.std.specs.Prelude.{◌≡◌, ◌<◌, length};
-ghost use Rattle.radio_serving.specs.Lines.{HasGiven, HasTaken};
+ghost use Rattle.radio_connections.specs.Lines.{HasGiven, HasTaken};
 ghost use Rattle.radio_lines.specs.Streams.{IsGivenBy, IsTakenBy};
 
 use crate::activity::Activity;

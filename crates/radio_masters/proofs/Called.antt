@@ -1,6 +1,6 @@
 -- What a turn over a line came to.
 use Rattle.std.proofs.Common.{◌≡◌, subst, ℕ, suc, List, ◌++◌}
-use Rattle.radio_serving.specs.Lines.{Calls}
+use Rattle.radio_connections.specs.Lines.{Calls}
 use Rattle.radio_session.specs.Exchanges.{Steps}
 use Rattle.radio_masters.specs.declared.mount_pull.PullTurn.{PullTurn}
 use Rattle.radio_masters.specs.declared.mount_pull.PullTurn.TheVariants.{Running, Shut, Closed, Failed, OutOfMemory}

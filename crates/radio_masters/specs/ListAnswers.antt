@@ -4,7 +4,7 @@ use Rattle.radio_texts.specs.Numbers.{number_of}
 use Rattle.radio_heads.specs.declared.outcome.Progress.{Progress}
 use Rattle.radio_heads.specs.declared.outcome.Progress.TheVariants.{More, Whole}
 use Rattle.radio_heads.specs.declared.outcome.HeadFault.{HeadFault}
-use Rattle.radio_serving.specs.Lines.{Calls}
+use Rattle.radio_connections.specs.Lines.{Calls}
 use Rattle.radio_heads.specs.Headers.{value_of}
 use Rattle.radio_heads.specs.Reading.{IsReading}
 use Rattle.radio_heads.specs.Response.{ResponseParts, ShowsResponse}

@@ -3,10 +3,10 @@ use Rattle.std.proofs.Common.{◌≡◌, ℕ, false, List, refl, sym, ap, ◌∙
 use Rattle.radio_events.specs.declared.entry.Entry.{Entry}
 use Rattle.radio_session.specs.Conversation.{Conversation}
 use Rattle.radio_session.specs.Laws.{HearingFailsNothing}
-use Rattle.radio_serving.specs.declared.conn.Fate.TheVariants.{Open}
-use Rattle.radio_serving.specs.Connections.{Connection}
-use Rattle.radio_serving.specs.Course.{Standing, Course, arrives, turned_away, hears, has_room, applies, closes, is_cut, passes_over, leaves}
-use Rattle.radio_serving.specs.Turns.{Stands}
+use Rattle.radio_connections.specs.declared.conn.Fate.TheVariants.{Open}
+use Rattle.radio_connections.specs.Connections.{Connection}
+use Rattle.radio_connections.specs.Course.{Standing, Course, arrives, turned_away, hears, has_room, applies, closes, is_cut, passes_over, leaves}
+use Rattle.radio_connections.specs.Serving.{Stands}
 
 -- no session fails on its course
 is_whole : HearingFailsNothing → (id : ℕ) (s : Standing) → Course id s → s.session.has_failed ≡ false

@@ -3,18 +3,9 @@ use Rattle.std.specs.Prelude.{◌≡◌, ◌⊎◌, ℕ, List, [], ◌∷◌, �
 use Rattle.radio_addr.specs.declared.peer.Peer.{Peer}
 use Rattle.radio_events.specs.declared.event.Event.TheVariants.{Arrive}
 use Rattle.radio_events.specs.declared.reply.Reply.{Reply}
-use Rattle.radio_events.specs.declared.reply.Reply.TheVariants.{Arrived, Deny}
-use Rattle.radio_events.specs.Events.{entry}
 use Rattle.radio_session.specs.Exchanges.{Steps}
-use Rattle.radio_serving.specs.Connections.{Connection}
-use Rattle.radio_serving.specs.Turns.{Stands}
-
--- By this reply to his arrival, his connection stands as it must, if its line has given and taken nothing yet: a client with his arrival,
--- one who was denied with no entry.
-abbrev pub IsTakenIn : Peer → Reply → List ℕ → List ℕ → Connection → Type 0
-IsTakenIn peer (Arrived id) given taken c = given ≡ [] → taken ≡ [] → Stands c (entry (Arrive peer) (Arrived id) ∷ [])
-IsTakenIn peer (Deny rule) given taken c = given ≡ [] → taken ≡ [] → Stands c []
-IsTakenIn peer reply given taken c = Unit {0}
+use Rattle.radio_connections.specs.Connections.{Connection}
+use Rattle.radio_connections.specs.Admission.{IsTakenIn, LetsNobodyIn}
 
 -- the arrival was applied, and the connection is added behind the others
 pub record IsAdmission {S : Type 0} (steps : Steps S) (peer : Peer) (given taken : List ℕ) (from : S) (conns : List Connection) (to : S)
@@ -24,11 +15,6 @@ pub record IsAdmission {S : Type 0} (steps : Steps S) (peer : Peer) (given taken
   pub step : steps from (Arrive peer) reply to
   pub added : conns' ≡ conns ++ newcomer ∷ []
   pub taken_in : IsTakenIn peer reply given taken newcomer
-
--- the reply lets nobody in
-abbrev pub LetsNobodyIn : Reply → Type 0
-LetsNobodyIn (Arrived id) = ⊥
-LetsNobodyIn reply = Unit {0}
 
 -- the arrival was not applied, or its reply let nobody in
 abbrev pub IsTurnedOff : {S : Type 0} → Steps S → Peer → S → S → Type 0

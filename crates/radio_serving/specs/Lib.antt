@@ -1,9 +1,3 @@
-pub mod Lines
-pub mod Connections
-pub mod Course
 pub mod Workers
-pub mod Duties
 pub mod Turns
-pub mod Answering
 pub mod Admission
-pub mod Leaving

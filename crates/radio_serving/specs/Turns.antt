@@ -1,94 +1,20 @@
 -- A worker's turn.
-use Rattle.std.specs.Prelude.{◌≡◌, ◌+◌, ◌<◌, ◌⊎◌, ℕ, Bool, true, false, List, [], ◌∷◌, ◌++◌, filter}
+use Rattle.std.specs.Prelude.{◌≡◌, ◌+◌, ◌<◌, ◌⊎◌, ℕ, Bool, true, false, List, [], ◌∷◌, filter}
 use Rattle.radio_events.specs.declared.event.Event.{Event}
-use Rattle.radio_events.specs.declared.event.Event.TheVariants.{Draw, Clock}
+use Rattle.radio_events.specs.declared.event.Event.TheVariants.{Clock}
 use Rattle.radio_events.specs.declared.reply.Reply.{Reply}
 use Rattle.radio_events.specs.declared.entry.Entry.{Entry}
-use Rattle.radio_events.specs.Events.{entry}
 use Rattle.radio_session.specs.Exchanges.{Steps}
-use Rattle.radio_serving.specs.declared.conn.Fate.{Fate}
-use Rattle.radio_serving.specs.declared.conn.Fate.TheVariants.{Open, Closed, Cut}
-use Rattle.radio_serving.specs.Connections.{Connection, stays}
-use Rattle.radio_serving.specs.Course.{Standing, Course}
-use Rattle.radio_serving.specs.Duties.{IsLater, IsAsked, IsAskedOnce, IsGiven, HasWaited, IsCutFor, IsInTime, HasMoved, HasNotMoved, NotesTaking, IsClosedFor}
-use Rattle.radio_serving.specs.Duties.{IsLetGo, IsFinishedFor, HasLeft, IsOneTurn, IsAskedFor, NotesAsking, draw_room}
+use Rattle.radio_connections.specs.declared.conn.Fate.TheVariants.{Open}
+use Rattle.radio_connections.specs.Connections.{Connection, stays}
+use Rattle.radio_connections.specs.Serving.{Stands, ServesInTurn}
 use Rattle.radio_serving.specs.Workers.{WorkerOf}
 
--- What the line took, followed by what is owed to it, is what was told. Once it is closed, it took all; where it was cut off, the front.
-abbrev pub IsHanded : Fate → List ℕ → List ℕ → List ℕ → Type 0
-IsHanded Cut text taken owed = (lost : List ℕ) × (text ≡ taken ++ lost)
-IsHanded Closed text taken owed = text ≡ taken
-IsHanded fate text taken owed = text ≡ taken ++ owed
-
--- The connection stands as it must where these entries were made for it, and these events are still to be applied:
--- there is a course of its client by which its line gave what it gave, and was handed what was told.
-pub record StandsBefore (pending : List Event) (c : Connection) (entries : List Entry) : Type 0 where
-  pub standing : Standing
-  pub course : Course c.id standing
-  pub same_given : standing.given ≡ c.given
-  pub same_entries : standing.entries ≡ entries
-  pub same_pending : standing.pending ≡ pending
-  pub same_sits : standing.sits ≡ c.status.sits
-  pub same_fate : standing.fate ≡ c.status.fate
-  pub same_left : standing.has_left ≡ c.status.has_left
-  pub same_session : c.status.fate ≡ Open → standing.session ≡ c.session
-  pub handed : IsHanded c.status.fate standing.text c.taken c.owed
-
--- and nothing is still to be applied
-abbrev pub Stands : Connection → List Entry → Type 0
-Stands c entries = StandsBefore [] c entries
-
--- the session of one that stands so, and is open, has not failed
+-- the session of one that stands as it must, and is open, has not failed
 abbrev pub OpenSessionsHaveNotFailed : Type 0
 OpenSessionsHaveNotFailed = (c : Connection) (entries : List Entry) → Stands c entries → c.status.fate ≡ Open → c.session.has_failed ≡ false
 
--- from one state of the server these events were applied one after another, with these replies, and left the other
-abbrev pub Chain : {S : Type 0} → Steps S → S → List Entry → S → Type 0
-Chain steps from [] to = to ≡ from
-Chain {S} steps from (e ∷ entries) to = (mid : S) × steps from e.event e.reply mid × Chain steps mid entries to
-
--- These entries were made for the connection: whatever was made for it before, it stands with both.
-pub record IsServed (c : Connection) (entries : List Entry) (c' : Connection) : Type 0 where
-  pub same : c'.id ≡ c.id
-  pub stands : (past : List Entry) → Stands c past → Stands c' (past ++ entries)
-  pub later : IsLater c c'
-
--- where the connection goes on, its one entry is this draw
-abbrev pub IsOneDraw : ℕ → ℕ → List Entry → Connection → Type 0
-IsOneDraw id room entries c' = c'.status.fate ≡ Open → (reply : Reply) × (entries ≡ entry (Draw id room) reply ∷ [])
-
--- the last of these entries is a draw with the room of a turn
-abbrev pub EndsWithDraw : ℕ → List Entry → Type 0
-EndsWithDraw id entries = (others : List Entry) × (reply : Reply) × (entries ≡ others ++ entry (Draw id draw_room) reply ∷ [])
-
--- Where there is news, one who has a seat and goes on has drawn, last of all, if nothing was owed to him when his turn came.
-abbrev pub HasDrawn : Bool → Connection → List Entry → Connection → Type 0
-HasDrawn news c entries c' = news ≡ true → c.owed ≡ [] → c'.status.fate ≡ Open → c'.status.sits ≡ true → EndsWithDraw c.id entries
-
 module _ {S : Type 0} (steps : Steps S) where
-  -- At this moment, with news or without, the server made entries for the connection: a draw if it was due, and what else there was to do.
-  pub record ServesInTurn (ms patience : ℕ) (news : Bool) (from : S) (c : Connection) (to : S) (c' : Connection) : Type 0 where
-    pub entries : List Entry
-    pub chain : Chain steps from entries to
-    pub served : IsServed c entries c'
-    pub drawn : HasDrawn news c entries c'
-    pub asked : IsAsked c c'
-    pub once : IsAskedOnce c c'
-    pub given : IsGiven c c'
-    pub waited : HasWaited c entries c'
-    pub cut : IsCutFor ms patience c c'
-    pub in_time : IsInTime ms patience c c'
-    pub moved : HasMoved ms c c'
-    pub unmoved : HasNotMoved c c'
-    pub taking : NotesTaking c c'
-    pub closed : IsClosedFor ms c c'
-    pub let_go : IsLetGo ms c c'
-    pub finished : IsFinishedFor c c'
-    pub left : HasLeft c c'
-    pub one : IsOneTurn c entries c'
-    pub asked_for : IsAskedFor ms c entries c'
-    pub asking : NotesAsking ms c entries c'
-
   -- each connection was served, one after another
   abbrev pub ServesEach : ℕ → ℕ → Bool → S → List Connection → S → List Connection → Type 0
   ServesEach ms patience news from [] to served = (to ≡ from) × (served ≡ [])

@@ -1,7 +1,7 @@
 //! A server, and whether what was asked of it may bring something to listeners.
 
-use crate::serving::drawing::fills_room;
 use crate::{OutOfMemory, Server};
+use radio_connections::fills_room;
 use radio_events::{Event, Reply};
 use radio_values::MountName;
 use std::alloc::Global;

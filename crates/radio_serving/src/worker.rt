@@ -3,14 +3,14 @@
 ghost use Rattle.std.specs.Prelude.{◌≡◌, ◌*◌, IfOk, OnOk, OnErr};
 ghost use Rattle.radio_events.specs.declared.event.Event.TheVariants.{Arrive};
 ghost use Rattle.radio_events.specs.declared.reply.Reply.{Reply};
-ghost use Rattle.radio_serving.specs.Turns.{Ticks, IsTurn};
-ghost use Rattle.radio_serving.specs.Admission.{IsAdmission, IsTakenIn, IsTurnedOff};
+ghost use Rattle.radio_serving.specs.Turns.{HasApplied, Ticks, IsTurn};
+ghost use Rattle.radio_connections.specs.Admission.{IsTakenIn};
+ghost use Rattle.radio_serving.specs.Admission.{IsAdmission, IsTurnedOff};
 
-use crate::serving::Now;
-use crate::serving::leaving::apply_quietly;
-use crate::serving::round::serve_each;
+use crate::round::serve_each;
 use crate::{Conn, Gate, Line, OutOfMemory, Server, Turn};
 use radio_addr::Peer;
+use radio_connections::Now;
 use radio_events::Event;
 use radio_notes::Log;
 use std::alloc::Global;
@@ -132,5 +132,18 @@ impl<S: Server + Drop> Worker<S> {
         if apply_quietly(&mut self.server, Event::Clock { ms }) {
             self.told_ms = ms;
         }
+    }
+}
+
+/// Applies an event whose reply tells nobody anything. Whether memory was not refused.
+fn apply_quietly<S: Server>(server: &mut S, event: Event) -> bool
+    ensures { HasApplied S.steps S.refuses result server.old event server.new }
+{
+    match server.apply(event) {
+        Ok(reply) => {
+            drop(reply);
+            true
+        }
+        Err(_) => false,
     }
 }

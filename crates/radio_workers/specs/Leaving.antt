@@ -4,7 +4,7 @@ use Rattle.radio_events.specs.declared.event.Event.{Event}
 use Rattle.radio_events.specs.declared.event.Event.TheVariants.{Leave}
 use Rattle.radio_events.specs.declared.reply.Reply.{Reply}
 use Rattle.radio_session.specs.Exchanges.{Steps}
-use Rattle.radio_serving.specs.Connections.{Connection}
+use Rattle.radio_connections.specs.Connections.{Connection}
 
 module _ {S : Type 0} (steps : Steps S) (refuses : S → Event → Type 0) where
   -- the client of this number leaves, unless that is refused for want of memory

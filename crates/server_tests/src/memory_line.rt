@@ -1,7 +1,7 @@
 //! A line in memory.
 
 ghost use Rattle.std.specs.Prelude.{◌≡◌, ◌<◌, [], length};
-ghost use Rattle.radio_serving.specs.Lines.{HasGiven, HasTaken};
+ghost use Rattle.radio_connections.specs.Lines.{HasGiven, HasTaken};
 
 use radio_serving::{CallCount, Line, Received, Sent};
 use std::alloc::Global;

@@ -1,0 +1,63 @@
+use Rattle.std.proofs.Common.{◌≡◌, inl, inr, sym, Bool, ◌||◌, ◌&&◌, [], ◌∷◌, refl, ◌∙◌, ap}
+use Rattle.radio_events.specs.Events.{entry}
+use Rattle.radio_connections.specs.Connections.{Connection}
+use Rattle.radio_connections.specs.declared.conn.Status.{Status}
+use Rattle.radio_connections.specs.declared.conn.Fate.TheVariants.{Open}
+use Rattle.radio_connections.specs.Course.{is_listen, is_seated}
+use Rattle.radio_connections.proofs.Standing.{answered_as}
+use Rattle.radio_connections.proofs.Calling.{later_same, later_by_refusal, more_refused}
+use Rattle.radio_connections.proofs.Deeds.{answered_as_one, answered_by_cut, closed_not_cut}
+use Rattle.radio_connections.proofs.DeedChains.{chain_one}
+use Rattle.radio_connections.proofs.serving.answering.answer.Goals as goal
+
+pub returns-in-Ok : goal.returns-in-Ok
+returns-in-Ok g c =
+    let made = entry c.args.event c.in-Ok.reply in
+    let before = c.conn.inside.status in
+    let goes : before.fate ≡ Open = ap (λ (o : Connection). o.status.fate) c.conn.view_is ∙ c.requires in
+    let sits = ap (λ (s : Status). s.sits) c.note.ensures
+    ∙ ap (λ (b : Bool). b || before.sits) (c.both-sits.ensures ∙ ap (λ (b : Bool). b && c.is_seated.result) c.is_listen-listens.ensures
+    ∙ ap (λ (b : Bool). is_listen c.args.event && b) c.is_seated.ensures) in
+    let over = c.pass_over_if.ensures in
+    let left = ap (λ (s : Status). s.has_left) c.note.ensures ∙ ap (λ (b : Bool). b || before.has_left) c.is_leave-leaves.ensures in (
+      made ∷ [],
+      chain_one g.S.Server.steps c.args.server.now c.apply.new.server made c.in-Ok.ensures.ok,
+      answered_as_one c.conn.view_is (record {
+        same = refl;
+        once = inr (c.in-Ok.reply, refl);
+        made = λ goes. (c.in-Ok.reply, refl);
+        seat = λ other. sits ∙ ap (λ (b : Bool). (b && is_seated c.in-Ok.reply) || before.sits) other;
+        stands =
+            λ later past st. answered_as _ _ c.args.event later past c.in-Ok.reply goes refl over.given over.taken sits left st c.tell-conn-inside.result refl
+            c.tell-conn-inside.ensures.told;
+        later = later_same over.calls over.taken c.in-Ok.ensures.none;
+        spared = record {
+          calls = over.calls;
+          given = over.given;
+          unwritten = record {
+            taken = over.taken;
+            moved = ap (λ (s : Status). s.moved_ms) c.note.ensures;
+            has_taken = ap (λ (s : Status). s.has_taken) c.note.ensures;
+            finished = ap (λ (s : Status). s.is_finished) c.note.ensures;
+          };
+          closed = c.tell-conn-inside.ensures.closed;
+          cut = λ e. inl (c.tell-conn-inside.ensures.cut e);
+        };
+        asked = ap (λ (s : Status). s.asked_ms) c.note.ensures;
+      }),
+    )
+
+pub returns-in-Err : goal.returns-in-Err
+returns-in-Err g c = (
+  [],
+  c.in-Err.ensures.err,
+  answered_as_one c.conn.view_is
+      (answered_by_cut _ _ c.args.event (record { id = refl; sits = refl; left = refl }) (later_by_refusal c.args.event refl refl c.in-Err.ensures.one)
+      (record {
+        calls = refl;
+        given = refl;
+        unwritten = record { taken = refl; moved = refl; has_taken = refl; finished = refl };
+        closed = λ e. closed_not_cut (sym e);
+        cut = λ e. inr (more_refused c.args.event _ _ c.in-Err.ensures.one);
+      }) refl refl refl),
+)

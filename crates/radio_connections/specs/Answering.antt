@@ -1,0 +1,82 @@
+-- Events of a connection, applied one after another.
+use Rattle.std.specs.Prelude.{◌≡◌, ◌⊎◌, ℕ, false, List, [], ◌∷◌, ◌++◌}
+use Rattle.radio_events.specs.declared.event.Event.{Event}
+use Rattle.radio_events.specs.declared.reply.Reply.{Reply}
+use Rattle.radio_events.specs.declared.entry.Entry.{Entry}
+use Rattle.radio_events.specs.Events.{entry}
+use Rattle.radio_session.specs.Conversation.{Conversation, saying_now}
+use Rattle.radio_session.specs.Saying.{said}
+use Rattle.radio_connections.specs.declared.conn.Fate.{Fate}
+use Rattle.radio_connections.specs.declared.conn.Fate.TheVariants.{Open, Closed, Cut}
+use Rattle.radio_connections.specs.Connections.{Connection}
+use Rattle.radio_connections.specs.Course.{fate_by, is_listen}
+use Rattle.radio_session.specs.Hearing.{Heard, IsHeard}
+use Rattle.radio_connections.specs.Duties.{IsLater, LacksMemory, AreFirstOf, events_of, NotesAsking}
+use Rattle.radio_connections.specs.Serving.{StandsBefore, Stands}
+
+-- With this fate, a connection was told the reply: its bytes are owed behind the others, and its session stands as it does then. Where it
+-- is cut off, nothing is said.
+abbrev pub IsToldAs : Fate → Reply → Conversation → List ℕ → Conversation → List ℕ → Type 0
+IsToldAs Cut reply session owed session' owed' = Unit {0}
+IsToldAs fate reply session owed session' owed' =
+    (fate ≡ fate_by (said session.says reply).state) × (session' ≡ saying_now session (said session.says reply).says)
+    × (owed' ≡ owed ++ (said session.says reply).bytes)
+
+-- what is still to be applied of a connection that goes on
+abbrev pub later_by : Fate → List Event → List Event
+later_by Open later = later
+later_by fate later = []
+
+-- nothing was written to it: what its line took is as it was, and what is noted of that
+pub record IsUnwritten (c c' : Connection) : Type 0 where
+  pub taken : c'.taken ≡ c.taken
+  pub moved : c'.status.moved_ms ≡ c.status.moved_ms
+  pub has_taken : c'.status.has_taken ≡ c.status.has_taken
+  pub finished : c'.status.is_finished ≡ c.status.is_finished
+
+-- its line was not called; it is not closed, and cut off only where memory was refused
+pub record IsSpared (c c' : Connection) : Type 0 where
+  pub calls : c'.calls ≡ c.calls
+  pub given : c'.given ≡ c.given
+  pub unwritten : IsUnwritten c c'
+  pub closed : c'.status.fate ≡ Closed → ⊥
+  pub cut : c'.status.fate ≡ Cut → LacksMemory c c'
+
+-- the first of its events was applied, or the connection was cut off
+pub record IsAnswered (event : Event) (c : Connection) (entries : List Entry) (c' : Connection) : Type 0 where
+  pub same : c'.id ≡ c.id
+  -- there is one entry of it at most, and one where it goes on; and to another event than a request to hear a mount, no seat is given
+  pub once : (entries ≡ []) ⊎ ((reply : Reply) × (entries ≡ entry event reply ∷ []))
+  pub made : c'.status.fate ≡ Open → (reply : Reply) × (entries ≡ entry event reply ∷ [])
+  pub seat : is_listen event ≡ false → c'.status.sits ≡ c.status.sits
+  pub stands : (later : List Event) (past : List Entry) → StandsBefore (event ∷ later) c past
+      → StandsBefore (later_by c'.status.fate later) c' (past ++ entries)
+  pub later : IsLater c c'
+  pub spared : IsSpared c c'
+  pub asked : c'.status.asked_ms ≡ c.status.asked_ms
+
+-- its events were applied, up to its end
+pub record AreAnswered (events : List Event) (c : Connection) (entries : List Entry) (c' : Connection) : Type 0 where
+  pub same : c'.id ≡ c.id
+  -- the first of them, and all where it goes on
+  pub first : AreFirstOf entries events
+  pub all : c'.status.fate ≡ Open → events ≡ events_of entries
+  pub stands : (past : List Entry) → StandsBefore events c past → Stands c' (past ++ entries)
+  pub later : IsLater c c'
+  pub spared : IsSpared c c'
+  pub asked : c'.status.asked_ms ≡ c.status.asked_ms
+
+-- these entries are of the first of the events as which the bytes are heard
+pub record AreOf (c : Connection) (bytes : List ℕ) (entries : List Entry) : Type 0 where
+  pub heard : Heard
+  pub is : IsHeard c.session bytes heard
+  pub first : AreFirstOf entries heard.events
+
+-- bytes that its line gave last are heard at this moment, and answered
+pub record IsHeardOn (ms : ℕ) (bytes : List ℕ) (c : Connection) (entries : List Entry) (c' : Connection) : Type 0 where
+  pub same : c'.id ≡ c.id
+  pub heard : (entries ≡ []) ⊎ AreOf c bytes entries
+  pub asking : NotesAsking ms c entries c'
+  pub stands : (given : List ℕ) (past : List Entry) → c.given ≡ given ++ bytes → Stands (record c { given = given }) past → Stands c' (past ++ entries)
+  pub later : IsLater c c'
+  pub spared : IsSpared c c'

@@ -1,0 +1,131 @@
+-- The course of a connection: all that happens on it, in order, from its arrival to its end.
+use Rattle.std.specs.Prelude.{◌≡◌, ℕ, Bool, true, false, ◌&&◌, ◌||◌, List, [], ◌∷◌, ◌++◌}
+use Rattle.radio_policy.specs.declared.rule.Rule.{Rule}
+use Rattle.radio_addr.specs.declared.peer.Peer.{Peer}
+use Rattle.radio_events.specs.declared.event.Event.{Event}
+use Rattle.radio_events.specs.declared.event.Event.TheVariants.{Arrive, Listen, Draw, Leave}
+use Rattle.radio_events.specs.declared.reply.Reply.{Reply}
+use Rattle.radio_events.specs.declared.reply.Reply.TheVariants.{Arrived, Seated, Deny}
+use Rattle.radio_events.specs.declared.entry.Entry.{Entry}
+use Rattle.radio_events.specs.Events.{entry}
+use Rattle.radio_session.specs.declared.state.State.{State}
+use Rattle.radio_session.specs.declared.state.State.TheVariants.{Running, Shut}
+use Rattle.radio_session.specs.Conversation.{Conversation, fresh, asking, saying_now}
+use Rattle.radio_session.specs.Hearing.{Heard, IsHeard}
+use Rattle.radio_session.specs.Saying.{said}
+use Rattle.radio_session.specs.Exchanges.{is_leave}
+use Rattle.radio_connections.specs.declared.conn.Fate.{Fate}
+use Rattle.radio_connections.specs.declared.conn.Fate.TheVariants.{Open, Ended, Closed, Cut}
+
+-- how far a connection has come
+pub record Standing : Type 0 where
+  -- the bytes that its line gave
+  pub given : List ℕ
+  -- the events that were applied for it, with their replies
+  pub entries : List Entry
+  -- what it is told of the replies
+  pub text : List ℕ
+  -- how its session stands
+  pub session : Conversation
+  -- what was heard and is still to be applied
+  pub pending : List Event
+  -- whether a seat was given to it
+  pub sits : Bool
+  pub fate : Fate
+  -- whether its client has left, or was none
+  pub has_left : Bool
+
+-- a client whose connection has just come
+abbrev pub newcomer : Peer → ℕ → Standing
+newcomer peer id =
+    record {
+      given = [];
+      entries = entry (Arrive peer) (Arrived id) ∷ [];
+      text = [];
+      session = fresh id peer;
+      pending = [];
+      sits = false;
+      fate =
+          Open;
+      has_left = false;
+    }
+
+-- one whose connection is not taken in: it is told of the denial, and is nobody's client
+abbrev pub stranger : Peer → Rule → Standing
+stranger peer rule =
+    record {
+      given = [];
+      entries = [];
+      text = (said asking (Deny rule)).bytes;
+      session = fresh 0 peer;
+      pending = [];
+      sits = false;
+      fate = Ended;
+      has_left =
+          true;
+    }
+
+abbrev pub is_listen : Event → Bool
+is_listen (Listen asked) = true
+is_listen event = false
+
+abbrev pub is_seated : Reply → Bool
+is_seated (Seated interval shown) = true
+is_seated reply = false
+
+-- a seat is given
+abbrev pub is_seat : Event → Reply → Bool
+is_seat event reply = is_listen event && is_seated reply
+
+-- a connection that is shut has ended, and what was heard after that is not applied
+abbrev pub fate_by : State → Fate
+fate_by Running = Open
+fate_by (Shut ending) = Ended
+
+abbrev pub pending_by : State → List Event → List Event
+pending_by Running events = events
+pending_by (Shut ending) events = []
+
+-- an event of the connection is applied, and it is told of the reply
+abbrev pub answered : Standing → Event → List Event → Reply → Standing
+answered s event later reply = let told = said s.session.says reply in record s {
+  entries = s.entries ++ entry event reply ∷ [];
+  text = s.text ++ told.bytes;
+  session = saying_now s.session told.says;
+  pending = pending_by told.state later;
+  sits = is_seat event reply || s.sits;
+  fate = fate_by told.state;
+  has_left = is_leave event || s.has_left;
+}
+
+-- the conversation is over
+abbrev pub IsOver : Fate → Type 0
+IsOver Open = ⊥
+IsOver fate = Unit {0}
+
+-- it goes on, and all that was heard has been applied
+abbrev pub IsQuiet : Standing → Type 0
+IsQuiet s = (s.fate ≡ Open) × (s.pending ≡ [])
+
+-- What can have happened on the connection of this client, up to now.
+pub data Course (id : ℕ) : Standing → Type 0 where
+  -- it comes, and is taken in, or not
+  arrives : (peer : Peer) → Course id (newcomer peer id)
+  turned_away : (peer : Peer) (rule : Rule) → Course id (stranger peer rule)
+  -- its line gives bytes, and they are heard as these events
+  hears : (s : Standing) → Course id s → IsQuiet s → (bytes : List ℕ) (heard : Heard) → IsHeard s.session bytes heard
+      → Course id (record s { given = s.given ++ bytes; session = heard.conversation; pending = heard.events })
+  -- it has room for so many bytes of data
+  has_room : (s : Standing) → Course id s → IsQuiet s → (room : ℕ) → Course id (record s { pending = Draw id room ∷ [] })
+  -- the first of the events is applied
+  applies : (s : Standing) → Course id s → s.fate ≡ Open → (event : Event) (later : List Event) → s.pending ≡ event ∷ later → (reply : Reply)
+      → Course id (answered s event later reply)
+  -- nothing more comes on its line, or nothing more is told on it
+  closes : (s : Standing) → Course id s → s.pending ≡ [] → Course id (record s { fate = Closed })
+  -- it is cut off: bytes that came are not heard, events are not applied, or it is not told all
+  is_cut : (s : Standing) → Course id s → (unheard : List ℕ) → Course id (record s { given = s.given ++ unheard; pending = []; fate = Cut })
+  -- what comes after its end is passed over
+  passes_over : (s : Standing) → Course id s → s.fate ≡ Ended → (bytes : List ℕ) → Course id (record s { given = s.given ++ bytes })
+  -- its client leaves, once it is over
+  leaves : (s : Standing) → Course id s → IsOver s.fate → s.has_left ≡ false → (reply : Reply)
+      → Course id (record s { entries = s.entries ++ entry (Leave id) reply ∷ []; has_left = true })

@@ -1,0 +1,220 @@
+-- What a worker owes to a connection in a turn, and what he may not do to it.
+use Rattle.std.specs.Prelude.{◌≡◌, ◌+◌, ◌<◌, ◌≤◌, ◌-◌, ◌⊎◌, ℕ, suc, Bool, true, false, List, [], ◌∷◌, ◌++◌, map}
+use Rattle.radio_events.specs.declared.event.Event.{Event}
+use Rattle.radio_events.specs.declared.event.Event.TheVariants.{Draw, Leave}
+use Rattle.radio_events.specs.declared.reply.Reply.{Reply}
+use Rattle.radio_events.specs.declared.entry.Entry.{Entry}
+use Rattle.radio_events.specs.Events.{entry}
+use Rattle.radio_session.specs.Hearing.{Heard, IsHeard}
+use Rattle.radio_connections.specs.declared.conn.Fate.{Fate}
+use Rattle.radio_connections.specs.declared.conn.Fate.TheVariants.{Open, Ended, Closed, Cut}
+use Rattle.radio_connections.specs.Connections.{Connection}
+
+-- what is owed is still written
+abbrev pub IsWritten : Fate → Type 0
+IsWritten Cut = ⊥
+IsWritten Closed = ⊥
+IsWritten fate = Unit {0}
+
+-- something is owed to it
+abbrev pub IsOwed : Connection → Type 0
+IsOwed c = c.owed ≡ [] → ⊥
+
+-- The calls of a line are counted on, and what it takes comes behind what it took.
+pub record IsLater (c c' : Connection) : Type 0 where
+  pub reads : c.calls.reads ≤ c'.calls.reads
+  pub writes : c.calls.writes ≤ c'.calls.writes
+  pub faults : c.calls.faults ≤ c'.calls.faults
+  pub closings : c.calls.closings ≤ c'.calls.closings
+  pub refused : c.refused.events ≤ c'.refused.events
+  pub leavings : c.refused.leavings ≤ c'.refused.leavings
+  pub taken : (more : List ℕ) × (c'.taken ≡ c.taken ++ more)
+
+-- it is not read from
+pub record IsUnread (c c' : Connection) : Type 0 where
+  pub reads : c'.calls.reads ≡ c.calls.reads
+  pub room : c'.calls.room ≡ c.calls.room
+
+-- it is read from once, with room for 16384 bytes
+pub record IsReadOnce (c c' : Connection) : Type 0 where
+  pub reads : c'.calls.reads ≡ suc c.calls.reads
+  pub room : c'.calls.room ≡ c.calls.room + 16384
+
+-- One that is open, and to which nothing is owed, is asked for bytes, once.
+abbrev pub IsAsked : Connection → Connection → Type 0
+IsAsked c c' = c.status.fate ≡ Open → c.owed ≡ [] → IsReadOnce c c'
+
+-- No connection is asked more often than once in a turn.
+abbrev pub IsAskedOnce : Connection → Connection → Type 0
+IsAskedOnce c c' = IsUnread c c' ⊎ IsReadOnce c c'
+
+-- One to which something is owed is written to.
+abbrev pub IsGiven : Connection → Connection → Type 0
+IsGiven c c' = IsWritten c.status.fate → IsOwed c → c.calls.writes < c'.calls.writes
+
+-- its line has taken all that it was owed, and perhaps more
+abbrev pub HasTakenAll : Connection → Connection → Type 0
+HasTakenAll c c' = (more : List ℕ) × (c'.taken ≡ (c.taken ++ c.owed) ++ more)
+
+-- nothing, or his leaving
+abbrev pub IsAtMostLeaving : ℕ → List Entry → Type 0
+IsAtMostLeaving id entries = (entries ≡ []) ⊎ ((reply : Reply) × (entries ≡ entry (Leave id) reply ∷ []))
+
+-- Unless its line has taken all that it was owed, it is not read from, and nothing is applied for it but that its client leaves.
+abbrev pub HasWaited : Connection → List Entry → Connection → Type 0
+HasWaited c entries c' = HasTakenAll c c' ⊎ (IsUnread c c' × IsAtMostLeaving c.id entries)
+
+-- at this moment, nothing of what it is owed has moved for so long
+abbrev pub HasStalled : ℕ → ℕ → Connection → Type 0
+HasStalled ms patience c = patience ≤ ms - c.status.moved_ms
+
+-- Who is still served has taken all that he was owed, or something of it has moved within this time: who has stalled is cut off.
+abbrev pub IsInTime : ℕ → ℕ → Connection → Connection → Type 0
+IsInTime ms patience c c' = IsWritten c'.status.fate → HasTakenAll c c' ⊎ (ms - c'.status.moved_ms < patience)
+
+-- its line has taken something
+abbrev pub HasTakenSome : Connection → Connection → Type 0
+HasTakenSome c c' = c'.taken ≡ c.taken → ⊥
+
+-- it goes on, and nothing is owed to it
+abbrev pub IsIdle : Connection → Type 0
+IsIdle c = (c.status.fate ≡ Open) × (c.owed ≡ [])
+
+-- its peer was told that nothing more is written
+abbrev pub IsFinishedNow : Connection → Connection → Type 0
+IsFinishedNow c c' = (c.status.is_finished ≡ false) × (c'.status.is_finished ≡ true)
+
+-- That counts from the last turn in which its line took something, or nothing was owed to it when its turn came, or its peer was told that
+-- nothing more is written: then the moment is that of the turn,
+abbrev pub HasMoved : ℕ → Connection → Connection → Type 0
+HasMoved ms c c' = HasTakenSome c c' ⊎ (IsIdle c ⊎ IsFinishedNow c c') → c'.status.moved_ms ≡ ms
+
+-- and else it is as it was.
+abbrev pub HasNotMoved : Connection → Connection → Type 0
+HasNotMoved c c' = c'.taken ≡ c.taken → (IsIdle c → ⊥) → (IsFinishedNow c c' → ⊥) → c'.status.moved_ms ≡ c.status.moved_ms
+
+-- It is noted that its line has taken something where it has, and only there.
+pub record NotesTaking (c c' : Connection) : Type 0 where
+  pub some : HasTakenSome c c' → c'.status.has_taken ≡ true
+  pub none : c'.taken ≡ c.taken → c'.status.has_taken ≡ c.status.has_taken
+
+-- memory was refused for what was to be done for it: its session has failed, or one of its events was refused
+abbrev pub LacksMemory : Connection → Connection → Type 0
+LacksMemory c c' = (c'.session.has_failed ≡ true) ⊎ (c.refused.events < c'.refused.events)
+
+-- why a connection may be cut off in a turn
+pub data Cause (ms patience : ℕ) (c c' : Connection) : Type 0 where
+  -- it was cut off before
+  WasCut : c.status.fate ≡ Cut → Cause ms patience c c'
+  -- its line failed
+  HasFailed : c.calls.faults < c'.calls.faults → Cause ms patience c c'
+  -- something is owed to it, and its line took nothing for too long
+  TookNothing : IsOwed c' → HasStalled ms patience c' → Cause ms patience c c'
+  -- it was open, and memory was refused
+  WasRefused : c.status.fate ≡ Open → LacksMemory c c' → Cause ms patience c c'
+
+-- It is cut off only for such a cause.
+abbrev pub IsCutFor : ℕ → ℕ → Connection → Connection → Type 0
+IsCutFor ms patience c c' = c'.status.fate ≡ Cut → Cause ms patience c c'
+
+-- its line told that its peer has closed, or failed
+abbrev pub HasEnded : Connection → Connection → Type 0
+HasEnded c c' = (c.calls.closings < c'.calls.closings) ⊎ (c.calls.faults < c'.calls.faults)
+
+-- it had ended, and a second has passed since its peer was told that nothing more is written
+pub record HasLingered (ms : ℕ) (c : Connection) : Type 0 where
+  pub ended : c.status.fate ≡ Ended
+  pub told : c.status.is_finished ≡ true
+  pub long : 1000 ≤ ms - c.status.moved_ms
+
+-- why a connection may be closed in a turn
+pub data WhyClosed (ms : ℕ) (c c' : Connection) : Type 0 where
+  -- it was closed before
+  WasClosed : c.status.fate ≡ Closed → WhyClosed ms c c'
+  -- its line told that its peer has closed, or failed
+  LineHasEnded : HasEnded c c' → WhyClosed ms c c'
+  -- it had ended, and nothing was ever written to it
+  HeardNothing : c.status.fate ≡ Ended → c'.status.has_taken ≡ false → WhyClosed ms c c'
+  -- it had ended, and has lingered for a second
+  LingeredOn : HasLingered ms c → WhyClosed ms c c'
+
+-- It is closed only for such a cause.
+abbrev pub IsClosedFor : ℕ → Connection → Connection → Type 0
+IsClosedFor ms c c' = c'.status.fate ≡ Closed → WhyClosed ms c c'
+
+-- It lingers: something was written to it, its peer was told that nothing more is, its line was read from and told no end, and less than a
+-- second has passed since then.
+pub record Lingers (ms : ℕ) (c c' : Connection) : Type 0 where
+  pub written : c'.status.has_taken ≡ true
+  pub told : c'.status.is_finished ≡ true
+  pub read : IsReadOnce c c'
+  pub goes : HasEnded c c' → ⊥
+  pub in_time : ms - c'.status.moved_ms < 1000
+
+-- Who had ended and is owed nothing lingers, or is closed.
+abbrev pub IsLetGo : ℕ → Connection → Connection → Type 0
+IsLetGo ms c c' = c.status.fate ≡ Ended → c'.status.fate ≡ Ended → c'.owed ≡ [] → Lingers ms c c'
+
+-- Nobody is told that nothing more is written but who has ended, and whose line has taken all.
+abbrev pub IsFinishedFor : Connection → Connection → Type 0
+IsFinishedFor c c' = IsFinishedNow c c' → (c.status.fate ≡ Ended) × HasTakenAll c c'
+
+-- Who is over has left, or his leaving was refused for want of memory.
+abbrev pub HasLeft : Connection → Connection → Type 0
+HasLeft c c' = (c'.status.fate ≡ Open → ⊥) → (c'.status.has_left ≡ true) ⊎ (c.refused.leavings < c'.refused.leavings)
+
+-- the events that were applied
+abbrev pub events_of : List Entry → List Event
+events_of entries = map (λ (e : Entry). e.event) entries
+
+-- these entries are of the first of those events, in their order
+abbrev pub AreFirstOf : List Entry → List Event → Type 0
+AreFirstOf entries events = (later : List Event) × (events ≡ events_of entries ++ later)
+
+-- they are of the first events as which bytes are heard that its line gave
+pub record AreHeard (c : Connection) (entries : List Entry) (c' : Connection) : Type 0 where
+  pub bytes : List ℕ
+  pub heard : Heard
+  pub given : c'.given ≡ c.given ++ bytes
+  pub is : IsHeard c.session bytes heard
+  pub first : AreFirstOf entries heard.events
+
+-- nothing, or what was heard
+abbrev pub AreAtMostHeard : Connection → List Entry → Connection → Type 0
+AreAtMostHeard c entries c' = (entries ≡ []) ⊎ AreHeard c entries c'
+
+-- for how many bytes a listener has room in a turn
+abbrev pub draw_room : ℕ
+draw_room = 65536
+
+-- the room of a draw for who has a seat, and for who has none
+abbrev pub room_for : Bool → ℕ
+room_for true = draw_room
+room_for false = 0
+
+-- nothing, or one draw with this room
+abbrev pub IsAtMostDraw : ℕ → ℕ → List Entry → Type 0
+IsAtMostDraw id room entries = (entries ≡ []) ⊎ ((reply : Reply) × (entries ≡ entry (Draw id room) reply ∷ []))
+
+-- What is applied for it in a turn: the events that its bytes mean, behind them at most one draw, and behind that at most his leaving.
+pub record IsOneTurn (c : Connection) (entries : List Entry) (c' : Connection) : Type 0 where
+  pub heard : List Entry
+  pub drawn : List Entry
+  pub left : List Entry
+  pub all : entries ≡ heard ++ (drawn ++ left)
+  pub asks : AreAtMostHeard c heard c'
+  pub draws : IsAtMostDraw c.id (room_for c'.status.sits) drawn
+  pub leaves : IsAtMostLeaving c.id left
+
+-- nothing was asked of the server for it for half a second
+abbrev pub IsUnasked : ℕ → Connection → Type 0
+IsUnasked ms c = 500 ≤ ms - c.status.asked_ms
+
+-- For one that goes on, to which nothing was owed and for which nothing was asked for so long, something is asked.
+abbrev pub IsAskedFor : ℕ → Connection → List Entry → Connection → Type 0
+IsAskedFor ms c entries c' = c.owed ≡ [] → c'.status.fate ≡ Open → IsUnasked ms c → entries ≡ [] → ⊥
+
+-- When something was last asked for it is noted, as long as it goes on.
+pub record NotesAsking (ms : ℕ) (c : Connection) (entries : List Entry) (c' : Connection) : Type 0 where
+  pub some : c'.status.fate ≡ Open → (entries ≡ [] → ⊥) → c'.status.asked_ms ≡ ms
+  pub none : c'.status.fate ≡ Open → entries ≡ [] → c'.status.asked_ms ≡ c.status.asked_ms

@@ -1,0 +1,266 @@
+//! A connection, as its worker has it.
+
+ghost use Rattle.std.specs.Prelude.{◌≡◌, IfOk};
+ghost use Rattle.radio_session.specs.Conversation.{saying_now};
+ghost use Rattle.radio_session.specs.Saying.{said};
+
+use crate::owed::Owed;
+use crate::refusals::Refusals;
+use crate::{Line, OutOfMemory};
+use radio_addr::Peer;
+use radio_events::Reply;
+use radio_notes::{Account, Told};
+use radio_session::Session;
+use std::alloc::Global;
+use std::marker::Model;
+
+/// What has become of a connection.
+#[derive(Clone, Copy, Debug, PartialEq, Eq)]
+pub enum Fate {
+    /// It goes on.
+    Open,
+    /// Its conversation has ended: what it is owed still goes out, and what comes is passed over.
+    Ended,
+    /// It is closed, and nothing is owed.
+    Closed,
+    /// It is cut off, and what it is owed is given up: its line has failed, or took nothing for too
+    /// long, or memory was refused.
+    Cut,
+}
+
+impl Fate {
+    ghost use Rattle.radio_connections.specs.Connections.{is_open};
+
+    /// Whether the connection goes on.
+    pub fn is_open(self) -> bool
+        ensures { result ≡ is_open self }
+    {
+        match self {
+            Fate::Open => true,
+            Fate::Ended | Fate::Closed | Fate::Cut => false,
+        }
+    }
+}
+
+/// What its worker notes of a connection. Moments are in milliseconds.
+#[derive(Clone, Copy, Debug, PartialEq, Eq)]
+pub struct Status {
+    /// What has become of it.
+    pub fate: Fate,
+    /// Whether its client has left, or was never let in.
+    pub has_left: bool,
+    /// Whether its client was given a seat.
+    pub sits: bool,
+    /// Whether there may be more for it than its last draw has brought.
+    pub is_behind: bool,
+    /// Whether its line has taken a byte.
+    pub has_taken: bool,
+    /// Whether its peer was told that nothing more is written.
+    pub is_finished: bool,
+    /// When something was last asked of the server for it.
+    pub asked_ms: u64,
+    /// When what is owed to it last moved, or began to be owed.
+    pub moved_ms: u64,
+}
+
+impl Status {
+    ghost use Rattle.radio_connections.specs.Connections.{status_at};
+
+    /// At its arrival.
+    pub(crate) fn new(fate: Fate, has_left: bool, ms: u64) -> Status
+        ensures { result ≡ status_at fate has_left ms }
+    {
+        Status {
+            fate,
+            has_left,
+            sits: false,
+            is_behind: false,
+            has_taken: false,
+            is_finished: false,
+            asked_ms: ms,
+            moved_ms: ms,
+        }
+    }
+}
+
+/// A connection: a line, the conversation on it, and what is kept of an answer and a draw that the
+/// line has not taken.
+///
+/// In contracts it is a `Connection`.
+#[derive(Drop)]
+pub struct Conn<L: Line> {
+    pub(crate) id: u64,
+    pub(crate) line: L,
+    pub(crate) session: Session,
+    pub(crate) owed: Owed,
+    pub(crate) status: Status,
+    pub(crate) refusals: Refusals,
+    /// What is noted for the log. It changes nothing of what is answered.
+    pub(crate) account: Account,
+}
+
+impl<L: Line> Model for Conn<L> {
+    ghost use Rattle.radio_connections.specs.Connections.{Connection};
+
+    ghost Value = { Connection };
+
+    ghost view = { λ c. record {
+      id = c.id;
+      given = L.given c.line;
+      taken = L.taken c.line;
+      calls = L.calls c.line;
+      owed = c.owed;
+      session = c.session;
+      status = c.status;
+      refused = c.refusals;
+    } };
+}
+
+impl<L: Line> Conn<L> {
+    ghost use Rattle.radio_connections.specs.Connections.{newly_come, newly_ended, stays, lingers, IsTurnedAway};
+    ghost use Rattle.std.specs.Prelude.{OnErr};
+    ghost use Rattle.radio_connections.specs.Admission.{IsTakenIn, LetsNobodyIn};
+
+    /// The connection of a client who was let in under this number.
+    fn new(alloc: Global, id: u64, peer: Peer, line: L, ms: u64) -> Conn<L>
+        ensures { result ≡ newly_come id peer (L.given line) (L.taken line) (L.calls line) ms }
+    {
+        Conn {
+            id,
+            line,
+            session: Session::new(alloc, id, peer),
+            owed: Owed::new(alloc),
+            status: Status::new(Fate::Open, false, ms),
+            refusals: Refusals::new(),
+            account: Account::new(alloc, ms),
+        }
+    }
+
+    /// The connection of one who was not let in: it is owed what he is told. `OutOfMemory` where
+    /// memory was refused; the line is closed then.
+    fn turned_away(
+        alloc: Global,
+        peer: Peer,
+        line: L,
+        denial: Reply,
+        ms: u64,
+    ) -> Result<Conn<L>, OutOfMemory>
+        ensures { IfOk result (λ c. IsTurnedAway denial (L.given line) (L.taken line) ms c) }
+    {
+        let account = denied_account(alloc, &denial, ms);
+        let mut session = Session::new(alloc, 0, peer);
+        match told_first(alloc, &mut session, &account, denial) {
+            Ok(owed) => Ok(Conn::ended(line, session, owed, account, ms)),
+            Err(refused) => {
+                drop(line);
+                drop(session);
+                drop(account);
+                Err(refused)
+            }
+        }
+    }
+
+    /// The connection of nobody, whose conversation has ended.
+    fn ended(line: L, session: Session, owed: Owed, account: Account, ms: u64) -> Conn<L>
+        ensures { result ≡ newly_ended (L.given line) (L.taken line) (L.calls line) owed session ms }
+    {
+        Conn {
+            id: 0,
+            line,
+            session,
+            owed,
+            status: Status::new(Fate::Ended, true, ms),
+            refusals: Refusals::new(),
+            account,
+        }
+    }
+
+    /// The connection of one who comes, and to whom the server replies so. `OutOfMemory` where
+    /// memory was refused; the line is closed then.
+    pub fn admitted(
+        alloc: Global,
+        peer: Peer,
+        line: L,
+        reply: Reply,
+        ms: u64,
+    ) -> Result<Conn<L>, OutOfMemory>
+        ensures taken_in { IfOk result (λ c. IsTakenIn peer reply (L.given line) (L.taken line) c) }
+        // memory is wanted only for one who was not let in
+        ensures err { OnErr result (LetsNobodyIn reply) }
+    {
+        match reply {
+            Reply::Arrived(id) => Ok(Conn::new(alloc, id, peer, line, ms)),
+            denial => Conn::turned_away(alloc, peer, line, denial, ms),
+        }
+    }
+
+    /// Whether it is still to be served.
+    pub fn stays(&self) -> bool
+        ensures { result ≡ stays self.now }
+    {
+        let fate = self.status.fate;
+        match fate {
+            Fate::Open | Fate::Ended => true,
+            Fate::Closed | Fate::Cut => !self.status.has_left,
+        }
+    }
+
+    /// Whether nothing more is written on it, its client has left or was none, and it is kept only
+    /// until its peer has closed.
+    pub(crate) fn lingers(&self) -> bool
+        ensures { result ≡ lingers self.now }
+    {
+        self.status.is_finished && self.status.has_left
+    }
+
+    /// The number of its client; 0 where it is nobody's.
+    pub fn id(&self) -> u64
+        ensures { result ≡ self.now.id }
+    {
+        self.id
+    }
+
+    /// How it stands.
+    pub fn status(&self) -> Status
+        ensures { result ≡ self.now.status }
+    {
+        self.status
+    }
+
+    /// Its line.
+    pub fn line(&self) -> &L
+        ensures given { L.given result.now ≡ self.now.given }
+        ensures taken { L.taken result.now ≡ self.now.taken }
+        ensures calls { L.calls result.now ≡ self.now.calls }
+    {
+        &self.line
+    }
+}
+
+/// What is noted of one who was not let in, and replied to so.
+fn denied_account(alloc: Global, denial: &Reply, ms: u64) -> Account {
+    let account = Account::new(alloc, ms);
+    account.note_reply(Told::of(denial));
+    account
+}
+
+/// What a connection is owed that is told this reply first; whether it goes on is noted. `OutOfMemory` where memory was
+/// refused.
+fn told_first(
+    alloc: Global,
+    session: &mut Session,
+    account: &Account,
+    reply: Reply,
+) -> Result<Owed, OutOfMemory>
+    ensures bytes { IfOk result (λ owed. owed ≡ (said session.old.says reply).bytes) }
+    ensures says { IfOk result (λ _. session.new ≡ saying_now session.old (said session.old.says reply).says) }
+{
+    let mut owed = Owed::new(alloc);
+    match owed.tell(session, reply) {
+        Ok(state) => {
+            account.note_state(state);
+            Ok(owed)
+        }
+        Err(refused) => Err(refused),
+    }
+}

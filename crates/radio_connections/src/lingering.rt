@@ -1,0 +1,31 @@
+//! Connections on which nothing more is written, and whose peers have not closed yet.
+
+ghost use Rattle.std.specs.Prelude.{◌≡◌, length, filter};
+ghost use Rattle.std.specs.List.{position};
+ghost use Rattle.radio_connections.specs.Connections.{lingers, without_first};
+
+use crate::{Conn, Line};
+
+/// How many linger.
+pub fn count_lingering<L: Line>(conns: &[Conn<L>]) -> usize
+    ensures { result ≡ length (filter lingers conns.now) }
+{
+    conns.iter().filter(|conn| conn.lingers()).count()
+}
+
+/// Closes the first of those who linger, which has come before the others; nothing where nobody does.
+pub fn close_first_lingering<L: Line>(conns: &mut Vec<Conn<L>>)
+    ensures { conns.new.items ≡ without_first conns.old.items }
+{
+    let Some(at) = first_lingering(conns.as_slice()) else {
+        return;
+    };
+    drop(conns.remove(at));
+}
+
+/// Where the first of those stands who linger.
+fn first_lingering<L: Line>(conns: &[Conn<L>]) -> Option<usize>
+    ensures { result ≡ position lingers conns.now }
+{
+    conns.iter().position(|conn| conn.lingers())
+}

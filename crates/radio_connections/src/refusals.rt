@@ -1,0 +1,70 @@
+//! What was refused to a connection for want of memory, which only proofs read. It takes no memory.
+
+ghost use Rattle.std.specs.Prelude.{◌≡◌, IfOk, OnErr};
+ghost use Rattle.radio_connections.specs.Connections.{no_refusals, one_refusal, refused_one};
+
+use crate::history::History;
+use crate::serving::answering::is_leave;
+use crate::{OutOfMemory, Server};
+use radio_events::{Event, Reply};
+use std::marker::Model;
+
+/// How many of a connection's events were refused, and how many of these were the leaving of a client.
+/// In contracts it is these two numbers.
+#[derive(Drop)]
+pub(crate) struct Refusals {
+    events: History,
+    leavings: History,
+}
+
+impl Model for Refusals {
+    ghost use Rattle.std.specs.Prelude.{length};
+    ghost use Rattle.radio_connections.specs.Connections.{Refused};
+
+    ghost Value = { Refused };
+
+    ghost view = { λ r. record { events = length r.events.items; leavings = length r.leavings.items } };
+}
+
+impl Refusals {
+    /// Nothing was refused yet.
+    pub(crate) fn new() -> Refusals
+        ensures { result ≡ no_refusals }
+    {
+        Refusals {
+            events: History::new(),
+            leavings: History::new(),
+        }
+    }
+
+    /// Applies an event. `OutOfMemory` where the server was refused memory: then this is counted, and
+    /// nothing else has changed.
+    pub(crate) fn apply<S: Server>(
+        &mut self,
+        server: &mut S,
+        event: Event,
+    ) -> Result<Reply, OutOfMemory>
+        ensures ok { IfOk result (λ reply. S.steps server.old event reply server.new) }
+        ensures none { IfOk result (λ _. self.new ≡ self.old) }
+        ensures err { OnErr result (server.new ≡ server.old) }
+        ensures one { OnErr result (self.new ≡ one_refusal event self.old) }
+    {
+        let leaves = is_leave(&event);
+        match server.apply(event) {
+            Ok(reply) => Ok(reply),
+            Err(refused) => {
+                self.count(leaves);
+                Err(refused)
+            }
+        }
+    }
+
+    fn count(&mut self, leaves: bool)
+        ensures { self.new ≡ refused_one leaves self.old }
+    {
+        self.events.note(&[0]);
+        if leaves {
+            self.leavings.note(&[0]);
+        }
+    }
+}

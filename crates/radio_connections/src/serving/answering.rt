@@ -1,0 +1,138 @@
+//! Events of a connection, applied one after another.
+
+ghost use Rattle.std.specs.Prelude.{◌≡◌, true, List, ◌&&◌, ◌||◌};
+ghost use Rattle.radio_events.specs.declared.entry.Entry.{Entry as EntryOf};
+ghost use Rattle.radio_session.specs.Exchanges.{is_leave};
+ghost use Rattle.radio_connections.specs.Course.{is_listen, is_seated};
+ghost use Rattle.radio_connections.specs.declared.conn.Fate.TheVariants.{Closed, Cut};
+ghost use Rattle.radio_connections.specs.Serving.{Chain};
+ghost use Rattle.radio_connections.specs.Answering.{IsToldAs, IsAnswered, AreAnswered};
+
+use crate::owed::Owed;
+use crate::serving::drawing::fills_room;
+use crate::{Conn, Fate, Line, Server, Status};
+use radio_events::{Event, Reply};
+use radio_notes::{Account, Log, Notice, Told};
+use radio_session::{Session, State};
+
+/// Applies an event of the connection, and tells it the reply. The connection has ended where it is
+/// shut by that, and is cut off where memory is refused. The notice is what is to be told of the event.
+pub(crate) fn answer<S: Server, L: Line>(
+    server: &mut S,
+    conn: &mut Conn<L>,
+    event: Event,
+    notice: Notice,
+    log: &Log,
+)
+    requires { conn.old.status.fate ≡ Fate.Open }
+    ensures { (entries : List EntryOf) × Chain S.steps server.old entries server.new × IsAnswered event conn.old entries conn.new }
+{
+    let leaves = is_leave(&event);
+    let listens = is_listen(&event);
+    match conn.refusals.apply(server, event) {
+        Ok(reply) => {
+            conn.account.hear_reply(log, notice, Told::of(&reply));
+            let sits = both(listens, is_seated(&reply));
+            let has_more = fills_room(&reply);
+            note(&mut conn.status, leaves, sits, has_more);
+            pass_over_if(&mut conn.line, sits);
+            conn.status.fate = tell(&mut conn.owed, &mut conn.session, reply, &conn.account);
+        }
+        Err(_) => {
+            conn.account.hear_refusal(notice);
+            conn.status.fate = Fate::Cut;
+        }
+    }
+}
+
+/// Applies the events that were heard on it, one after another, up to its end.
+pub(crate) fn answer_all<S: Server, L: Line>(
+    server: &mut S,
+    conn: &mut Conn<L>,
+    events: Vec<Event>,
+    log: &Log,
+)
+    requires { conn.old.status.fate ≡ Fate.Open }
+    ensures { (entries : List EntryOf) × Chain S.steps server.old entries server.new × AreAnswered events.items conn.old entries conn.new }
+{
+    for event in events {
+        let notice = conn.account.notice(log, conn.session.peer(), &event);
+        answer(server, conn, event, notice, log);
+        if !conn.status.fate.is_open() {
+            return;
+        }
+    }
+}
+
+/// Tells a reply behind what is owed; what becomes of the connection by that.
+fn tell(owed: &mut Owed, session: &mut Session, reply: Reply, account: &Account) -> Fate
+    ensures told { IsToldAs result reply session.old owed.old session.new owed.new }
+    // it is not closed by that, and cut off only where the session fails
+    ensures closed { result ≡ Closed → ⊥ }
+    ensures cut { result ≡ Cut → session.new.has_failed ≡ true }
+{
+    match owed.tell(session, reply) {
+        Ok(State::Running) => Fate::Open,
+        Ok(State::Shut(ending)) => {
+            account.note_ending(ending);
+            Fate::Ended
+        }
+        Err(_) => {
+            account.note_no_memory();
+            Fate::Cut
+        }
+    }
+}
+
+/// Notes that the client has left, that he was given a seat, and that there is more for him, if so.
+fn note(status: &mut Status, leaves: bool, sits: bool, has_more: bool)
+    ensures { status.new ≡ record status.old { has_left = leaves || status.old.has_left; sits = sits || status.old.sits; is_behind = sits || has_more } }
+{
+    status.is_behind = either(sits, has_more);
+    status.has_left = either(leaves, status.has_left);
+    status.sits = either(sits, status.sits);
+}
+
+pub(crate) fn either(a: bool, b: bool) -> bool
+    ensures { result ≡ (a || b) }
+{
+    a || b
+}
+
+fn both(a: bool, b: bool) -> bool
+    ensures { result ≡ (a && b) }
+{
+    a && b
+}
+
+/// What comes from one who was given a seat is passed over.
+fn pass_over_if<L: Line>(line: &mut L, sits: bool)
+    ensures given { L.given line.new ≡ L.given line.old }
+    ensures taken { L.taken line.new ≡ L.taken line.old }
+    ensures calls { L.calls line.new ≡ L.calls line.old }
+{
+    if sits {
+        line.pass_over();
+    }
+}
+
+/// Whether the client leaves by this event.
+pub(crate) fn is_leave(event: &Event) -> bool
+    ensures { result ≡ is_leave event.now }
+{
+    matches!(event, Event::Leave { .. })
+}
+
+/// Whether the client asks to hear a mount.
+fn is_listen(event: &Event) -> bool
+    ensures { result ≡ is_listen event.now }
+{
+    matches!(event, Event::Listen(_))
+}
+
+/// Whether a seat was given.
+fn is_seated(reply: &Reply) -> bool
+    ensures { result ≡ is_seated reply.now }
+{
+    matches!(reply, Reply::Seated { .. })
+}

@@ -1,0 +1,73 @@
+//! What there is for a connection.
+
+ghost use Rattle.std.specs.Prelude.{◌≡◌, ◌-◌, nat_le, true};
+ghost use Rattle.radio_connections.specs.declared.conn.Fate.TheVariants.{Open};
+ghost use Rattle.radio_connections.specs.Leaving.{Draws, DrawsFor};
+
+use crate::serving::answering::answer;
+use crate::serving::{ASKED_AFTER_MS, Now};
+use crate::{Conn, Line, Server, Status};
+use radio_blocks::Pieces;
+use radio_events::{Event, Reply};
+use radio_notes::{Log, Notice};
+
+/// For how many bytes of data a listener has room in a turn.
+pub const DRAW_ROOM: u32 = 65536;
+
+/// A draw for the listener who has a seat, where there is news, or he was left behind what there was
+/// before. Where there is none, and nothing was asked for him for half a second, he draws too; who has
+/// no seat is asked for with a draw that has no room then: they hear by which rule they were finished,
+/// if they were.
+pub(crate) fn draw<S: Server, L: Line>(server: &mut S, conn: &mut Conn<L>, now: Now, log: &Log)
+    ensures { Draws S.steps now.ms now.news server.old conn.old server.new conn.new }
+{
+    if !conn.status.fate.is_open() {
+        return;
+    }
+    if !is_due(conn.status, now) {
+        return;
+    }
+    conn.status.asked_ms = now.ms;
+    if conn.status.sits {
+        draw_for(server, conn, DRAW_ROOM, log);
+    } else {
+        draw_for(server, conn, 0, log);
+    }
+}
+
+/// Whether a draw is due for who stands so.
+fn is_due(status: Status, now: Now) -> bool
+    ensures news { status.sits ≡ true → now.news ≡ true → result ≡ true }
+    ensures unasked { nat_le 500 (now.ms - status.asked_ms) ≡ true → result ≡ true }
+{
+    if status.sits {
+        if now.news || status.is_behind {
+            return true;
+        }
+    }
+    now.is_past(status.asked_ms, ASKED_AFTER_MS)
+}
+
+/// Whether a draw has brought as much as it had room for, so that there may be more.
+pub fn fills_room(reply: &Reply) -> bool {
+    match reply {
+        Reply::Drawn { pieces, .. } => is_full(pieces),
+        _ => false,
+    }
+}
+
+fn is_full(pieces: &Pieces) -> bool {
+    let mut left = DRAW_ROOM as usize;
+    for slice in pieces.slices() {
+        left = left.saturating_sub(slice.len());
+    }
+    left == 0
+}
+
+fn draw_for<S: Server, L: Line>(server: &mut S, conn: &mut Conn<L>, room: u32, log: &Log)
+    requires { conn.old.status.fate ≡ Open }
+    ensures { DrawsFor S.steps room server.old conn.old server.new conn.new }
+{
+    let event = Event::Draw { id: conn.id, room };
+    answer(server, conn, event, Notice::Nothing, log);
+}

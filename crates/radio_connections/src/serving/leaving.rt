@@ -1,0 +1,48 @@
+//! The end of a client.
+
+ghost use Rattle.std.specs.Prelude.{◌≡◌};
+ghost use Rattle.radio_connections.specs.Leaving.{HasAskedToLeave, Leaves};
+
+use crate::refusals::Refusals;
+use crate::{Conn, Line, Server};
+use radio_events::Event;
+
+/// The client leaves whose connection is over, if he has not left. Where memory is refused for that,
+/// he leaves with a later turn.
+pub(crate) fn leave<S: Server, L: Line>(server: &mut S, conn: &mut Conn<L>)
+    ensures { Leaves S.steps server.old conn.old server.new conn.new }
+{
+    if conn.status.fate.is_open() {
+        return;
+    }
+    if conn.status.has_left {
+        return;
+    }
+    note_mount(server, conn);
+    if asks_to_leave(server, &mut conn.refusals, conn.id) {
+        conn.status.has_left = true;
+    }
+}
+
+/// Notes, for the log, where the listener was last, who is forgotten when he has left.
+fn note_mount<S: Server, L: Line>(server: &S, conn: &Conn<L>) {
+    if !conn.account.is_listener() {
+        return;
+    }
+    if let Some(mount) = server.last_mount(conn.id) {
+        conn.account.note_last_mount(&mount);
+    }
+}
+
+/// The client of this number leaves. Whether memory was not refused.
+fn asks_to_leave<S: Server>(server: &mut S, refusals: &mut Refusals, id: u64) -> bool
+    ensures { HasAskedToLeave S.steps result id server.old refusals.old server.new refusals.new }
+{
+    match refusals.apply(server, Event::Leave { id }) {
+        Ok(reply) => {
+            drop(reply);
+            true
+        }
+        Err(_) => false,
+    }
+}

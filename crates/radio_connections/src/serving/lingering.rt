@@ -1,0 +1,80 @@
+//! A connection that has ended, and has nothing more to write.
+
+ghost use Rattle.std.specs.Prelude.{◌≡◌, ◌-◌, [], true, nat_le};
+ghost use Rattle.radio_connections.specs.Duties.{IsReadOnce};
+ghost use Rattle.radio_connections.specs.Serving.{IsServed};
+ghost use Rattle.radio_connections.specs.Leaving.{IsEnded, NotesFinish, HasAnswered, is_over};
+
+use crate::serving::moment::READ_ROOM;
+use crate::serving::{LINGER_MS, Now};
+use crate::{Conn, Fate, Line, Received};
+
+/// Tells the peer that nothing more is written, and passes over what still comes, so that its last
+/// answer is not lost with it. The connection is closed once the peer has closed, or after a second;
+/// and at once where nothing was written.
+pub(crate) fn linger<L: Line>(conn: &mut Conn<L>, buffer: &mut [u8; READ_ROOM], now: Now)
+    requires fate { conn.old.status.fate ≡ Fate.Ended }
+    requires all { conn.old.owed ≡ [] }
+    ensures { IsEnded now.ms conn.old conn.new }
+{
+    if conn.status.has_taken {
+        wait_for_close(conn, buffer, now);
+    } else {
+        conn.status.fate = Fate::Closed;
+    }
+}
+
+/// The same where something was written.
+fn wait_for_close<L: Line>(conn: &mut Conn<L>, buffer: &mut [u8; READ_ROOM], now: Now)
+    requires fate { conn.old.status.fate ≡ Fate.Ended }
+    requires written { conn.old.status.has_taken ≡ true }
+    requires all { conn.old.owed ≡ [] }
+    ensures { IsEnded now.ms conn.old conn.new }
+{
+    finish(conn, now);
+    if is_over(pass_over(conn, buffer), conn.status.moved_ms, now) {
+        conn.status.fate = Fate::Closed;
+    }
+}
+
+/// Tells the peer that nothing more is written, if it was not told.
+fn finish<L: Line>(conn: &mut Conn<L>, now: Now)
+    ensures served { IsServed conn.old [] conn.new }
+    ensures fate { conn.new.status.fate ≡ conn.old.status.fate }
+    ensures owed { conn.new.owed ≡ conn.old.owed }
+    ensures calls { conn.new.calls ≡ conn.old.calls }
+    ensures taken { conn.new.taken ≡ conn.old.taken }
+    ensures has_taken { conn.new.status.has_taken ≡ conn.old.status.has_taken }
+    ensures told { conn.new.status.is_finished ≡ true }
+    ensures noted { NotesFinish now.ms conn.old conn.new }
+{
+    if conn.status.is_finished {
+        return;
+    }
+    conn.line.finish();
+    conn.status.is_finished = true;
+    conn.status.moved_ms = now.ms;
+}
+
+/// Reads once from its line, and passes over what came.
+fn pass_over<L: Line>(conn: &mut Conn<L>, buffer: &mut [u8; READ_ROOM]) -> Received
+    requires { conn.old.status.fate ≡ Fate.Ended }
+    ensures served { IsServed conn.old [] conn.new }
+    ensures status { conn.new.status ≡ conn.old.status }
+    ensures owed { conn.new.owed ≡ conn.old.owed }
+    ensures once { IsReadOnce conn.old conn.new }
+    ensures taken { conn.new.taken ≡ conn.old.taken }
+    ensures answer { HasAnswered result conn.old.calls conn.new.calls }
+{
+    conn.line.read(buffer)
+}
+
+/// Whether nothing more will come, or a second has passed.
+fn is_over(received: Received, since_ms: u64, now: Now) -> bool
+    ensures { result ≡ is_over received (nat_le 1000 (now.ms - since_ms)) }
+{
+    match received {
+        Received::Bytes(_) | Received::Nothing => now.is_past(since_ms, LINGER_MS),
+        Received::Closed | Received::Fault => true,
+    }
+}

@@ -1,0 +1,97 @@
+//! A connection's turn.
+
+ghost use Rattle.std.specs.Prelude.{◌≡◌, []};
+ghost use Rattle.radio_connections.specs.Serving.{ServesInTurn};
+ghost use Rattle.radio_connections.specs.Leaving.{Works};
+
+use crate::serving::Now;
+use crate::serving::drawing::draw;
+use crate::serving::flushing::{flush, give_up};
+use crate::serving::leaving::leave;
+use crate::serving::lingering::linger;
+use crate::serving::listening::listen;
+use crate::{Conn, Fate, Gate, Line, Server};
+use radio_notes::Log;
+
+/// How many bytes are read from a line in a turn at most.
+pub const READ_ROOM: usize = 16384;
+
+/// Serves a connection once, at this moment, and tells of it if it is at its end.
+pub fn serve_once<S: Server, L: Line, G: Gate>(
+    server: &mut S,
+    conn: &mut Conn<L>,
+    buffer: &mut [u8; READ_ROOM],
+    gate: &G,
+    now: Now,
+    log: &Log,
+)
+    ensures { ServesInTurn S.steps now.ms now.patience_ms now.news server.old conn.old server.new conn.new }
+{
+    serve(server, conn, buffer, gate, now, log);
+    tell_end(conn, now, log);
+}
+
+/// Tells of a connection that is over: of its source, and of its client once nothing more is written.
+fn tell_end<L: Line>(conn: &Conn<L>, now: Now, log: &Log) {
+    if !conn.status.fate.is_open() {
+        tell_over(conn, now, log);
+    }
+}
+
+/// Tells of a connection that does not go on. It is no part of what is done for each at each turn.
+#[cold]
+fn tell_over<L: Line>(conn: &Conn<L>, now: Now, log: &Log) {
+    let peer = conn.session.peer();
+    conn.account.tell_source(log, peer, now.ms);
+    if conn.lingers() || !conn.stays() {
+        conn.account.tell_client(log, peer, now.ms);
+    }
+}
+
+/// Serves a connection: first what it is owed is written. While something is owed, it is neither
+/// read nor drawn for.
+fn serve<S: Server, L: Line, G: Gate>(
+    server: &mut S,
+    conn: &mut Conn<L>,
+    buffer: &mut [u8; READ_ROOM],
+    gate: &G,
+    now: Now,
+    log: &Log,
+)
+    ensures { ServesInTurn S.steps now.ms now.patience_ms now.news server.old conn.old server.new conn.new }
+{
+    flush(conn, gate, now);
+    if !conn.owed.rest().is_empty() {
+        give_up(conn, now);
+        leave(server, conn);
+        return;
+    }
+    work(server, conn, buffer, now, log);
+    leave(server, conn);
+    flush(conn, gate, now);
+    leave(server, conn);
+}
+
+/// What a connection does to which nothing is owed.
+fn work<S: Server, L: Line>(
+    server: &mut S,
+    conn: &mut Conn<L>,
+    buffer: &mut [u8; READ_ROOM],
+    now: Now,
+    log: &Log,
+)
+    requires { conn.old.owed ≡ [] }
+    ensures { Works S.steps now.ms now.news server.old conn.old server.new conn.new }
+{
+    let fate = conn.status.fate;
+    match fate {
+        Fate::Open => {
+            conn.status.moved_ms = now.ms;
+            listen(server, conn, buffer, now, log);
+            draw(server, conn, now, log);
+        }
+        Fate::Ended => linger(conn, buffer, now),
+        Fate::Closed => (),
+        Fate::Cut => (),
+    }
+}

@@ -1,0 +1,23 @@
+//! Each connection in its turn.
+
+ghost use Rattle.radio_serving.specs.Turns.{ServesEach};
+
+use crate::{Conn, Gate, Line, Server};
+use radio_connections::{Now, READ_ROOM, serve_once};
+use radio_notes::Log;
+
+/// Serves each connection, in order, and tells of each that is at its end.
+pub(crate) fn serve_each<S: Server, L: Line, G: Gate>(
+    server: &mut S,
+    conns: &mut Vec<Conn<L>>,
+    gate: &G,
+    now: Now,
+    log: &Log,
+)
+    ensures { ServesEach S.steps now.ms now.patience_ms now.news server.old conns.old.items server.new conns.new.items }
+{
+    let mut buffer = [0u8; READ_ROOM];
+    for conn in conns.iter_mut() {
+        serve_once(server, conn, &mut buffer, gate, now, log);
+    }
+}
