@@ -28,10 +28,10 @@ use Rattle.radio_session.specs.Framing.{is_source, framing_of}
 use Rattle.radio_session.specs.Hearing.{Heard, HearsAs, delivered, greeted, head_heard, get_heard, nothing_held}
 use Rattle.radio_session.specs.Hearing.{refuses, source_heard}
 use Rattle.radio_session.specs.Saying.{Said, said}
-use Rattle.radio_script.specs.declared.delivery.Delivery.{Delivery}
-use Rattle.radio_script.specs.declared.delivery.Delivery.TheVariants.{Open, Pull, To, Clock as ClockIs}
-use Rattle.radio_script.specs.declared.delivery.Input.{Input}
-use Rattle.radio_script.specs.declared.delivery.Input.TheVariants.{Data, Room, Title as Named, End}
+use Rattle.radio_deliveries.specs.declared.delivery.Delivery.{Delivery}
+use Rattle.radio_deliveries.specs.declared.delivery.Delivery.TheVariants.{Open, Pull, To, Clock as ClockIs}
+use Rattle.radio_deliveries.specs.declared.delivery.Input.{Input}
+use Rattle.radio_deliveries.specs.declared.delivery.Input.TheVariants.{Data, Room, Title as Named, End}
 use Rattle.radio_script.proofs.SimulationLemmas.{runs}
 use Rattle.radio_floor.specs.ScriptEvents.{ComeAbout, ComesToEvents, Nothing as NoEvents, Arrives, Ticks, Exchanges, Pulls, IsAskedBy, IsAskedByRelay, Traced, traces, ComeToEvents}
 use Rattle.radio_floor.specs.declared.labelled.Connection.{Connection}

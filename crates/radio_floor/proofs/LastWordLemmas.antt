@@ -3,7 +3,7 @@ use Rattle.std.proofs.Common.{◌≡◌, ℕ, List, Some, ap, sym, subst, ◌∙
 use Rattle.radio_events.specs.declared.event.Event.{Event}
 use Rattle.radio_events.specs.declared.reply.Reply.{Reply}
 use Rattle.radio_core.specs.Step.{reply_to, world_after}
-use Rattle.radio_script.specs.TranscriptLines.{answer_lines}
+use Rattle.radio_deliveries.specs.TranscriptLines.{answer_lines}
 use Rattle.radio_session.specs.declared.state.State.{State}
 use Rattle.radio_session.specs.Conversation.{Conversation, ending_word}
 use Rattle.radio_session.specs.Saying.{said}

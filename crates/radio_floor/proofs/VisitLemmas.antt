@@ -4,10 +4,10 @@ use Rattle.std.specs.Prelude.{find, MatchResult}
 use Rattle.std.specs.Option.{option_map}
 use Rattle.radio_house.specs.World.{World}
 use Rattle.radio_core.specs.Step.{Represents}
-use Rattle.radio_script.specs.declared.delivery.Delivery.{Delivery}
-use Rattle.radio_script.specs.declared.delivery.Input.{Input}
-use Rattle.radio_script.specs.declared.faults.PerformFault.{PerformFault}
-use Rattle.radio_script.specs.declared.faults.PerformFault.TheVariants.{OutOfMemory}
+use Rattle.radio_deliveries.specs.declared.delivery.Delivery.{Delivery}
+use Rattle.radio_deliveries.specs.declared.delivery.Input.{Input}
+use Rattle.radio_deliveries.specs.declared.faults.PerformFault.{PerformFault}
+use Rattle.radio_deliveries.specs.declared.faults.PerformFault.TheVariants.{OutOfMemory}
 use Rattle.radio_tables.proofs.FindLaws.{changed_alike, unchanged}
 use Rattle.radio_tables.specs.Lists.{update_first}
 use Rattle.radio_floor.specs.declared.handler.Told.{Told}

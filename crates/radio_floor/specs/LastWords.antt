@@ -8,7 +8,7 @@ use Rattle.radio_events.specs.declared.event.Event.{Event}
 use Rattle.radio_events.specs.declared.reply.Reply.TheVariants.{Text, Deny, Finished}
 use Rattle.radio_events.specs.declared.text.Text.{Text as CommandText}
 use Rattle.radio_core.specs.Step.{reply_to}
-use Rattle.radio_script.specs.TranscriptLines.{answer_lines}
+use Rattle.radio_deliveries.specs.TranscriptLines.{answer_lines}
 use Rattle.radio_session.specs.Conversation.{Conversation}
 use Rattle.radio_session.specs.Saying.{text_answer}
 use Rattle.radio_session.specs.LastWords.{IsAsking}

@@ -2,9 +2,9 @@
 use Rattle.std.specs.Prelude.{◌≡◌, ℕ, List, ◌++◌, Option, None, Some, Result, Ok, Err, ⊤}
 use Rattle.radio_house.specs.World.{World}
 use Rattle.radio_core.specs.Step.{Represents}
-use Rattle.radio_script.specs.declared.delivery.Delivery.{Delivery}
-use Rattle.radio_script.specs.declared.faults.PerformFault.{PerformFault}
-use Rattle.radio_script.specs.declared.faults.PerformFault.TheVariants.{Label, OutOfMemory}
+use Rattle.radio_deliveries.specs.declared.delivery.Delivery.{Delivery}
+use Rattle.radio_deliveries.specs.declared.faults.PerformFault.{PerformFault}
+use Rattle.radio_deliveries.specs.declared.faults.PerformFault.TheVariants.{Label, OutOfMemory}
 use Rattle.radio_floor.specs.declared.labelled.Labelled.{Labelled}
 use Rattle.radio_floor.specs.ScriptState.{IsPerformed}
 use Rattle.radio_floor.specs.ScriptServer.{script_state_of, performed_as}

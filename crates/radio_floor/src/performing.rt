@@ -3,7 +3,7 @@
 ghost use Rattle.std.specs.Prelude.{◌≡◌, ◌++◌, MatchResult};
 ghost use Rattle.radio_floor.specs.ScriptState.{told_lines};
 ghost use Rattle.radio_floor.specs.Performing.{PerformsAs};
-ghost use Rattle.radio_script.specs.declared.delivery.Delivery.TheVariants.{Open, Pull, To, Clock};
+ghost use Rattle.radio_deliveries.specs.declared.delivery.Delivery.TheVariants.{Open, Pull, To, Clock};
 
 use crate::handler::{Told, tick};
 use crate::labelled::has_label;

@@ -28,8 +28,8 @@ use Rattle.radio_session.specs.Asking.{asks_by_get, asks_to_feed, asks_to_hear, 
 use Rattle.radio_session.specs.Conversation.{Conversation, asking, fresh}
 use Rattle.radio_session.specs.Framing.{is_source, framing_of, greeting_of, start_of}
 use Rattle.radio_session.specs.Hearing.{Heard, body_closes, body_heard, get_heard, greeted, refuses, request_heard, source_heard}
-use Rattle.radio_script.specs.declared.delivery.Delivery.{Delivery}
-use Rattle.radio_script.specs.Given.{TranscriptLine, given}
+use Rattle.radio_deliveries.specs.declared.delivery.Delivery.{Delivery}
+use Rattle.radio_deliveries.specs.Given.{TranscriptLine, given}
 use Rattle.radio_floor.specs.declared.labelled.Connection.{Connection}
 use Rattle.radio_floor.specs.declared.labelled.Connection.TheVariants.{Client, Relay}
 use Rattle.radio_floor.specs.ScriptState.{ScriptState, connection_of}

@@ -31,11 +31,11 @@ use Rattle.radio_session.specs.Hearing.{Heard}
 use Rattle.radio_session.specs.Saying.{said}
 use Rattle.radio_pull.specs.Pulling.{Pulling, Standing, begun}
 use Rattle.radio_pull.specs.Course.{AsksIf}
-use Rattle.radio_script.specs.declared.delivery.Delivery.{Delivery}
-use Rattle.radio_script.specs.declared.delivery.Delivery.TheVariants.{Open, Pull, To, Clock as ClockIs}
-use Rattle.radio_script.specs.declared.delivery.Input.{Input}
-use Rattle.radio_script.specs.declared.delivery.Input.TheVariants.{Data, Room, Title as Named, End}
-use Rattle.radio_script.specs.Given.{TranscriptLine, given, written}
+use Rattle.radio_deliveries.specs.declared.delivery.Delivery.{Delivery}
+use Rattle.radio_deliveries.specs.declared.delivery.Delivery.TheVariants.{Open, Pull, To, Clock as ClockIs}
+use Rattle.radio_deliveries.specs.declared.delivery.Input.{Input}
+use Rattle.radio_deliveries.specs.declared.delivery.Input.TheVariants.{Data, Room, Title as Named, End}
+use Rattle.radio_deliveries.specs.Given.{TranscriptLine, given, written}
 use Rattle.radio_floor.specs.declared.labelled.Connection.{Connection}
 use Rattle.radio_floor.specs.declared.labelled.Connection.TheVariants.{Client, Relay}
 use Rattle.radio_floor.specs.declared.labelled.Labelled.{Labelled}

@@ -4,10 +4,10 @@ use Rattle.radio_addr.specs.declared.peer.Peer.{Peer}
 use Rattle.radio_settings.specs.declared.settings.RelaySetting.{RelaySetting}
 use Rattle.radio_session.specs.Conversation.{Conversation}
 use Rattle.radio_pull.specs.Pulling.{Pulling}
-use Rattle.radio_script.specs.declared.delivery.Delivery.{Delivery}
-use Rattle.radio_script.specs.declared.delivery.Delivery.TheVariants.{Open, Pull, To, Clock as ClockIs}
-use Rattle.radio_script.specs.declared.delivery.Input.{Input}
-use Rattle.radio_script.specs.declared.delivery.Input.TheVariants.{Data, Room, Title as Named, End}
+use Rattle.radio_deliveries.specs.declared.delivery.Delivery.{Delivery}
+use Rattle.radio_deliveries.specs.declared.delivery.Delivery.TheVariants.{Open, Pull, To, Clock as ClockIs}
+use Rattle.radio_deliveries.specs.declared.delivery.Input.{Input}
+use Rattle.radio_deliveries.specs.declared.delivery.Input.TheVariants.{Data, Room, Title as Named, End}
 use Rattle.radio_floor.specs.declared.labelled.Connection.{Connection}
 use Rattle.radio_floor.specs.declared.labelled.Connection.TheVariants.{Client, Relay}
 use Rattle.radio_floor.specs.ScriptState.{ScriptState, Performed, ComesTo, ComesToClient, ComesToRelay, IsPerformed, connection_of}

@@ -22,7 +22,7 @@ use Rattle.radio_session.specs.Saying.{said}
 use Rattle.radio_session.specs.Told.{AdmitNobody, draws_of, told}
 use Rattle.radio_floor.specs.declared.labelled.Connection.{Connection}
 use Rattle.radio_floor.specs.declared.labelled.Connection.TheVariants.{Client, Relay}
-use Rattle.radio_script.specs.Given.{given}
+use Rattle.radio_deliveries.specs.Given.{given}
 use Rattle.radio_headline.specs.Course.{Happening, events_in, on}
 use Rattle.radio_headline.specs.Listeners.{draws_to}
 use Rattle.radio_headline.proofs.Gathered.{IsOnIt, brought_to, gathered}

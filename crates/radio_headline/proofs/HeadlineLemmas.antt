@@ -20,7 +20,7 @@ use Rattle.radio_house.specs.World.{World, opening}
 use Rattle.radio_core.proofs.HeardLemmas.{heard_cases}
 use Rattle.radio_laws.specs.Admission.{IsSeated}
 use Rattle.radio_laws.specs.Stretches.{SeatsKeepTheirMounts, sittings}
-use Rattle.radio_script.specs.declared.delivery.Delivery.{Delivery}
+use Rattle.radio_deliveries.specs.declared.delivery.Delivery.{Delivery}
 use Rattle.radio_headline.specs.Course.{Happening, events_in, on}
 use Rattle.radio_headline.specs.Listeners.{SitsWithASource}
 use Rattle.radio_headline.specs.Sources.{HasItsSource, IsAwaited, NobodyDelivers, RelaysDeliverTheirSound, SourcesDeliverTheirBodies}

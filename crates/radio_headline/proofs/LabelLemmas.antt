@@ -11,8 +11,8 @@ use Rattle.std.proofs.lemmas.List.Concat.{flat_map-append}
 use Rattle.radio_tables.specs.Lists.{placed, update_first}
 use Rattle.radio_tables.proofs.FindLaws.{find_here, find_later, find_apart}
 use Rattle.radio_tables.proofs.KeyLaws.{number_is}
-use Rattle.radio_script.specs.Given.{TranscriptLine, out, shut, given, given_in, line_text, written}
-use Rattle.radio_script.specs.TranscriptLines.{answer_lines, out_line, out_lines, shut_line, shut_lines}
+use Rattle.radio_deliveries.specs.Given.{TranscriptLine, out, shut, given, given_in, line_text, written}
+use Rattle.radio_deliveries.specs.TranscriptLines.{answer_lines, out_line, out_lines, shut_line, shut_lines}
 use Rattle.radio_floor.specs.declared.labelled.Connection.{Connection}
 use Rattle.radio_floor.specs.declared.labelled.Labelled.{Labelled}
 use Rattle.radio_floor.specs.ScriptState.{by_label, connection_of, has_label, holding, with_connection}

@@ -32,7 +32,7 @@ use Rattle.radio_session.specs.declared.state.State.TheVariants.{Running, Shut}
 use Rattle.radio_session.specs.declared.state.Ending.TheVariants.{BadPull}
 use Rattle.radio_pull.specs.Pulling.{Pulling}
 use Rattle.radio_pull.specs.Course.{Brings, ComesOf, Takes}
-use Rattle.radio_script.specs.declared.delivery.Input.TheVariants.{Data}
+use Rattle.radio_deliveries.specs.declared.delivery.Input.TheVariants.{Data}
 use Rattle.radio_floor.specs.declared.labelled.Connection.TheVariants.{Relay}
 use Rattle.radio_floor.specs.ScriptState.{connection_unless}
 use Rattle.radio_source.specs.Place.{Place, after, data_of}

@@ -8,8 +8,8 @@ use Rattle.radio_access.specs.Lists.{Lists}
 use Rattle.radio_heads.specs.Head.{ShowsRequest}
 use Rattle.radio_heads.specs.Laws.{IsSettled, HeadsLieWithin}
 use Rattle.radio_source.specs.Place.{Place, after, data_of}
-use Rattle.radio_script.specs.declared.delivery.Delivery.{Delivery}
-use Rattle.radio_script.specs.Given.{TranscriptLine, written}
+use Rattle.radio_deliveries.specs.declared.delivery.Delivery.{Delivery}
+use Rattle.radio_deliveries.specs.Given.{TranscriptLine, written}
 use Rattle.radio_script.specs.Runs.{Runs}
 use Rattle.radio_floor.specs.ScriptState.{ScriptState}
 use Rattle.radio_floor.specs.ScriptState.{opening_script}

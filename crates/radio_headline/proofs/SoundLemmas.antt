@@ -28,8 +28,8 @@ use Rattle.radio_relay.proofs.CutLemmas.{AfterPieces, HeardInPieces}
 use Rattle.radio_session.specs.Asking.{asks_by_get, asks_to_hear, gives_command, is_for_commands, path_in}
 use Rattle.radio_session.specs.Conversation.{Conversation}
 use Rattle.radio_pull.specs.Pulling.{Pulling, answered}
-use Rattle.radio_script.specs.declared.delivery.Delivery.{Delivery}
-use Rattle.radio_script.specs.Given.{TranscriptLine, given}
+use Rattle.radio_deliveries.specs.declared.delivery.Delivery.{Delivery}
+use Rattle.radio_deliveries.specs.Given.{TranscriptLine, given}
 use Rattle.radio_floor.specs.declared.labelled.Connection.{Connection}
 use Rattle.radio_floor.specs.declared.labelled.Connection.TheVariants.{Client, Relay}
 use Rattle.radio_floor.specs.ScriptState.{ScriptState, connection_of}

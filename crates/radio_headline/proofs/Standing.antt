@@ -8,10 +8,10 @@ use Rattle.radio_access.specs.Lists.{Lists}
 use Rattle.radio_events.specs.declared.event.Event.{Event}
 use Rattle.radio_core.specs.Run.{run_after, world_after_all}
 use Rattle.radio_house.specs.World.{World, opening}
-use Rattle.radio_script.specs.declared.delivery.Delivery.{Delivery}
-use Rattle.radio_script.specs.declared.delivery.Delivery.TheVariants.{To}
-use Rattle.radio_script.specs.declared.delivery.Input.{Input}
-use Rattle.radio_script.specs.Given.{TranscriptLine, given}
+use Rattle.radio_deliveries.specs.declared.delivery.Delivery.{Delivery}
+use Rattle.radio_deliveries.specs.declared.delivery.Delivery.TheVariants.{To}
+use Rattle.radio_deliveries.specs.declared.delivery.Input.{Input}
+use Rattle.radio_deliveries.specs.Given.{TranscriptLine, given}
 use Rattle.radio_floor.specs.declared.labelled.Connection.{Connection}
 use Rattle.radio_floor.specs.ScriptState.{ScriptState, connection_of}
 use Rattle.radio_headline.specs.Course.{Happening, events_in, on}

@@ -19,10 +19,10 @@ use Rattle.radio_session.specs.Conversation.{Conversation}
 use Rattle.radio_session.specs.Exchanges.{Steps, is_leave}
 use Rattle.radio_session.specs.Hearing.{Heard, IsHeard}
 use Rattle.radio_session.specs.Saying.{said}
-use Rattle.radio_script.specs.declared.delivery.Delivery.{Delivery}
-use Rattle.radio_script.specs.declared.delivery.Delivery.TheVariants.{Open, Pull, To, Clock as ClockIs}
-use Rattle.radio_script.specs.declared.delivery.Input.{Input}
-use Rattle.radio_script.specs.declared.delivery.Input.TheVariants.{Data, Room, Title as Named, End}
+use Rattle.radio_deliveries.specs.declared.delivery.Delivery.{Delivery}
+use Rattle.radio_deliveries.specs.declared.delivery.Delivery.TheVariants.{Open, Pull, To, Clock as ClockIs}
+use Rattle.radio_deliveries.specs.declared.delivery.Input.{Input}
+use Rattle.radio_deliveries.specs.declared.delivery.Input.TheVariants.{Data, Room, Title as Named, End}
 use Rattle.radio_script.specs.Runs.{Conduct, Runs}
 use Rattle.radio_floor.specs.declared.labelled.Connection.{Connection}
 use Rattle.radio_floor.specs.declared.labelled.Connection.TheVariants.{Client, Relay}

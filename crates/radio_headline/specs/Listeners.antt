@@ -37,8 +37,8 @@ use Rattle.radio_session.specs.Bodies.{PlainBodiesAreHeard, SizedBodiesAreHeard,
 use Rattle.radio_session.specs.Draws.{interval_told, joined_draws}
 use Rattle.radio_session.specs.Saying.{denial, greeting_text, head_text, text_answer}
 use Rattle.radio_session.specs.Told.{draws_of, taken_out}
-use Rattle.radio_script.specs.declared.delivery.Delivery.{Delivery}
-use Rattle.radio_script.specs.Given.{TranscriptLine, AreLines, given, written}
+use Rattle.radio_deliveries.specs.declared.delivery.Delivery.{Delivery}
+use Rattle.radio_deliveries.specs.Given.{TranscriptLine, AreLines, given, written}
 use Rattle.radio_script.specs.Script.{deliveries_from, lines_of}
 use Rattle.radio_floor.specs.Transcript.{IsTranscriptOf, PlaysScript}
 use Rattle.radio_headline.specs.Course.{Happening, ComesTo, events_in, on}

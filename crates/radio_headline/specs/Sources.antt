@@ -21,10 +21,10 @@ use Rattle.radio_relay.specs.Laws.{sound_in}
 use Rattle.radio_relay.specs.Pulled.{IsPulled, Part, Pulled, ShownPart}
 use Rattle.radio_session.specs.Conversation.{fresh}
 use Rattle.radio_session.specs.Hearing.{Heard, IsHeard}
-use Rattle.radio_script.specs.declared.delivery.Delivery.{Delivery}
-use Rattle.radio_script.specs.declared.delivery.Delivery.TheVariants.{To}
-use Rattle.radio_script.specs.declared.delivery.Input.{Input}
-use Rattle.radio_script.specs.declared.delivery.Input.TheVariants.{Data}
+use Rattle.radio_deliveries.specs.declared.delivery.Delivery.{Delivery}
+use Rattle.radio_deliveries.specs.declared.delivery.Delivery.TheVariants.{To}
+use Rattle.radio_deliveries.specs.declared.delivery.Input.{Input}
+use Rattle.radio_deliveries.specs.declared.delivery.Input.TheVariants.{Data}
 use Rattle.radio_headline.specs.Course.{Happening, events_in, on}
 
 abbrev pub bytes_in : Input → List ℕ

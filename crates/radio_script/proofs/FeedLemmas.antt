@@ -1,24 +1,15 @@
 -- Lines and their line feeds.
-use Rattle.std.proofs.Common.{◌≡◌, ℕ, ◌<◌, ◌==◌, ◌||◌, Bool, true, false, cond, List, [], ◌∷◌, ◌++◌, length, refl, sym, subst, ap, ◌∙◌, arith}
+use Rattle.std.proofs.Common.{◌≡◌, ℕ, ◌<◌, ◌==◌, Bool, true, false, cond, List, [], ◌∷◌, ◌++◌, length, refl, sym, subst, ap, ◌∙◌, arith}
 use Rattle.std.specs.Bool.{OnTrue}
-use Rattle.radio_script.specs.Reading.{has_feed}
+use Rattle.radio_deliveries.specs.Feeds.{has_feed}
+use Rattle.radio_deliveries.proofs.FeedLemmas.{or_false}
 use Rattle.radio_script.specs.Script.{lines_of}
 use Rattle.radio_texts.specs.Cuts.{onto_first}
 use Rattle.radio_script.specs.Plays.{IsLines, IsOneLine}
 
-pub or_false : (a b : Bool) → (a || b) ≡ false → (a ≡ false) × (b ≡ false)
-or_false true b e = cc
-or_false false b e = (refl, e)
-
 OnTrue-no : (b : Bool) (P : Type 0) → b ≡ false → OnTrue b P
 OnTrue-no true P e = cc
 OnTrue-no false P e = tt
-
-pub has_feed-push : (bytes : List ℕ) (b : ℕ) → has_feed bytes ≡ false → (b == 10) ≡ false → has_feed (bytes ++ b ∷ []) ≡ false
-has_feed-push [] b h e = rw e refl
-has_feed-push (x ∷ bytes) b h e =
-    let parts = or_false (x == 10) (has_feed bytes) h in
-    rw (parts.0, has_feed-push bytes b parts.1 e) refl
 
 lines_of-onto : (b : ℕ) (script : List ℕ) → (b == 10) ≡ false → lines_of (b ∷ script) ≡ onto_first b (lines_of script)
 lines_of-onto b script e = rw e refl

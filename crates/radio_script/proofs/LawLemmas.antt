@@ -1,8 +1,8 @@
 -- Laws of transcripts.
 use Rattle.std.proofs.Common.{◌≡◌, ℕ, ◌+◌, inl, inr, List, [], ◌∷◌, ◌++◌, Option, None, Some, Result, Ok, Err, refl, sym, ap, ◌∙◌, subst}
 use Rattle.std.specs.Io.{StartsWith}
-use Rattle.radio_script.specs.declared.delivery.Delivery.{Delivery}
-use Rattle.radio_script.specs.declared.faults.PlayFault.{PlayFault}
+use Rattle.radio_deliveries.specs.declared.delivery.Delivery.{Delivery}
+use Rattle.radio_deliveries.specs.declared.faults.PlayFault.{PlayFault}
 use Rattle.radio_script.specs.Script.{lines_of, meaning_of, deliveries_from, fault_or, fault_from}
 use Rattle.radio_script.specs.Runs.{Conduct, Runs}
 use Rattle.radio_script.specs.Transcripts.{first_fault}

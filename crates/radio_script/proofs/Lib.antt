@@ -1,7 +1,4 @@
-mod EscapeLemmas
 mod FeedLemmas
-mod SpellingLemmas
-pub mod LineReadings
 mod TranscriptLemmas
 mod LinePlays
 mod ScriptPlays

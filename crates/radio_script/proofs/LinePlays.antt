@@ -4,11 +4,12 @@ use Rattle.std.proofs.Common.{subst, arith, append-nil, append_assoc, length-app
 use Rattle.std.proofs.lemmas.Bool.Decides.{nat_tests}
 use Rattle.std.specs.Io.KnownBytes.{Consumes, IsAtEnd}
 use Rattle.std.proofs.KnownBytes.{Appends-nil}
-use Rattle.radio_script.specs.Limits.{max_line, max_lines}
-use Rattle.radio_script.specs.declared.faults.PlayFault.{PlayFault}
-use Rattle.radio_script.specs.declared.faults.PlayFault.TheVariants.{Read, Write, Line, TooMuch, OutOfMemory}
-use Rattle.radio_script.specs.declared.reading.LineRead.TheVariants.{Whole, Last, Nothing, TooLong}
-use Rattle.radio_script.specs.Reading.{has_feed, ReadsLine}
+use Rattle.radio_deliveries.specs.Limits.{max_line, max_lines}
+use Rattle.radio_deliveries.specs.declared.faults.PlayFault.{PlayFault}
+use Rattle.radio_deliveries.specs.declared.faults.PlayFault.TheVariants.{Read, Write, Line, TooMuch, OutOfMemory}
+use Rattle.radio_devices.specs.declared.reading.LineRead.TheVariants.{Whole, Last, Nothing, TooLong}
+use Rattle.radio_deliveries.specs.Feeds.{has_feed}
+use Rattle.radio_devices.specs.Reading.{ReadsLine}
 use Rattle.radio_script.specs.Script.{lines_of}
 use Rattle.radio_script.specs.Runs.{Conduct}
 use Rattle.radio_script.specs.Plays.{IfKnown, Writes, IsPlayed, IsPlayedBefore, Plays}

@@ -3,9 +3,9 @@ use Rattle.std.proofs.Common.{◌≡◌, ◌≢◌, ℕ, ◌+◌, ◌≤◌, ◌
 use Rattle.std.proofs.Common.{subst, arith, append_assoc, length-append, nat_lt, ◌||◌}
 use Rattle.std.proofs.lemmas.Bool.Decides.{nat_tests}
 use Rattle.std.proofs.KnownBytes.{Appends-trans}
-use Rattle.radio_script.specs.Limits.{max_line, max_lines}
-use Rattle.radio_script.specs.declared.faults.PlayFault.{PlayFault}
-use Rattle.radio_script.specs.declared.faults.PlayFault.TheVariants.{Read, Write, Line, TooMuch, OutOfMemory}
+use Rattle.radio_deliveries.specs.Limits.{max_line, max_lines}
+use Rattle.radio_deliveries.specs.declared.faults.PlayFault.{PlayFault}
+use Rattle.radio_deliveries.specs.declared.faults.PlayFault.TheVariants.{Read, Write, Line, TooMuch, OutOfMemory}
 use Rattle.radio_script.specs.Script.{lines_of}
 use Rattle.radio_script.specs.Runs.{Conduct}
 use Rattle.radio_script.specs.Transcripts.{IsTranscript}

@@ -1,8 +1,8 @@
 -- A run of one performer is a run of another that does the same.
 use Rattle.std.proofs.Common.{ℕ, ◌+◌, List, [], ◌∷◌, ◌++◌, Option, None, Some, Result, Ok, Err, inl, inr, refl, sym, subst}
-use Rattle.radio_script.specs.declared.delivery.Delivery.{Delivery}
-use Rattle.radio_script.specs.declared.faults.PlayFault.{PlayFault}
-use Rattle.radio_script.specs.declared.faults.PlayFault.TheVariants.{Read, Write, Line, TooMuch, OutOfMemory}
+use Rattle.radio_deliveries.specs.declared.delivery.Delivery.{Delivery}
+use Rattle.radio_deliveries.specs.declared.faults.PlayFault.{PlayFault}
+use Rattle.radio_deliveries.specs.declared.faults.PlayFault.TheVariants.{Read, Write, Line, TooMuch, OutOfMemory}
 use Rattle.radio_script.specs.Script.{lines_of, deliveries_from}
 use Rattle.radio_script.specs.Runs.{Conduct, Runs}
 use Rattle.radio_script.specs.Transcripts.{IsTranscript}

@@ -1,8 +1,8 @@
 -- Transcripts, line by line.
 use Rattle.std.proofs.Common.{◌≡◌, ℕ, ◌+◌, inl, inr, true, nat_lt, ◌||◌, List, [], ◌∷◌, ◌++◌, length, Option, None, Some, Err, refl, sym, ap, subst, append-nil}
-use Rattle.radio_script.specs.Limits.{max_line, max_lines}
-use Rattle.radio_script.specs.declared.faults.PlayFault.{PlayFault}
-use Rattle.radio_script.specs.declared.faults.PlayFault.TheVariants.{TooMuch}
+use Rattle.radio_deliveries.specs.Limits.{max_line, max_lines}
+use Rattle.radio_deliveries.specs.declared.faults.PlayFault.{PlayFault}
+use Rattle.radio_deliveries.specs.declared.faults.PlayFault.TheVariants.{TooMuch}
 use Rattle.radio_script.specs.Script.{meaning_of, onto_delivery, deliveries_from, fault_or, fault_from}
 use Rattle.radio_script.specs.Runs.{Conduct, Runs}
 use Rattle.radio_script.specs.Transcripts.{first_fault, IsTranscript}

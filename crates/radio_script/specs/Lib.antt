@@ -1,17 +1,6 @@
-pub mod Steps
-pub mod Escapes
-pub mod Spelling
-pub mod Delivery
-pub mod TranscriptLines
-pub mod Devices
-pub mod Tally
-pub mod Reading
-pub mod Given
 pub mod Script
 pub mod Runs
 pub mod Transcripts
 pub mod Plays
 pub mod Answers
 pub mod Laws
-pub mod Words
-pub mod Limits

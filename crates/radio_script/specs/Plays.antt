@@ -3,9 +3,9 @@ use Rattle.std.specs.Prelude.{ℕ, ◌+◌, ◌≡◌, ◌≤◌, ◌==◌, fals
 use Rattle.std.specs.Bool.{OnTrue}
 use Rattle.std.specs.Io.{StartsWith}
 use Rattle.std.specs.Io.KnownBytes.{Appends}
-use Rattle.radio_script.specs.declared.faults.PlayFault.{PlayFault}
-use Rattle.radio_script.specs.declared.faults.PlayFault.TheVariants.{Read, Write, Line, TooMuch, OutOfMemory}
-use Rattle.radio_script.specs.Reading.{has_feed}
+use Rattle.radio_deliveries.specs.declared.faults.PlayFault.{PlayFault}
+use Rattle.radio_deliveries.specs.declared.faults.PlayFault.TheVariants.{Read, Write, Line, TooMuch, OutOfMemory}
+use Rattle.radio_deliveries.specs.Feeds.{has_feed}
 use Rattle.radio_script.specs.Script.{lines_of}
 use Rattle.radio_script.specs.Runs.{Conduct}
 use Rattle.radio_script.specs.Transcripts.{IsTranscript}

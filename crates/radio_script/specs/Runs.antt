@@ -1,6 +1,6 @@
 -- Runs of deliveries.
 use Rattle.std.specs.Prelude.{ℕ, ◌+◌, ◌≡◌, ◌⊎◌, List, [], ◌∷◌, ◌++◌, Option, None, Some}
-use Rattle.radio_script.specs.declared.delivery.Delivery.{Delivery}
+use Rattle.radio_deliveries.specs.declared.delivery.Delivery.{Delivery}
 
 -- What performers do: from one performer, a delivery comes to a text, or to None where its label
 -- is at fault, and to the next performer.

@@ -1,11 +1,11 @@
 -- Scripts: their lines, and what the lines mean.
 use Rattle.std.specs.Prelude.{ℕ, ◌+◌, ◌==◌, nat_lt, ◌||◌, List, [], ◌∷◌, length, Option, None, Some, Result, Ok, Err, if◌then◌else◌}
 use Rattle.std.specs.Option.{ok_or}
-use Rattle.radio_script.specs.Limits.{max_line, max_lines}
-use Rattle.radio_script.specs.declared.delivery.Delivery.{Delivery}
-use Rattle.radio_script.specs.declared.faults.PlayFault.{PlayFault}
-use Rattle.radio_script.specs.declared.faults.PlayFault.TheVariants.{Line, TooMuch}
-use Rattle.radio_script.specs.Delivery.{delivery_of}
+use Rattle.radio_deliveries.specs.Limits.{max_line, max_lines}
+use Rattle.radio_deliveries.specs.declared.delivery.Delivery.{Delivery}
+use Rattle.radio_deliveries.specs.declared.faults.PlayFault.{PlayFault}
+use Rattle.radio_deliveries.specs.declared.faults.PlayFault.TheVariants.{Line, TooMuch}
+use Rattle.radio_deliveries.specs.Delivery.{delivery_of}
 use Rattle.radio_texts.specs.Cuts.{onto_first}
 
 -- the lines of a script, without their line feeds; the last line may lack its line feed

@@ -1,7 +1,7 @@
 -- The transcript of a script: the lines that the run of its deliveries writes.
 use Rattle.std.specs.Prelude.{ℕ, ◌≡◌, List, Option, None, Some}
-use Rattle.radio_script.specs.declared.faults.PlayFault.{PlayFault}
-use Rattle.radio_script.specs.declared.faults.PlayFault.TheVariants.{Line}
+use Rattle.radio_deliveries.specs.declared.faults.PlayFault.{PlayFault}
+use Rattle.radio_deliveries.specs.declared.faults.PlayFault.TheVariants.{Line}
 use Rattle.radio_script.specs.Script.{deliveries_from, fault_from}
 use Rattle.radio_script.specs.Runs.{Conduct, Runs}
 

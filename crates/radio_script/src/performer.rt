@@ -2,8 +2,7 @@
 
 ghost use Rattle.std.specs.Prelude.{◌≡◌, ◌++◌, ℕ, List, Option, None, Some, Err, OnOk};
 
-use crate::delivery::Delivery;
-use crate::faults::PerformFault;
+use radio_deliveries::{Delivery, PerformFault};
 use std::alloc::Global;
 
 /// What performs deliveries, one after the other, and tells what each comes to.

@@ -3,17 +3,13 @@
 ghost use Rattle.std.specs.Prelude.{◌≡◌, ◌≢◌, ◌+◌, ◌≤◌, ℕ, List, true, Ok, Err, length};
 ghost use Rattle.radio_script.specs.Answers.{AnswersLine, IsPerformed, PlaysLine};
 ghost use Rattle.radio_script.specs.Plays.{EndsThere, IfKnown, Plays, Writes};
-ghost use Rattle.radio_script.specs.Reading.{reader_failures, writer_failures};
-ghost use Rattle.radio_script.specs.Limits.{max_line, max_lines};
+ghost use Rattle.radio_devices.specs.Reading.{reader_failures, writer_failures};
+ghost use Rattle.radio_deliveries.specs.Limits.{max_line, max_lines};
 ghost use Rattle.radio_script.specs.Script.{meaning_of};
 
-use crate::delivery::{Delivery, read_delivery};
-use crate::devices::{CountedRead, CountedWrite};
-use crate::faults::{PerformFault, PlayFault};
-use crate::limits::MAX_LINES;
 use crate::performer::Performer;
-use crate::reading::{LineRead, next_byte, read_line};
-use crate::writing::write_whole;
+use radio_deliveries::{Delivery, MAX_LINES, PerformFault, PlayFault, read_delivery};
+use radio_devices::{CountedRead, CountedWrite, LineRead, next_byte, read_line, write_whole};
 use std::alloc::Global;
 
 // The line that is played, and what its delivery came to.

@@ -5,7 +5,7 @@ use Rattle.std.specs.String.{string_bytes}
 use Rattle.radio_keys.specs.declared.fault.SettingsFault.{SettingsFault}
 use Rattle.radio_keys.specs.declared.fault.SettingsFault.TheVariants.{OutOfMemory as NoMemoryForSettings}
 use Rattle.radio_keys.specs.Words.{fault_text}
-use Rattle.radio_script.specs.Words.{play_fault_text}
+use Rattle.radio_deliveries.specs.Words.{play_fault_text}
 use Rattle.radio_sockets.specs.Faults.{fault_line as serve_fault_text}
 use Rattle.radiod.specs.declared.fault.Fault.{Fault}
 use Rattle.radiod.specs.declared.fault.Fault.TheVariants.{Usage, CannotRead, Line, NotToml, Settings, Play, CannotBind, Serve, OutOfMemory}

@@ -1,6 +1,6 @@
 use Rattle.std.proofs.Common.{ℕ, List, IfOk, subst, sym}
-use Rattle.radio_script.specs.declared.delivery.Input.{Input}
-use Rattle.radio_script.specs.declared.delivery.Input.TheVariants.{Data}
+use Rattle.radio_deliveries.specs.declared.delivery.Input.{Input}
+use Rattle.radio_deliveries.specs.declared.delivery.Input.TheVariants.{Data}
 use Rattle.radio_floor.specs.declared.labelled.Connection.TheVariants.{Client}
 use Rattle.radio_floor.specs.ScriptServer.{AnswersAs}
 use Rattle.radio_floor.specs.ScriptState.{ComesToClient}

@@ -4,8 +4,8 @@ use Rattle.radio_house.specs.World.{World}
 use Rattle.radio_core.specs.Step.{Represents}
 use Rattle.radio_tables.proofs.VisitLaws.{was_visited}
 use Rattle.radio_tables.specs.Visits.{IsVisited}
-use Rattle.radio_script.specs.declared.delivery.Delivery.TheVariants.{To}
-use Rattle.radio_script.specs.declared.delivery.Input.{Input}
+use Rattle.radio_deliveries.specs.declared.delivery.Delivery.TheVariants.{To}
+use Rattle.radio_deliveries.specs.declared.delivery.Input.{Input}
 use Rattle.radio_floor.specs.declared.handler.Handler.{Handler}
 use Rattle.radio_floor.specs.declared.handler.Told.{Told}
 use Rattle.radio_floor.specs.declared.labelled.Labelled.{Labelled}

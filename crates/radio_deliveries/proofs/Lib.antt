@@ -1,0 +1,4 @@
+mod EscapeLemmas
+pub mod FeedLemmas
+mod SpellingLemmas
+mod LineReadings

@@ -1,0 +1,9 @@
+pub mod Steps
+pub mod Escapes
+pub mod Spelling
+pub mod Delivery
+pub mod TranscriptLines
+pub mod Feeds
+pub mod Given
+pub mod Words
+pub mod Limits
