@@ -5,7 +5,7 @@ use Rattle.radio_events.specs.declared.event.Event.TheVariants.{Draw, Leave}
 use Rattle.radio_events.specs.declared.reply.Reply.{Reply}
 use Rattle.radio_events.specs.declared.entry.Entry.{Entry}
 use Rattle.radio_events.specs.Events.{entry}
-use Rattle.radio_session.specs.Exchanges.{Steps}
+use Rattle.radio_events.specs.Servers.{Steps}
 use Rattle.radio_connections.specs.Connections.{Connection, is_open}
 use Rattle.radio_connections.specs.declared.conn.Fate.TheVariants.{Open, Closed, Cut}
 use Rattle.radio_connections.specs.Duties.{IsReadOnce, LacksMemory}

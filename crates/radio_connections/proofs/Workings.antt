@@ -2,7 +2,7 @@
 use Rattle.std.proofs.Common.{◌≡◌, inl, inr, ◌≤◌, ◌-◌, arith, ℕ, Bool, List, ap}
 use Rattle.std.proofs.Common.{[], ◌++◌, refl, sym, subst, ◌∙◌}
 use Rattle.radio_events.specs.declared.entry.Entry.{Entry}
-use Rattle.radio_session.specs.Exchanges.{Steps}
+use Rattle.radio_events.specs.Servers.{Steps}
 use Rattle.radio_connections.specs.Connections.{Connection}
 use Rattle.radio_connections.specs.declared.conn.Fate.TheVariants.{Open, Ended, Closed, Cut}
 use Rattle.radio_connections.specs.Duties.{IsReadOnce, LacksMemory}

@@ -26,7 +26,8 @@ use Rattle.radio_core.specs.declared.outcome.Outcome.{Outcome}
 use Rattle.radio_policy.specs.declared.judgement.Verdict.TheVariants.{Allow, Deny as Denied}
 use Rattle.radio_policy.specs.Verdicts.{verdict_in}
 use Rattle.radio_parts.specs.Sessions.{Session, is_of, session_of, longer}
-use Rattle.radio_core.specs.SourceReplies.{unless_spent, to_session, to_data_from, to_feeders_end, to_end_from, to_data, to_end, IsQuiet, EndsByRule, IsToldByData}
+use Rattle.radio_events.specs.Replies.{IsQuiet, EndsByRule}
+use Rattle.radio_core.specs.SourceReplies.{unless_spent, to_session, to_data_from, to_feeders_end, to_end_from, to_data, to_end, IsToldByData}
 use Rattle.radio_core.specs.SourceReplies.{SourcesAreToldByTheirData, EndsAreTold}
 use Rattle.radio_core.specs.Step.{outcome, reply_to, world_after}
 use Rattle.radio_parts.specs.Stream.{end_of}

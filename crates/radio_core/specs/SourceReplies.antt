@@ -5,7 +5,8 @@ use Rattle.radio_policy.specs.declared.rule.Rule.TheVariants.{NumbersSpent}
 use Rattle.radio_events.specs.declared.event.Event.TheVariants.{Push, SourceEnd}
 use Rattle.radio_house.specs.House.{House}
 use Rattle.radio_events.specs.declared.reply.Reply.{Reply}
-use Rattle.radio_events.specs.declared.reply.Reply.TheVariants.{Noted, Deny, Finished, Stray}
+use Rattle.radio_events.specs.declared.reply.Reply.TheVariants.{Noted, Deny, Stray}
+use Rattle.radio_events.specs.Replies.{IsQuiet, EndsByRule}
 use Rattle.radio_house.specs.declared.standing.Standing.{Standing}
 use Rattle.radio_house.specs.declared.standing.Standing.TheVariants.{Feeds}
 use Rattle.radio_house.specs.Facts.{largest_number}
@@ -44,17 +45,6 @@ to_data w id bytes = to_data_from (standing_of w id) w.house bytes
 
 unfoldable pub to_end : World → ℕ → Reply
 to_end w id = to_end_from (has_relay w id) (standing_of w id)
-
--- nothing is told of it and the source goes on, or it ends by a rule
-abbrev pub IsQuiet : Reply → Type 0
-IsQuiet Noted = Unit {0}
-IsQuiet Stray = Unit {0}
-IsQuiet _ = ⊥
-
-abbrev pub EndsByRule : Reply → Type 0
-EndsByRule (Deny rule) = Unit {0}
-EndsByRule (Finished rule) = Unit {0}
-EndsByRule _ = ⊥
 
 -- A block is replied to as its data are; while the source goes on, more data are replied to as if all had come at once; and a rule stays.
 pub record IsToldByData (w : World) (id : ℕ) (block : List ℕ) : Type 0 where

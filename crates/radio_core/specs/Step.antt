@@ -4,6 +4,7 @@ use Rattle.radio_events.specs.declared.event.Event.{Event}
 use Rattle.radio_events.specs.declared.event.Event.TheVariants.{Arrive, Source, Push, SourceEnd, Title, Listen, Draw, Command, Leave}
 use Rattle.radio_events.specs.declared.event.Event.TheVariants.{RelayUp, RelayDown, Clock}
 use Rattle.radio_events.specs.declared.reply.Reply.{Reply}
+use Rattle.radio_events.specs.Servers.{Steps}
 use Rattle.radio_core.specs.declared.outcome.Outcome.{Outcome}
 use Rattle.radio_house.specs.World.{World}
 use Rattle.radio_core.specs.Arrive.{arrives}
@@ -54,3 +55,7 @@ Represents core w = StandsFor core w
 -- there is a state for which it stands
 unfoldable pub StandsForSome : World → Type 0
 StandsForSome core = (w : World) × Represents core w
+
+-- a core steps: it stands for some state, and whatever state that is, the event is a step from it
+abbrev pub core_steps : Steps World
+core_steps core event reply core' = StandsForSome core × ((w : World) → Represents core w → (w' : World) × Step w event reply w' × Represents core' w')

@@ -1,6 +1,7 @@
 //! The server's state, and what each event does to it.
 //!
-//! - [`Core`]: the state; [`Core::step`] is one event (`radio_events`).
+//! - [`Core`]: the state; [`Core::step`] is one event (`radio_events`). It is a
+//!   [`Server`](radio_events::Server).
 //! - [`clients_stand_by_their_events`] and the other functions of `laws`: what an event can do to
 //!   one client, one seat and one session, in every run. The laws of every run stand on them
 //!   (`radio_laws`).

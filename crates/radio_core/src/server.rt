@@ -14,7 +14,7 @@ ghost use Rattle.radio_events.specs.Events.{TakesNoMemory};
 use crate::OutOfMemory;
 use crate::outcome::Outcome;
 use radio_access::Lists;
-use radio_events::{Event, Reply};
+use radio_events::{Event, Reply, Server};
 use radio_settings::Settings;
 use radio_values::MountName;
 use state::State;
@@ -134,6 +134,24 @@ impl Core {
                 Err(refused)
             }
         }
+    }
+}
+
+impl Server for Core {
+    ghost use Rattle.radio_events.specs.Events.{TakesNoMemory};
+    ghost use Rattle.radio_core.specs.Step.{core_steps};
+
+    ghost steps = { core_steps };
+
+    ghost refuses = { λ core event. TakesNoMemory event → ⊥ };
+
+    fn apply(&mut self, event: Event) -> Result<Reply, OutOfMemory> {
+        self.stands();
+        self.step(event)
+    }
+
+    fn last_mount(&self, id: u64) -> Option<MountName> {
+        Core::last_mount(self, id).copied()
     }
 }
 

@@ -1,3 +1,4 @@
 pub mod Events
 pub mod Replies
 pub mod Texts
+pub mod Servers

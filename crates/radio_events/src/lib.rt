@@ -5,6 +5,7 @@
 //! - [`Reply`]: what the server replies; a [`Text`] is its answer to a command, or to one who
 //!   is shown something of the station.
 //! - [`Entry`]: one event with its reply, of which histories are made.
+//! - [`Server`]: whoever applies events.
 //! - `again` of either is an equal copy, `same` tells whether two are equal.
 #![tactic(auto)]
 
@@ -17,12 +18,14 @@ mod reply;
 mod same;
 mod same_commands;
 mod same_values;
+mod server;
 mod text;
 
 pub use command::{Asked, Command, CommandRequest, Listing, OpenedBy};
 pub use entry::Entry;
 pub use event::{Event, ListenRequest, SourceRequest};
 pub use reply::{Reply, StreamHead};
+pub use server::Server;
 pub use text::Text;
 
 /// What a call answers where memory was refused. Nothing has changed then.

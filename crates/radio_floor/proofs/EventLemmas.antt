@@ -23,7 +23,8 @@ use Rattle.radio_session.specs.declared.session.Says.{Says}
 use Rattle.radio_session.specs.declared.state.State.{State}
 use Rattle.radio_session.specs.declared.state.State.TheVariants.{Running, Shut}
 use Rattle.radio_session.specs.Conversation.{Conversation}
-use Rattle.radio_session.specs.Exchanges.{WorldExchange, is_leave, exchanged, then_exchanged}
+use Rattle.radio_exchanges.specs.Exchanges.{WorldExchange, exchanged, then_exchanged}
+use Rattle.radio_session.specs.Exchanges.{is_leave}
 use Rattle.radio_session.specs.Framing.{is_source, framing_of}
 use Rattle.radio_session.specs.Hearing.{Heard, HearsAs, delivered, greeted, head_heard, get_heard, nothing_held}
 use Rattle.radio_session.specs.Hearing.{refuses, source_heard}

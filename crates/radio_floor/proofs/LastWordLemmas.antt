@@ -7,7 +7,7 @@ use Rattle.radio_deliveries.specs.TranscriptLines.{answer_lines}
 use Rattle.radio_session.specs.declared.state.State.{State}
 use Rattle.radio_session.specs.Conversation.{Conversation, ending_word}
 use Rattle.radio_session.specs.Saying.{said}
-use Rattle.radio_session.specs.Exchanges.{WorldExchange, then_exchanged, exchanged}
+use Rattle.radio_exchanges.specs.Exchanges.{WorldExchange, then_exchanged, exchanged}
 use Rattle.radio_session.specs.LastWords.{EndsWith, DenialsNameTheirRule, CommandsAreAnswered, FinishesAreSilent}
 use Rattle.radio_floor.specs.ScriptState.{ScriptState, told_lines}
 use Rattle.radio_floor.specs.LastWords.{ShutsWith, DenialsAreTold, CommandsAreTold, FinishesAreTold}

@@ -13,7 +13,7 @@ use Rattle.radio_session.specs.declared.state.Ending.TheVariants.{Done}
 use Rattle.radio_house.specs.World.{World}
 use Rattle.radio_events.specs.declared.event.Event.{Event}
 use Rattle.radio_pull.specs.Pulling.{Pulling, Standing}
-use Rattle.radio_pull.specs.Laws.{AskingIsOne, GoingDownIsOne, TakingIsOne}
+use Rattle.radio_exchanges.specs.Pulls.{AskingIsOne, GoingDownIsOne, TakingIsOne}
 use Rattle.radio_floor.specs.declared.labelled.Connection.{Connection}
 use Rattle.radio_floor.specs.declared.labelled.Connection.TheVariants.{Client, Relay}
 use Rattle.radio_floor.specs.ScriptState.{ScriptState, Performed, AsksOn, ComesTo, ComesToClient, ComesToRelay, IsPerformed, on_connection, connection_of}

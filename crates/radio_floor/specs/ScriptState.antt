@@ -35,7 +35,7 @@ use Rattle.radio_deliveries.specs.TranscriptLines.{answer_lines}
 use Rattle.radio_session.specs.Conversation.{asking, Conversation, fresh, saying_now, ending_word}
 use Rattle.radio_session.specs.Hearing.{Heard, IsHeard}
 use Rattle.radio_session.specs.Saying.{said}
-use Rattle.radio_session.specs.Exchanges.{exchanged}
+use Rattle.radio_exchanges.specs.Exchanges.{exchanged}
 
 -- the server's state, and the connections of the labels opened so far, in rising order; a connection that was shut is none
 pub record ScriptState : Type 0 where

@@ -14,9 +14,10 @@ use crate::OutOfMemory;
 use crate::labelled::{Connection, Labelled};
 use radio_core::Core;
 use radio_events::Event;
+use radio_exchanges::cores_exchange_as_their_states;
 use radio_icy::Title;
 use radio_script::Input;
-use radio_session::{Ending, Session, State, cores_exchange_as_their_states, exchange};
+use radio_session::{Ending, Session, State, exchange};
 use radio_tables::Visit;
 use std::alloc::Global;
 

@@ -5,7 +5,7 @@ ghost use Rattle.radio_floor.specs.Transcript.{conduct};
 ghost use Rattle.radio_floor.specs.LastWords.{DenialsAreTold, CommandsAreTold, FinishesAreTold, ClosedOnesAreDone};
 ghost use Rattle.radio_floor.specs.ScriptEvents.{ScriptsComeToEvents};
 
-use radio_pull::pulling_is_one;
+use radio_exchanges::pulling_is_one;
 use radio_session::{hearing_is_one, last_words_name_the_rule};
 
 /// The server does one thing at each delivery. So a script has one transcript, and what the whole

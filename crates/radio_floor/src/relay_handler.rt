@@ -11,8 +11,9 @@ ghost use Rattle.radio_floor.specs.ScriptServer.{AnswersAs, PullsAs};
 use crate::OutOfMemory;
 use crate::handler::{Handler, Told};
 use radio_events::Event;
+use radio_exchanges::cores_pull_as_their_states;
 use radio_icy::Title;
-use radio_pull::{RelayPull, ask, close, cores_pull_as_their_states, take};
+use radio_pull::{RelayPull, ask, close, take};
 use radio_script::Input;
 use radio_session::{Ending, State};
 

@@ -12,7 +12,8 @@ use Rattle.radio_house.specs.World.{World}
 use Rattle.radio_session.specs.declared.session.Says.{Says}
 use Rattle.radio_session.specs.declared.state.State.{State}
 use Rattle.radio_session.specs.declared.state.State.TheVariants.{Running, Shut}
-use Rattle.radio_session.specs.Exchanges.{WorldExchange, is_leave, exchanged, then_exchanged}
+use Rattle.radio_exchanges.specs.Exchanges.{WorldExchange, exchanged, then_exchanged}
+use Rattle.radio_session.specs.Exchanges.{is_leave}
 use Rattle.radio_session.specs.declared.session.Closing.{Closing}
 use Rattle.radio_session.specs.Saying.{Said, noted, one_less, said}
 use Rattle.radio_session.specs.Told.{told, while_open}

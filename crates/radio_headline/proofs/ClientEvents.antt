@@ -20,7 +20,8 @@ use Rattle.radio_session.specs.declared.state.State.{State}
 use Rattle.radio_session.specs.declared.state.State.TheVariants.{Running, Shut}
 use Rattle.radio_session.specs.Asking.{asks_to_feed, asks_by_get}
 use Rattle.radio_session.specs.Conversation.{Conversation, asking, saying_now}
-use Rattle.radio_session.specs.Exchanges.{WorldExchange, exchanged, then_exchanged, is_leave}
+use Rattle.radio_exchanges.specs.Exchanges.{WorldExchange, exchanged, then_exchanged}
+use Rattle.radio_session.specs.Exchanges.{is_leave}
 use Rattle.radio_session.specs.Saying.{said}
 use Rattle.radio_session.specs.Told.{told}
 use Rattle.radio_floor.specs.declared.labelled.Connection.TheVariants.{Client}

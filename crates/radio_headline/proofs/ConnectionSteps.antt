@@ -21,7 +21,7 @@ use Rattle.radio_session.specs.declared.session.Hears.TheVariants.{Body, Nothing
 use Rattle.radio_session.specs.declared.state.State.TheVariants.{Running}
 use Rattle.radio_session.specs.Asking.{asks_to_feed, asks_by_get}
 use Rattle.radio_session.specs.Conversation.{Conversation, asking, saying_now}
-use Rattle.radio_session.specs.Exchanges.{exchanged}
+use Rattle.radio_exchanges.specs.Exchanges.{exchanged}
 use Rattle.radio_session.specs.Hearing.{Heard, HearsAs, body_closes, head_heard, nothing_held}
 use Rattle.radio_session.specs.Told.{told}
 use Rattle.radio_headline.specs.Course.{applied}

@@ -26,7 +26,7 @@ use Rattle.radio_session.specs.declared.state.State.{State}
 use Rattle.radio_session.specs.declared.state.State.TheVariants.{Running, Shut}
 use Rattle.radio_session.specs.declared.state.Ending.TheVariants.{Done}
 use Rattle.radio_session.specs.Conversation.{Conversation, asking, saying_now}
-use Rattle.radio_session.specs.Exchanges.{exchanged}
+use Rattle.radio_exchanges.specs.Exchanges.{exchanged}
 use Rattle.radio_session.specs.Hearing.{Heard}
 use Rattle.radio_session.specs.Saying.{said}
 use Rattle.radio_pull.specs.Pulling.{Pulling, Standing, begun}

@@ -22,7 +22,7 @@ use Rattle.radio_session.specs.declared.session.Hears.TheVariants.{Head, Body, N
 use Rattle.radio_session.specs.declared.state.State.TheVariants.{Running}
 use Rattle.radio_session.specs.Asking.{asks_to_feed, asks_by_get, asks_to_hear, gives_command, is_for_commands, path_in}
 use Rattle.radio_session.specs.Conversation.{Conversation, asking, saying_now}
-use Rattle.radio_session.specs.Exchanges.{exchanged}
+use Rattle.radio_exchanges.specs.Exchanges.{exchanged}
 use Rattle.radio_session.specs.declared.session.Says.{Says}
 use Rattle.radio_session.specs.Framing.{is_source, framing_of, greeting_of, start_of}
 use Rattle.radio_session.specs.Saying.{said}

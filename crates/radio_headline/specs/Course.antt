@@ -16,7 +16,8 @@ use Rattle.radio_session.specs.declared.session.Says.{Says}
 use Rattle.radio_session.specs.declared.state.State.{State}
 use Rattle.radio_session.specs.declared.state.State.TheVariants.{Running, Shut}
 use Rattle.radio_session.specs.Conversation.{Conversation}
-use Rattle.radio_session.specs.Exchanges.{Steps, is_leave}
+use Rattle.radio_events.specs.Servers.{Steps}
+use Rattle.radio_session.specs.Exchanges.{is_leave}
 use Rattle.radio_session.specs.Hearing.{Heard, IsHeard}
 use Rattle.radio_session.specs.Saying.{said}
 use Rattle.radio_deliveries.specs.declared.delivery.Delivery.{Delivery}

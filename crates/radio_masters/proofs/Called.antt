@@ -1,7 +1,7 @@
 -- What a turn over a line came to.
 use Rattle.std.proofs.Common.{◌≡◌, subst, ℕ, suc, List, ◌++◌}
 use Rattle.radio_connections.specs.Lines.{Calls}
-use Rattle.radio_session.specs.Exchanges.{Steps}
+use Rattle.radio_events.specs.Servers.{Steps}
 use Rattle.radio_masters.specs.declared.mount_pull.PullTurn.{PullTurn}
 use Rattle.radio_masters.specs.declared.mount_pull.PullTurn.TheVariants.{Running, Shut, Closed, Failed, OutOfMemory}
 use Rattle.radio_masters.specs.ListAnswers.{ListOver}

@@ -5,7 +5,7 @@ use Rattle.radio_events.specs.declared.event.Event.{Event}
 use Rattle.radio_events.specs.declared.event.Event.TheVariants.{Draw}
 use Rattle.radio_session.specs.declared.state.State.{State}
 use Rattle.radio_session.specs.declared.state.State.TheVariants.{Running, Shut}
-use Rattle.radio_session.specs.Exchanges.{Steps}
+use Rattle.radio_events.specs.Servers.{Steps}
 use Rattle.radio_connections.specs.Lines.{Calls}
 use Rattle.radio_pull.specs.Pulling.{Pulling, Standing}
 use Rattle.radio_pull.specs.Course.{AsksIf, Takes}

@@ -10,7 +10,7 @@ use Rattle.radio_relay.specs.Pulled.{GoesOn, IsPulledAt, Pulled, Standing as Ans
 use Rattle.radio_session.specs.declared.state.State.{State}
 use Rattle.radio_session.specs.declared.state.State.TheVariants.{Running, Shut}
 use Rattle.radio_session.specs.declared.state.Ending.TheVariants.{BadPull}
-use Rattle.radio_session.specs.Exchanges.{Steps}
+use Rattle.radio_events.specs.Servers.{Steps}
 use Rattle.radio_pull.specs.Pulling.{Pulling, Standing, answered, event_for, going_on}
 
 -- the rest comes about where the pull goes on

@@ -4,7 +4,7 @@
 //! - [`RelayPull`]: how far the answer has come, and the number of the relay once it is up.
 //! - [`take`]: the next bytes of the answer; [`ask`]: another event of the relay; [`close`]: the
 //!   connection is closed. Their events are applied by a [`Server`](radio_session::Server).
-//! - Laws, which run no code: [`cores_pull_as_their_states`], [`items_are_of_their_relay`], [`pulling_is_one`].
+//! - A law, which runs no code: [`items_are_of_their_relay`].
 #![tactic(auto)]
 
 mod conversing;
@@ -12,7 +12,7 @@ mod laws;
 mod relay_pull;
 
 pub use conversing::{ask, close, take};
-pub use laws::{cores_pull_as_their_states, items_are_of_their_relay, pulling_is_one};
+pub use laws::items_are_of_their_relay;
 pub use relay_pull::RelayPull;
 
 /// What a call answers where memory was refused.

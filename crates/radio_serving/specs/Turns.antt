@@ -4,7 +4,7 @@ use Rattle.radio_events.specs.declared.event.Event.{Event}
 use Rattle.radio_events.specs.declared.event.Event.TheVariants.{Clock}
 use Rattle.radio_events.specs.declared.reply.Reply.{Reply}
 use Rattle.radio_events.specs.declared.entry.Entry.{Entry}
-use Rattle.radio_session.specs.Exchanges.{Steps}
+use Rattle.radio_events.specs.Servers.{Steps}
 use Rattle.radio_connections.specs.declared.conn.Fate.TheVariants.{Open}
 use Rattle.radio_connections.specs.Connections.{Connection, stays}
 use Rattle.radio_connections.specs.Serving.{Stands, ServesInTurn}

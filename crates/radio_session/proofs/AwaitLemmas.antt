@@ -11,7 +11,8 @@ use Rattle.radio_session.specs.declared.session.LastWord.TheVariants.{Complete}
 use Rattle.radio_session.specs.declared.state.State.{State}
 use Rattle.radio_session.specs.declared.state.State.TheVariants.{Running, Shut}
 use Rattle.radio_session.specs.Saying.{Said, said}
-use Rattle.radio_session.specs.Exchanges.{Steps, Exchange, nothing_exchanged, prefixed, ended_with, GoesOn, Exchanges}
+use Rattle.radio_events.specs.Servers.{Steps}
+use Rattle.radio_session.specs.Exchanges.{Exchange, nothing_exchanged, prefixed, ended_with, GoesOn, Exchanges}
 use Rattle.radio_session.proofs.ExchangeLemmas.{one_on, one_last}
 
 -- so many replies come before that with which the last word is told

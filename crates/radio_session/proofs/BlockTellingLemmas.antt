@@ -14,7 +14,8 @@ use Rattle.radio_session.specs.declared.state.State.{State}
 use Rattle.radio_session.specs.declared.state.State.TheVariants.{Running, Shut}
 use Rattle.radio_session.specs.declared.state.Ending.{Ending}
 use Rattle.radio_session.specs.Saying.{said}
-use Rattle.radio_session.specs.Exchanges.{Steps, Exchange, prefixed, GoesOn, Exchanges}
+use Rattle.radio_events.specs.Servers.{Steps}
+use Rattle.radio_session.specs.Exchanges.{Exchange, prefixed, GoesOn, Exchanges}
 use Rattle.radio_session.specs.DataServers.{GoesByData}
 use Rattle.radio_session.specs.CutTelling.{AreToldAlike}
 use Rattle.radio_session.proofs.ExchangeParts.{FollowsBy, split, join_on, join_shut}

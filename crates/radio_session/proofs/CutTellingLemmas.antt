@@ -20,7 +20,8 @@ use Rattle.radio_source.specs.Place.{after, data_of}
 use Rattle.radio_session.specs.Asking.{asks_to_feed}
 use Rattle.radio_session.specs.Conversation.{Conversation}
 use Rattle.radio_session.specs.Hearing.{Heard, get_heard, greeted, refuses, nothing_held}
-use Rattle.radio_session.specs.Exchanges.{Steps, Exchange, nothing_exchanged}
+use Rattle.radio_events.specs.Servers.{Steps}
+use Rattle.radio_session.specs.Exchanges.{Exchange, nothing_exchanged}
 use Rattle.radio_session.specs.DataServers.{GoesByData}
 use Rattle.radio_session.specs.CutTelling.{IsTold, ThenTold, IsToldIn, AreToldAlike, CutsAreToldAlike, PiecesAreToldAsOne}
 use Rattle.radio_session.proofs.BodyLemmas.{closes_at}

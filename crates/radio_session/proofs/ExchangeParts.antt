@@ -8,7 +8,8 @@ use Rattle.radio_session.specs.declared.state.State.{State}
 use Rattle.radio_session.specs.declared.state.State.TheVariants.{Running, Shut}
 use Rattle.radio_session.specs.declared.state.Ending.{Ending}
 use Rattle.radio_session.specs.Saying.{said}
-use Rattle.radio_session.specs.Exchanges.{Steps, Exchange, nothing_exchanged, prefixed, ended_with, is_leave, LeavesAfter, GoesOn, Exchanges}
+use Rattle.radio_events.specs.Servers.{Steps}
+use Rattle.radio_session.specs.Exchanges.{Exchange, nothing_exchanged, prefixed, ended_with, is_leave, LeavesAfter, GoesOn, Exchanges}
 use Rattle.radio_session.specs.DataServers.{HasOneReply}
 use Rattle.radio_session.proofs.ExchangeLemmas.{prefix_twice, one_on, one_last}
 

@@ -11,7 +11,6 @@ mod DataLemmas
 mod BlockTellingLemmas
 mod PieceTellingLemmas
 mod CutTellingLemmas
-mod CoreDataLemmas
 mod SentTitleLemmas
 mod HeardBodyLemmas
 mod FieldLemmas

@@ -31,7 +31,8 @@ use Rattle.radio_session.specs.Conversation.{Conversation, saying_now}
 use Rattle.radio_session.specs.Pushes.{pushes}
 use Rattle.radio_session.specs.Hearing.{Heard, HearsAs, head_heard, source_heard, get_heard, body_heard, delivered, closes_with, greeted}
 use Rattle.radio_session.specs.Hearing.{refuses, nothing_held, going_on}
-use Rattle.radio_session.specs.Exchanges.{Steps, Exchange, nothing_exchanged, prefixed, Exchanges}
+use Rattle.radio_events.specs.Servers.{Steps}
+use Rattle.radio_session.specs.Exchanges.{Exchange, nothing_exchanged, prefixed, Exchanges}
 use Rattle.radio_session.specs.Cuts.{IsCutting, unheard}
 use Rattle.radio_session.specs.CutTelling.{IsTold, ThenTold, IsToldIn}
 use Rattle.radio_session.proofs.BodyLemmas.{closes_at, stays_closed}

@@ -1,27 +1,21 @@
 -- what is told on a listener's connection
-use Rattle.std.proofs.Common.{◌≡◌, ℕ, zero, suc, ◌<◌, true, List, [], ◌∷◌, ◌++◌, Option, None, Some, refl, ap, sym, subst, ◌∙◌, append-nil, arith, map}
+use Rattle.std.proofs.Common.{◌≡◌, ℕ, zero, suc, ◌<◌, true, List, [], ◌∷◌, ◌++◌, Option, None, Some, refl, ap, sym, subst, ◌∙◌, arith, map}
 use Rattle.std.specs.Option.{option_map}
 use Rattle.radio_icy.specs.Weaving.{Call, Weaving, new_weaving, woven_by_calls}
 use Rattle.radio_icy.specs.Stream.{IsWoven, sound_of_calls, titles_sent, parts_of}
 use Rattle.radio_icy.specs.Block.{title_text}
 use Rattle.radio_icy.specs.Unweaving.{new_unweaving, heard}
 use Rattle.radio_icy.specs.Bare.{bare, block_texts, sound_in, texts_in}
-use Rattle.radio_events.specs.declared.event.Event.{Event}
 use Rattle.radio_events.specs.declared.reply.Reply.{Reply}
 use Rattle.radio_events.specs.declared.reply.Reply.TheVariants.{Arrived, Feeding, Seated, Drawn, Noted, Text, Deny, Finished, Stray}
 use Rattle.radio_events.specs.declared.text.Text.{Text as CommandText}
-use Rattle.radio_house.specs.World.{World}
-use Rattle.radio_core.specs.Step.{reply_to, world_after}
 use Rattle.radio_policy.specs.declared.rule.Rule.{Rule}
 use Rattle.radio_session.specs.declared.session.Says.{Says}
 use Rattle.radio_session.specs.declared.session.Closing.{Closing}
-use Rattle.radio_session.specs.declared.state.State.{State}
-use Rattle.radio_session.specs.declared.state.State.TheVariants.{Running, Shut}
 use Rattle.radio_session.specs.Draws.{draw, drawn, after_draw, drawn_by, interval_told, joined_draws}
-use Rattle.radio_session.specs.Exchanges.{WorldExchange, exchanged, then_exchanged}
 use Rattle.radio_session.specs.Saying.{Said, head_text, said, denied, noted, one_less, seated, texted}
 use Rattle.radio_session.specs.Told.{told, while_open, draws_of, AdmitNobody, DrawsFollowTheHead, PlainDrawsAreTheirData, JoinedDrawsAreWoven}
-use Rattle.radio_session.specs.Told.{DrawsAreTakenOutAgain, replies_to, ExchangesTellReplies}
+use Rattle.radio_session.specs.Told.{DrawsAreTakenOutAgain}
 
 no_draws : (w : Option Weaving) → drawn_by w [] ≡ []
 no_draws None = refl
@@ -98,16 +92,3 @@ module _ (streams : (n : ℕ) (calls : List Call) → 0 < n → IsWoven n calls 
           sounds_heard n out ∙ sounds n draws out some woven,
           texts_heard n out ∙ texts n draws out some woven,
         )
-
--- what goes out for one event, and what for the others
-goes_out : (w : World) (id : ℕ) (event : Event) (here : Said) (state : State) (others : WorldExchange) (later : List ℕ)
-    → others.exchange.bytes ≡ later → (then_exchanged w id event here state others).exchange.bytes ≡ here.bytes ++ while_open state later
-goes_out w id event here Running others later e = ap (λ (bytes : List ℕ). here.bytes ++ bytes) e
-goes_out w id event here (Shut ending) others later e = sym (append-nil here.bytes)
-
-pub exchanges_tell : ExchangesTellReplies
-exchanges_tell w id says [] = refl
-exchanges_tell w id says (event ∷ events) =
-    let here = said says (reply_to w event) in
-    goes_out (world_after w event) id event here here.state (exchanged (world_after w event) id here.says events)
-    (told here.says (replies_to (world_after w event) events)) (exchanges_tell (world_after w event) id here.says events)

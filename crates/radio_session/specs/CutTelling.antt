@@ -4,7 +4,8 @@ use Rattle.radio_session.specs.declared.state.State.{State}
 use Rattle.radio_session.specs.declared.state.State.TheVariants.{Running, Shut}
 use Rattle.radio_session.specs.Conversation.{Conversation, saying_now}
 use Rattle.radio_session.specs.Hearing.{Heard, IsHeard}
-use Rattle.radio_session.specs.Exchanges.{Steps, Exchange, Exchanges, nothing_exchanged, prefixed}
+use Rattle.radio_events.specs.Servers.{Steps}
+use Rattle.radio_session.specs.Exchanges.{Exchange, Exchanges, nothing_exchanged, prefixed}
 use Rattle.radio_session.specs.Cuts.{IsCutting}
 use Rattle.radio_session.specs.DataServers.{GoesByData}
 

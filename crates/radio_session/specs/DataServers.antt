@@ -4,8 +4,8 @@ use Rattle.radio_blocks.specs.Block.{IsBlock}
 use Rattle.radio_events.specs.declared.event.Event.{Event}
 use Rattle.radio_events.specs.declared.event.Event.TheVariants.{Push, SourceEnd}
 use Rattle.radio_events.specs.declared.reply.Reply.{Reply}
-use Rattle.radio_core.specs.SourceReplies.{IsQuiet, EndsByRule}
-use Rattle.radio_session.specs.Exchanges.{Steps}
+use Rattle.radio_events.specs.Replies.{IsQuiet, EndsByRule}
+use Rattle.radio_events.specs.Servers.{Steps}
 
 -- from each state an event has one reply, and leaves one state
 abbrev pub HasOneReply : {S : Type 0} → Steps S → Type 0

@@ -1,10 +1,9 @@
 -- What a connection's events come to, one after another, whoever applies them.
-use Rattle.std.specs.Prelude.{◌≡◌, ℕ, Bool, true, false, if◌then◌else◌, List, [], ◌∷◌, ◌++◌}
+use Rattle.std.specs.Prelude.{◌≡◌, ℕ, Bool, true, false, List, [], ◌∷◌, ◌++◌}
 use Rattle.radio_events.specs.declared.event.Event.{Event}
 use Rattle.radio_events.specs.declared.event.Event.TheVariants.{Leave}
 use Rattle.radio_events.specs.declared.reply.Reply.{Reply}
-use Rattle.radio_house.specs.World.{World}
-use Rattle.radio_core.specs.Step.{Step, Represents, StandsForSome, reply_to, world_after}
+use Rattle.radio_events.specs.Servers.{Steps}
 use Rattle.radio_session.specs.declared.session.Says.{Says}
 use Rattle.radio_session.specs.declared.state.State.{State}
 use Rattle.radio_session.specs.declared.state.State.TheVariants.{Running, Shut}
@@ -33,10 +32,6 @@ abbrev pub is_leave : Event → Bool
 is_leave (Leave id) = true
 is_leave event = false
 
--- from a state, an event is answered by a reply, and leaves a state
-abbrev pub Steps : Type 0 → Type 1
-Steps S = S → Event → Reply → S → Type 0
-
 -- the events are applied one after another, and each reply is told; where the connection ends, the others are not applied, and it leaves, unless that
 -- is what it has just done
 module _ {S : Type 0} (steps : Steps S) (id : ℕ) where
@@ -53,31 +48,3 @@ module _ {S : Type 0} (steps : Steps S) (id : ℕ) where
   Exchanges says (event ∷ events) from x to =
       (reply : Reply) × (mid : S) × steps from event reply mid
       × GoesOn (said says reply).state event (said says reply) mid (λ others. Exchanges (said says reply).says events mid others to) x to
-
--- so does a core: it stands for some state, and whatever state that is, the event is a step from it
-abbrev pub core_steps : Steps World
-core_steps core event reply core' = StandsForSome core × ((w : World) → Represents core w → (w' : World) × Step w event reply w' × Represents core' w')
-
--- and so does the server's state
-pub record WorldExchange : Type 0 where
-  pub world : World
-  pub exchange : Exchange
-
-abbrev pub left_after : World → ℕ → Event → World
-left_after w id event = (if is_leave event then w else world_after w (Leave id))
-
-abbrev pub then_exchanged : World → ℕ → Event → Said → State → WorldExchange → WorldExchange
-then_exchanged w id event told Running others = record { world = others.world; exchange = prefixed told.bytes others.exchange }
-then_exchanged w id event told (Shut ending) others = record { world = left_after w id event; exchange = ended_with told ending }
-
--- what the client's events come to from this state
-abbrev pub exchanged : World → ℕ → Says → List Event → WorldExchange
-exchanged w id says [] = record { world = w; exchange = nothing_exchanged says }
-exchanged w id says (event ∷ events) =
-    let told = said says (reply_to w event) in
-    then_exchanged (world_after w event) id event told told.state (exchanged (world_after w event) id told.says events)
-
--- the core stands for the state after, and this was exchanged
-pub record ExchangesAs (core' : World) (x : Exchange) (of : WorldExchange) : Type 0 where
-  pub stands : Represents core' of.world
-  pub same : x ≡ of.exchange

@@ -6,16 +6,12 @@ use Rattle.radio_icy.specs.Stream.{IsWoven, sound_of_calls, titles_sent, parts_o
 use Rattle.radio_icy.specs.Unweaving.{Atom, new_unweaving, heard}
 use Rattle.radio_icy.specs.Bare.{sound_in, texts_in}
 use Rattle.radio_events.specs.declared.reply.StreamHead.{StreamHead}
-use Rattle.radio_events.specs.declared.event.Event.{Event}
 use Rattle.radio_events.specs.declared.reply.Reply.{Reply}
 use Rattle.radio_events.specs.declared.reply.Reply.TheVariants.{Feeding, Seated, Drawn, Text, Deny, Finished}
-use Rattle.radio_house.specs.World.{World}
-use Rattle.radio_core.specs.Step.{reply_to, world_after}
 use Rattle.radio_session.specs.declared.session.Says.{Says}
 use Rattle.radio_session.specs.declared.state.State.{State}
 use Rattle.radio_session.specs.declared.state.State.TheVariants.{Running, Shut}
 use Rattle.radio_session.specs.Draws.{draw, interval_told, joined_draws}
-use Rattle.radio_session.specs.Exchanges.{exchanged}
 use Rattle.radio_session.specs.Saying.{head_text, said}
 
 -- what is told later, while the connection goes on
@@ -71,13 +67,3 @@ abbrev pub DrawsAreTakenOutAgain : Type 0
 DrawsAreTakenOutAgain = (interval : Option ℕ) (n : ℕ) (draws : List Call) → interval_told interval ≡ Some n →
     (sound_in (taken_out n (joined_draws interval draws)) ≡ sound_of_calls draws)
     × (texts_in (taken_out n (joined_draws interval draws)) ≡ map title_text (titles_sent n draws (parts_of n draws)))
-
--- the replies to events, one after another, from this state
-abbrev pub replies_to : World → List Event → List Reply
-replies_to w [] = []
-replies_to w (event ∷ events) = reply_to w event ∷ replies_to (world_after w event) events
-
--- What goes out for a connection's events is what is told of their replies.
-abbrev pub ExchangesTellReplies : Type 0
-ExchangesTellReplies = (w : World) (id : ℕ) (says : Says) (events : List Event) →
-    (exchanged w id says events).exchange.bytes ≡ told says (replies_to w events)

@@ -7,10 +7,9 @@ ghost use Rattle.radio_session.specs.Exchanges.{Exchange, Exchanges, LeavesAfter
 ghost use Rattle.radio_session.specs.Conversation.{saying_now};
 
 use crate::OutOfMemory;
-use crate::server::Server;
 use crate::session::Session;
 use crate::state::State;
-use radio_events::{Event, Reply};
+use radio_events::{Event, Reply, Server};
 
 /// Applies the events of the connection's client, one after another, and tells each reply behind the
 /// bytes of `out`. Where the connection ends, the others are not applied, and the client leaves. It

@@ -9,13 +9,12 @@ ghost use Rattle.radio_session.specs.Bodies.{PlainBodiesAreHeard, SizedBodiesAre
 ghost use Rattle.radio_session.specs.Greetings.{WhoWaitsIsToldToGoOn, NobodyElseIsToldToGoOn};
 ghost use Rattle.radio_session.specs.Cuts.{CutsDoNotMatter, PiecesAreHeardAsOne};
 ghost use Rattle.radio_session.specs.CutTelling.{CutsAreToldAlike, PiecesAreToldAsOne};
-ghost use Rattle.radio_session.specs.Told.{DrawsFollowTheHead, PlainDrawsAreTheirData, JoinedDrawsAreWoven, DrawsAreTakenOutAgain, ExchangesTellReplies};
+ghost use Rattle.radio_session.specs.Told.{DrawsFollowTheHead, PlainDrawsAreTheirData, JoinedDrawsAreWoven, DrawsAreTakenOutAgain};
 ghost use Rattle.radio_session.specs.SentTitles.{TitlesAreSentInTime, NoTitleIsRepeated};
-ghost use Rattle.radio_session.specs.Laws.{HearingIsOne, CoresExchangeAsTheirStates, CoresGoByData, HearingFailsNothing, TellingFailsNothing};
+ghost use Rattle.radio_session.specs.Laws.{HearingIsOne, HearingFailsNothing, TellingFailsNothing};
 
-use crate::server::Server;
 use radio_blocks::laws::blocks_are_the_data;
-use radio_core::{cores_go_by_their_states, sources_are_told_by_their_data};
+use radio_events::Server;
 use radio_heads::{heads_lie_within, readings_agree, settled};
 use radio_icy::laws::{bare_of_woven, unwoven_streams, woven_streams};
 use radio_source::laws::{
@@ -89,20 +88,6 @@ pub fn only_refused_calls_fail()
     ensures told { TellingFailsNothing }
 {}
 
-/// What a connection's events come to over a core is what they come to from any state that the core
-/// stands for.
-pub fn cores_exchange_as_their_states()
-    ensures { CoresExchangeAsTheirStates }
-{}
-
-/// A core goes by a source's data, and not by how they are cut into blocks.
-pub fn cores_go_by_data()
-    ensures { CoresGoByData }
-{
-    cores_go_by_their_states();
-    sources_are_told_by_their_data();
-}
-
 /// The last word of a connection is that of the rule that ended it, or `done` where none did; and
 /// the answer before it, where there is one, has the rule's status and names the rule.
 pub fn last_words_name_the_rule()
@@ -139,8 +124,6 @@ pub fn listeners_are_told_what_they_draw()
     ensures not_repeated { NoTitleIsRepeated }
     // who takes the metadata out again has the data, and the texts of the titles sent
     ensures taken_out { DrawsAreTakenOutAgain }
-    // what goes out for events of the server is what is told of their replies
-    ensures exchanged { ExchangesTellReplies }
 {
     woven_streams();
     bare_of_woven();

@@ -7,24 +7,23 @@
 //! - [`exchange`]: the events of a connection, applied one after another by whoever [`Server`]
 //!   them, each reply told, up to the end of the connection.
 //! - Laws, which run no code: [`bodies_are_heard_as_their_data`], [`cuts_do_not_matter`],
-//!   [`cuts_are_told_alike`], [`hearing_is_one`], [`cores_exchange_as_their_states`],
-//!   [`cores_go_by_data`], [`last_words_name_the_rule`], [`listeners_are_told_what_they_draw`],
-//!   [`only_refused_calls_fail`], [`who_waits_is_told_to_go_on`].
+//!   [`cuts_are_told_alike`], [`hearing_is_one`], [`last_words_name_the_rule`],
+//!   [`listeners_are_told_what_they_draw`], [`only_refused_calls_fail`],
+//!   [`who_waits_is_told_to_go_on`].
 #![tactic(auto)]
 
 mod exchanging;
 mod laws;
-mod server;
 mod session;
 mod state;
 
 pub use exchanging::exchange;
 pub use laws::{
-    bodies_are_heard_as_their_data, cores_exchange_as_their_states, cores_go_by_data,
-    cuts_are_told_alike, cuts_do_not_matter, hearing_is_one, last_words_name_the_rule,
-    listeners_are_told_what_they_draw, only_refused_calls_fail, who_waits_is_told_to_go_on,
+    bodies_are_heard_as_their_data, cuts_are_told_alike, cuts_do_not_matter, hearing_is_one,
+    last_words_name_the_rule, listeners_are_told_what_they_draw, only_refused_calls_fail,
+    who_waits_is_told_to_go_on,
 };
-pub use server::Server;
+pub use radio_events::Server;
 pub use session::Session;
 pub use state::{Ending, State};
 

@@ -3,7 +3,7 @@ use Rattle.std.specs.Prelude.{◌≡◌, ℕ, Bool, true, false, List, [], ◌�
 use Rattle.radio_events.specs.declared.event.Event.{Event}
 use Rattle.radio_events.specs.declared.event.Event.TheVariants.{Leave}
 use Rattle.radio_events.specs.declared.reply.Reply.{Reply}
-use Rattle.radio_session.specs.Exchanges.{Steps}
+use Rattle.radio_events.specs.Servers.{Steps}
 use Rattle.radio_connections.specs.Connections.{Connection}
 
 module _ {S : Type 0} (steps : Steps S) (refuses : S → Event → Type 0) where

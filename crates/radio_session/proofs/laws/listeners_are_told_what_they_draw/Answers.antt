@@ -11,5 +11,4 @@ returns c = record {
   not_repeated = titles.not_repeated;
   taken_out = lemmas.draws_are_taken_out c.woven_streams.ensures.woven c.bare_of_woven.ensures.sound c.bare_of_woven.ensures.texts
       c.unwoven_streams.ensures.sound c.unwoven_streams.ensures.texts;
-  exchanged = lemmas.exchanges_tell;
 }

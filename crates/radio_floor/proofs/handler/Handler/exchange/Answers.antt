@@ -1,7 +1,8 @@
 use Rattle.std.proofs.Common.{◌≡◌, ◌++◌, List, ℕ, Some, sym, ap, ◌∙◌}
 use Rattle.radio_session.specs.declared.state.State.{State}
 use Rattle.radio_session.specs.Conversation.{Conversation, saying_now}
-use Rattle.radio_session.specs.Exchanges.{Exchange, exchanged}
+use Rattle.radio_exchanges.specs.Exchanges.{exchanged}
+use Rattle.radio_session.specs.Exchanges.{Exchange}
 use Rattle.radio_floor.specs.declared.labelled.Connection.TheVariants.{Client}
 use Rattle.radio_floor.specs.declared.labelled.Labelled.{Labelled}
 use Rattle.radio_floor.specs.ScriptState.{told_lines, kept_unless, with_connection}

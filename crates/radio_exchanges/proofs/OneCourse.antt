@@ -13,7 +13,7 @@ use Rattle.radio_session.specs.declared.state.State.{State}
 use Rattle.radio_session.specs.declared.state.State.TheVariants.{Running, Shut}
 use Rattle.radio_pull.specs.Pulling.{Pulling, Standing, answered, event_for}
 use Rattle.radio_pull.specs.Course.{Asks, Brings, ComesOf, Follows, GoesDownIfShut, Onwards}
-use Rattle.radio_pull.specs.Laws.{AskingIsOne, GoingDownIsOne, TakingIsOne}
+use Rattle.radio_exchanges.specs.Pulls.{AskingIsOne, GoingDownIsOne, TakingIsOne}
 
 pub going_down_is_one : GoingDownIsOne
 going_down_is_one None w a b g h = g ∙ sym h

@@ -4,16 +4,16 @@ use Rattle.radio_events.specs.declared.event.Event.{Event}
 use Rattle.radio_events.specs.declared.event.Event.TheVariants.{RelayDown}
 use Rattle.radio_events.specs.declared.reply.Reply.{Reply}
 use Rattle.radio_house.specs.World.{World}
-use Rattle.radio_core.specs.Step.{Represents, Step}
+use Rattle.radio_core.specs.Step.{Represents, Step, core_steps}
 use Rattle.radio_relay.specs.declared.items.PullItem.{PullItem}
 use Rattle.radio_relay.specs.Items.{items_of}
 use Rattle.radio_relay.specs.Pulled.{GoesOn, Standing as AnswerStanding, Stops}
 use Rattle.radio_session.specs.declared.state.State.{State}
 use Rattle.radio_session.specs.declared.state.State.TheVariants.{Running, Shut}
-use Rattle.radio_session.specs.Exchanges.{Steps, core_steps}
+use Rattle.radio_events.specs.Servers.{Steps}
 use Rattle.radio_pull.specs.Pulling.{Pulling, Standing, event_for}
 use Rattle.radio_pull.specs.Course.{Asks, AsksIf, Brings, ComesOf, Follows, GoesDown, GoesDownIfShut, Onwards, Takes}
-use Rattle.radio_pull.specs.Laws.{CoresAskAsTheirStates, CoresGoDownAsTheirStates, CoresTakeAsTheirStates}
+use Rattle.radio_exchanges.specs.Pulls.{CoresAskAsTheirStates, CoresGoDownAsTheirStates, CoresTakeAsTheirStates}
 
 module _ {S T : Type 0} (steps : Steps S) (others : Steps T) (Same : S → T → Type 0)
     (does : (s s' : S) (t : T) (event : Event) (reply : Reply) → Same s t → steps s event reply s' → (t' : T) × Same s' t' × others t event reply t') where

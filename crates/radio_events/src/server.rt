@@ -3,14 +3,12 @@
 ghost use Rattle.std.specs.Prelude.{◌≡◌, IfOk, OnErr};
 ghost use Rattle.radio_events.specs.declared.event.Event.{Event as EventOf};
 
-use crate::OutOfMemory;
-use radio_core::Core;
-use radio_events::{Event, Reply};
+use crate::{Event, OutOfMemory, Reply};
 use radio_values::MountName;
 
 /// Who applies the events of connections: a core, or whoever has one.
 pub trait Server {
-    ghost use Rattle.radio_session.specs.Exchanges.{Steps};
+    ghost use Rattle.radio_events.specs.Servers.{Steps};
 
     // from one state the event is answered by the reply, and leaves the other state
     ghost steps: { Steps Self };
@@ -26,22 +24,4 @@ pub trait Server {
 
     /// The mount where the listener of this number sits, or sat last, if he is one. It takes no memory.
     fn last_mount(&self, id: u64) -> Option<MountName>;
-}
-
-impl Server for Core {
-    ghost use Rattle.radio_events.specs.Events.{TakesNoMemory};
-    ghost use Rattle.radio_session.specs.Exchanges.{core_steps};
-
-    ghost steps = { core_steps };
-
-    ghost refuses = { λ core event. TakesNoMemory event → ⊥ };
-
-    fn apply(&mut self, event: Event) -> Result<Reply, OutOfMemory> {
-        self.stands();
-        self.step(event)
-    }
-
-    fn last_mount(&self, id: u64) -> Option<MountName> {
-        Core::last_mount(self, id).copied()
-    }
 }

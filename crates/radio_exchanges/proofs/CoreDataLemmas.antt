@@ -3,13 +3,13 @@ use Rattle.std.proofs.Common.{◌≡◌, ◌⊎◌, ◌++◌, sym, subst, ◌∙
 use Rattle.radio_events.specs.declared.event.Event.{Event}
 use Rattle.radio_events.specs.declared.event.Event.TheVariants.{Push, SourceEnd}
 use Rattle.radio_events.specs.declared.reply.Reply.{Reply}
+use Rattle.radio_events.specs.Replies.{IsQuiet, EndsByRule}
 use Rattle.radio_core.specs.CoreReplies.{CoresGoByTheirStates}
-use Rattle.radio_core.specs.SourceReplies.{to_data, to_end, IsQuiet, EndsByRule, SourcesAreToldByTheirData, EndsAreTold}
-use Rattle.radio_core.specs.Step.{Represents, StandsForSome, reply_to, world_after}
+use Rattle.radio_core.specs.SourceReplies.{to_data, to_end, SourcesAreToldByTheirData, EndsAreTold}
+use Rattle.radio_core.specs.Step.{Represents, StandsForSome, core_steps, reply_to, world_after}
 use Rattle.radio_house.specs.World.{World}
-use Rattle.radio_session.specs.Exchanges.{core_steps}
 use Rattle.radio_session.specs.DataServers.{HasOneReply}
-use Rattle.radio_session.specs.Laws.{CoresGoByData}
+use Rattle.radio_exchanges.specs.Laws.{CoresGoByData}
 
 -- a step of a core, from a state that it stands for
 record IsStep (core core' : World) (event : Event) (reply : Reply) (w : World) : Type 0 where

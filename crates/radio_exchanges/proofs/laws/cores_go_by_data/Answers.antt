@@ -1,5 +1,5 @@
-use Rattle.radio_session.proofs.CoreDataLemmas as lemmas
-use Rattle.radio_session.proofs.laws.cores_go_by_data.Goals as goal
+use Rattle.radio_exchanges.proofs.CoreDataLemmas as lemmas
+use Rattle.radio_exchanges.proofs.laws.cores_go_by_data.Goals as goal
 
 pub returns : goal.returns
 returns c =

@@ -1,0 +1,5 @@
+mod ExchangeLemmas
+mod ToldLemmas
+mod CoreDataLemmas
+mod Simulation
+mod OneCourse

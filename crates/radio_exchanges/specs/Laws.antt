@@ -1,0 +1,24 @@
+-- Laws on exchanges with a core, for callers.
+use Rattle.std.specs.Prelude.{◌≡◌, ℕ, List}
+use Rattle.radio_events.specs.declared.event.Event.{Event}
+use Rattle.radio_house.specs.World.{World}
+use Rattle.radio_core.specs.Step.{Represents, core_steps}
+use Rattle.radio_session.specs.declared.session.Says.{Says}
+use Rattle.radio_session.specs.DataServers.{GoesByData}
+use Rattle.radio_session.specs.Exchanges.{Exchange, Exchanges}
+use Rattle.radio_session.specs.Told.{told}
+use Rattle.radio_exchanges.specs.Exchanges.{ExchangesAs, exchanged, replies_to}
+
+-- What a connection's events come to over a core is what they come to from any state that it stands for.
+abbrev pub CoresExchangeAsTheirStates : Type 0
+CoresExchangeAsTheirStates = (id : ℕ) (says : Says) (events : List Event) (core core' : World) (x : Exchange)
+    → Exchanges core_steps id says events core x core' → (w : World) → Represents core w → ExchangesAs core' x (exchanged w id says events)
+
+-- a core goes by the data of each of its sources
+abbrev pub CoresGoByData : Type 0
+CoresGoByData = (id : ℕ) → GoesByData core_steps id
+
+-- What goes out for a connection's events is what is told of their replies.
+abbrev pub ExchangesTellReplies : Type 0
+ExchangesTellReplies = (w : World) (id : ℕ) (says : Says) (events : List Event) →
+    (exchanged w id says events).exchange.bytes ≡ told says (replies_to w events)

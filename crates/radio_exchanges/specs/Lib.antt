@@ -1,0 +1,3 @@
+pub mod Exchanges
+pub mod Laws
+pub mod Pulls

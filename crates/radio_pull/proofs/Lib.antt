@@ -1,2 +1,0 @@
-pub mod Simulation
-pub mod OneCourse
