@@ -20,7 +20,7 @@ use Rattle.radio_changes.specs.declared.change.Change.TheVariants.{EndAndLeave, 
 use Rattle.radio_fallback.specs.declared.moves.Move.{Move}
 use Rattle.radio_fallback.specs.declared.moves.Move.TheVariants.{Ended as SessionEnds, Up, To}
 use Rattle.radio_fallback.proofs.Faring.{each_carried}
-use Rattle.radio_changes.specs.Changes.{answered, done, session_ended_by, session_killed, carried_along, session_over, session_ended, called_home, client_gone, before_silence, session_begun, session_raised}
+use Rattle.radio_changes.specs.Changes.{changed, answered, done, session_ended_by, session_killed, carried_along, session_over, session_ended, called_home, client_gone, before_silence, session_begun, session_raised}
 use Rattle.radio_changes.specs.Changes.{session_silenced, silent_in, ticked}
 use Rattle.radio_house.specs.Clients.{Client, newcomer, is_client, by_number, with_state, in_state}
 use Rattle.radio_parts.specs.Due.{last_moment, due_at, listener_due, session_due, earliest}
@@ -309,3 +309,7 @@ due_committed w later change moment (Ok done) ok err due =
     subst (λ (x : World). IsDueFrom (min moment (due_by w change)) x) (sym ok) (due_after w change moment due)
 due_committed w later change moment (Err refused) ok err due =
     subst (λ (x : World). IsDueFrom (min moment (due_by w change)) x) (sym err) (due_earlier w moment (min moment (due_by w change)) (omega arith) due)
+
+-- who has heard his stream up to a place is due when he was
+pub advanced_due : (w : World) (id place moment : ℕ) → moment ≤ last_moment → IsDueFrom moment w → IsDueFrom moment (changed w (Advance id place))
+advanced_due w id place moment last due = stays_due moment last w (Advance id place) due last

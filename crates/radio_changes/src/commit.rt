@@ -68,7 +68,7 @@ impl State {
                 NOBODY
             }
             Change::Advance { id, place } => {
-                self.seats.advance(id, place);
+                self.advance(id, place);
                 NOBODY
             }
             Change::Forget { id } => {
@@ -84,6 +84,13 @@ impl State {
                 NOBODY
             }
         }
+    }
+
+    /// The listener has heard his stream up to this place. It takes no memory.
+    pub(crate) fn advance(&mut self, id: u64, place: Place)
+        ensures { self.new ≡ changed self.old (Change.Advance id place) }
+    {
+        self.seats.advance(id, place);
     }
 
     /// What the mount's source feeds has this title from now on. It takes no memory.

@@ -13,6 +13,7 @@ use crate::change::Change;
 use crate::commit::NOBODY;
 use crate::state::State;
 use radio_access::Lists;
+use radio_blocks::Place;
 use radio_fallback::Carried;
 use radio_house::House;
 use radio_parts::{LAST_MOMENT, due_at, seat_due};
@@ -85,6 +86,13 @@ impl TimedState {
             }
             change => self.commit_noting_due(change),
         }
+    }
+
+    /// The listener has heard his stream up to this place. It takes no memory, and nothing is due by it.
+    pub fn advance(&mut self, id: u64, place: Place)
+        ensures { self.new ≡ kept_changed self.old (Change.Advance id place) }
+    {
+        self.state.advance(id, place);
     }
 
     /// Makes a change, and notes when what it brings is due; answers how many listeners it has moved

@@ -11,6 +11,7 @@ use Rattle.radio_events.specs.declared.text.Text.{Text}
 use Rattle.radio_fallback.specs.declared.moves.Carried.{Carried}
 use Rattle.radio_core.specs.declared.outcome.Outcome.{Outcome}
 use Rattle.radio_core.specs.Command.{obeys}
+use Rattle.radio_core.specs.Draw.{draws}
 use Rattle.radio_core.specs.Pages.{IsShownBy}
 use Rattle.radio_changes.specs.Counts.{counted, nobody}
 use Rattle.radio_core.specs.Planned.{told_counts, with_counts, uncounted, planned}
@@ -62,6 +63,15 @@ module _ (w : World) where
   planned_so (RelayUp mount shown) = plain (RelayUp mount shown) (λ asked e. cc)
   planned_so (RelayDown id) = plain (RelayDown id) (λ asked e. cc)
   planned_so (Clock ms) = plain (Clock ms) (λ asked e. cc)
+
+  -- a draw tells none
+  pub draw_untold : (id room : ℕ) (counts : Carried) → with_counts (draws w id room).reply counts ≡ (draws w id room).reply
+  unfolding outcome
+  draw_untold id room counts = plain_by (Draw id room) (draws w id room) (way_of w (Draw id room)) (λ asked e. cc) counts
+
+  pub draw_planned : (id room : ℕ) → planned w (Draw id room) ≡ draws w id room
+  unfolding planned outcome
+  draw_planned id room = refl
 
   abbrev IsCompleted : Outcome → Type 0
   IsCompleted o = with_counts (uncounted o).reply (counted w o.change) ≡ o.reply

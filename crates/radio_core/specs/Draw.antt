@@ -1,8 +1,10 @@
 use Rattle.std.specs.Prelude.{ℕ, ◌+◌, length, Option, Some, None}
 use Rattle.radio_house.specs.House.{House}
 use Rattle.radio_events.specs.declared.reply.Reply.TheVariants.{Drawn, Stray}
+use Rattle.radio_changes.specs.declared.change.Change.{Change}
 use Rattle.radio_changes.specs.declared.change.Change.TheVariants.{Nothing, Advance}
 use Rattle.radio_core.specs.declared.outcome.Outcome.{Outcome}
+use Rattle.radio_core.specs.declared.server.draw.Drawing.{Drawing}
 use Rattle.radio_seats.specs.declared.seat.Seat.{Seat}
 use Rattle.radio_parts.specs.Sessions.{Session}
 use Rattle.radio_parts.specs.Stream.{data_at}
@@ -21,6 +23,15 @@ hands_out id seat room (Some session) =
 abbrev pub hands_out_at : House → ℕ → ℕ → Option Seat → Outcome
 hands_out_at house id room None = says Stray Nothing
 hands_out_at house id room (Some seat) = hands_out id seat room (heard_at house seat.mount)
+
+-- where a draw moves him
+abbrev pub moves_to : ℕ → Option ℕ → Change
+moves_to id None = Nothing
+moves_to id (Some place) = Advance id place
+
+-- what comes of a draw that is replied to so, and moves him there
+abbrev pub comes_to : ℕ → Drawing → Outcome
+comes_to id drawing = says drawing.reply (moves_to id drawing.place)
 
 -- a listener has room for so many bytes
 abbrev pub draws : World → ℕ → ℕ → Outcome

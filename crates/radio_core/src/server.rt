@@ -111,8 +111,7 @@ impl Core {
         ensures frees { TakesNoMemory event → IsOk result }
         ensures err { OnErr result (self.new ≡ self.old) }
     {
-        let Outcome { reply, change } = self.state.outcome(event)?;
-        self.state.commit_for(change, reply)
+        self.state.step(event)
     }
 
     /// One event, with its reply three times, as a record of it, its client and its caller keep it.

@@ -3,7 +3,9 @@
 ghost use Rattle.std.specs.Prelude.{◌≡◌, IsOk, IfOk};
 ghost use Rattle.radio_events.specs.Events.{TakesNoMemory};
 
-use crate::{Asked, Command, CommandRequest, Event, ListenRequest, OutOfMemory, SourceRequest};
+use crate::{
+    Asked, Boxed, Command, CommandRequest, Event, ListenRequest, OutOfMemory, SourceRequest,
+};
 use bytes::Bytes;
 use radio_blocks::Block;
 use radio_creds::Pair;
@@ -28,7 +30,7 @@ impl Event {
                 id: *id,
                 room: *room,
             }),
-            Event::Command(asked) => Ok(Event::Command(request_again(asked)?)),
+            Event::Command(asked) => Ok(Event::Command(boxed_again(asked)?)),
             Event::Leave { id } => Ok(Event::Leave { id: *id }),
             Event::RelayUp { mount, shown } => relay_again(mount, shown),
             Event::RelayDown { id } => Ok(Event::RelayDown { id: *id }),
@@ -90,6 +92,13 @@ fn listen_again(asked: &ListenRequest) -> Result<ListenRequest, OutOfMemory>
         wants_metadata: asked.wants_metadata,
         host: asked.host.clone()?,
     })
+}
+
+/// An equal request, in an allocation of its own. `OutOfMemory` where memory was refused.
+fn boxed_again(asked: &Boxed<CommandRequest>) -> Result<Boxed<CommandRequest>, OutOfMemory>
+    ensures { IfOk result (λ again. again ≡ asked.now) }
+{
+    Boxed::new(asked.allocator(), request_again(asked)?)
 }
 
 /// An equal request. `OutOfMemory` where memory was refused.

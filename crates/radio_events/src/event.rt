@@ -1,6 +1,6 @@
 //! What happens to the server.
 
-use crate::CommandRequest;
+use crate::{Boxed, CommandRequest};
 use bytes::Bytes;
 use radio_addr::Peer;
 use radio_blocks::Block;
@@ -68,7 +68,7 @@ pub enum Event {
         room: u32,
     },
     /// A client gives a command.
-    Command(CommandRequest),
+    Command(Boxed<CommandRequest>),
     /// The client's connection is closed.
     Leave {
         id: u64,

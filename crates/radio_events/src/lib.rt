@@ -2,6 +2,7 @@
 //!
 //! - [`Event`]: what happens; [`SourceRequest`], [`ListenRequest`] and [`CommandRequest`] are what a
 //!   client asks for.
+//! - [`Boxed`]: a value in an allocation of its own, as a command's request is.
 //! - [`Reply`]: what the server replies; a [`Text`] is its answer to a command, or to one who
 //!   is shown something of the station.
 //! - [`Entry`]: one event with its reply, of which histories are made.
@@ -10,6 +11,7 @@
 #![tactic(auto)]
 
 mod again;
+mod boxed;
 mod command;
 mod data;
 mod entry;
@@ -21,6 +23,7 @@ mod same_values;
 mod server;
 mod text;
 
+pub use boxed::Boxed;
 pub use command::{Asked, Command, CommandRequest, Listing, OpenedBy};
 pub use entry::Entry;
 pub use event::{Event, ListenRequest, SourceRequest};

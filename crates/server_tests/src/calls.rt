@@ -7,7 +7,8 @@ use radio_book::OutOfMemory;
 use radio_core::Core;
 use radio_creds::basic;
 use radio_events::{
-    Asked, Command, CommandRequest, Event, ListenRequest, Listing, OpenedBy, Reply, SourceRequest,
+    Asked, Boxed, Command, CommandRequest, Event, ListenRequest, Listing, OpenedBy, Reply,
+    SourceRequest,
 };
 use radio_icy::Title;
 use radio_values::{MountName, Shown};
@@ -238,7 +239,8 @@ pub fn listen_event(alloc: Global, id: u64, path: &str) -> Result<Event, OutOfMe
 /// This client gives a command, as the admin.
 pub fn command_event(alloc: Global, id: u64, asked: Asked) -> Result<Event, OutOfMemory> {
     let pair = basic(alloc, ADMIN_PAIR)?;
-    Ok(Event::Command(CommandRequest { id, asked, pair }))
+    let request = Boxed::new(alloc, CommandRequest { id, asked, pair })?;
+    Ok(Event::Command(request))
 }
 
 /// This client delivers these data. Of no data there is no block: a stray event stands in its place.

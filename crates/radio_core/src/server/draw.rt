@@ -1,5 +1,5 @@
-ghost use Rattle.std.specs.Prelude.{◌≡◌, Some, IfOk};
-ghost use Rattle.radio_core.specs.Draw.{draws, hands_out};
+ghost use Rattle.std.specs.Prelude.{◌≡◌, ℕ, None, Some, IfOk};
+ghost use Rattle.radio_core.specs.Draw.{comes_to, draws, hands_out};
 ghost use Rattle.radio_core.specs.Outcomes.{out_of_place};
 ghost use Rattle.radio_seats.specs.Seats.{seat_of};
 ghost use Rattle.radio_seats.specs.declared.seat.Seat.{Seat as SeatOf};
@@ -18,12 +18,44 @@ use radio_house::Standing;
 use radio_seats::LentSeat;
 use radio_values::MountName;
 
+/// What a draw comes to: the reply, and the place up to which the listener has heard his stream then, if he is handed anything.
+#[derive(Drop)]
+pub(crate) struct Drawing {
+    pub reply: Reply,
+    pub place: Option<Place>,
+}
+
+impl Drawing {
+    /// The listener of this number draws: what comes of it.
+    pub(super) fn outcome(self, id: u64) -> Outcome
+        ensures { result ≡ comes_to id self }
+    {
+        match self.place {
+            Some(place) => Outcome {
+                reply: self.reply,
+                change: Change::Advance { id, place },
+            },
+            None => Outcome {
+                reply: self.reply,
+                change: Change::Nothing,
+            },
+        }
+    }
+
+    /// This reply, and he hears on where he is.
+    fn of(reply: Reply) -> Drawing
+        ensures { (result.reply ≡ reply) × (result.place ≡ None) }
+    {
+        Drawing { reply, place: None }
+    }
+}
+
 impl State {
     /// A listener has room for so many bytes. Whoever has a seat is a client who sits, so only of
     /// one who has none the client is looked up. `OutOfMemory` where memory was refused.
-    pub(super) fn draw(&self, id: u64, room: u32) -> Result<Outcome, OutOfMemory>
+    pub(super) fn draw(&self, id: u64, room: u32) -> Result<Drawing, OutOfMemory>
         requires { StandsForSome self.now }
-        ensures { IfOk result (λ o. o ≡ draws self.now id room) }
+        ensures { IfOk result (λ drawing. comes_to id drawing ≡ draws self.now id room) }
     {
         match self.seats().seat(id) {
             Some(seat) => self.hand_out(id, seat, room),
@@ -32,46 +64,46 @@ impl State {
     }
 
     /// One who has no seat has room for bytes.
-    fn draw_without_seat(&self, id: u64) -> Outcome
-        ensures { result ≡ out_of_place (standing_of self.now id) }
+    fn draw_without_seat(&self, id: u64) -> Drawing
+        ensures { comes_to id result ≡ out_of_place (standing_of self.now id) }
     {
         match self.standing(id) {
-            Standing::Finished(rule) => Outcome::finished(rule),
-            _ => Outcome::stray(),
+            Standing::Finished(rule) => Drawing::of(Reply::Finished(rule)),
+            _ => Drawing::of(Reply::Stray),
         }
     }
 
     /// He is handed what stands at his place.
-    fn hand_out(&self, id: u64, seat: LentSeat<'_>, room: u32) -> Result<Outcome, OutOfMemory>
+    fn hand_out(&self, id: u64, seat: LentSeat<'_>, room: u32) -> Result<Drawing, OutOfMemory>
         requires stands { StandsForSome self.now }
         requires sits { seat_of self.now.seats id ≡ Some (lent_seat seat) }
-        ensures { IfOk result (λ o. o ≡ hands_out id (lent_seat seat.entry) room (heard_at self.now.house seat.entry.mount.now)) }
+        ensures { IfOk result (λ drawing. comes_to id drawing ≡ hands_out id (lent_seat seat.entry) room (heard_at self.now.house seat.entry.mount.now)) }
     {
         let Some(session) = self.house().session(seat.mount) else {
-            return Ok(self.hand_out_nothing(id, seat.place, seat.mount));
+            return Ok(self.hand_out_nothing(seat.place, seat.mount));
         };
         let mut pieces = Pieces::new(self.alloc);
         let place = session.stream.draw(seat.place, room, &mut pieces)?;
         let title = session.title.clone()?;
-        Ok(Outcome {
+        Ok(Drawing {
             reply: Reply::Drawn { pieces, title },
-            change: Change::Advance { id, place },
+            place: Some(place),
         })
     }
 
     /// At a mount that waits for a session one whose place is this is handed nothing.
-    fn hand_out_nothing(&self, id: u64, place: Place, mount: &MountName) -> Outcome
-        ensures { (room : _) (seat : SeatOf) → seat.place ≡ place → result ≡ hands_out id seat room (silence_of self.now.house mount.now) }
+    fn hand_out_nothing(&self, place: Place, mount: &MountName) -> Drawing
+        ensures { (id room : ℕ) (seat : SeatOf) → seat.place ≡ place → comes_to id result ≡ hands_out id seat room (silence_of self.now.house mount.now) }
     {
         if !self.house().is_on_demand(mount) {
-            return Outcome::stray();
+            return Drawing::of(Reply::Stray);
         }
-        Outcome {
+        Drawing {
             reply: Reply::Drawn {
                 pieces: Pieces::new(self.alloc),
                 title: None,
             },
-            change: Change::Advance { id, place },
+            place: Some(place),
         }
     }
 }

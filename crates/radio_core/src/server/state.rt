@@ -8,15 +8,18 @@ ghost use Rattle.radio_house.specs.World.{opening, standing_of, has_relay};
 ghost use Rattle.radio_changes.specs.Changes.{NeedsNoMemory};
 ghost use Rattle.radio_changes.specs.Counts.{counted};
 ghost use Rattle.radio_changes.specs.KeptChanges.{kept_changed};
+ghost use Rattle.radio_core.specs.Draw.{draws, moves_to};
 ghost use Rattle.radio_core.specs.Planned.{planned, with_counts};
 ghost use Rattle.radio_core.specs.Step.{StandsForSome};
 ghost use Rattle.radio_events.specs.declared.reply.Reply.{Reply as ReplyOf};
 ghost use Rattle.radio_events.specs.Events.{TakesNoMemory};
 
+use super::draw::Drawing;
 use super::telling::{all_with_counts, with_counts};
 use crate::OutOfMemory;
 use crate::outcome::Outcome;
 use radio_access::Lists;
+use radio_blocks::Place;
 use radio_changes::{Change, TimedState};
 use radio_events::{Event, Reply};
 use radio_house::{House, Standing};
@@ -92,13 +95,61 @@ impl State {
             Event::SourceEnd { id } => Ok(self.source_end(id)),
             Event::Title { id, text } => Ok(self.title(id, text)),
             Event::Listen(asked) => self.get(asked),
-            Event::Draw { id, room } => self.draw(id, room),
-            Event::Command(asked) => self.command(asked),
+            Event::Draw { id, room } => Ok(self.draw(id, room)?.outcome(id)),
+            Event::Command(asked) => self.command(asked.into_inner()),
             Event::Leave { id } => Ok(self.leave(id)),
             Event::RelayUp { mount, shown } => self.relay_up(mount.as_slice(), &shown),
             Event::RelayDown { id } => Ok(self.relay_down(id)),
             Event::Clock { ms } => Ok(self.clock(ms)),
         }
+    }
+
+    /// One event: what comes of it is worked out, and its change is made. `OutOfMemory` where memory was
+    /// refused; nothing has changed then.
+    pub(super) fn step(&mut self, event: Event) -> Result<Reply, OutOfMemory>
+        requires { StandsForSome self.old }
+        ensures ok { OnOk result (self.new ≡ kept_changed self.old (planned self.old event).change) }
+        ensures told { IfOk result (λ reply. reply ≡ with_counts (planned self.old event).reply (counted self.old (planned self.old event).change)) }
+        ensures err { OnErr result (self.new ≡ self.old) }
+        ensures frees { TakesNoMemory event → IsOk result }
+    {
+        match event {
+            Event::Draw { id, room } => self.step_drawing(id, room),
+            event => self.step_by_outcome(event),
+        }
+    }
+
+    /// A draw, as a step. It comes for each listener and block, so it makes no outcome, which is large.
+    fn step_drawing(&mut self, id: u64, room: u32) -> Result<Reply, OutOfMemory>
+        requires { StandsForSome self.old }
+        ensures ok { OnOk result (self.new ≡ kept_changed self.old (draws self.old id room).change) }
+        ensures told { IfOk result (λ reply. reply ≡ (draws self.old id room).reply) }
+        ensures err { OnErr result (self.new ≡ self.old) }
+    {
+        let Drawing { reply, place } = self.draw(id, room)?;
+        self.advance(id, place);
+        Ok(reply)
+    }
+
+    /// The listener has heard his stream up to this place, if there is one. It takes no memory.
+    fn advance(&mut self, id: u64, place: Option<Place>)
+        ensures { self.new ≡ kept_changed self.old (moves_to id place) }
+    {
+        if let Some(place) = place {
+            self.state.advance(id, place);
+        }
+    }
+
+    /// Any event, as a step.
+    fn step_by_outcome(&mut self, event: Event) -> Result<Reply, OutOfMemory>
+        requires { StandsForSome self.old }
+        ensures ok { OnOk result (self.new ≡ kept_changed self.old (planned self.old event).change) }
+        ensures told { IfOk result (λ reply. reply ≡ with_counts (planned self.old event).reply (counted self.old (planned self.old event).change)) }
+        ensures err { OnErr result (self.new ≡ self.old) }
+        ensures frees { TakesNoMemory event → IsOk result }
+    {
+        let Outcome { reply, change } = self.outcome(event)?;
+        self.commit_for(change, reply)
     }
 
     /// Makes a change, and gives back the reply that was worked out for it, which tells how many were

@@ -10,7 +10,7 @@ use crate::session::framing::is_word;
 use bytes::Bytes;
 use radio_admin::read_path;
 use radio_creds::{Pair, basic};
-use radio_events::{CommandRequest, Event, ListenRequest, SourceRequest};
+use radio_events::{Boxed, CommandRequest, Event, ListenRequest, SourceRequest};
 use radio_heads::Head;
 use radio_values::Shown;
 use std::alloc::Global;
@@ -93,7 +93,8 @@ fn gives_command(alloc: Global, id: u64, head: &Head, path: &Bytes) -> Result<Ev
 {
     let pair = pair_of(alloc, head)?;
     let asked = asked_in(alloc, path.as_slice(), query_in(head))?;
-    Ok(Event::Command(CommandRequest { id, asked, pair }))
+    let request = Boxed::new(alloc, CommandRequest { id, asked, pair })?;
+    Ok(Event::Command(request))
 }
 
 /// The path that a head's target stands for, percent decoded. `OutOfMemory` where memory was refused.

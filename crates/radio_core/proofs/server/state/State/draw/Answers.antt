@@ -4,7 +4,7 @@ use Rattle.radio_house.specs.House.{House}
 use Rattle.radio_core.specs.declared.outcome.Outcome.{Outcome}
 use Rattle.radio_house.specs.declared.standing.Standing.{Standing}
 use Rattle.radio_house.specs.declared.standing.Standing.TheVariants.{Unknown, Undecided, Feeds, Sits, Answered, Finished}
-use Rattle.radio_core.specs.Draw.{hands_out, hands_out_at}
+use Rattle.radio_core.specs.Draw.{comes_to, hands_out, hands_out_at}
 use Rattle.radio_core.specs.Outcomes.{if_sitting, out_of_place}
 use Rattle.radio_house.specs.World.{standing_of}
 use Rattle.radio_core.proofs.StepLemmas.{seat_sits}
@@ -33,7 +33,7 @@ returns-in-Some c =
     let seat = lent_seat c.in-Some.seat in
     let has : seat_of w.seats c.args.id ≡ Some seat
     = ap (λ (seats : List Listener). seat_of seats c.args.id) (sym c.seats.ensures) ∙ sym c.seat.ensures ∙ ap (option_map lent_seat) c.in-Some.is in
-    subst (λ (o : Outcome). IfOk c.hand_out.result (λ told. told ≡ o))
+    subst (λ (o : Outcome). IfOk c.hand_out.result (λ drawing. comes_to c.args.id drawing ≡ o))
     (draws_seated (standing_of w c.args.id) (seat_of w.seats c.args.id) w.house c.args.id c.args.room seat (seat_sits w c.requires c.args.id seat has) has)
     c.hand_out.ensures
 
