@@ -1,23 +1,7 @@
-//! The first of several blocks, and how much memory a block keeps.
+//! How much memory a block keeps.
 
-use radio_blocks::{Block, MAX_BLOCK, OutOfMemory, first_block};
+use radio_blocks::{Block, MAX_BLOCK, OutOfMemory};
 use std::alloc::Global;
-
-/// So many bytes.
-const SO_MANY: usize = 5000;
-
-/// The length of the first of the blocks that so many bytes make, of another handle on it, and of the rest.
-fn lengths(alloc: Global) -> Result<(usize, usize, usize), OutOfMemory> {
-    let bytes = vec![in alloc; b'x'; SO_MANY]?;
-    let (block, rest) = first_block(alloc, bytes.as_slice())?;
-    let shared = block.share()?;
-    Ok((block.len(), shared.len(), rest.len()))
-}
-
-#[test]
-fn first_of_two(rt: HostRuntime) {
-    assert!(rt; lengths(rt.alloc()) == Ok((4096, 4096, 904)));
-}
 
 /// How many bytes of memory a block keeps. It must be the only one that shares them.
 fn memory_of(block: Block) -> usize {
@@ -48,11 +32,14 @@ fn memory_of_copied(alloc: Global, bytes: &[u8]) -> Result<usize, OutOfMemory> {
     Ok(memory_of(Block::copied(alloc, bytes)?))
 }
 
+/// Bytes, in how much room they stood, and how much memory a block keeps that was made of them.
+const MADE: &[(&[u8], usize, usize)] = &[(b"a", 4096, 1), (b"abcd", 8, 8), (b"abcd", 9, 4)];
+
 // no contract of std or of `bytes` says how much memory bytes keep
 #[test]
 fn blocks_keep_little_room(rt: HostRuntime) {
-    assert!(rt; memory_of_made(rt.alloc(), b"a", 4096) == Ok(1));
-    assert!(rt; memory_of_made(rt.alloc(), b"abcd", 8) == Ok(8));
-    assert!(rt; memory_of_made(rt.alloc(), b"abcd", 9) == Ok(4));
+    for (bytes, room, memory) in MADE {
+        assert!(rt; memory_of_made(rt.alloc(), bytes, *room) == Ok(*memory));
+    }
     assert!(rt; memory_of_copied(rt.alloc(), b"abcdef") == Ok(6));
 }

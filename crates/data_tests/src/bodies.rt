@@ -3,7 +3,7 @@
 mod memory;
 
 use radio_blocks::Block;
-use radio_source::{Body, BodyFault, OutOfMemory};
+use radio_source::{Blocks, Body, BodyFault, OutOfMemory};
 use std::alloc::Global;
 
 /// What one feed is to answer: data and whether the end came, or a fault.
@@ -83,16 +83,29 @@ fn gather(blocks: &[Block], sound: &mut Vec<u8>) -> Result<(), OutOfMemory> {
 
 /// Whether a feed gives the answer.
 fn answers(alloc: Global, body: &mut Body, piece: &[u8], answer: Answer) -> bool {
-    let mut sound = Vec::new(alloc);
-    match (body.feed(piece), answer) {
-        (Ok(blocks), Brings(wanted, is_complete)) => {
-            gather(blocks.blocks.as_slice(), &mut sound).is_ok()
-                && sound.as_slice() == wanted
-                && blocks.is_complete == is_complete
-        }
-        (Err(fault), Refuses(wanted)) => fault == wanted,
-        _ => false,
+    match body.feed(piece) {
+        Ok(blocks) => are_brought(alloc, &blocks, answer),
+        Err(fault) => match answer {
+            Brings(..) => false,
+            Refuses(wanted) => fault == wanted,
+        },
     }
+}
+
+/// Whether the answer brings these blocks.
+fn are_brought(alloc: Global, blocks: &Blocks, answer: Answer) -> bool {
+    match answer {
+        Brings(wanted, is_complete) => {
+            blocks.is_complete == is_complete && is_sound(alloc, blocks.blocks.as_slice(), wanted)
+        }
+        Refuses(_) => false,
+    }
+}
+
+/// Whether the data of these blocks are that.
+fn is_sound(alloc: Global, blocks: &[Block], wanted: &[u8]) -> bool {
+    let mut sound = Vec::new(alloc);
+    gather(blocks, &mut sound).is_ok() && sound.as_slice() == wanted
 }
 
 /// Whether each feed of a body gives its answer.

@@ -3,7 +3,6 @@
 use radio_admin::{AdminFault, Command, OutOfMemory, RawText, read_command, read_path};
 use radio_values::MountName;
 use std::alloc::Global;
-use std::test::Fail;
 
 /// A path, a query, and the command or the fault that they come to, as `shown` writes it.
 const ROWS: &[(&[u8], &[u8], &str)] = &[
@@ -122,27 +121,37 @@ const TITLES: &[(&[u8], Option<&[u8]>)] = &[
 ];
 
 #[test]
-fn commands_are_read(rt: HostRuntime) -> Result<(), Fail> {
+fn commands_are_read(rt: HostRuntime) {
     for (path, query, want) in ROWS {
-        let got = shown(rt.alloc(), path, query)?;
-        assert!(rt; got.as_str() == *want, "{got} for {want}");
+        assert!(rt; is_shown(rt.alloc(), path, query, want));
     }
-    Ok(())
 }
 
 #[test]
-fn titles_are_read(rt: HostRuntime) -> Result<(), Fail> {
+fn titles_are_read(rt: HostRuntime) {
     for (query, want) in TITLES {
-        assert!(rt; sets_title(rt.alloc(), query, *want), "{want:?}");
+        assert!(rt; sets_title(rt.alloc(), query, *want));
     }
-    Ok(())
 }
 
 #[test]
-fn paths_are_read(rt: HostRuntime) -> Result<(), Fail> {
-    let path = read_path(rt.alloc(), b"/%61+b%2g%")?;
-    assert!(rt; path.as_slice() == b"/a+b%2g%".as_slice());
-    Ok(())
+fn paths_are_read(rt: HostRuntime) {
+    assert!(rt; is_path_read(rt.alloc()));
+}
+
+fn is_path_read(alloc: Global) -> bool {
+    match read_path(alloc, b"/%61+b%2g%") {
+        Ok(path) => path.as_slice() == b"/a+b%2g%".as_slice(),
+        Err(_) => false,
+    }
+}
+
+/// Whether the path and the query come to what is shown so.
+fn is_shown(alloc: Global, path: &[u8], query: &[u8], want: &str) -> bool {
+    match shown(alloc, path, query) {
+        Ok(got) => got.as_str() == want,
+        Err(_) => false,
+    }
 }
 
 /// With memory refused at any step, the answer is that one or none.

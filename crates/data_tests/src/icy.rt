@@ -7,7 +7,6 @@ mod weaving;
 
 use radio_icy::OutOfMemory;
 use std::alloc::Global;
-use std::process::Abort;
 
 /// A title between sound, with a block after each four bytes.
 const X_STREAM: &[u8] = b"abcd\x01StreamTitle='X';efgh\x00";

@@ -6,7 +6,6 @@ ghost use Rattle.radio_intake.specs.Passes.{all_parts};
 use radio_intake::{Intake, IntakePass, ROOM};
 use std::alloc::Global;
 use std::sync::Wait;
-use std::test::Fail;
 use std::thread::{Threads, join, yield_now};
 
 /// More lines than an intake has room for.
@@ -52,11 +51,18 @@ fn fill_and_empty<R: Wait>(
     (handed, full, came, intake.tally(rt, pass))
 }
 
+fn is_filled_and_emptied<R: Wait>(rt: &R, alloc: Global) -> bool {
+    match Intake::new(alloc) {
+        Ok((intake, mut pass)) => {
+            fill_and_empty(rt, &intake, &mut pass) == (Some(1024), ROOM, 1024, 0)
+        }
+        Err(_) => false,
+    }
+}
+
 #[test]
-fn the_1025th_is_handed_back(rt: HostRuntime) -> Result<(), Fail> {
-    let (intake, mut pass) = Intake::new(rt.alloc())?;
-    assert!(rt; fill_and_empty(&rt, &intake, &mut pass) == (Some(1024), ROOM, 1024, 0));
-    Ok(())
+fn the_1025th_is_handed_back(rt: HostRuntime) {
+    assert!(rt; is_filled_and_emptied(&rt, rt.alloc()));
 }
 
 // Puts a line that owns memory: whether there was memory, and room.
@@ -106,11 +112,16 @@ fn hand_to_other<R: Wait>(
 }
 
 // The line that is left goes with the intake.
+fn is_handed_to_other<R: Wait>(rt: &R, alloc: Global) -> bool {
+    match Intake::new(alloc) {
+        Ok((intake, mut pass)) => hand_to_other(rt, alloc, &intake, &mut pass) == (Some(7), 1),
+        Err(_) => false,
+    }
+}
+
 #[test]
-fn what_two_passes_tell(rt: HostRuntime) -> Result<(), Fail> {
-    let (intake, mut pass) = Intake::new(rt.alloc())?;
-    assert!(rt; hand_to_other(&rt, rt.alloc(), &intake, &mut pass) == (Some(7), 1));
-    Ok(())
+fn what_two_passes_tell(rt: HostRuntime) {
+    assert!(rt; is_handed_to_other(&rt, rt.alloc()));
 }
 
 // Run it with each request for memory refused in turn, by `rt try --test --fail-alloc N`.
@@ -191,9 +202,14 @@ fn hand_over<R: Threads + Wait + Sync>(
     (sum, intake.tally(rt, &mut pass))
 }
 
+fn is_handed_over<R: Threads + Wait + Sync>(rt: &R, alloc: Global) -> bool {
+    match Intake::new(alloc) {
+        Ok((intake, pass)) => hand_over(rt, &intake, pass) == (12_497_500, 0),
+        Err(_) => false,
+    }
+}
+
 #[test]
-fn from_thread_to_thread(rt: HostRuntime) -> Result<(), Fail> {
-    let (intake, pass) = Intake::new(rt.alloc())?;
-    assert_eq!(&rt; hand_over(&rt, &intake, pass), (12_497_500, 0));
-    Ok(())
+fn from_thread_to_thread(rt: HostRuntime) {
+    assert!(rt; is_handed_over(&rt, rt.alloc()));
 }

@@ -1,6 +1,7 @@
 //! A bounded queue of blocks: what nobody sees of it who listens. What listeners are given is in the end-to-end scripts.
 
-use radio_blocks::{Block, BlockQueue, DrawFault, OutOfMemory, Pieces, Place};
+use bytes::Bytes;
+use radio_blocks::{Block, BlockQueue, OutOfMemory, Pieces, Place};
 use std::alloc::Global;
 
 /// Blocks of four bytes.
@@ -42,7 +43,7 @@ fn queue_of(
 }
 
 fn push(alloc: Global, queue: &mut BlockQueue, bytes: &[u8]) -> Result<(), OutOfMemory> {
-    let shared = bytes::Bytes::copy_from_slice(alloc, bytes)?;
+    let shared = Bytes::copy_from_slice(alloc, bytes)?;
     match Block::new(shared) {
         Some(block) => queue.push(block)?,
         None => return Ok(()),
@@ -81,7 +82,7 @@ fn push_shared(queue: &mut BlockQueue, block: &Block, count: u32) -> Result<(), 
 /// The place behind so many blocks of 4096 bytes, of which the last ones are kept.
 fn end_of_many(alloc: Global, count: u32) -> Result<u64, OutOfMemory> {
     let mut queue = BlockQueue::new(alloc, 8192);
-    let shared = bytes::Bytes::copy_from_slice(alloc, [7; 4096].as_slice())?;
+    let shared = Bytes::copy_from_slice(alloc, [7; 4096].as_slice())?;
     if let Some(block) = Block::new(shared) {
         push_shared(&mut queue, &block, count)?;
     }
@@ -106,37 +107,20 @@ fn draws_slices(alloc: Global) -> Result<bool, OutOfMemory> {
     let mut pieces = Pieces::new(alloc);
     let drawn = queue.draw(Place::new(2), 5, &mut pieces);
     let slices = pieces.slices();
-    Ok(
-        drawn == Ok(Place::new(7))
-            && slices.len() == 2
-            && slices[0].as_slice() == b"cd".as_slice()
-            && slices[1].as_slice() == b"efg".as_slice(),
-    )
+    Ok(drawn == Ok(Place::new(7)) && are_two(slices))
+}
+
+/// Whether they are the two slices.
+fn are_two(slices: &[Bytes]) -> bool {
+    match slices {
+        [first, second] => {
+            first.as_slice() == b"cd".as_slice() && second.as_slice() == b"efg".as_slice()
+        }
+        _ => false,
+    }
 }
 
 #[test]
 fn draw_of_two_slices(rt: HostRuntime) {
     assert!(rt; draws_slices(rt.alloc()) == Ok(true));
-}
-
-/// What a draw before the kept blocks answers, and one at and behind the end.
-fn outside(alloc: Global) -> Result<bool, OutOfMemory> {
-    let queue = queue_of(alloc, 10, 10, FOUR_EACH)?;
-    let mut pieces = Pieces::new(alloc);
-    let before = queue.draw(Place::new(0), 5, &mut pieces);
-    let last = queue.draw(Place::new(3), 5, &mut pieces);
-    let end = queue.draw(Place::new(16), 5, &mut pieces);
-    let behind = queue.draw(Place::new(17), 5, &mut pieces);
-    Ok(
-        before == Err(DrawFault::Trimmed)
-            && last == Err(DrawFault::Trimmed)
-            && end == Ok(Place::new(16))
-            && behind == Ok(Place::new(17))
-            && pieces.slices().len() == 0,
-    )
-}
-
-#[test]
-fn draw_outside(rt: HostRuntime) {
-    assert!(rt; outside(rt.alloc()) == Ok(true));
 }

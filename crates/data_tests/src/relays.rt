@@ -10,7 +10,6 @@ use radio_relay::{OutOfMemory, PullFault, PullItem};
 use radio_settings::Settings;
 use radio_values::Shown;
 use std::alloc::{AllocError, Global};
-use std::process::Abort;
 
 /// Appends these parts.
 fn tell_parts(parts: &[&[u8]], told: &mut Vec<u8>) -> Result<(), OutOfMemory> {

@@ -5,7 +5,6 @@ ghost use Rattle.std.specs.Option.{option_copied};
 ghost use Rattle.radio_tables.specs.Lists.{update_first};
 
 use radio_tables::{Change, OutOfMemory, Row, Table, TryChange};
-use std::test::Fail;
 
 #[derive(Clone, Copy)]
 struct Listener {
@@ -127,13 +126,18 @@ fn are_removed(listeners: &mut Table<Listener>, id: u64) -> bool {
         && listeners.get(&id).is_none()
 }
 
+fn are_kept(listeners: &mut Table<Listener>) -> bool {
+    insert_all(listeners, &ARRIVING).is_ok()
+        && has_ids(listeners, &[1, 2, 5, 7, 9])
+        && are_changed(listeners)
+        && are_tried(listeners)
+        && are_removed(listeners, 5)
+}
+
 #[test]
-fn rows_stand_in_order_and_are_found(rt: HostRuntime) -> Result<(), Fail> {
+fn rows_stand_in_order_and_are_found(rt: HostRuntime) {
     let mut listeners = Table::new(rt.alloc());
-    insert_all(&mut listeners, &ARRIVING)?;
-    assert!(rt; has_ids(&listeners, &[1, 2, 5, 7, 9]) && are_changed(&mut listeners));
-    assert!(rt; are_tried(&mut listeners) && are_removed(&mut listeners, 5));
-    Ok(())
+    assert!(rt; are_kept(&mut listeners));
 }
 
 fn insert_many(listeners: &mut Table<Listener>) -> Result<(), OutOfMemory> {
@@ -154,11 +158,9 @@ fn remove_many(listeners: &mut Table<Listener>) -> bool {
 }
 
 #[test]
-fn many_rows_come_and_go(rt: HostRuntime) -> Result<(), Fail> {
+fn many_rows_come_and_go(rt: HostRuntime) {
     let mut listeners = Table::new(rt.alloc());
-    insert_many(&mut listeners)?;
-    assert!(rt; remove_many(&mut listeners));
-    Ok(())
+    assert!(rt; insert_many(&mut listeners).is_ok() && remove_many(&mut listeners));
 }
 
 // How many came until memory was refused, each behind the others.

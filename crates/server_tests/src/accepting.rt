@@ -1,8 +1,6 @@
 //! A listener that fails, and one that has no descriptor for anybody: when they are tried, and when they are given up.
 
 use radio_lines::{Accepted, Accepts, Entrance, accept_next};
-use std::process::Abort;
-use std::test::Fail;
 
 /// A listener that fails so many times, and then gives one connection after another. It counts how
 /// often it was asked.
@@ -54,7 +52,7 @@ fn tries<E: Entrance<u64>>(
 
 /// A thousand tries in a second are ten of the listener, and the station goes on.
 #[test]
-fn one_try_in_a_tenth_of_a_second(rt: HostRuntime) -> Result<(), Fail> {
+fn one_try_in_a_tenth_of_a_second(rt: HostRuntime) {
     let mut listener = Failing {
         failures: u64::MAX,
         asked: 0,
@@ -62,12 +60,11 @@ fn one_try_in_a_tenth_of_a_second(rt: HostRuntime) -> Result<(), Fail> {
     let mut accepts = Accepts::new();
     assert!(rt; tries(&mut listener, &mut accepts, 0, 1000).is_none());
     assert!(rt; listener.asked == 10);
-    Ok(())
 }
 
 /// The hundredth failure in a row comes after 9.9 seconds, and is the end.
 #[test]
-fn a_hundred_failures_end_it(rt: HostRuntime) -> Result<(), Fail> {
+fn a_hundred_failures_end_it(rt: HostRuntime) {
     let mut listener = Failing {
         failures: u64::MAX,
         asked: 0,
@@ -75,12 +72,11 @@ fn a_hundred_failures_end_it(rt: HostRuntime) -> Result<(), Fail> {
     let mut accepts = Accepts::new();
     assert!(rt; tries(&mut listener, &mut accepts, 0, 20_000) == Some(9_900));
     assert!(rt; listener.asked == 100);
-    Ok(())
 }
 
 /// After 99 failures a connection is accepted, and the count begins anew.
 #[test]
-fn ninety_nine_failures_do_not(rt: HostRuntime) -> Result<(), Fail> {
+fn ninety_nine_failures_do_not(rt: HostRuntime) {
     let mut listener = Failing {
         failures: 99,
         asked: 0,
@@ -93,13 +89,12 @@ fn ninety_nine_failures_do_not(rt: HostRuntime) -> Result<(), Fail> {
             Ok(Some(100))
         )
     );
-    Ok(())
 }
 
 /// Where no descriptor is left nothing ends, however long it lasts; a connection that closes is
 /// followed by a try at once.
 #[test]
-fn want_of_descriptors_is_no_failure(rt: HostRuntime) -> Result<(), Fail> {
+fn want_of_descriptors_is_no_failure(rt: HostRuntime) {
     let mut listener = Short { asked: 0 };
     let mut accepts = Accepts::new();
     assert!(rt; tries(&mut listener, &mut accepts, 0, 20_000).is_none());
@@ -107,5 +102,4 @@ fn want_of_descriptors_is_no_failure(rt: HostRuntime) -> Result<(), Fail> {
     accepts.note_closed();
     assert!(rt; tries(&mut listener, &mut accepts, 19_950, 19_951).is_none());
     assert!(rt; listener.asked == 201);
-    Ok(())
 }

@@ -20,10 +20,8 @@ use radio_settings::{Settings, SettingsFault};
 use std::alloc::Global;
 use std::marker::Brand;
 use std::net::Net;
-use std::process::Abort;
 use std::sync::Wait;
 use std::sync::ledger::Blank;
-use std::test::Fail;
 use std::thread::Threads;
 use std::time::Clock;
 
@@ -216,12 +214,14 @@ fn went_well<R: Clock + Net + Threads + Wait + Sync>(
     Ok(goes_well::<Brand, R>(rt, alloc, settings, blank, visit))
 }
 
-/// At a hall with these settings more, the visit goes as it is to go.
-pub fn visit_hall<R: Abort + AllocGlobal + Clock + Net + Threads + Wait + Sync>(
+/// Whether at a hall with these settings more the visit goes as it is to go.
+pub fn is_well_visited<R: AllocGlobal + Clock + Net + Threads + Wait + Sync>(
     rt: &R,
     more: &str,
     visit: Visit,
-) -> Result<(), Fail> {
-    assert!(rt; went_well(rt, rt.alloc(), more, visit)?);
-    Ok(())
+) -> bool {
+    match went_well(rt, rt.alloc(), more, visit) {
+        Ok(went) => went,
+        Err(_) => false,
+    }
 }

@@ -1,7 +1,7 @@
 //! A worker over a hall: another caller who sets a title, and a gate that asks for the lock.
 
 use crate::calls::{Callee, title_event};
-use crate::halls::{PassCaller, Visit, visit_hall};
+use crate::halls::{PassCaller, Visit, is_well_visited};
 use crate::memory_line::Look;
 use crate::rows::*;
 use crate::stations::Station;
@@ -12,7 +12,6 @@ use radio_serving::{Gate, Turn};
 use std::alloc::Global;
 use std::cell::Cell;
 use std::sync::Wait;
-use std::test::Fail;
 
 /// The source's mount has this title from now on. Whether it has: it has not where memory is refused.
 fn sets_title<H: House, R: Wait>(
@@ -93,8 +92,8 @@ pub fn is_title_heard<H: House, R: Wait>(
 }
 
 #[test]
-fn title_between_bytes(rt: HostRuntime) -> Result<(), Fail> {
-    visit_hall(&rt, INTERVAL, Visit::Titling)
+fn title_between_bytes(rt: HostRuntime) {
+    assert!(rt; is_well_visited(&rt, INTERVAL, Visit::Titling));
 }
 
 /// A gate at which the hall is asked for a pass before and after each write, without waiting for its
@@ -172,6 +171,6 @@ pub fn is_lock_free<H: House, R: Wait>(
 
 /// A lock that is held is found without waiting for it, so this ends whoever holds it.
 #[test]
-fn the_lock_is_free_while_writing(rt: HostRuntime) -> Result<(), Fail> {
-    visit_hall(&rt, "", Visit::Knocking)
+fn the_lock_is_free_while_writing(rt: HostRuntime) {
+    assert!(rt; is_well_visited(&rt, "", Visit::Knocking));
 }

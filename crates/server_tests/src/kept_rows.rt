@@ -4,7 +4,7 @@
 use crate::faults::{
     BEHIND_A_SOURCE, Beside, CALLS, Failure, PLAIN, are_played, failing, is_refused,
 };
-use crate::halls::{Visit, visit_hall};
+use crate::halls::{Visit, is_well_visited};
 use crate::moments::LONG_TIMEOUT;
 use crate::slow::{CLOSED, CLOSES_WHILE_OWED, KEPT, LAGS, SHORT_QUEUE};
 use crate::stations::{Refusing, Station};
@@ -15,9 +15,7 @@ use radio_hall::{Caller, Hall};
 use radio_serving::Server;
 use std::alloc::Global;
 use std::net::Net;
-use std::process::Abort;
 use std::sync::Wait;
-use std::test::Fail;
 use std::thread::Threads;
 use std::time::Clock;
 
@@ -129,81 +127,90 @@ fn adds_pass<H: House, R: Wait>(
     passes.push(pass).is_ok()
 }
 
-/// Steps at a hall with these settings more.
-fn play_kept<R: Abort + AllocGlobal + Clock + Net + Threads + Wait + Sync>(
+/// Whether these steps are played at a hall with these settings more, and these have left then.
+fn are_kept<R: AllocGlobal + Clock + Net + Threads + Wait + Sync>(
     rt: &R,
     more: &str,
     steps: &'static [Step],
     left: &'static [u64],
-) -> Result<(), Fail> {
+) -> bool {
     let kept = KeptRow {
         row: Row::Steps(steps),
         left: Some(left),
     };
-    visit_hall(rt, more, Visit::Row(kept))
+    is_well_visited(rt, more, Visit::Row(kept))
 }
 
-/// One whose line fails so at each call; then these have left.
-fn fail_kept<R: Abort + AllocGlobal + Clock + Net + Threads + Wait + Sync>(
+/// Whether these have left wherever that line fails.
+fn have_left_at_each_call<R: AllocGlobal + Clock + Net + Threads + Wait + Sync>(
     rt: &R,
     beside: &'static Beside,
     failure: Failure,
     left: &'static [u64],
-) -> Result<(), Fail> {
+) -> bool {
     for call in 0..CALLS {
         let kept = KeptRow {
             row: Row::Failing(beside, failure, call),
             left: Some(left),
         };
-        visit_hall(rt, beside.settings, Visit::Row(kept))?;
+        if !is_well_visited(rt, beside.settings, Visit::Row(kept)) {
+            return false;
+        }
     }
-    Ok(())
+    true
+}
+
+/// Whether the passes settle where the worker was refused memory at that call.
+fn settles_refused<R: AllocGlobal + Clock + Net + Threads + Wait + Sync>(
+    rt: &R,
+    call: u64,
+) -> bool {
+    let kept = KeptRow {
+        row: Row::Refused(call),
+        left: None,
+    };
+    is_well_visited(rt, "", Visit::Row(kept))
 }
 
 #[test]
-fn who_fails_has_left_the_house(rt: HostRuntime) -> Result<(), Fail> {
-    fail_kept(&rt, PLAIN, Failure::Fault, &[2])
+fn who_fails_has_left_the_house(rt: HostRuntime) {
+    assert!(rt; have_left_at_each_call(&rt, PLAIN, Failure::Fault, &[2]));
 }
 
 #[test]
-fn whose_peer_closes_has_left_the_house(rt: HostRuntime) -> Result<(), Fail> {
-    fail_kept(&rt, PLAIN, Failure::Closing, &[2])
+fn whose_peer_closes_has_left_the_house(rt: HostRuntime) {
+    assert!(rt; have_left_at_each_call(&rt, PLAIN, Failure::Closing, &[2]));
 }
 
 #[test]
-fn behind_a_source_both_have_left_the_house(rt: HostRuntime) -> Result<(), Fail> {
-    fail_kept(&rt, BEHIND_A_SOURCE, Failure::Fault, &[1, 2])
+fn behind_a_source_both_have_left_the_house(rt: HostRuntime) {
+    assert!(rt; have_left_at_each_call(&rt, BEHIND_A_SOURCE, Failure::Fault, &[1, 2]));
 }
 
 #[test]
-fn who_stalls_stays_in_the_house(rt: HostRuntime) -> Result<(), Fail> {
-    play_kept(&rt, LONG_TIMEOUT, KEPT, &[])
+fn who_stalls_stays_in_the_house(rt: HostRuntime) {
+    assert!(rt; are_kept(&rt, LONG_TIMEOUT, KEPT, &[]));
 }
 
 #[test]
-fn who_has_stalled_has_left_the_house(rt: HostRuntime) -> Result<(), Fail> {
-    play_kept(&rt, LONG_TIMEOUT, CLOSED, &[2])
+fn who_has_stalled_has_left_the_house(rt: HostRuntime) {
+    assert!(rt; are_kept(&rt, LONG_TIMEOUT, CLOSED, &[2]));
 }
 
 #[test]
-fn who_lags_has_left_the_house(rt: HostRuntime) -> Result<(), Fail> {
-    play_kept(&rt, SHORT_QUEUE, LAGS, &[2])
+fn who_lags_has_left_the_house(rt: HostRuntime) {
+    assert!(rt; are_kept(&rt, SHORT_QUEUE, LAGS, &[2]));
 }
 
 #[test]
-fn who_closes_while_he_is_owed_has_left_the_house(rt: HostRuntime) -> Result<(), Fail> {
-    play_kept(&rt, "", CLOSES_WHILE_OWED, &[2])
+fn who_closes_while_he_is_owed_has_left_the_house(rt: HostRuntime) {
+    assert!(rt; are_kept(&rt, "", CLOSES_WHILE_OWED, &[2]));
 }
 
 /// The passes settle where the worker was refused memory, at each call.
 #[test]
-fn a_refused_call_settles(rt: HostRuntime) -> Result<(), Fail> {
+fn a_refused_call_settles(rt: HostRuntime) {
     for call in 0..CALLS {
-        let kept = KeptRow {
-            row: Row::Refused(call),
-            left: None,
-        };
-        visit_hall(&rt, "", Visit::Row(kept))?;
+        assert!(rt; settles_refused(&rt, call));
     }
-    Ok(())
 }

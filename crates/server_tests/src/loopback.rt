@@ -1,7 +1,7 @@
 //! A source and a listener over loopback: their clients are in a thread of their own, and a worker serves them over a hall
 //! that stores its entries.
 
-use crate::halls::{Visit, visit_hall};
+use crate::halls::{Visit, is_well_visited};
 use crate::rows::{HEARD, LISTEN_HEAD, SOURCE_ANSWER};
 use mio::net::{TcpListener, TcpStream as ReadyStream};
 use radio_addr::Peer;
@@ -15,7 +15,6 @@ use std::io;
 use std::io::{Read, Write};
 use std::net::{IpAddr, Ipv4Addr, Net, Shutdown, SocketAddr, TcpStream};
 use std::sync::Wait;
-use std::test::Fail;
 use std::thread::{Threads, join};
 use std::time::{Clock, Duration};
 
@@ -294,6 +293,6 @@ fn add_draw(entry: &Entry, drawn: &mut Vec<u8>) -> Result<(), OutOfMemory> {
 
 /// Eight bytes in one process, over loopback.
 #[test]
-fn eight_bytes(rt: HostRuntime) -> Result<(), Fail> {
-    visit_hall(&rt, "", Visit::Loopback)
+fn eight_bytes(rt: HostRuntime) {
+    assert!(rt; is_well_visited(&rt, "", Visit::Loopback));
 }

@@ -10,7 +10,6 @@ use radio_settings::{RelaySetting, Settings, SlaveSetting};
 use radio_values::MountName;
 use std::alloc::Global;
 use std::collections::BTreeSet;
-use std::test::Fail;
 
 /// A relay that feeds `/a`, and a slave.
 const RELAYED: &str = "[[relay]]\nserver = \"master\"\nmount = \"/b\"\nlocal-mount = \"/a\"\n\
@@ -166,11 +165,10 @@ const ROWS: &[Row] = &[
 ];
 
 #[test]
-fn pulls_over_a_line(rt: HostRuntime) -> Result<(), Fail> {
+fn pulls_over_a_line(rt: HostRuntime) {
     for row in ROWS {
-        assert!(&rt; comes_to(rt.alloc(), row));
+        assert!(rt; comes_to(rt.alloc(), row));
     }
-    Ok(())
 }
 
 /// Whether a listener hears what a relay has pulled in. He need not where memory is refused.
@@ -214,9 +212,8 @@ fn is_heard_at(station: &mut Station<Core>) -> bool {
 }
 
 #[test]
-fn what_is_pulled_is_heard(rt: HostRuntime) -> Result<(), Fail> {
-    assert!(&rt; is_heard(rt.alloc()));
-    Ok(())
+fn what_is_pulled_is_heard(rt: HostRuntime) {
+    assert!(rt; is_heard(rt.alloc()));
 }
 
 /// Answers to the request for the list, whether the master has closed, and the names or the fault.
@@ -289,11 +286,10 @@ fn is_read(
 }
 
 #[test]
-fn lists_of_masters(rt: HostRuntime) -> Result<(), Fail> {
+fn lists_of_masters(rt: HostRuntime) {
     for (answer, has_closed, wanted) in LISTS {
-        assert!(&rt; is_read(rt.alloc(), answer, *has_closed, *wanted));
+        assert!(rt; is_read(rt.alloc(), answer, *has_closed, *wanted));
     }
-    Ok(())
 }
 
 /// A master who sends his list in pieces.
@@ -361,7 +357,6 @@ fn is_whole(alloc: Global, pull: &mut ListPull<MemoryLine>, buffer: &mut [u8]) -
 }
 
 #[test]
-fn a_list_in_pieces(rt: HostRuntime) -> Result<(), Fail> {
-    assert!(&rt; is_listed(rt.alloc()));
-    Ok(())
+fn a_list_in_pieces(rt: HostRuntime) {
+    assert!(rt; is_listed(rt.alloc()));
 }

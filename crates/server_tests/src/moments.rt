@@ -2,8 +2,7 @@
 
 use crate::memory_line::{Look, Manners, SILENT};
 use crate::rows::*;
-use crate::steps::{Step, play};
-use std::test::Fail;
+use crate::steps::{Step, are_played};
 
 /// A source that is silent for half a minute is no silent one.
 pub const LONG_TIMEOUT: &str = "[limits]\nsource-timeout = 60\n";
@@ -25,8 +24,8 @@ const TAKES_A_BYTE_NOW_AND_THEN: &[Step] = &[
 ];
 
 #[test]
-fn a_byte_begins_the_patience_anew(rt: HostRuntime) -> Result<(), Fail> {
-    play(&rt, LONG_TIMEOUT, TAKES_A_BYTE_NOW_AND_THEN)
+fn a_byte_begins_the_patience_anew(rt: HostRuntime) {
+    assert!(rt; are_played(rt.alloc(), LONG_TIMEOUT, TAKES_A_BYTE_NOW_AND_THEN));
 }
 
 /// A source whose second block comes in its eighth turn.
@@ -54,8 +53,8 @@ const OWED_NOTHING: &[Step] = &[
 ];
 
 #[test]
-fn patience_counts_from_what_is_owed(rt: HostRuntime) -> Result<(), Fail> {
-    play(&rt, LONG_TIMEOUT, OWED_NOTHING)
+fn patience_counts_from_what_is_owed(rt: HostRuntime) {
+    assert!(rt; are_played(rt.alloc(), LONG_TIMEOUT, OWED_NOTHING));
 }
 
 /// And then he is not.
@@ -69,8 +68,8 @@ const OWED_FOR_TEN_SECONDS: &[Step] = &[
 ];
 
 #[test]
-fn patience_ends_then(rt: HostRuntime) -> Result<(), Fail> {
-    play(&rt, LONG_TIMEOUT, OWED_FOR_TEN_SECONDS)
+fn patience_ends_then(rt: HostRuntime) {
+    assert!(rt; are_played(rt.alloc(), LONG_TIMEOUT, OWED_FOR_TEN_SECONDS));
 }
 
 /// Who asks for what is not there, and sends more.
@@ -93,8 +92,8 @@ const LINGERS: &[Step] = &[
 ];
 
 #[test]
-fn one_lingers_for_a_second(rt: HostRuntime) -> Result<(), Fail> {
-    play(&rt, "", LINGERS)
+fn one_lingers_for_a_second(rt: HostRuntime) {
+    assert!(rt; are_played(rt.alloc(), "", LINGERS));
 }
 
 /// The same, and his peer closes at the third read.
@@ -113,8 +112,8 @@ const CLOSES: &[Step] = &[
 ];
 
 #[test]
-fn one_lingers_until_his_peer_closes(rt: HostRuntime) -> Result<(), Fail> {
-    play(&rt, "", CLOSES)
+fn one_lingers_until_his_peer_closes(rt: HostRuntime) {
+    assert!(rt; are_played(rt.alloc(), "", CLOSES));
 }
 
 /// Who has no seat is asked for half a second after he was asked for the last time, and not before: he
@@ -130,8 +129,8 @@ const ASKED_FOR: &[Step] = &[
 ];
 
 #[test]
-fn one_is_asked_for_after_half_a_second(rt: HostRuntime) -> Result<(), Fail> {
-    play(&rt, "[limits]\nheader-timeout = 3\n", ASKED_FOR)
+fn one_is_asked_for_after_half_a_second(rt: HostRuntime) {
+    assert!(rt; are_played(rt.alloc(), "[limits]\nheader-timeout = 3\n", ASKED_FOR));
 }
 
 /// A client who says nothing hears within half a second by which rule he was finished.
@@ -144,6 +143,6 @@ const FINISHED: &[Step] = &[
 ];
 
 #[test]
-fn who_says_nothing_is_asked_for(rt: HostRuntime) -> Result<(), Fail> {
-    play(&rt, "[limits]\nheader-timeout = 3\n", FINISHED)
+fn who_says_nothing_is_asked_for(rt: HostRuntime) {
+    assert!(rt; are_played(rt.alloc(), "[limits]\nheader-timeout = 3\n", FINISHED));
 }

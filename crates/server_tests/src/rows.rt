@@ -1,8 +1,7 @@
 //! Sources and listeners who are served, turn after turn.
 
 use crate::memory_line::{Look, Manners, SILENT};
-use crate::steps::{Step, play};
-use std::test::Fail;
+use crate::steps::{Step, are_played};
 
 /// A source's head: the user `source` and that password.
 pub const SOURCE_HEAD: &[u8] =
@@ -46,8 +45,8 @@ const EIGHT_BYTES: &[Step] = &[
 ];
 
 #[test]
-fn eight_bytes(rt: HostRuntime) -> Result<(), Fail> {
-    play(&rt, "", EIGHT_BYTES)
+fn eight_bytes(rt: HostRuntime) {
+    assert!(rt; are_played(rt.alloc(), "", EIGHT_BYTES));
 }
 
 /// A head that comes in pieces.
@@ -66,8 +65,8 @@ const IN_PIECES: &[Step] = &[
 ];
 
 #[test]
-fn a_head_in_pieces(rt: HostRuntime) -> Result<(), Fail> {
-    play(&rt, "", IN_PIECES)
+fn a_head_in_pieces(rt: HostRuntime) {
+    assert!(rt; are_played(rt.alloc(), "", IN_PIECES));
 }
 
 /// A listener who asks for metadata.
@@ -97,8 +96,8 @@ const BETWEEN_BYTES: &[Step] = &[
 ];
 
 #[test]
-fn blocks_between_bytes(rt: HostRuntime) -> Result<(), Fail> {
-    play(&rt, INTERVAL, BETWEEN_BYTES)
+fn blocks_between_bytes(rt: HostRuntime) {
+    assert!(rt; are_played(rt.alloc(), INTERVAL, BETWEEN_BYTES));
 }
 
 /// The admin, who finishes the listener.
@@ -128,6 +127,6 @@ const KILLED: &[Step] = &[
 ];
 
 #[test]
-fn a_listener_finished_by_a_command(rt: HostRuntime) -> Result<(), Fail> {
-    play(&rt, "", KILLED)
+fn a_listener_finished_by_a_command(rt: HostRuntime) {
+    assert!(rt; are_played(rt.alloc(), "", KILLED));
 }

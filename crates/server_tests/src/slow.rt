@@ -2,8 +2,7 @@
 
 use crate::memory_line::{Look, Manners, SILENT};
 use crate::rows::*;
-use crate::steps::{Step, play};
-use std::test::Fail;
+use crate::steps::{Step, are_played};
 
 /// A listener whose line takes one byte in a write.
 const BYTE_BY_BYTE: Manners = Manners {
@@ -22,8 +21,8 @@ const A_BYTE_A_TURN: &[Step] = &[
 
 /// A line that takes one byte in a write takes all, in as many turns.
 #[test]
-fn a_byte_a_turn(rt: HostRuntime) -> Result<(), Fail> {
-    play(&rt, "", A_BYTE_A_TURN)
+fn a_byte_a_turn(rt: HostRuntime) {
+    assert!(rt; are_played(rt.alloc(), "", A_BYTE_A_TURN));
 }
 
 /// A listener whose line takes three bytes once, and then nothing for good.
@@ -47,8 +46,8 @@ pub const KEPT: &[Step] = &[
 ];
 
 #[test]
-fn a_stalled_line_is_kept_for_the_source_timeout(rt: HostRuntime) -> Result<(), Fail> {
-    play(&rt, "", KEPT)
+fn a_stalled_line_is_kept_for_the_source_timeout(rt: HostRuntime) {
+    assert!(rt; are_played(rt.alloc(), "", KEPT));
 }
 
 /// A turn a millisecond later: it is gone.
@@ -63,8 +62,8 @@ pub const CLOSED: &[Step] = &[
 ];
 
 #[test]
-fn a_stalled_line_is_closed_then(rt: HostRuntime) -> Result<(), Fail> {
-    play(&rt, "", CLOSED)
+fn a_stalled_line_is_closed_then(rt: HostRuntime) {
+    assert!(rt; are_played(rt.alloc(), "", CLOSED));
 }
 
 /// A queue of ten bytes, beside which one who is three blocks of four behind lags.
@@ -113,8 +112,8 @@ const FALLS_BEHIND: &[Step] = &[
 ];
 
 #[test]
-fn a_stalled_listener_falls_behind(rt: HostRuntime) -> Result<(), Fail> {
-    play(&rt, SHORT_QUEUE, FALLS_BEHIND)
+fn a_stalled_listener_falls_behind(rt: HostRuntime) {
+    assert!(rt; are_played(rt.alloc(), SHORT_QUEUE, FALLS_BEHIND));
 }
 
 /// He hears them in a turn without news too, since there was news while his line took nothing.
@@ -129,8 +128,8 @@ const CATCHES_UP: &[Step] = &[
 ];
 
 #[test]
-fn a_stalled_listener_catches_up(rt: HostRuntime) -> Result<(), Fail> {
-    play(&rt, SHORT_QUEUE, CATCHES_UP)
+fn a_stalled_listener_catches_up(rt: HostRuntime) {
+    assert!(rt; are_played(rt.alloc(), SHORT_QUEUE, CATCHES_UP));
 }
 
 /// Who is seated draws at once, and what is wanted of his line is told to it; then he draws nothing
@@ -149,8 +148,8 @@ const WITHOUT_NEWS: &[Step] = &[
 ];
 
 #[test]
-fn without_news_a_listener_waits(rt: HostRuntime) -> Result<(), Fail> {
-    play(&rt, "", WITHOUT_NEWS)
+fn without_news_a_listener_waits(rt: HostRuntime) {
+    assert!(rt; are_played(rt.alloc(), "", WITHOUT_NEWS));
 }
 
 /// One who is three blocks behind was finished by the push of the third: he hears what he was owed
@@ -169,8 +168,8 @@ pub const LAGS: &[Step] = &[
 ];
 
 #[test]
-fn a_stalled_listener_lags(rt: HostRuntime) -> Result<(), Fail> {
-    play(&rt, SHORT_QUEUE, LAGS)
+fn a_stalled_listener_lags(rt: HostRuntime) {
+    assert!(rt; are_played(rt.alloc(), SHORT_QUEUE, LAGS));
 }
 
 /// A listener whose peer has closed behind his head, and whose line takes one byte in a write.
@@ -196,8 +195,8 @@ pub const CLOSES_WHILE_OWED: &[Step] = &[
 ];
 
 #[test]
-fn one_who_closes_while_he_is_owed(rt: HostRuntime) -> Result<(), Fail> {
-    play(&rt, "", CLOSES_WHILE_OWED)
+fn one_who_closes_while_he_is_owed(rt: HostRuntime) {
+    assert!(rt; are_played(rt.alloc(), "", CLOSES_WHILE_OWED));
 }
 
 /// A source that falls silent is there up to its timeout of ten seconds, for a turn each second.
@@ -209,8 +208,8 @@ const SILENT_SOURCE: &[Step] = &[
 ];
 
 #[test]
-fn a_silent_source_stays(rt: HostRuntime) -> Result<(), Fail> {
-    play(&rt, "", SILENT_SOURCE)
+fn a_silent_source_stays(rt: HostRuntime) {
+    assert!(rt; are_played(rt.alloc(), "", SILENT_SOURCE));
 }
 
 /// It hears of its end within a second, and is closed a second later.
@@ -224,8 +223,8 @@ const ENDED_SOURCE: &[Step] = &[
 ];
 
 #[test]
-fn a_silent_source_hears_of_its_end(rt: HostRuntime) -> Result<(), Fail> {
-    play(&rt, "", ENDED_SOURCE)
+fn a_silent_source_hears_of_its_end(rt: HostRuntime) {
+    assert!(rt; are_played(rt.alloc(), "", ENDED_SOURCE));
 }
 
 const SHORT_TIMEOUT: &str = "[limits]\nheader-timeout = 3\n";
@@ -238,8 +237,8 @@ const SAYS_NOTHING: &[Step] = &[
 ];
 
 #[test]
-fn one_who_says_nothing_stays(rt: HostRuntime) -> Result<(), Fail> {
-    play(&rt, SHORT_TIMEOUT, SAYS_NOTHING)
+fn one_who_says_nothing_stays(rt: HostRuntime) {
+    assert!(rt; are_played(rt.alloc(), SHORT_TIMEOUT, SAYS_NOTHING));
 }
 
 /// His time is over in the turn at three seconds, and in the next he is closed: nothing was written.
@@ -250,6 +249,6 @@ const SAID_NOTHING: &[Step] = &[
 ];
 
 #[test]
-fn one_who_says_nothing_is_closed(rt: HostRuntime) -> Result<(), Fail> {
-    play(&rt, SHORT_TIMEOUT, SAID_NOTHING)
+fn one_who_says_nothing_is_closed(rt: HostRuntime) {
+    assert!(rt; are_played(rt.alloc(), SHORT_TIMEOUT, SAID_NOTHING));
 }

@@ -3,10 +3,7 @@
 use crate::memory_line::{Look, Manners};
 use crate::stations::{NO_MEDDLING, Station, make_station};
 use radio_serving::Server;
-use radio_settings::SettingsFault;
 use std::alloc::Global;
-use std::process::Abort;
-use std::test::Fail;
 
 /// What happens at a station, or what is to be seen there.
 #[derive(Clone, Copy)]
@@ -55,15 +52,14 @@ impl<S: Server + Drop> Station<S> {
     }
 }
 
-fn are_played(alloc: Global, more: &str, steps: &[Step]) -> Result<bool, SettingsFault> {
-    let mut station = make_station(alloc, more, NO_MEDDLING)?;
-    let played = station.plays(steps);
-    drop(station);
-    Ok(played)
-}
-
-/// A station with these settings more plays these steps.
-pub fn play<R: Abort + AllocGlobal>(rt: &R, more: &str, steps: &[Step]) -> Result<(), Fail> {
-    assert!(rt; are_played(rt.alloc(), more, steps)?);
-    Ok(())
+/// Whether a station with these settings more plays these steps.
+pub fn are_played(alloc: Global, more: &str, steps: &[Step]) -> bool {
+    match make_station(alloc, more, NO_MEDDLING) {
+        Ok(mut station) => {
+            let played = station.plays(steps);
+            drop(station);
+            played
+        }
+        Err(_) => false,
+    }
 }

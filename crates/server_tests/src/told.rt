@@ -2,8 +2,7 @@
 
 use crate::memory_line::{Manners, SILENT};
 use crate::rows::*;
-use crate::steps::{Step, play};
-use std::test::Fail;
+use crate::steps::{Step, are_played};
 
 /// A listener who names a user and his player, and closes at his third read.
 const LEAVES: Manners = Manners {
@@ -34,8 +33,8 @@ const WHO_LEAVES: &[Step] = &[
 
 /// A listener whose head comes in two pieces: what he asked for, without query and password, and what he was handed.
 #[test]
-fn who_leaves(rt: HostRuntime) -> Result<(), Fail> {
-    play(&rt, "", WHO_LEAVES)
+fn who_leaves(rt: HostRuntime) {
+    assert!(rt; are_played(rt.alloc(), "", WHO_LEAVES));
 }
 
 /// A source of four bytes.
@@ -65,8 +64,8 @@ const WHOLE_BODY: &[Step] = &[
 
 /// A source whose body is whole goes at once; its client's line comes when he was told so.
 #[test]
-fn a_whole_body(rt: HostRuntime) -> Result<(), Fail> {
-    play(&rt, "", WHOLE_BODY)
+fn a_whole_body(rt: HostRuntime) {
+    assert!(rt; are_played(rt.alloc(), "", WHOLE_BODY));
 }
 
 /// A listener whose line takes three bytes once, and then nothing for good.
@@ -91,8 +90,8 @@ const WHO_STALLS: &[Step] = &[
 
 /// A listener of whom nothing moved for ten seconds; his source was silent as long.
 #[test]
-fn who_stalls(rt: HostRuntime) -> Result<(), Fail> {
-    play(&rt, "", WHO_STALLS)
+fn who_stalls(rt: HostRuntime) {
+    assert!(rt; are_played(rt.alloc(), "", WHO_STALLS));
 }
 
 /// Heads that are none, and one that asks for what is not there.
@@ -123,8 +122,8 @@ const WHO_IS_DENIED: &[Step] = &[
 
 /// What is known of who sends no head, and of who asks by a strange method.
 #[test]
-fn who_is_denied(rt: HostRuntime) -> Result<(), Fail> {
-    play(&rt, "", WHO_IS_DENIED)
+fn who_is_denied(rt: HostRuntime) {
+    assert!(rt; are_played(rt.alloc(), "", WHO_IS_DENIED));
 }
 
 /// What a source's pair says of the title.
@@ -151,6 +150,6 @@ const NEW_TITLE: &[Step] = &[
 
 /// A command that was done, and the title that it has set.
 #[test]
-fn a_new_title(rt: HostRuntime) -> Result<(), Fail> {
-    play(&rt, "", NEW_TITLE)
+fn a_new_title(rt: HostRuntime) {
+    assert!(rt; are_played(rt.alloc(), "", NEW_TITLE));
 }

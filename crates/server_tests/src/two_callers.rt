@@ -1,7 +1,7 @@
 //! Two threads over one hall, with a pass and a mount each, and then all passes settled.
 
 use crate::calls::{CALLS, DRAWS, serve, step_copy};
-use crate::halls::{PassCaller, Visit, takes_pass, visit_hall};
+use crate::halls::{PassCaller, Visit, is_well_visited, takes_pass};
 use crate::stations::core;
 use radio_book::{Entry, House, Kept, Pass};
 use radio_core::Core;
@@ -9,7 +9,6 @@ use radio_events::{Reply, Text};
 use radio_hall::Hall;
 use std::alloc::Global;
 use std::sync::Wait;
-use std::test::Fail;
 use std::thread::{Threads, join};
 
 /// What a listing has of a mount whose last title is `Night`.
@@ -149,16 +148,16 @@ fn is_drawn(reply: &Reply) -> bool {
 }
 
 #[test]
-fn two_callers(rt: HostRuntime) -> Result<(), Fail> {
-    visit_hall(&rt, "", Visit::TwoCallers)
+fn two_callers(rt: HostRuntime) {
+    assert!(rt; is_well_visited(&rt, "", Visit::TwoCallers));
 }
 
 #[test]
-fn a_pass_is_left_out(rt: HostRuntime) -> Result<(), Fail> {
-    visit_hall(&rt, "", Visit::LeftOut)
+fn a_pass_is_left_out(rt: HostRuntime) {
+    assert!(rt; is_well_visited(&rt, "", Visit::LeftOut));
 }
 
 #[test]
-fn an_unused_hall(rt: HostRuntime) -> Result<(), Fail> {
-    visit_hall(&rt, "", Visit::Unused)
+fn an_unused_hall(rt: HostRuntime) {
+    assert!(rt; is_well_visited(&rt, "", Visit::Unused));
 }

@@ -16,7 +16,6 @@ use std::alloc::Global;
 use std::marker::Brand;
 use std::sync::Wait;
 use std::sync::ledger::Blank;
-use std::test::Fail;
 
 /// A hall that stores nothing, beside a core that is called alike.
 #[derive(Drop)]
@@ -114,8 +113,15 @@ fn alike(rt: &impl Wait, alloc: Global) -> Result<usize, SettingsFault> {
     alike
 }
 
+/// Whether all 100 calls are answered alike.
+fn are_alike(rt: &impl Wait, alloc: Global) -> bool {
+    match alike(rt, alloc) {
+        Ok(count) => count == CALLS,
+        Err(_) => false,
+    }
+}
+
 #[test]
-fn the_same_calls_unkept(rt: HostRuntime) -> Result<(), Fail> {
-    assert_eq!(&rt; alike(&rt, rt.alloc())?, CALLS);
-    Ok(())
+fn the_same_calls_unkept(rt: HostRuntime) {
+    assert!(rt; are_alike(&rt, rt.alloc()));
 }

@@ -5,7 +5,7 @@ mod seats;
 ghost use Rattle.std.specs.Prelude.{◌≡◌, All};
 ghost use Rattle.radio_intake.specs.Passes.{all_parts};
 
-use crate::halls::{Visit, visit_hall};
+use crate::halls::{Visit, is_well_visited};
 use crate::memory_line::{Manners, MemoryLine, SILENT};
 use crate::rows::{LISTENER, SOURCE, TITLED};
 use crate::workers::seats::{MemoryPost, add_passes, seats_for};
@@ -18,7 +18,6 @@ use radio_workers::{Seat, Workplace, run_workers};
 use std::alloc::Global;
 use std::sync::Wait;
 use std::sync::atomic::{AtomicBool, AtomicU64, Ordering};
-use std::test::Fail;
 use std::thread::{Threads, yield_now};
 
 /// How often a thread gives way to others before it gives up.
@@ -247,7 +246,7 @@ const FAILS: Manners = Manners {
 
 /// While the answer to one is being written, another is served from his coming to his end.
 #[test]
-fn two_served_at_once(rt: HostRuntime) -> Result<(), Fail> {
+fn two_served_at_once(rt: HostRuntime) {
     let rush = Rush {
         comers: &[DENIED],
         times: 2,
@@ -255,38 +254,37 @@ fn two_served_at_once(rt: HostRuntime) -> Result<(), Fail> {
         turns: 10,
         others: 1,
     };
-    visit_hall(&rt, "", Visit::Rush(rush))
+    assert!(rt; is_well_visited(&rt, "", Visit::Rush(rush)));
 }
+
+/// Six come, and five are served while the write to the first is held.
+const SIX: Rush = Rush {
+    comers: &[DENIED, DENIED],
+    times: 3,
+    are_four: false,
+    turns: 20,
+    others: 5,
+};
 
 /// While a write is held, the hall serves all others.
 #[test]
-fn a_held_write_holds_nobody(rt: HostRuntime) -> Result<(), Fail> {
-    let rush = Rush {
-        comers: &[DENIED, DENIED],
-        times: 3,
-        are_four: false,
-        turns: 20,
-        others: 5,
-    };
-    visit_hall(&rt, "", Visit::Rush(rush))
+fn a_held_write_holds_nobody(rt: HostRuntime) {
+    assert!(rt; is_well_visited(&rt, "", Visit::Rush(SIX)));
 }
 
 /// The same where the writes fail; who was cut off has left.
 #[test]
-fn a_held_write_that_fails_holds_nobody(rt: HostRuntime) -> Result<(), Fail> {
+fn a_held_write_that_fails_holds_nobody(rt: HostRuntime) {
     let rush = Rush {
         comers: &[FAILS, FAILS],
-        times: 3,
-        are_four: false,
-        turns: 20,
-        others: 5,
+        ..SIX
     };
-    visit_hall(&rt, "", Visit::Rush(rush))
+    assert!(rt; is_well_visited(&rt, "", Visit::Rush(rush)));
 }
 
 /// Four workers serve sources, listeners and others, who all leave at the end; their passes settle.
 #[test]
-fn four_workers(rt: HostRuntime) -> Result<(), Fail> {
+fn four_workers(rt: HostRuntime) {
     let rush = Rush {
         comers: &[SOURCE, LISTENER, TITLED, DENIED],
         times: 8,
@@ -294,12 +292,12 @@ fn four_workers(rt: HostRuntime) -> Result<(), Fail> {
         turns: 50,
         others: 0,
     };
-    visit_hall(&rt, "", Visit::Rush(rush))
+    assert!(rt; is_well_visited(&rt, "", Visit::Rush(rush)));
 }
 
 /// An intake that is full is emptied, and each who came was let in, and has left.
 #[test]
-fn a_full_intake(rt: HostRuntime) -> Result<(), Fail> {
+fn a_full_intake(rt: HostRuntime) {
     let rush = Rush {
         comers: &[DENIED],
         times: ROOM as u32,
@@ -307,5 +305,5 @@ fn a_full_intake(rt: HostRuntime) -> Result<(), Fail> {
         turns: 1100,
         others: 0,
     };
-    visit_hall(&rt, "[limits]\nclients = 1024\n", Visit::Rush(rush))
+    assert!(rt; is_well_visited(&rt, "[limits]\nclients = 1024\n", Visit::Rush(rush)));
 }

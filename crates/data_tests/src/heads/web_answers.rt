@@ -94,19 +94,25 @@ fn is_text(
     }
 }
 
+fn are_streams(alloc: Global, or: bool) -> bool {
+    let stream = stream();
+    is_text(alloc, &stream, None, STREAM, or)
+        && is_text(alloc, &stream, Some(b"*"), STREAM_FOR_ALL, or)
+}
+
+fn are_listings(alloc: Global, or: bool) -> bool {
+    let text = text();
+    let origin = b"https://radio.example";
+    is_text(alloc, &text, None, TEXT, or) && is_text(alloc, &text, Some(origin), TEXT_FOR_ONE, or)
+}
+
+fn are_pages(alloc: Global, or: bool) -> bool {
+    let page = any_page();
+    is_text(alloc, &page, None, PAGE, or) && is_text(alloc, &page, Some(b"*"), PAGE_FOR_ALL, or)
+}
+
 fn are_texts(alloc: Global, or: bool) -> bool {
-    is_text(alloc, &stream(), None, STREAM, or)
-        && is_text(alloc, &stream(), Some(b"*"), STREAM_FOR_ALL, or)
-        && is_text(alloc, &text(), None, TEXT, or)
-        && is_text(
-            alloc,
-            &text(),
-            Some(b"https://radio.example"),
-            TEXT_FOR_ONE,
-            or,
-        )
-        && is_text(alloc, &any_page(), None, PAGE, or)
-        && is_text(alloc, &any_page(), Some(b"*"), PAGE_FOR_ALL, or)
+    are_streams(alloc, or) && are_listings(alloc, or) && are_pages(alloc, or)
 }
 
 #[test]

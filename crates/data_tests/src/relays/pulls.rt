@@ -178,14 +178,10 @@ fn is_told_however_cut(
 }
 
 #[test]
-fn answers_cut_at_each_byte(rt: HostRuntime) -> Result<(), OutOfMemory> {
+fn answers_cut_at_each_byte(rt: HostRuntime) {
     for (answer, want, fault) in ANSWERS {
-        assert!(rt;
-            is_told_however_cut(rt.alloc(), answer, want, *fault)?,
-            "{answer:?}"
-        );
+        assert!(rt; is_told_however_cut(rt.alloc(), answer, want, *fault) == Ok(true));
     }
-    Ok(())
 }
 
 /// A head of 8192 bytes and more that has not ended.
@@ -217,16 +213,14 @@ fn has_count(alloc: Global, head: &[u8], stream: &[u8], want: usize) -> Result<b
 }
 
 #[test]
-fn runs_in_blocks(rt: HostRuntime) -> Result<(), OutOfMemory> {
+fn runs_in_blocks(rt: HostRuntime) {
     for (head, stream, want) in COUNTS {
-        assert!(rt; has_count(rt.alloc(), head, stream, *want)?, "{want}");
+        assert!(rt; has_count(rt.alloc(), head, stream, *want) == Ok(true));
     }
-    Ok(())
 }
 
 #[test]
-fn endless_heads(rt: HostRuntime) -> Result<(), OutOfMemory> {
+fn endless_heads(rt: HostRuntime) {
     let (front, last) = ENDLESS.split_at(8191);
-    assert!(rt; is_told(rt.alloc(), (front, last), b"", Some(PullFault::BadHead))?);
-    Ok(())
+    assert!(rt; is_told(rt.alloc(), (front, last), b"", Some(PullFault::BadHead)) == Ok(true));
 }

@@ -53,9 +53,8 @@ fn are_sent(alloc: Global, text: &str, relay: &[u8], slave: &[u8]) -> Result<boo
 }
 
 #[test]
-fn requests(rt: HostRuntime) -> Result<(), OutOfMemory> {
+fn requests(rt: HostRuntime) {
     for (text, relay, slave) in REQUESTS {
-        assert!(rt; are_sent(rt.alloc(), text, relay, slave)?, "{text}");
+        assert!(rt; are_sent(rt.alloc(), text, relay, slave) == Ok(true));
     }
-    Ok(())
 }

@@ -1,11 +1,10 @@
 //! Mounts that relays feed on demand: who sits there, and which are wanted.
 
 use super::words::*;
-use radio_settings::SettingsFault;
 use std::alloc::Global;
 
 /// Whether a station replies so.
-fn replies(alloc: Global, table: &[(Call, &str)]) -> Result<bool, SettingsFault> {
+fn replies(alloc: Global, table: &[(Call, &str)]) -> bool {
     replies_in_turn(alloc, &[], table)
 }
 
@@ -31,9 +30,8 @@ const WAITS: &[(Call, &str)] = &[
 ];
 
 #[test]
-fn listener_who_waits(rt: HostRuntime) -> Result<(), SettingsFault> {
-    assert!(rt; replies(rt.alloc(), WAITS)?);
-    Ok(())
+fn listener_who_waits(rt: HostRuntime) {
+    assert!(rt; replies(rt.alloc(), WAITS));
 }
 
 /// Where nobody feeds, commands find no mount, and listings none.
@@ -53,9 +51,8 @@ const IDLE: &[(Call, &str)] = &[
 ];
 
 #[test]
-fn mount_that_waits(rt: HostRuntime) -> Result<(), SettingsFault> {
-    assert!(rt; replies(rt.alloc(), IDLE)?);
-    Ok(())
+fn mount_that_waits(rt: HostRuntime) {
+    assert!(rt; replies(rt.alloc(), IDLE));
 }
 
 /// Listeners where relays feed on demand, and one where none does.
@@ -71,9 +68,8 @@ const TWO_WAIT: &[(Call, &str)] = &[
 ];
 
 #[test]
-fn wanted_mounts(rt: HostRuntime) -> Result<(), SettingsFault> {
-    assert!(rt; wants_then(rt.alloc(), TWO_WAIT, &["/d", "/w"])?);
-    Ok(())
+fn wanted_mounts(rt: HostRuntime) {
+    assert!(rt; wants_then(rt.alloc(), TWO_WAIT, &["/d", "/w"]));
 }
 
 /// The last listener leaves, whose relay has come up.
@@ -85,7 +81,6 @@ const HAS_LEFT: &[(Call, &str)] = &[
 ];
 
 #[test]
-fn mount_that_nobody_wants(rt: HostRuntime) -> Result<(), SettingsFault> {
-    assert!(rt; wants_then(rt.alloc(), HAS_LEFT, &[])?);
-    Ok(())
+fn mount_that_nobody_wants(rt: HostRuntime) {
+    assert!(rt; wants_then(rt.alloc(), HAS_LEFT, &[]));
 }

@@ -1,7 +1,6 @@
 //! Each event at each standing of a client.
 
 use super::words::*;
-use radio_settings::SettingsFault;
 use std::alloc::Global;
 
 /// A source is 1, a listener is 2, and 3 has asked for nothing.
@@ -15,7 +14,7 @@ const THREE_CLIENTS: &[(Call, &str)] = &[
 ];
 
 /// Whether they are replied to so, and then what the table has.
-fn three_clients(alloc: Global, table: &[(Call, &str)]) -> Result<bool, SettingsFault> {
+fn three_clients(alloc: Global, table: &[(Call, &str)]) -> bool {
     replies_in_turn(alloc, THREE_CLIENTS, table)
 }
 
@@ -35,9 +34,8 @@ const STRAY_EVENTS: &[(Call, &str)] = &[
 ];
 
 #[test]
-fn stray_events(rt: HostRuntime) -> Result<(), SettingsFault> {
-    assert!(rt; three_clients(rt.alloc(), STRAY_EVENTS)?);
-    Ok(())
+fn stray_events(rt: HostRuntime) {
+    assert!(rt; three_clients(rt.alloc(), STRAY_EVENTS));
 }
 
 /// A listener is handed the stream piece by piece, as he has room and as it grows.
@@ -51,9 +49,8 @@ const PIECE_BY_PIECE: &[(Call, &str)] = &[
 ];
 
 #[test]
-fn draws_piece_by_piece(rt: HostRuntime) -> Result<(), SettingsFault> {
-    assert!(rt; three_clients(rt.alloc(), PIECE_BY_PIECE)?);
-    Ok(())
+fn draws_piece_by_piece(rt: HostRuntime) {
+    assert!(rt; three_clients(rt.alloc(), PIECE_BY_PIECE));
 }
 
 /// Each kind of reply.
@@ -78,9 +75,8 @@ const EACH_REPLY: &[(Call, &str)] = &[
 
 /// A record of an event, its client and its caller each have its reply.
 #[test]
-fn three_equal_replies(rt: HostRuntime) -> Result<(), SettingsFault> {
-    assert!(rt; replies_three_times(rt.alloc(), EACH_REPLY)?);
-    Ok(())
+fn three_equal_replies(rt: HostRuntime) {
+    assert!(rt; replies_three_times(rt.alloc(), EACH_REPLY));
 }
 
 /// The end of a session finishes its listeners, and theirs alone, until they leave.
@@ -99,9 +95,8 @@ const SOURCE_ENDS: &[(Call, &str)] = &[
 ];
 
 #[test]
-fn source_that_ends(rt: HostRuntime) -> Result<(), SettingsFault> {
-    assert!(rt; three_clients(rt.alloc(), SOURCE_ENDS)?);
-    Ok(())
+fn source_that_ends(rt: HostRuntime) {
+    assert!(rt; three_clients(rt.alloc(), SOURCE_ENDS));
 }
 
 /// A source that leaves ends its session too; a listener of the next one hears that one alone.
@@ -116,9 +111,8 @@ const SOURCE_LEAVES: &[(Call, &str)] = &[
 ];
 
 #[test]
-fn source_that_leaves(rt: HostRuntime) -> Result<(), SettingsFault> {
-    assert!(rt; three_clients(rt.alloc(), SOURCE_LEAVES)?);
-    Ok(())
+fn source_that_leaves(rt: HostRuntime) {
+    assert!(rt; three_clients(rt.alloc(), SOURCE_LEAVES));
 }
 
 /// Each rule of the policy that can be met in a test; one who is denied has had his answer.
@@ -138,9 +132,8 @@ const DENIALS: &[(Call, &str)] = &[
 ];
 
 #[test]
-fn denials(rt: HostRuntime) -> Result<(), SettingsFault> {
-    assert!(rt; three_clients(rt.alloc(), DENIALS)?);
-    Ok(())
+fn denials(rt: HostRuntime) {
+    assert!(rt; three_clients(rt.alloc(), DENIALS));
 }
 
 /// A command is given once, by a client who has asked for nothing; who is finished by it is told so.
@@ -166,16 +159,14 @@ const COMMANDS: &[(Call, &str)] = &[
 ];
 
 #[test]
-fn commands_of_clients(rt: HostRuntime) -> Result<(), SettingsFault> {
-    assert!(rt; three_clients(rt.alloc(), COMMANDS)?);
-    Ok(())
+fn commands_of_clients(rt: HostRuntime) {
+    assert!(rt; three_clients(rt.alloc(), COMMANDS));
 }
 
 /// Numbers are not given again.
 const NEXT_NUMBER: &[(Call, &str)] = &[(Call::Leave(3), "noted"), (Call::Arrive, "arrived 4")];
 
 #[test]
-fn numbers_rise(rt: HostRuntime) -> Result<(), SettingsFault> {
-    assert!(rt; three_clients(rt.alloc(), NEXT_NUMBER)?);
-    Ok(())
+fn numbers_rise(rt: HostRuntime) {
+    assert!(rt; three_clients(rt.alloc(), NEXT_NUMBER));
 }

@@ -77,15 +77,15 @@ fn station(alloc: Global) -> Result<Core, SettingsFault> {
 }
 
 /// Whether a core replies as one table says, and then as the next.
-pub fn replies_in_turn(
-    alloc: Global,
-    first: &[(Call, &str)],
-    next: &[(Call, &str)],
-) -> Result<bool, SettingsFault> {
-    let mut core = station(alloc)?;
-    let replied = are_replied_in_turn(alloc, &mut core, first, next);
-    drop(core);
-    Ok(replied?)
+pub fn replies_in_turn(alloc: Global, first: &[(Call, &str)], next: &[(Call, &str)]) -> bool {
+    match station(alloc) {
+        Ok(mut core) => {
+            let replied = are_replied_in_turn(alloc, &mut core, first, next);
+            drop(core);
+            replied == Ok(true)
+        }
+        Err(_) => false,
+    }
 }
 
 fn are_replied_in_turn(
@@ -98,15 +98,15 @@ fn are_replied_in_turn(
 }
 
 /// Whether a core replies as the table says, and these mounts are wanted then.
-pub fn wants_then(
-    alloc: Global,
-    table: &[(Call, &str)],
-    wanted: &[&str],
-) -> Result<bool, SettingsFault> {
-    let mut core = station(alloc)?;
-    let wants = replies_and_wants(alloc, &mut core, table, wanted);
-    drop(core);
-    Ok(wants?)
+pub fn wants_then(alloc: Global, table: &[(Call, &str)], wanted: &[&str]) -> bool {
+    match station(alloc) {
+        Ok(mut core) => {
+            let wants = replies_and_wants(alloc, &mut core, table, wanted);
+            drop(core);
+            wants == Ok(true)
+        }
+        Err(_) => false,
+    }
 }
 
 fn replies_and_wants(
@@ -159,11 +159,15 @@ fn is_replied(
 }
 
 /// Whether each of the three replies of a core to a call is as the table says.
-pub fn replies_three_times(alloc: Global, table: &[(Call, &str)]) -> Result<bool, SettingsFault> {
-    let mut core = station(alloc)?;
-    let replied = are_replied_three_times(alloc, &mut core, table);
-    drop(core);
-    Ok(replied?)
+pub fn replies_three_times(alloc: Global, table: &[(Call, &str)]) -> bool {
+    match station(alloc) {
+        Ok(mut core) => {
+            let replied = are_replied_three_times(alloc, &mut core, table);
+            drop(core);
+            replied == Ok(true)
+        }
+        Err(_) => false,
+    }
 }
 
 fn are_replied_three_times(
