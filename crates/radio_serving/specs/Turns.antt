@@ -19,7 +19,7 @@ module _ {S : Type 0} (steps : Steps S) where
   abbrev pub ServesEach : ℕ → ℕ → Bool → S → List Connection → S → List Connection → Type 0
   ServesEach ms patience news from [] to served = (to ≡ from) × (served ≡ [])
   ServesEach ms patience news from (c ∷ cs) to served =
-      (mid : S) × (c' : Connection) × (others : List Connection) × ServesInTurn ms patience news from c mid c' × ServesEach ms patience news mid cs to others
+      (mid : S) × (c' : Connection) × (others : List Connection) × ServesInTurn steps ms patience news from c mid c' × ServesEach ms patience news mid cs to others
       × (served ≡ c' ∷ others)
 
   -- the event was applied, or refused for want of memory by a server that may refuse it
