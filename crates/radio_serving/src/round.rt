@@ -3,7 +3,7 @@
 ghost use Rattle.radio_serving.specs.Turns.{ServesEach};
 
 use crate::{Conn, Gate, Line, Server};
-use radio_connections::{Now, READ_ROOM, serve_once};
+use radio_connections::{Now, READ_ROOM, serve};
 use radio_notes::Log;
 
 /// Serves each connection, in order, and tells of each that is at its end.
@@ -18,6 +18,6 @@ pub(crate) fn serve_each<S: Server, L: Line, G: Gate>(
 {
     let mut buffer = [0u8; READ_ROOM];
     for conn in conns.iter_mut() {
-        serve_once(server, conn, &mut buffer, gate, now, log);
+        serve(server, conn, &mut buffer, gate, now, log);
     }
 }

@@ -16,8 +16,9 @@ use radio_notes::Log;
 /// How many bytes are read from a line in a turn at most.
 pub const READ_ROOM: usize = 16384;
 
-/// Serves a connection once, at this moment, and tells of it if it is at its end.
-pub fn serve_once<S: Server, L: Line, G: Gate>(
+/// Serves a connection: first what it is owed is written. While something is owed, it is neither
+/// read nor drawn for. Of one that is at its end the log is told.
+pub fn serve<S: Server, L: Line, G: Gate>(
     server: &mut S,
     conn: &mut Conn<L>,
     buffer: &mut [u8; READ_ROOM],
@@ -27,7 +28,17 @@ pub fn serve_once<S: Server, L: Line, G: Gate>(
 )
     ensures { ServesInTurn S.steps now.ms now.patience_ms now.news server.old conn.old server.new conn.new }
 {
-    serve(server, conn, buffer, gate, now, log);
+    flush(conn, gate, now);
+    if !conn.owed.rest().is_empty() {
+        give_up(conn, now);
+        leave(server, conn);
+        tell_end(conn, now, log);
+        return;
+    }
+    work(server, conn, buffer, now, log);
+    leave(server, conn);
+    flush(conn, gate, now);
+    leave(server, conn);
     tell_end(conn, now, log);
 }
 
@@ -46,30 +57,6 @@ fn tell_over<L: Line>(conn: &Conn<L>, now: Now, log: &Log) {
     if conn.lingers() || !conn.stays() {
         conn.account.tell_client(log, peer, now.ms);
     }
-}
-
-/// Serves a connection: first what it is owed is written. While something is owed, it is neither
-/// read nor drawn for.
-fn serve<S: Server, L: Line, G: Gate>(
-    server: &mut S,
-    conn: &mut Conn<L>,
-    buffer: &mut [u8; READ_ROOM],
-    gate: &G,
-    now: Now,
-    log: &Log,
-)
-    ensures { ServesInTurn S.steps now.ms now.patience_ms now.news server.old conn.old server.new conn.new }
-{
-    flush(conn, gate, now);
-    if !conn.owed.rest().is_empty() {
-        give_up(conn, now);
-        leave(server, conn);
-        return;
-    }
-    work(server, conn, buffer, now, log);
-    leave(server, conn);
-    flush(conn, gate, now);
-    leave(server, conn);
 }
 
 /// What a connection does to which nothing is owed.
