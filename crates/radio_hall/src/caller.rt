@@ -4,8 +4,7 @@ ghost use Rattle.std.specs.Prelude.{◌≡◌};
 
 use crate::{Hall, OutOfMemory};
 use radio_book::{Chronicle, House, Pass};
-use radio_events::{Event, Reply};
-use radio_session::Server;
+use radio_events::{Event, Reply, Server};
 use radio_values::MountName;
 use std::marker::Model;
 use std::sync::Wait;

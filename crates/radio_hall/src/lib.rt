@@ -2,7 +2,7 @@
 //!
 //! - [`Hall`]: the lock round a book; [`Hall::apply`] is one event, in the lock's order.
 //! - [`settle`]: all passes held against the hall's book, once the threads have been joined.
-//! - [`Caller`]: whom a worker asks, as a [`Server`](radio_session::Server): a hall, with the worker's pass.
+//! - [`Caller`]: whom a worker asks, as a [`Server`](radio_events::Server): a hall, with the worker's pass.
 //! - [`passes_gain_what_was_applied`]: a law, which runs no code.
 //!
 //! Whenever the lock is free, its book has what [`Book::is_told`](radio_book::Book::is_told) says:
