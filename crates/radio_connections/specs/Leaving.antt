@@ -3,7 +3,7 @@ use Rattle.std.specs.Prelude.{◌≡◌, ◌<◌, ◌-◌, ◌⊎◌, ℕ, Bool,
 use Rattle.radio_events.specs.declared.event.Event.TheVariants.{Leave}
 use Rattle.radio_events.specs.declared.reply.Reply.{Reply}
 use Rattle.radio_events.specs.declared.entry.Entry.{Entry}
-use Rattle.radio_events.specs.Servers.{Steps}
+use Rattle.radio_events.specs.Servers.{Steps, Chain}
 use Rattle.radio_connections.specs.declared.conn.Fate.TheVariants.{Open, Ended, Closed, Cut}
 use Rattle.radio_connections.specs.declared.line.Received.{Received}
 use Rattle.radio_connections.specs.declared.line.Received.TheVariants.{Bytes, Nothing, Closed as HasClosed, Fault}
@@ -12,7 +12,7 @@ use Rattle.radio_connections.specs.Connections.{Connection, Refused, is_open, on
 use Rattle.radio_connections.specs.Duties.{IsWritten, IsUnread, IsReadOnce, IsAskedOnce, IsGiven, IsAtMostLeaving, HasStalled, HasTakenSome, IsFinishedNow}
 use Rattle.radio_connections.specs.Duties.{LacksMemory, HasEnded, WhyClosed, Lingers, HasLeft, AreAtMostHeard, room_for, IsAtMostDraw, IsUnasked, NotesAsking, draw_room}
 use Rattle.radio_connections.specs.Answering.{IsSpared, IsUnwritten}
-use Rattle.radio_connections.specs.Serving.{Chain, IsServed, IsOneDraw, HasDrawn}
+use Rattle.radio_connections.specs.Serving.{IsServed, IsOneDraw, HasDrawn}
 
 -- its number, what its line gave and took, what is owed, and how its session stands
 pub record IsSame (c c' : Connection) : Type 0 where

@@ -5,7 +5,7 @@ use Rattle.radio_events.specs.declared.event.Event.TheVariants.{Draw}
 use Rattle.radio_events.specs.declared.reply.Reply.{Reply}
 use Rattle.radio_events.specs.declared.entry.Entry.{Entry}
 use Rattle.radio_events.specs.Events.{entry}
-use Rattle.radio_events.specs.Servers.{Steps}
+use Rattle.radio_events.specs.Servers.{Steps, Chain}
 use Rattle.radio_connections.specs.declared.conn.Fate.{Fate}
 use Rattle.radio_connections.specs.declared.conn.Fate.TheVariants.{Open, Closed, Cut}
 use Rattle.radio_connections.specs.Connections.{Connection}
@@ -36,11 +36,6 @@ pub record StandsBefore (pending : List Event) (c : Connection) (entries : List 
 -- and nothing is still to be applied
 abbrev pub Stands : Connection → List Entry → Type 0
 Stands c entries = StandsBefore [] c entries
-
--- from one state of the server these events were applied one after another, with these replies, and left the other
-abbrev pub Chain : {S : Type 0} → Steps S → S → List Entry → S → Type 0
-Chain steps from [] to = to ≡ from
-Chain {S} steps from (e ∷ entries) to = (mid : S) × steps from e.event e.reply mid × Chain steps mid entries to
 
 -- These entries were made for the connection: whatever was made for it before, it stands with both.
 pub record IsServed (c : Connection) (entries : List Entry) (c' : Connection) : Type 0 where

@@ -11,7 +11,7 @@ use Rattle.radio_events.specs.declared.entry.Entry.{Entry}
 use Rattle.radio_chronicle.specs.History.{IsRun, world_of}
 use Rattle.radio_book.specs.History.{entry_of}
 use Rattle.radio_book.specs.Stamp.{Stamp, stamped}
-use Rattle.radio_connections.specs.Serving.{Chain}
+use Rattle.radio_events.specs.Servers.{Chain}
 
 -- the event is not the end of one who was let in by these receipts, and has not gone by them
 abbrev pub IsNotHisEnd : List Stamp → Event → Type 0

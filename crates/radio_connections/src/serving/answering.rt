@@ -5,7 +5,7 @@ ghost use Rattle.radio_events.specs.declared.entry.Entry.{Entry as EntryOf};
 ghost use Rattle.radio_session.specs.Exchanges.{is_leave};
 ghost use Rattle.radio_connections.specs.Course.{is_listen, is_seated};
 ghost use Rattle.radio_connections.specs.declared.conn.Fate.TheVariants.{Closed, Cut};
-ghost use Rattle.radio_connections.specs.Serving.{Chain};
+ghost use Rattle.radio_events.specs.Servers.{Chain};
 ghost use Rattle.radio_connections.specs.Answering.{IsToldAs, IsAnswered, AreAnswered};
 
 use crate::owed::Owed;

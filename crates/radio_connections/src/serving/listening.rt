@@ -2,7 +2,7 @@
 
 ghost use Rattle.std.specs.Prelude.{◌≡◌, [], List, if◌then◌else◌};
 ghost use Rattle.radio_events.specs.declared.entry.Entry.{Entry as EntryOf};
-ghost use Rattle.radio_connections.specs.Serving.{Chain};
+ghost use Rattle.radio_events.specs.Servers.{Chain};
 ghost use Rattle.radio_connections.specs.Leaving.{Listens};
 ghost use Rattle.radio_connections.specs.Answering.{IsHeardOn};
 

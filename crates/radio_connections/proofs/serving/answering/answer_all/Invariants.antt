@@ -4,7 +4,8 @@ use Rattle.radio_events.specs.declared.entry.Entry.{Entry}
 use Rattle.radio_connections.specs.declared.conn.Fate.TheVariants.{Open}
 use Rattle.radio_connections.specs.Duties.{IsLater, events_of}
 use Rattle.radio_connections.specs.Answering.{IsUnwritten}
-use Rattle.radio_connections.specs.Serving.{Chain, StandsBefore}
+use Rattle.radio_events.specs.Servers.{Chain}
+use Rattle.radio_connections.specs.Serving.{StandsBefore}
 use Rattle.radio_connections.proofs.serving.answering.answer_all.Given as goal
 
 -- of the events, those that are left are still to be applied
