@@ -87,126 +87,171 @@ fn forged_lines_are_not(rt: HostRuntime) {
     assert!(rt; is_told(rt.alloc(), client(b"a seconds=9%", agent), told));
 }
 
-#[test]
-fn sources_are_told(rt: HostRuntime) {
-    let up = Fact::SourceUp(SourceUp {
+fn source_up<'a>() -> Fact<'a> {
+    Fact::SourceUp(SourceUp {
         mount: Text::of(b"/live"),
         peer: Peer::of_v6(1),
         content_type: Text::of(b"audio/mpeg"),
         agent: Text::of(b"butt 1.0"),
-    });
-    let told = "source-up mount=/live peer=0:0:0:0:0:0:0:1 type=audio/mpeg agent=butt%201.0\n";
-    assert!(rt; is_told(rt.alloc(), up, told));
-    let gone = Fact::SourceGone(SourceGone {
+    })
+}
+
+fn source_gone<'a>() -> Fact<'a> {
+    Fact::SourceGone(SourceGone {
         mount: Text::of(b"/live"),
         peer: Peer::of_v4(0x7f00_0001),
         why: Text::of(b"source-left"),
         seconds: 3600,
         bytes: u64::MAX,
-    });
-    let told =
-        "source-gone mount=/live peer=127.0.0.1 why=source-left seconds=3600 bytes=18446744073709551615\n";
-    assert!(rt; is_told(rt.alloc(), gone, told));
+    })
 }
 
 #[test]
-fn relays_are_told(rt: HostRuntime) {
-    let up = Fact::RelayUp(RelayUp {
+fn sources_are_told(rt: HostRuntime) {
+    let told = "source-up mount=/live peer=0:0:0:0:0:0:0:1 type=audio/mpeg agent=butt%201.0\n";
+    assert!(rt; is_told(rt.alloc(), source_up(), told));
+    let told =
+        "source-gone mount=/live peer=127.0.0.1 why=source-left seconds=3600 bytes=18446744073709551615\n";
+    assert!(rt; is_told(rt.alloc(), source_gone(), told));
+}
+
+fn relay_up<'a>() -> Fact<'a> {
+    Fact::RelayUp(RelayUp {
         mount: Text::of(b"/r"),
         master: Text::of(b"radio.example:8000"),
         content_type: Text::of(b"audio/aac"),
-    });
-    let told = "relay-up mount=/r master=radio.example:8000 type=audio/aac\n";
-    assert!(rt; is_told(rt.alloc(), up, told));
-    let gone = Fact::RelayGone(RelayGone {
+    })
+}
+
+fn relay_gone<'a>() -> Fact<'a> {
+    Fact::RelayGone(RelayGone {
         mount: Text::of(b"/r"),
         master: Text::of(b"radio.example:8000"),
         why: Text::of(b"source-left"),
         seconds: 0,
         bytes: 1,
-    });
-    let told = "relay-gone mount=/r master=radio.example:8000 why=source-left seconds=0 bytes=1\n";
-    assert!(rt; is_told(rt.alloc(), gone, told));
-    let failed = Fact::RelayFailed(RelayFailed {
+    })
+}
+
+fn relay_failed<'a>() -> Fact<'a> {
+    Fact::RelayFailed(RelayFailed {
         mount: Text::of(b"/r"),
         master: Text::of(b"radio.example:8000"),
         why: Text::of(b"Connection refused"),
-    });
+    })
+}
+
+#[test]
+fn relays_are_told(rt: HostRuntime) {
+    let told = "relay-up mount=/r master=radio.example:8000 type=audio/aac\n";
+    assert!(rt; is_told(rt.alloc(), relay_up(), told));
+    let told = "relay-gone mount=/r master=radio.example:8000 why=source-left seconds=0 bytes=1\n";
+    assert!(rt; is_told(rt.alloc(), relay_gone(), told));
     let told = "relay-failed mount=/r master=radio.example:8000 why=Connection%20refused\n";
-    assert!(rt; is_told(rt.alloc(), failed, told));
+    assert!(rt; is_told(rt.alloc(), relay_failed(), told));
+}
+
+fn mount_up<'a>() -> Fact<'a> {
+    Fact::MountUp {
+        mount: Text::of(b"/a b"),
+    }
+}
+
+fn mount_gone<'a>() -> Fact<'a> {
+    Fact::MountGone {
+        mount: Text::of(b"/a"),
+        why: Text::of(b"source-timeout"),
+    }
+}
+
+fn new_title<'a>() -> Fact<'a> {
+    Fact::Title(Title {
+        mount: Text::of(b"/a"),
+        title: Text::of(b"Bj\xc3\xb6rk - J\xc3\xb3ga"),
+    })
 }
 
 #[test]
 fn mounts_are_told(rt: HostRuntime) {
-    let up = Fact::MountUp {
-        mount: Text::of(b"/a b"),
-    };
-    assert!(rt; is_told(rt.alloc(), up, "mount-up mount=/a%20b\n"));
-    let gone = Fact::MountGone {
-        mount: Text::of(b"/a"),
-        why: Text::of(b"source-timeout"),
-    };
-    assert!(rt; is_told(rt.alloc(), gone, "mount-gone mount=/a why=source-timeout\n"));
-    let title = Fact::Title(Title {
-        mount: Text::of(b"/a"),
-        title: Text::of(b"Bj\xc3\xb6rk - J\xc3\xb3ga"),
-    });
-    let told = "title mount=/a title=Bj%C3%B6rk%20-%20J%C3%B3ga\n";
-    assert!(rt; is_told(rt.alloc(), title, told));
-}
-
-#[test]
-fn the_program_and_commands_are_told(rt: HostRuntime) {
-    let started = Fact::Started {
-        version: Text::of(b"1.0"),
-        address: Text::of(b"0.0.0.0:8000"),
-    };
+    assert!(rt; is_told(rt.alloc(), mount_up(), "mount-up mount=/a%20b\n"));
     assert!(rt;
         is_told(
             rt.alloc(),
-            started,
-            "started version=1.0 address=0.0.0.0:8000\n"
+            mount_gone(),
+            "mount-gone mount=/a why=source-timeout\n"
         )
     );
-    let ended = Fact::Ended {
+    let told = "title mount=/a title=Bj%C3%B6rk%20-%20J%C3%B3ga\n";
+    assert!(rt; is_told(rt.alloc(), new_title(), told));
+}
+
+fn started<'a>() -> Fact<'a> {
+    Fact::Started {
+        version: Text::of(b"1.0"),
+        address: Text::of(b"0.0.0.0:8000"),
+    }
+}
+
+fn ended<'a>() -> Fact<'a> {
+    Fact::Ended {
         why: Text::of(b"accept fault"),
-    };
-    assert!(rt; is_told(rt.alloc(), ended, "ended why=accept%20fault\n"));
-    let command = Fact::Command(Command {
+    }
+}
+
+fn command<'a>() -> Fact<'a> {
+    Fact::Command(Command {
         name: Text::of(b"moveclients"),
         mount: Text::of(b"/a"),
         argument: Text::of(b"/b"),
         user: Text::of(b"admin"),
         peer: Peer::of_v4(0x0a00_0001),
-    });
-    let told = "command command=moveclients mount=/a argument=/b user=admin peer=10.0.0.1\n";
-    assert!(rt; is_told(rt.alloc(), command, told));
+    })
 }
 
 #[test]
-fn settings_are_told_of(rt: HostRuntime) {
-    let warning = Fact::Warning(Warning {
+fn the_program_and_commands_are_told(rt: HostRuntime) {
+    assert!(rt;
+        is_told(
+            rt.alloc(),
+            started(),
+            "started version=1.0 address=0.0.0.0:8000\n"
+        )
+    );
+    assert!(rt; is_told(rt.alloc(), ended(), "ended why=accept%20fault\n"));
+    let told = "command command=moveclients mount=/a argument=/b user=admin peer=10.0.0.1\n";
+    assert!(rt; is_told(rt.alloc(), command(), told));
+}
+
+fn warning<'a>() -> Fact<'a> {
+    Fact::Warning(Warning {
         why: Text::of(b"few-descriptors"),
         key: Text::of(b"clients"),
         mount: Text::of(b""),
         limit: 1024,
-    });
-    assert!(rt;
-        is_told(
-            rt.alloc(),
-            warning,
-            "warning why=few-descriptors key=clients mount= limit=1024\n"
-        )
-    );
-    let fault = Fact::Fault(Fault {
+    })
+}
+
+fn fault<'a>() -> Fact<'a> {
+    Fact::Fault(Fault {
         why: Text::of(b"not toml"),
         file: Text::of(b"my settings"),
         line: 3,
         column: 7,
         address: Text::of(b""),
         reason: Text::of(b"expected `=`"),
-    });
+    })
+}
+
+#[test]
+fn settings_are_told_of(rt: HostRuntime) {
+    assert!(rt;
+        is_told(
+            rt.alloc(),
+            warning(),
+            "warning why=few-descriptors key=clients mount= limit=1024\n"
+        )
+    );
     let told =
         "fault why=not%20toml file=my%20settings line=3 column=7 address= reason=expected%20`=`\n";
-    assert!(rt; is_told(rt.alloc(), fault, told));
+    assert!(rt; is_told(rt.alloc(), fault(), told));
 }

@@ -82,11 +82,15 @@ fn push_shared(queue: &mut BlockQueue, block: &Block, count: u32) -> Result<(), 
 /// The place behind so many blocks of 4096 bytes, of which the last ones are kept.
 fn end_of_many(alloc: Global, count: u32) -> Result<u64, OutOfMemory> {
     let mut queue = BlockQueue::new(alloc, 8192);
-    let shared = Bytes::copy_from_slice(alloc, [7; 4096].as_slice())?;
-    if let Some(block) = Block::new(shared) {
-        push_shared(&mut queue, &block, count)?;
-    }
+    push_many(alloc, &mut queue, count)?;
     Ok(queue.end().bytes_before())
+}
+
+fn push_many(alloc: Global, queue: &mut BlockQueue, count: u32) -> Result<(), OutOfMemory> {
+    match Block::new(Bytes::copy_from_slice(alloc, [7; 4096].as_slice())?) {
+        Some(block) => push_shared(queue, &block, count),
+        None => Ok(()),
+    }
 }
 
 #[test]

@@ -11,16 +11,22 @@ const X_TOLD: &[u8] = b"abcd<StreamTitle='X';>efgh";
 /// Tells items behind what came before: sound as it is, and each text in brackets.
 fn gather(items: &[Item], told: &mut Vec<u8>) -> Result<(), OutOfMemory> {
     for item in items {
-        match item {
-            Item::Sound(bytes) => told.extend_from_slice(bytes.as_slice())?,
-            Item::Text(text) => {
-                told.push(b'<')?;
-                told.extend_from_slice(text.as_slice())?;
-                told.push(b'>')?;
-            }
-        }
+        tell(item, told)?;
     }
     Ok(())
+}
+
+fn tell(item: &Item, told: &mut Vec<u8>) -> Result<(), OutOfMemory> {
+    match item {
+        Item::Sound(bytes) => told.extend_from_slice(bytes.as_slice()),
+        Item::Text(text) => tell_text(text.as_slice(), told),
+    }
+}
+
+fn tell_text(text: &[u8], told: &mut Vec<u8>) -> Result<(), OutOfMemory> {
+    told.extend_from_slice(b"<")?;
+    told.extend_from_slice(text)?;
+    told.extend_from_slice(b">")
 }
 
 /// Feeds a piece, and gathers what it brings.
