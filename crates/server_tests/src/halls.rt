@@ -104,6 +104,20 @@ impl Visit {
         }
     }
 
+    /// Does what wants one worker at most, and adds the passes; no other goes so. Whether it went as it is to go.
+    fn goes_with_one<H: House + Send + Sync, R: Clock + Net + Threads + Wait + Sync>(
+        self,
+        rt: &R,
+        alloc: Global,
+        hall: &Hall<Kept, H>,
+        passes: &mut Vec<Pass<Kept, H>>,
+    ) -> bool {
+        match self {
+            Visit::Loopback => are_heard(rt, alloc, hall, passes),
+            other => visit_by_calls(rt, alloc, hall, passes, other),
+        }
+    }
+
     fn is_left_out(self) -> bool {
         matches!(self, Visit::LeftOut)
     }
@@ -125,8 +139,7 @@ fn visit_with<H: House + Send + Sync, R: Clock + Net + Threads + Wait + Sync>(
 ) -> bool {
     match visit {
         Visit::Rush(rush) => workers::are_served(rt, alloc, hall, passes, rush),
-        Visit::Loopback => are_heard(rt, alloc, hall, passes),
-        other => visit_by_calls(rt, alloc, hall, passes, other),
+        other => other.goes_with_one(rt, alloc, hall, passes),
     }
 }
 
