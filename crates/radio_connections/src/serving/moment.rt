@@ -28,18 +28,31 @@ pub fn serve<S: Server, L: Line, G: Gate>(
 )
     ensures { ServesInTurn S.steps now.ms now.patience_ms now.news server.old conn.old server.new conn.new }
 {
+    write_and_work(server, conn, buffer, gate, now, log);
+    tell_end(conn, now, log);
+}
+
+/// Writes what a connection is owed, and does what it does once nothing more is owed.
+fn write_and_work<S: Server, L: Line, G: Gate>(
+    server: &mut S,
+    conn: &mut Conn<L>,
+    buffer: &mut [u8; READ_ROOM],
+    gate: &G,
+    now: Now,
+    log: &Log,
+)
+    ensures { ServesInTurn S.steps now.ms now.patience_ms now.news server.old conn.old server.new conn.new }
+{
     flush(conn, gate, now);
     if !conn.owed.rest().is_empty() {
         give_up(conn, now);
         leave(server, conn);
-        tell_end(conn, now, log);
         return;
     }
     work(server, conn, buffer, now, log);
     leave(server, conn);
     flush(conn, gate, now);
     leave(server, conn);
-    tell_end(conn, now, log);
 }
 
 /// Tells of a connection that is over: of its source, and of its client once nothing more is written.

@@ -95,13 +95,21 @@ impl State {
             Event::SourceEnd { id } => Ok(self.source_end(id)),
             Event::Title { id, text } => Ok(self.title(id, text)),
             Event::Listen(asked) => self.get(asked),
-            Event::Draw { id, room } => Ok(self.draw(id, room)?.outcome(id)),
+            Event::Draw { id, room } => self.drawing_outcome(id, room),
             Event::Command(asked) => self.command(asked.into_inner()),
             Event::Leave { id } => Ok(self.leave(id)),
             Event::RelayUp { mount, shown } => self.relay_up(mount.as_slice(), &shown),
             Event::RelayDown { id } => Ok(self.relay_down(id)),
             Event::Clock { ms } => Ok(self.clock(ms)),
         }
+    }
+
+    /// What comes of a draw, before its change is made. `OutOfMemory` where memory was refused.
+    fn drawing_outcome(&self, id: u64, room: u32) -> Result<Outcome, OutOfMemory>
+        requires { StandsForSome self.now }
+        ensures { IfOk result (λ outcome. outcome ≡ draws self.now id room) }
+    {
+        Ok(self.draw(id, room)?.outcome(id))
     }
 
     /// One event: what comes of it is worked out, and its change is made. `OutOfMemory` where memory was

@@ -3,7 +3,7 @@ use Rattle.std.proofs.lemmas.Bool.{false≢true}
 use Rattle.radio_connections.specs.Connections.{Connection}
 use Rattle.radio_connections.proofs.Deeds.{empty_is}
 use Rattle.radio_connections.proofs.TurnDeeds.{served_in_turn, kept_in_turn}
-use Rattle.radio_connections.proofs.serving.moment.serve.Goals as goal
+use Rattle.radio_connections.proofs.serving.moment.write_and_work.Goals as goal
 
 pub returns-then-not-is_empty : goal.returns-then-not-is_empty
 returns-then-not-is_empty g c = kept_in_turn g.S.Server.steps c.flush.ensures
