@@ -1,4 +1,3 @@
 pub mod Telling
 pub mod Newcomers
-pub mod Settled
 pub mod TotalLemmas

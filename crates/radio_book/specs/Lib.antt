@@ -2,8 +2,6 @@ pub mod Stamp
 pub mod History
 pub mod Newcomers
 pub mod Books
-pub mod Settling
 pub mod Totals
-pub mod Words
 pub mod Wanted
 pub mod LastMounts

@@ -144,8 +144,8 @@ impl<C: Chronicle, H: House> Book<C, H> {
 }
 
 impl<H: House> Book<Kept, H> {
-    /// Its history, which is a run from the opening state.
-    pub(crate) fn into_history(self) -> Vec<Entry>
+    /// Its history, when nobody calls any more, which is a run from the opening state.
+    pub fn into_history(self) -> Vec<Entry>
         ensures history { result.items ≡ self.history }
         ensures run { ∥ IsRun H.opening result.items ∥₁ }
     {

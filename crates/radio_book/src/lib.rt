@@ -4,7 +4,6 @@
 //! - [`Chronicle`]: what becomes of the entries. [`Kept`] stores each, [`Unkept`] none.
 //! - [`Pass`]: what a caller has: the receipts of his calls, and the right to see off whom he let in,
 //!   a client or a relay ([`Newcomer`]).
-//! - [`settle`]: all passes held against the book, when nobody calls any more.
 //! - [`histories_add_up`]: what a history counts up to.
 //! - [`House`]: which house a book and its passes belong to; it stands in contracts alone.
 #![tactic(auto)]
@@ -17,7 +16,6 @@ mod laws;
 mod newcomer;
 mod pass;
 mod receipt;
-mod settling;
 
 pub use book::{Book, PASSES};
 pub use laws::histories_add_up;
@@ -26,7 +24,6 @@ pub use pass::Pass;
 pub use radio_chronicle::{Chronicle, House, Kept, Unkept};
 pub use radio_events::Entry;
 pub use receipt::Receipt;
-pub use settling::{SettleFault, settle};
 
 /// What a call answers where memory was refused. Nothing has changed then.
 pub type OutOfMemory = std::alloc::AllocError;

@@ -7,19 +7,15 @@
 //!   is shown something of the station.
 //! - [`Entry`]: one event with its reply, of which histories are made.
 //! - [`Server`]: whoever applies events.
-//! - `again` of either is an equal copy, `same` tells whether two are equal.
+//! - `again` of either is an equal copy.
 #![tactic(auto)]
 
 mod again;
 mod boxed;
 mod command;
-mod data;
 mod entry;
 mod event;
 mod reply;
-mod same;
-mod same_commands;
-mod same_values;
 mod server;
 mod text;
 

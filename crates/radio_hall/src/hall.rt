@@ -1,20 +1,16 @@
 //! The lock round a book.
 
-ghost use Rattle.std.specs.Prelude.{◌≡◌, ◌^◌, ◌∷◌, [], ◌++◌, ℕ, length, true, false, IsOk, IfOk, IfErr, IfSome, List, OnErr, All, IsPermutation, sum_by};
-ghost use Rattle.std.specs.List.{range_with_len};
+ghost use Rattle.std.specs.Prelude.{◌≡◌, ◌^◌, ◌∷◌, [], ◌++◌, true, false, IsOk, IfOk, IfSome, OnErr};
 ghost use Rattle.radio_events.specs.Events.{TakesNoMemory};
 ghost use Rattle.radio_house.specs.World.{opening};
-ghost use Rattle.radio_events.specs.declared.entry.Entry.{Entry as EntryOf};
 ghost use Rattle.radio_book.specs.declared.newcomer.Newcomer.{Newcomer};
 ghost use Rattle.radio_book.specs.Newcomers.{is_here, leaver_of};
-ghost use Rattle.radio_chronicle.specs.History.{IsRun};
-ghost use Rattle.radio_book.specs.History.{IsLegal, StandsIn};
+ghost use Rattle.radio_book.specs.History.{IsLegal};
 ghost use Rattle.radio_book.specs.Wanted.{AreWanted};
 ghost use Rattle.radio_book.specs.LastMounts.{WasAt};
-ghost use Rattle.radio_book.specs.Settling.{Rises, Shows, all_serials, serials};
 
 use radio_access::Lists;
-use radio_book::{Book, Chronicle, Entry, House, Kept, OutOfMemory, Pass, Receipt, SettleFault};
+use radio_book::{Book, Chronicle, House, OutOfMemory, Pass, Receipt};
 use radio_events::Event;
 use radio_settings::Settings;
 use radio_values::MountName;
@@ -117,27 +113,4 @@ impl<C: Chronicle, H: House> Hall<C, H> {
     pub fn into_book(self) -> Book<C, H> {
         self.book.into_inner()
     }
-}
-
-/// Holds all passes of a house against its history, once the threads have been joined; the history
-/// then. The faults are those of [`radio_book::settle`]; after one the house and the passes are gone.
-pub fn settle<H: House>(
-    alloc: Global,
-    hall: Hall<Kept, H>,
-    passes: Vec<Pass<Kept, H>>,
-) -> Result<Vec<Entry>, SettleFault>
-    // it is a run from the opening state
-    ensures run { IfOk result (λ history. ∥ IsRun H.opening history.items ∥₁) }
-    // each receipt of each pass stands in it, in the order of the pass
-    ensures stand { IfOk result (λ history. All (λ pass. All (StandsIn history.items) pass) passes.items) }
-    ensures rise { IfOk result (λ history. All (λ pass. Rises 0 (serials pass)) passes.items) }
-    // and nothing else stands there: each place has one receipt in all passes together
-    ensures once { IfOk result (λ history. IsPermutation (range_with_len 1 (length history.items)) (all_serials passes.items)) }
-    ensures total { IfOk result (λ history. length history.items ≡ sum_by length passes.items) }
-    // a fault comes only where the passes show it, beside a history that is such a run
-    ensures fault { IfErr result (λ fault. ∥ ((history : List EntryOf) × IsRun H.opening history × Shows history passes.items fault) ∥₁) }
-{
-    let book = hall.into_book();
-    book.is_told();
-    radio_book::settle(alloc, book, passes)
 }

@@ -1,7 +1,6 @@
 //! A book that several threads call, under one lock.
 //!
 //! - [`Hall`]: the lock round a book; [`Hall::apply`] is one event, in the lock's order.
-//! - [`settle`]: all passes held against the hall's book, once the threads have been joined.
 //! - [`Caller`]: whom a worker asks, as a [`Server`](radio_events::Server): a hall, with the worker's pass.
 //! - [`passes_gain_what_was_applied`]: a law, which runs no code.
 //!
@@ -14,7 +13,7 @@ mod hall;
 mod laws;
 
 pub use caller::Caller;
-pub use hall::{Hall, settle};
+pub use hall::Hall;
 pub use laws::passes_gain_what_was_applied;
 
 /// What a call answers where memory was refused.

@@ -52,7 +52,7 @@ pub fn events_are_lawful()
     whoever_may_is_served();
 }
 
-/// The same for a history that is a run from an opening state, as `settle` of `radio_book` gives one
+/// The same for a history that is a run from an opening state, as `settle` of `radio_settling` gives one
 /// where it ends well: at each of its entries the laws of every run hold, and what was noted of a
 /// listener's draws is, joined, slices of what his sources delivered.
 pub fn histories_are_lawful()

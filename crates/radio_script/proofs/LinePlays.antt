@@ -1,8 +1,10 @@
 -- What the playing of one line comes to.
-use Rattle.std.proofs.Common.{◌≡◌, ℕ, ◌≤◌, ◌<◌, Bool, false, true, nat_lt, ◌||◌, List, [], ◌∷◌, ◌++◌, length, Option, None, Some, Ok, Err, refl, sym, ap, ◌∙◌}
-use Rattle.std.proofs.Common.{subst, arith, append-nil, append_assoc, length-append}
+use Rattle.std.proofs.Common.{◌≡◌, ℕ, ◌+◌, ◌≤◌, ◌<◌, Bool, false, true, nat_lt, ◌||◌, List, [], ◌∷◌, ◌++◌, length, Option, None, Some, Ok, Err, refl, sym, ap, ◌∙◌}
+use Rattle.std.proofs.Common.{subst, arith, append-nil, append_assoc, length-append, take}
 use Rattle.std.proofs.lemmas.Bool.Decides.{nat_tests}
-use Rattle.std.specs.Io.KnownBytes.{Consumes, IsAtEnd}
+use Rattle.std.proofs.lemmas.List.{length-take, take_min}
+use Rattle.std.specs.Io.{StartsWith}
+use Rattle.std.specs.Io.KnownBytes.{Appends, Consumes, IsAtEnd}
 use Rattle.std.proofs.KnownBytes.{Appends-nil}
 use Rattle.radio_deliveries.specs.Limits.{max_line, max_lines}
 use Rattle.radio_deliveries.specs.declared.faults.PlayFault.{PlayFault}
@@ -52,6 +54,41 @@ unwritten performs p number line text Write q h = absurd h
 unwritten performs p number line text (Line n) q h = (h, refl, refl)
 unwritten performs p number line text TooMuch q h = absurd h
 unwritten performs p number line text OutOfMemory q h = (refl, refl)
+
+-- a front of a text is what the text starts with
+front_starts : (n : ℕ) (text : List ℕ) → StartsWith text (take n text)
+front_starts n text = ap (λ k. take k text) (length-take n text) ∙ take_min n text
+
+-- a line that was performed, whose text was written whole
+pub written_whole : {P : Type 0} (performs : Conduct P) (p : P) (number : ℕ) (line text bytes : List ℕ) (q : P) (a b : Option (List ℕ)) (m n : ℕ)
+    → bytes ≡ text → IsPerformed performs p number line (Ok tt) text q → Appends a b bytes → n ≤ m + length bytes
+    → Writes a b m n (λ written most_calls. AnswersLine performs p number line (Ok tt) written most_calls q)
+written_whole performs p number line text bytes q a b m n e performed appends called =
+    record {
+      written = bytes;
+      most_calls = length bytes;
+      appends = appends;
+      called = called;
+      holds = (subst (λ t. IsAnswered performs p number line t q) (sym e) performed, omega arith);
+    }
+
+-- and one whose text was written in part
+pub written_in_part : {P : Type 0} (performs : Conduct P) (p : P) (number : ℕ) (line text bytes : List ℕ) (q : P) (a b : Option (List ℕ)) (m n : ℕ)
+    → bytes ≡ text → IsPerformed performs p number line (Ok tt) text q → ((k : ℕ) × Appends a b (take k bytes)) → n ≤ m + length bytes
+    → Writes a b m n (λ written most_calls. AnswersLine performs p number line (Err Write) written most_calls q)
+written_in_part performs p number line text bytes q a b m n e performed front called =
+    record {
+      written = take front.0 bytes;
+      most_calls = length bytes;
+      appends = front.1;
+      called = called;
+      holds = record {
+        text = bytes;
+        answer = subst (λ t. IsAnswered performs p number line t q) (sym e) performed;
+        front = front_starts front.0 bytes;
+        in_calls = omega arith;
+      };
+    }
 
 -- none of the script was played
 pub before_all : {P : Type 0} (performs : Conduct P) (p : P) (number : ℕ) (script : List ℕ) → IsPlayedBefore performs p number script script [] 0 p

@@ -1,7 +1,17 @@
-use Rattle.std.proofs.Common.{Ok, Err, arith}
+use Rattle.std.proofs.Common.{Ok, Err, refl, arith}
 use Rattle.radio_deliveries.specs.declared.faults.PlayFault.TheVariants.{Write}
-use Rattle.radio_script.proofs.ScriptPlays.{IsSoFar-more, IsSoFar-ends, IsSoFar-looked, Ok-not_Err}
+use Rattle.radio_script.proofs.ScriptPlays.{IsSoFar-none, IsSoFar-more, IsSoFar-ends, IsSoFar-looked, Ok-not_Err}
 use Rattle.radio_script.proofs.playing.play_with.Goals as goal
+
+pub loop-number-init : goal.loop-number-init
+loop-number-init g c = record {
+  so_far = IsSoFar-none g.P.Performer.performs c.args.performer.now (g.R.Read.remaining c.args.reader.now) (g.W.Write.contents c.args.writer.now)
+      (g.W.Counted.calls c.args.writer.now);
+  reader_calls = omega arith;
+  reader_failures = refl;
+  writer_failures = refl;
+  flushed = λ e. e;
+}
 
 pub returns-in-Ok-false-clause-plays : goal.returns-in-Ok-false-clause-plays
 returns-in-Ok-false-clause-plays g c =

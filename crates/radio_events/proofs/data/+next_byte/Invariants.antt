@@ -1,5 +1,0 @@
-use Rattle.std.proofs.Common.{length}
-use Rattle.radio_events.proofs.data.+next_byte.Given as goal
-
-abbrev pub decreases-next_byte : goal.decreases-next_byte
-decreases-next_byte l = length l.slices.now
