@@ -1,6 +1,5 @@
 //! Feeds behind the end of a body, and behind a fault, which the server never makes. What bodies bring is in the
 //! end-to-end scripts.
-mod memory;
 
 use radio_blocks::Block;
 use radio_source::{Blocks, Body, BodyFault, OutOfMemory};

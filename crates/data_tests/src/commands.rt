@@ -154,20 +154,6 @@ fn is_shown(alloc: Global, path: &[u8], query: &[u8], want: &str) -> bool {
     }
 }
 
-/// With memory refused at any step, the answer is that one or none.
-#[test]
-fn refused_memory_changes_no_answer(rt: HostRuntime) {
-    assert!(rt; is_title_or_refused(rt.alloc()));
-}
-
-fn is_title_or_refused(alloc: Global) -> bool {
-    let query = b"mode=updinfo&mount=%2Fa&artist=%41&title=b";
-    match read_command(alloc, b"/admin/metadata", query) {
-        Ok(command) => is_title(&command, Some(b"A - b")),
-        Err(fault) => fault == AdminFault::OutOfMemory,
-    }
-}
-
 fn sets_title(alloc: Global, query: &[u8], want: Option<&[u8]>) -> bool {
     match read_command(alloc, b"/admin/metadata", query) {
         Ok(command) => is_title(&command, want),

@@ -1,4 +1,4 @@
-//! Values that no head can hold, what is answered without memory, and what is shown of secrets. Pairs and user lists are
+//! Values that no head can hold, and what is shown of secrets. Pairs and user lists are
 //! rows of the end-to-end scripts, and users who change are cases of them.
 
 use radio_creds::{Pair, Users, basic};
@@ -49,32 +49,25 @@ fn is_hidden(alloc: Global, pair: &Pair) -> bool {
     is_copied(pair) && is_shown(alloc, pair, "Pair { .. }")
 }
 
-/// Whether a pair is read and hidden. Where memory was refused there is none, and `or` is told.
-fn is_pair_read(alloc: Global, or: bool) -> bool {
+/// Whether a pair is read and hidden.
+fn is_pair_read(alloc: Global) -> bool {
     match basic(alloc, b"Basic YTpi") {
-        Ok(Some(pair)) => or || is_hidden(alloc, &pair),
+        Ok(Some(pair)) => is_hidden(alloc, &pair),
         Ok(None) => false,
-        Err(_) => or,
+        Err(_) => false,
     }
 }
 
-/// Whether a list of users is read and hidden, as in `is_pair_read`.
-fn are_users_read(alloc: Global, or: bool) -> bool {
+/// Whether a list of users is read and hidden.
+fn are_users_read(alloc: Global) -> bool {
     match Users::read(alloc, b"u:0cc175b9c0f1b6a831c399e269772661\n") {
-        Ok(users) => users.has(b"u") && (or || is_shown(alloc, &users, "Users { .. }")),
-        Err(_) => or,
+        Ok(users) => users.has(b"u") && is_shown(alloc, &users, "Users { .. }"),
+        Err(_) => false,
     }
 }
 
 #[test]
 fn no_secret_is_shown(rt: HostRuntime) {
-    assert!(rt; is_pair_read(rt.alloc(), false));
-    assert!(rt; are_users_read(rt.alloc(), false));
-}
-
-/// Where memory runs out, the error says so and nothing else is answered.
-#[test]
-fn no_memory(rt: HostRuntime) {
-    assert!(rt; is_pair_read(rt.alloc(), true));
-    assert!(rt; are_users_read(rt.alloc(), true));
+    assert!(rt; is_pair_read(rt.alloc()));
+    assert!(rt; are_users_read(rt.alloc()));
 }

@@ -9,8 +9,7 @@
 //! - `intake`: connections that are put, taken and counted, also by two threads.
 //! - `commands`: paths and queries as commands; `listings`: what is written of rows; `relays`: what masters answer, and which relays run.
 //! - `heads`: queries, faults, and answers with a body.
-//! - `settings`: every key read back, names and want of memory; `scripts`: whole scripts over devices that fail, and
-//!   lists of deliveries.
+//! - `settings`: every key read back, and names; `scripts`: scripts over devices that fail.
 #![tactic(auto)]
 
 #[cfg(test)]

@@ -1,7 +1,6 @@
 //! What no clause says: that calls succeed where there is memory, and that the definitions mean what the standards say, on
 //! answers, settings and lists from outside.
 
-mod memory;
 mod orders;
 mod pulls;
 mod requests;

@@ -1,6 +1,4 @@
-//! What no clause says and no program shows: every key read back, how names are ordered, and that want of memory is
-//! told as such. Texts with their faults are rows of the end-to-end scripts.
+//! What no clause says and no program shows: every key read back, and how names are ordered. Texts with their faults are rows of the end-to-end scripts.
 
 mod every_key;
-mod memory;
 mod names;

@@ -162,22 +162,3 @@ fn many_rows_come_and_go(rt: HostRuntime) {
     let mut listeners = Table::new(rt.alloc());
     assert!(rt; insert_many(&mut listeners).is_ok() && remove_many(&mut listeners));
 }
-
-// How many came until memory was refused, each behind the others.
-fn insert_until_refused(listeners: &mut Table<Listener>) -> u64 {
-    for id in 0..40u64 {
-        if listeners.insert(Listener { id, seconds: 0 }).is_err() {
-            return id;
-        }
-    }
-    40
-}
-
-#[test]
-fn refused_rows_leave_the_others(rt: HostRuntime) {
-    let mut listeners = Table::new(rt.alloc());
-    let count = insert_until_refused(&mut listeners);
-    assert!(rt;
-        listeners.len() as u64 == count && listeners.iter().all(|listener| listener.id < count)
-    );
-}

@@ -49,19 +49,19 @@ Connection: close\r\n\
     ),
 ];
 
-/// Whether an answer's text is this. Where memory was refused there is none, and `or` is told.
-fn is_text(alloc: Global, answer: &Answer, want: &[u8], or: bool) -> bool {
+/// Whether an answer's text is this.
+fn is_text(alloc: Global, answer: &Answer, want: &[u8]) -> bool {
     match write_answer(alloc, answer) {
         Ok(text) => text.as_slice() == want,
-        Err(_) => or,
+        Err(_) => false,
     }
 }
 
 /// Whether each of these answers has its text, as in `is_text`.
-fn are_texts(alloc: Global, or: bool) -> bool {
+fn are_texts(alloc: Global) -> bool {
     for (kind, body, text) in TEXTS {
         let kind = *kind;
-        if !is_text(alloc, &Answer::Text { kind, body }, text, or) {
+        if !is_text(alloc, &Answer::Text { kind, body }, text) {
             return false;
         }
     }
@@ -70,13 +70,7 @@ fn are_texts(alloc: Global, or: bool) -> bool {
 
 #[test]
 fn answers(rt: HostRuntime) {
-    assert!(rt; are_texts(rt.alloc(), false));
-}
-
-/// Where memory runs out there is an error, and else the whole text.
-#[test]
-fn refused_memory(rt: HostRuntime) {
-    assert!(rt; are_texts(rt.alloc(), true));
+    assert!(rt; are_texts(rt.alloc()));
 }
 
 const LARGE_HEAD: &[u8] = b"HTTP/1.0 200 OK\r\n\

@@ -75,14 +75,12 @@ fn any_page<'a>() -> Option<WebAnswer<'a>> {
     })
 }
 
-/// Whether an answer's text is this, for pages of that origin, or where nothing is said of it. Where memory was refused
-/// there is none, and `or` is told.
+/// Whether an answer's text is this, for pages of that origin, or where nothing is said of it.
 fn is_text(
     alloc: Global,
     answer: &Option<WebAnswer>,
     allow_origin: Option<&[u8]>,
     want: &[u8],
-    or: bool,
 ) -> bool {
     let Some(answer) = answer else {
         return false;
@@ -90,40 +88,33 @@ fn is_text(
     let allow_origin = allow_origin.and_then(|origin| FieldValue::read(origin));
     match write_web_answer(alloc, answer, &allow_origin) {
         Ok(text) => text.as_slice() == want,
-        Err(_) => or,
+        Err(_) => false,
     }
 }
 
-fn are_streams(alloc: Global, or: bool) -> bool {
+fn are_streams(alloc: Global) -> bool {
     let stream = stream();
-    is_text(alloc, &stream, None, STREAM, or)
-        && is_text(alloc, &stream, Some(b"*"), STREAM_FOR_ALL, or)
+    is_text(alloc, &stream, None, STREAM) && is_text(alloc, &stream, Some(b"*"), STREAM_FOR_ALL)
 }
 
-fn are_listings(alloc: Global, or: bool) -> bool {
+fn are_listings(alloc: Global) -> bool {
     let text = text();
     let origin = b"https://radio.example";
-    is_text(alloc, &text, None, TEXT, or) && is_text(alloc, &text, Some(origin), TEXT_FOR_ONE, or)
+    is_text(alloc, &text, None, TEXT) && is_text(alloc, &text, Some(origin), TEXT_FOR_ONE)
 }
 
-fn are_pages(alloc: Global, or: bool) -> bool {
+fn are_pages(alloc: Global) -> bool {
     let page = any_page();
-    is_text(alloc, &page, None, PAGE, or) && is_text(alloc, &page, Some(b"*"), PAGE_FOR_ALL, or)
+    is_text(alloc, &page, None, PAGE) && is_text(alloc, &page, Some(b"*"), PAGE_FOR_ALL)
 }
 
-fn are_texts(alloc: Global, or: bool) -> bool {
-    are_streams(alloc, or) && are_listings(alloc, or) && are_pages(alloc, or)
+fn are_texts(alloc: Global) -> bool {
+    are_streams(alloc) && are_listings(alloc) && are_pages(alloc)
 }
 
 #[test]
 fn answers_for_web_sites(rt: HostRuntime) {
-    assert!(rt; are_texts(rt.alloc(), false));
-}
-
-/// Where memory runs out there is an error, and else the whole text.
-#[test]
-fn refused_memory_for_web_sites(rt: HostRuntime) {
-    assert!(rt; are_texts(rt.alloc(), true));
+    assert!(rt; are_texts(rt.alloc()));
 }
 
 /// Whether the page of what is on air stands behind its head, to its end, under its policy.

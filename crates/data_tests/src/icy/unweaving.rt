@@ -135,50 +135,6 @@ fn longest_block_cut_at_each_byte(rt: HostRuntime) {
     assert!(rt; is_longest_told(rt.alloc()) == Ok(true));
 }
 
-/// Feeds a piece, again where that was refused, and gathers what it brings.
-fn feed_or_repeat(
-    unweaver: &mut Unweaver,
-    piece: &[u8],
-    told: &mut Vec<u8>,
-) -> Result<(), OutOfMemory> {
-    let items = match unweaver.feed(piece) {
-        Ok(items) => items,
-        Err(_) => unweaver.feed(piece)?,
-    };
-    gather(items.as_slice(), told)
-}
-
-/// Room for what a test gathers; asked for again, where one request is refused.
-fn room(alloc: Global) -> Result<Vec<u8>, OutOfMemory> {
-    match Vec::with_capacity(alloc, 64) {
-        Ok(empty) => Ok(empty),
-        Err(_) => Vec::with_capacity(alloc, 64),
-    }
-}
-
-/// The stream of a title between sound, in pieces.
-const X_PIECES: &[&[u8]] = &[b"abcd\x01Stream", b"Title='X", b"';efgh\0"];
-
-fn feed_x(alloc: Global, told: &mut Vec<u8>) -> Result<(), OutOfMemory> {
-    let mut unweaver = Unweaver::new(alloc, 4);
-    for piece in X_PIECES {
-        feed_or_repeat(&mut unweaver, piece, told)?;
-    }
-    Ok(())
-}
-
-/// Whether all of it is told then.
-fn is_x_told(alloc: Global) -> Result<bool, OutOfMemory> {
-    let mut told = room(alloc)?;
-    feed_x(alloc, &mut told)?;
-    Ok(told.as_slice() == X_TOLD)
-}
-
-#[test]
-fn refused_unweaving_changes_nothing(rt: HostRuntime) {
-    assert!(rt; is_x_told(rt.alloc()) == Ok(true));
-}
-
 /// The stream of so much sound, woven at once.
 fn stream_of(alloc: Global, interval: usize, sound: &[u8]) -> Result<Vec<u8>, OutOfMemory>
     requires { 1 ≤ interval }

@@ -45,31 +45,3 @@ fn room_after_a_call(alloc: Global) -> Result<usize, OutOfMemory> {
 fn room_is_asked_for_once(rt: HostRuntime) {
     assert!(rt; room_after_a_call(rt.alloc()) == Ok(1133));
 }
-
-/// Weaves a piece under the title `X`; again, where that was refused and so changed nothing.
-fn weave_or_repeat(weaver: &mut Weaver, piece: &[u8], out: &mut Vec<u8>) -> bool {
-    let before = out.len();
-    weaver.weave(piece, Some(b"X"), out).is_ok()
-        || out.len() == before && weaver.weave(piece, Some(b"X"), out).is_ok()
-}
-
-/// The sound of `X_STREAM`, in pieces.
-const X_SOUND: &[&[u8]] = &[b"abc", b"def", b"gh"];
-
-/// Whether each of them is woven in the end.
-fn weave_x(alloc: Global, out: &mut Vec<u8>) -> bool {
-    let mut weaver = Weaver::new(alloc, 4);
-    for piece in X_SOUND {
-        if !weave_or_repeat(&mut weaver, piece, out) {
-            return false;
-        }
-    }
-    true
-}
-
-#[test]
-fn refused_weaving_changes_nothing(rt: HostRuntime) {
-    let mut out = Vec::new(rt.alloc());
-    assert!(rt; weave_x(rt.alloc(), &mut out));
-    assert!(rt; out.as_slice() == X_STREAM);
-}
