@@ -18,7 +18,7 @@ use values::{
 };
 
 /// Whether the two events are equal.
-pub(crate) fn is_same_event(event: &Event, other: &Event) -> bool
+pub fn is_same_event(event: &Event, other: &Event) -> bool
     ensures { IsTrue result ↔ event.now ≡ other.now }
 {
     match event {
@@ -130,7 +130,7 @@ fn is_same_end_or_clock(a: &Event, b: &Event) -> bool
 }
 
 /// Whether the two replies are equal.
-pub(crate) fn is_same_reply(reply: &Reply, other: &Reply) -> bool
+pub fn is_same_reply(reply: &Reply, other: &Reply) -> bool
     ensures { IsTrue result ↔ reply.now ≡ other.now }
 {
     match (reply, other) {

@@ -7,7 +7,6 @@ ghost use Rattle.radio_house.specs.World.{opening};
 use crate::calls::{Callee, number_given};
 use crate::house::{is_lock_free, is_title_heard};
 use crate::kept_rows::{KeptRow, is_row_played};
-use crate::loopback::{are_heard, draws_what_was_fed};
 use crate::stations::settings;
 use crate::two_callers::{are_served, is_of_two};
 use crate::workers;
@@ -20,11 +19,9 @@ use radio_settings::{Settings, SettingsFault};
 use radio_settling::{SettleFault, settle};
 use std::alloc::Global;
 use std::marker::Brand;
-use std::net::Net;
 use std::sync::Wait;
 use std::sync::ledger::Blank;
 use std::thread::Threads;
-use std::time::Clock;
 
 /// A caller of a hall, through a pass.
 #[derive(Drop)]
@@ -64,8 +61,6 @@ pub enum Visit {
     Row(KeptRow),
     /// Workers in threads of their own serve all who come.
     Rush(Rush),
-    /// A source and a listener come over loopback.
-    Loopback,
 }
 
 impl Visit {
@@ -101,21 +96,6 @@ impl Visit {
             Visit::Knocking => true,
             Visit::Row(kept) => kept.leaves(history),
             Visit::Rush(rush) => rush.leaves(history),
-            Visit::Loopback => draws_what_was_fed(alloc, history),
-        }
-    }
-
-    /// Does what wants one worker at most, and adds the passes; no other goes so. Whether it went as it is to go.
-    fn goes_with_one<H: House + Send + Sync, R: Clock + Net + Threads + Wait + Sync>(
-        self,
-        rt: &R,
-        alloc: Global,
-        hall: &Hall<Kept, H>,
-        passes: &mut Vec<Pass<Kept, H>>,
-    ) -> bool {
-        match self {
-            Visit::Loopback => are_heard(rt, alloc, hall, passes),
-            other => visit_by_calls(rt, alloc, hall, passes, other),
         }
     }
 
@@ -131,7 +111,7 @@ const LEFT_OUT: SettleFault = SettleFault::Count {
 };
 
 /// Does it, and adds the passes. Whether it went as it is to go.
-fn visit_with<H: House + Send + Sync, R: Clock + Net + Threads + Wait + Sync>(
+fn visit_with<H: House + Send + Sync, R: Threads + Wait + Sync>(
     rt: &R,
     alloc: Global,
     hall: &Hall<Kept, H>,
@@ -140,11 +120,11 @@ fn visit_with<H: House + Send + Sync, R: Clock + Net + Threads + Wait + Sync>(
 ) -> bool {
     match visit {
         Visit::Rush(rush) => workers::are_served(rt, alloc, hall, passes, rush),
-        other => other.goes_with_one(rt, alloc, hall, passes),
+        other => visit_by_calls(rt, alloc, hall, passes, other),
     }
 }
 
-/// The same of a visit without sockets and workers' threads; no other goes so.
+/// The same of a visit without workers' threads; no other goes so.
 fn visit_by_calls<H: House + Send + Sync, R: Threads + Wait + Sync>(
     rt: &R,
     alloc: Global,
@@ -172,7 +152,7 @@ fn visit_alone<H: House, R: Wait>(
         Visit::Titling => is_title_heard(rt, alloc, hall, passes),
         Visit::Knocking => is_lock_free(rt, alloc, hall, passes),
         Visit::Row(kept) => is_row_played(rt, alloc, hall, passes, kept),
-        Visit::TwoCallers | Visit::LeftOut | Visit::Rush(_) | Visit::Loopback => false,
+        Visit::TwoCallers | Visit::LeftOut | Visit::Rush(_) => false,
     }
 }
 
@@ -201,7 +181,7 @@ pub fn takes_pass<H: House, R: Wait>(
 }
 
 /// The visit at a hall of these settings. Whether it went as it is to go.
-fn goes_well<H: House + Send + Sync, R: Clock + Net + Threads + Wait + Sync>(
+fn goes_well<H: House + Send + Sync, R: Threads + Wait + Sync>(
     rt: &R,
     alloc: Global,
     settings: Settings,
@@ -217,7 +197,7 @@ fn goes_well<H: House + Send + Sync, R: Clock + Net + Threads + Wait + Sync>(
     visit.settles(alloc, hall, passes) && went
 }
 
-fn went_well<R: Clock + Net + Threads + Wait + Sync>(
+fn went_well<R: Threads + Wait + Sync>(
     rt: &R,
     alloc: Global,
     more: &str,
@@ -229,7 +209,7 @@ fn went_well<R: Clock + Net + Threads + Wait + Sync>(
 }
 
 /// Whether at a hall with these settings more the visit goes as it is to go.
-pub fn is_well_visited<R: AllocGlobal + Clock + Net + Threads + Wait + Sync>(
+pub fn is_well_visited<R: AllocGlobal + Threads + Wait + Sync>(
     rt: &R,
     more: &str,
     visit: Visit,

@@ -14,10 +14,8 @@ use radio_events::Event;
 use radio_hall::{Caller, Hall};
 use radio_serving::Server;
 use std::alloc::Global;
-use std::net::Net;
 use std::sync::Wait;
 use std::thread::Threads;
-use std::time::Clock;
 
 /// What is played at a worker over the hall.
 #[derive(Clone, Copy)]
@@ -128,7 +126,7 @@ fn adds_pass<H: House, R: Wait>(
 }
 
 /// Whether these steps are played at a hall with these settings more, and these have left then.
-fn are_kept<R: AllocGlobal + Clock + Net + Threads + Wait + Sync>(
+fn are_kept<R: AllocGlobal + Threads + Wait + Sync>(
     rt: &R,
     more: &str,
     steps: &'static [Step],
@@ -142,7 +140,7 @@ fn are_kept<R: AllocGlobal + Clock + Net + Threads + Wait + Sync>(
 }
 
 /// Whether these have left wherever that line fails.
-fn have_left_at_each_call<R: AllocGlobal + Clock + Net + Threads + Wait + Sync>(
+fn have_left_at_each_call<R: AllocGlobal + Threads + Wait + Sync>(
     rt: &R,
     beside: &'static Beside,
     failure: Failure,
@@ -161,10 +159,7 @@ fn have_left_at_each_call<R: AllocGlobal + Clock + Net + Threads + Wait + Sync>(
 }
 
 /// Whether the passes settle where the worker was refused memory at that call.
-fn settles_refused<R: AllocGlobal + Clock + Net + Threads + Wait + Sync>(
-    rt: &R,
-    call: u64,
-) -> bool {
+fn settles_refused<R: AllocGlobal + Threads + Wait + Sync>(rt: &R, call: u64) -> bool {
     let kept = KeptRow {
         row: Row::Refused(call),
         left: None,

@@ -12,7 +12,6 @@
 //! - `halls`: a hall, what is done there, and all passes settled then.
 //! - `two_callers`: two threads, with a pass each, over one hall; and what settles no history.
 //! - `workers`: workers in threads of their own, who take lines from an intake.
-//! - `loopback`: a worker over a hall, and clients over loopback in a thread of their own.
 //! - `unkept`: the same calls over a hall that stores nothing, beside a core.
 //!
 //! Of a worker's turn:
@@ -26,7 +25,6 @@
 //! - `moments`: from when patience and lingering count, to the millisecond.
 //! - `faults`: lines that fail, at each call; and memory that is refused.
 //! - `masters`: relays and a slave over such lines, turn after turn.
-//! - `told`: what the log tells of all that, line by line.
 //!
 //! Of a bound socket:
 //! - `accepting`: a listener that fails, and one that has no descriptor for anybody.
@@ -47,8 +45,6 @@ mod house;
 #[cfg(test)]
 mod kept_rows;
 #[cfg(test)]
-mod loopback;
-#[cfg(test)]
 mod masters;
 #[cfg(test)]
 mod memory_line;
@@ -64,8 +60,6 @@ mod slow;
 mod stations;
 #[cfg(test)]
 mod steps;
-#[cfg(test)]
-mod told;
 #[cfg(test)]
 mod two_callers;
 #[cfg(test)]

@@ -211,11 +211,6 @@ impl<S: Server + Drop> Station<S> {
         self.worker.serve_turn(&mut self.conns, gate, turn);
     }
 
-    /// Whether these lines of the log wait, and no others. None waits then.
-    pub fn tells(&self, lines: &[u8]) -> bool {
-        self.worker.log().take().as_slice() == lines
-    }
-
     /// How many connections there are.
     pub fn count(&self) -> usize {
         self.conns.len()

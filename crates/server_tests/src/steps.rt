@@ -19,8 +19,6 @@ pub enum Step {
     Clients(&'static [u64]),
     /// The line of the connection at this place shows that.
     Shows(usize, Look),
-    /// These lines of the log wait, and no others; they are taken.
-    Tells(&'static str),
 }
 
 impl<S: Server + Drop> Station<S> {
@@ -47,7 +45,6 @@ impl<S: Server + Drop> Station<S> {
             }
             Step::Clients(ids) => self.is_of(ids),
             Step::Shows(at, look) => self.shows(at, look),
-            Step::Tells(lines) => self.tells(lines.as_bytes()),
         }
     }
 }

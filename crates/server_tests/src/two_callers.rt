@@ -7,6 +7,7 @@ use radio_book::{Entry, House, Kept, Pass};
 use radio_core::Core;
 use radio_events::{Reply, Text};
 use radio_hall::Hall;
+use radio_settling::is_same_reply;
 use std::alloc::Global;
 use std::sync::Wait;
 use std::thread::{Threads, join};
@@ -90,7 +91,7 @@ fn reply_again(core: &mut Core, history: &[Entry]) -> bool {
 fn replies_again(core: &mut Core, entry: &Entry) -> bool {
     match step_copy(core, &entry.event) {
         Ok(reply) => {
-            let is_same = reply.same(&entry.reply);
+            let is_same = is_same_reply(&reply, &entry.reply);
             drop(reply);
             is_same
         }

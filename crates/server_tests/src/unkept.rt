@@ -12,6 +12,7 @@ use radio_core::Core;
 use radio_events::{Event, Reply};
 use radio_hall::Hall;
 use radio_settings::{Settings, SettingsFault};
+use radio_settling::is_same_reply;
 use std::alloc::Global;
 use std::marker::Brand;
 use std::sync::Wait;
@@ -42,7 +43,7 @@ impl<'a, R: Wait, H: House> Beside<'a, R, H> {
     }
 
     fn count(&mut self, receipt: &Receipt, want: &Reply) {
-        if receipt.serial() == 0 && receipt.reply().same(want) {
+        if receipt.serial() == 0 && is_same_reply(receipt.reply(), want) {
             self.alike = self.alike.saturating_add(1);
         }
     }
