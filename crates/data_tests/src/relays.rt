@@ -5,6 +5,7 @@ mod orders;
 mod pulls;
 mod requests;
 
+use radio_documents::read_settings;
 use radio_relay::{OutOfMemory, PullFault, PullItem};
 use radio_settings::Settings;
 use radio_values::Shown;
@@ -42,7 +43,7 @@ fn tell_all(items: &[PullItem], told: &mut Vec<u8>) -> Result<(), OutOfMemory> {
 
 /// The settings of a text, which has no fault.
 fn settings(alloc: Global, text: &str) -> Result<Settings, OutOfMemory> {
-    match Settings::read(alloc, text) {
+    match read_settings(alloc, text) {
         Ok(settings) => Ok(settings),
         Err(_) => Err(AllocError),
     }

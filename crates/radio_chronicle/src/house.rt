@@ -13,10 +13,9 @@ pub trait House: Ledger {
 }
 
 impl House for Brand {
-    ghost use Rattle.toml.specs.Data.{no_members};
     ghost use Rattle.radio_access.specs.Lists.{no_lists};
     ghost use Rattle.radio_house.specs.World.{opening as opening_of};
-    ghost use Rattle.radio_settings.specs.Document.{settings_of};
+    ghost use Rattle.radio_settings.specs.Least.{least_settings};
 
-    ghost opening = { opening_of (settings_of no_members) no_lists };
+    ghost opening = { opening_of least_settings no_lists };
 }

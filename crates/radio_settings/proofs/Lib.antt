@@ -1,7 +1,2 @@
 mod RepeatLemmas
 mod PlaceLemmas
-mod FaultLemmas
-mod PartLemmas
-mod DocumentLemmas
-mod LawLemmas
-mod OnLiterals

@@ -1,16 +1,5 @@
-pub mod Logins
-pub mod Masters
-pub mod Access
-pub mod Listen
-pub mod Limits
 pub mod Web
-pub mod Mounts
-pub mod Relays
-pub mod Slave
 pub mod Repeats
-pub mod WebNames
 pub mod Places
-pub mod Document
-pub mod Parts
 pub mod Options
-pub mod Laws
+pub mod Least

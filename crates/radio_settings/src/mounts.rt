@@ -1,13 +1,11 @@
 //! The mounts that the settings name, and the relays.
-ghost use Rattle.std.specs.Prelude.{◌≡◌, ℕ, List, None, find, map};
+ghost use Rattle.std.specs.Prelude.{◌≡◌, ℕ, IfOk, List, MatchResult, None, Some, find, map};
 ghost use Rattle.std.specs.Option.{option_copied};
 ghost use Rattle.std.specs.Str.{bytes_eq};
-ghost use Rattle.radio_keys.specs.Reading.{Reads, ReadsAs};
-ghost use Rattle.radio_settings.specs.Document.{repeat_fault};
 ghost use Rattle.radio_settings.specs.Repeats.{first_repeat};
 
 use crate::places::{item_at, places_of};
-use crate::{MountSetting, RelaySetting, SettingsFault};
+use crate::{MountSetting, OutOfMemory, RelaySetting};
 use radio_values::MountName;
 use std::alloc::Global;
 use std::collections::BTreeMap;
@@ -68,13 +66,19 @@ impl<T: Named> Model for NamedSettings<T> {
 }
 
 impl<T: Named> NamedSettings<T> {
-    /// Tables of different names, or the first name that stands twice.
-    pub(crate) fn new(alloc: Global, list: Vec<T>) -> Result<NamedSettings<T>, SettingsFault>
-        ensures { Reads (repeat_fault (map T.name_of list.items)) list.items result }
+    /// Tables of different names, or the first name that stands twice. An `Err` outside means that memory ran out.
+    pub fn new(
+        alloc: Global,
+        list: Vec<T>,
+    ) -> Result<Result<NamedSettings<T>, MountName>, OutOfMemory>
+        ensures { let names = map T.name_of list.items in
+            IfOk result (λ made. MatchResult made (λ named. (first_repeat names ≡ None) × (named ≡ list.items)) (λ name. first_repeat names ≡ Some name)) }
     {
         let names = names_of(alloc, list.as_slice())?;
-        let places = places_of(alloc, names.as_slice())?;
-        Ok(NamedSettings { list, places })
+        match places_of(alloc, names.as_slice())? {
+            Ok(places) => Ok(Ok(NamedSettings { list, places })),
+            Err(name) => Ok(Err(name)),
+        }
     }
 
     /// All of them, in the order of the text.
@@ -96,8 +100,8 @@ impl<T: Named> NamedSettings<T> {
     }
 }
 
-fn names_of<T: Named>(alloc: Global, tables: &[T]) -> Result<Vec<MountName>, SettingsFault>
-    ensures { ReadsAs (λ v. v.items) None (map T.name_of tables.now) result }
+fn names_of<T: Named>(alloc: Global, tables: &[T]) -> Result<Vec<MountName>, OutOfMemory>
+    ensures { IfOk result (λ names. names.items ≡ map T.name_of tables.now) }
 {
     let mut names = Vec::new(alloc);
     for table in tables {

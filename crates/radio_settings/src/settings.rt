@@ -15,7 +15,7 @@ pub type SecondsOfDay = Within<1, 86400>;
 /// A TCP port to connect to.
 pub type Port = Within<1, 65535>;
 
-/// What a station sets. [`Settings::read`] makes them.
+/// What a station sets.
 #[derive(Drop)]
 pub struct Settings {
     /// The keys above all tables: who may do what.

@@ -2,8 +2,8 @@ ghost use Rattle.std.specs.Prelude.{◌≡◌, ◌++◌, codes};
 ghost use Rattle.std.specs.Fmt.{IsPlainFormatter, WritesOnOk, decimal};
 ghost use Rattle.radiod.specs.FaultLines.{exit_status, settings_status};
 
+use radio_documents::SettingsFault;
 use radio_floor::PlayFault;
-use radio_settings::SettingsFault;
 use radio_sockets::ServeFault;
 use std::{fmt, io};
 

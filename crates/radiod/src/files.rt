@@ -4,7 +4,8 @@ use crate::fault::{Fault, Misreading};
 use radio_access::Lists;
 use radio_addr::{AddressList, ListFault};
 use radio_creds::Users;
-use radio_settings::{AddressLists, MountSetting, MountSettings, Settings, SettingsFault};
+use radio_documents::SettingsFault;
+use radio_settings::{AddressLists, MountSetting, MountSettings, Settings};
 use radio_values::Text;
 use std::alloc::Global;
 use std::io::ErrorKind;
@@ -39,7 +40,7 @@ fn settings_of(alloc: Global, bytes: &[u8]) -> Result<Settings, Fault> {
 
 /// The settings of a text.
 fn settings_in(alloc: Global, text: &str) -> Result<Settings, Fault> {
-    match Settings::read(alloc, text) {
+    match radio_documents::read_settings(alloc, text) {
         Ok(settings) => Ok(settings),
         Err(SettingsFault::NotToml) => Err(not_toml(alloc, text)),
         Err(fault) => Err(Fault::Settings(fault)),

@@ -5,9 +5,10 @@ use crate::memory_line::{Look, Manners, MemoryLine};
 use radio_access::Lists;
 use radio_addr::Peer;
 use radio_core::{Core, OutOfMemory};
+use radio_documents::{SettingsFault, read_settings};
 use radio_events::{Event, Reply};
 use radio_serving::{Conn, Gate, OpenGate, Server, Turn, Worker};
-use radio_settings::{Settings, SettingsFault};
+use radio_settings::Settings;
 use radio_values::MountName;
 use std::alloc::{AllocError, Global};
 use std::marker::Model;
@@ -143,7 +144,7 @@ pub fn settings(alloc: Global, more: &str) -> Result<Settings, SettingsFault> {
     let text = format!(in alloc;
         "source-password = \"hackme\"\nadmin-password = \"letmein\"\n{more}"
     )?;
-    Settings::read(alloc, text.as_str())
+    read_settings(alloc, text.as_str())
 }
 
 /// A core with these settings more.

@@ -1,5 +1,6 @@
 //! Every key given once and read back, and every default.
 
+use radio_documents::read_settings;
 use radio_settings::{
     Login, MountOptions, RelaySetting, Settings, SlaveSetting, WebPath, WebSettings,
 };
@@ -342,7 +343,7 @@ fn is_station(settings: &Settings, want: &Station) -> bool {
 
 /// Whether a text sets this station.
 fn sets(alloc: Global, text: &str, want: &Station) -> bool {
-    let Ok(settings) = Settings::read(alloc, text) else {
+    let Ok(settings) = read_settings(alloc, text) else {
         return false;
     };
     let is_wanted = is_station(&settings, want);

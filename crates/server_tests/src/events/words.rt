@@ -6,8 +6,8 @@ use crate::calls::{
 use radio_access::Lists;
 use radio_blocks::Pieces;
 use radio_core::{Core, OutOfMemory};
+use radio_documents::{SettingsFault, read_settings};
 use radio_events::{Asked, Command, Event, Listing, OpenedBy, Reply, Text};
-use radio_settings::{Settings, SettingsFault};
 use radio_values::{MountName, Shown};
 use std::alloc::Global;
 
@@ -72,7 +72,7 @@ fn kill_source(path: &str) -> Asked {
 
 /// The core of a station, with a burst of eight bytes.
 fn station(alloc: Global) -> Result<Core, SettingsFault> {
-    let settings = Settings::read(alloc, STATION)?;
+    let settings = read_settings(alloc, STATION)?;
     Ok(Core::new(alloc, settings, Lists::new(alloc)))
 }
 

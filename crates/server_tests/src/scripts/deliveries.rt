@@ -2,9 +2,9 @@
 
 use radio_access::Lists;
 use radio_core::OutOfMemory;
+use radio_documents::{SettingsFault, read_settings};
 use radio_floor::{Delivery, RunFault, Transcript, run};
 use radio_script::read_delivery;
-use radio_settings::{Settings, SettingsFault};
 use std::alloc::Global;
 
 const EIGHT_BYTES: &[u8] = b"open 1 10.0.0.1\n\
@@ -42,7 +42,7 @@ pub fn run_at_station(
     alloc: Global,
     all: &[Delivery],
 ) -> Result<Result<Transcript, RunFault>, SettingsFault> {
-    let settings = Settings::read(alloc, SETTINGS)?;
+    let settings = read_settings(alloc, SETTINGS)?;
     Ok(run(alloc, settings, Lists::new(alloc), all))
 }
 

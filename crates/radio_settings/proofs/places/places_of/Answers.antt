@@ -1,8 +1,6 @@
 use Rattle.std.proofs.Common.{◌≡◌, ◌<◌, ℕ, List, Option, true, false, length, take, is_some, arith, ap, sym, ◌∙◌}
 use Rattle.std.specs.BTreeMap.{get, is_at}
 use Rattle.std.specs.Map.{lookup}
-use Rattle.std.specs.Option.{option_map}
-use Rattle.radio_keys.specs.declared.fault.SettingsFault.TheVariants.{MountTwice}
 use Rattle.radio_settings.specs.Repeats.{is_among}
 use Rattle.radio_settings.proofs.RepeatLemmas.{found_here, none_passed, order, passed_more}
 use Rattle.radio_settings.proofs.PlaceLemmas.{among_passed, none_from_not_some, places_more}
@@ -19,7 +17,7 @@ returns-then-is_some-clause-apart c =
     let low : i < length names = omega arith in
     let some : is_some (get order c.loop-place.places name) ≡ true = cc (ap (λ (o : Option ℕ). is_some o) c.in_ok-insert.ensures.old) in
     let old : is_among (take i names) name ≡ true = sym (among_passed names i name c.loop-place.places c.loop-place.invariant.1) ∙ some in
-    λ _. ap (option_map (λ n. MountTwice n)) (found_here names i name low c.index-names-place.is old c.loop-place.invariant.0)
+    found_here names i name low c.index-names-place.is old c.loop-place.invariant.0
 
 pub loop-place-preserved : goal.loop-place-preserved
 loop-place-preserved c =

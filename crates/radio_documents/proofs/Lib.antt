@@ -1,0 +1,5 @@
+mod FaultLemmas
+mod PartLemmas
+mod DocumentLemmas
+mod LawLemmas
+mod OnLiterals

@@ -1,0 +1,13 @@
+pub mod Logins
+pub mod Masters
+pub mod Access
+pub mod Listen
+pub mod Limits
+pub mod Web
+pub mod Mounts
+pub mod Relays
+pub mod Slave
+pub mod WebNames
+pub mod Document
+pub mod Parts
+pub mod Laws

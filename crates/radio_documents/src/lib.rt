@@ -1,0 +1,27 @@
+//! The settings of a station, read from TOML.
+//!
+//! - [`read_settings`] gives the settings of a text, or its first fault in the order of the table in `docs/FORMATS.md`:
+//!   a [`SettingsFault`] that names a [`Key`], both of `radio_keys`.
+//! - [`laws`] says what holds of every text.
+//!
+//! Each table of the text has a file of its own, and one under `specs` with its keys, ranges and defaults.
+#![tactic(auto)]
+
+mod access;
+mod document;
+pub mod laws;
+mod limits;
+mod listen;
+mod logins;
+mod masters;
+mod mounts;
+mod named;
+mod relays;
+mod slave;
+mod web;
+
+pub use document::read_settings;
+pub use radio_keys::{Key, SettingsFault};
+
+/// The error of each call that takes memory: there was none.
+pub type OutOfMemory = std::alloc::AllocError;
