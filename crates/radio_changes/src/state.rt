@@ -7,7 +7,7 @@ ghost use Rattle.radio_house.specs.World.{opening};
 
 use radio_access::Lists;
 use radio_house::House;
-use radio_seats::Seats;
+use radio_listeners::Seats;
 use radio_settings::Settings;
 use radio_values::MountName;
 use std::alloc::Global;

@@ -7,7 +7,7 @@ ghost use Rattle.radio_fallback.specs.Carry.{turn_of, after_turn, carried};
 use crate::moves::Turn;
 use crate::walker::Walker;
 use crate::{Carried, Move, View};
-use radio_seats::{LentSeat, Seats};
+use radio_listeners::{LentSeat, Seats};
 
 /// Carries the listeners along whom the move concerns, one after the other in the order of their
 /// numbers: each by what stands at his turn, as the earlier ones left things, and his own seat does

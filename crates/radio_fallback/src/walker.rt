@@ -7,8 +7,8 @@ ghost use Rattle.radio_fallback.specs.Walk.{is_full, is_full_for, is_twice_for, 
 
 use crate::{Found, Landing, View};
 use radio_creds::Pair;
+use radio_listeners::Seats;
 use radio_policy::Rule;
-use radio_seats::Seats;
 use radio_values::MountName;
 
 /// At how many mounts a walk looks at the most.

@@ -10,8 +10,8 @@ use crate::house::House;
 use radio_access::{is_admin_pair, is_named_source_pair, is_relay_pair};
 use radio_creds::Pair;
 use radio_events::{Asked, Command, Listing, OpenedBy};
+use radio_listeners::Seats;
 use radio_policy::{CommandAccess, CommandFacts, CommandNeeds, DestinationFacts, Opener};
-use radio_seats::Seats;
 use radio_settings::Settings;
 use radio_values::MountName;
 

@@ -8,8 +8,8 @@ ghost use Rattle.radio_house.specs.World.{world};
 
 use crate::clients::{Client, ClientState};
 use crate::house::House;
+use radio_listeners::Seats;
 use radio_parts::{GuestDue, LAST_MOMENT, due_at, first_session_due};
-use radio_seats::Seats;
 
 impl House {
     /// The earliest moment at which a client, one of these listeners, or a session is due, in

@@ -12,8 +12,8 @@ use radio_blocks::{Block, Place};
 use radio_creds::Pair;
 use radio_events::SourceRequest;
 use radio_fallback::{Landing, StreamEnd, View, Walk, walk_from};
+use radio_listeners::Seats;
 use radio_policy::{ArriveFacts, ListenFacts, PushFacts, RelayFacts, SourceFacts};
-use radio_seats::Seats;
 use radio_settings::Settings;
 use radio_values::{MountName, Shown};
 

@@ -9,8 +9,9 @@ ghost use Rattle.radio_house.specs.Outsiders.{is_shut_out};
 use crate::house::House;
 use radio_access::Lists;
 use radio_blocks::Place;
+use radio_listeners::Seats;
 use radio_policy::Rule;
-use radio_seats::{Guest, SeatTest, Seats};
+use radio_seats::{Guest, SeatTest};
 use radio_values::MountName;
 
 /// The users of the mount do not let the guest in.

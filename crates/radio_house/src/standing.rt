@@ -9,8 +9,8 @@ use crate::clients::ClientState;
 use crate::house::House;
 use crate::relays::RelayState;
 use radio_addr::Peer;
+use radio_listeners::{ListenerStanding, Seats};
 use radio_policy::Rule;
-use radio_seats::{ListenerStanding, Seats};
 use radio_values::MountName;
 
 /// How a client or a relay stands: what decides which of his events count.

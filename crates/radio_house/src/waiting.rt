@@ -9,8 +9,8 @@ ghost use Rattle.radio_house.specs.World.{world};
 
 use crate::OutOfMemory;
 use crate::house::House;
+use radio_listeners::Seats;
 use radio_parts::Session;
-use radio_seats::Seats;
 use radio_settings::RelaySetting;
 use radio_values::{MountName, Shown};
 use std::alloc::Global;

@@ -12,7 +12,7 @@ use Rattle.radio_seats.specs.declared.seat.Seat.{Seat}
 use Rattle.radio_seats.specs.Seats.{is_listener, listener_of, seat_of, seat_in, seat_held, by_listener, seated, with_seat, advanced, with_place, moved}
 use Rattle.radio_seats.specs.Seats.{with_move, loses, with_end, hears_session, in_session_at, with_session_at}
 use Rattle.radio_seats.specs.Seats.{finished_if, with_ended, is_seat_at, without_listener, seats_at, count_at, is_user_at, sits_there}
-use Rattle.radio_seats.specs.Listed.{guest_at, guests_at}
+use Rattle.radio_listeners.specs.Listed.{guest_at, guests_at}
 use Rattle.radio_parts.specs.Sessions.{Session, is_of, session_of, by_mount, with_session, longer, fed, with_title, titled, without_session}
 use Rattle.radio_laws.specs.Locality.{SessionsAgree, SameSession, FedBeyond, ListenersAgree, SameListener, SitsBeyond, AllAgree, IsAll}
 use Rattle.radio_laws.proofs.AgreeingLists.{FoundAgree, NoneFound, BothFound, agree_length, agree_equal, agree_mapped, agree_kept, agree_any, agree_filtered, agree_found}

@@ -9,7 +9,7 @@ use Rattle.radio_seats.specs.declared.seat.Listener.{Listener}
 use Rattle.radio_seats.specs.declared.seat.Seat.{Seat}
 use Rattle.radio_seats.specs.declared.seat.Seating.{Seating}
 use Rattle.radio_seats.specs.declared.seat.Seating.TheVariants.{Sits, Finished}
-use Rattle.radio_seats.specs.Listed.{guests_at}
+use Rattle.radio_listeners.specs.Listed.{guests_at}
 use Rattle.radio_seats.specs.Seats.{seats_at}
 use Rattle.radio_listing.specs.declared.rows.ListenerRow.{ListenerRow}
 use Rattle.radio_events.specs.declared.command.Listing.{Listing}

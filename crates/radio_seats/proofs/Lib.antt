@@ -1,14 +1,8 @@
 pub mod Lists
-pub mod RowLemmas
-pub mod RowCounts
-pub mod TestedRows
 pub mod MountLemmas
-pub mod GivenRows
+pub mod MountCounts
+pub mod UserLemmas
 pub mod SeatLaws
 pub mod GivenLaws
 pub mod EndLaws
 pub mod CountLaws
-pub mod MountCounts
-pub mod OtherLemmas
-pub mod UserLemmas
-pub mod ListedLemmas

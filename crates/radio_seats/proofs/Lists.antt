@@ -1,6 +1,6 @@
 -- counts of a list after a change, and lists whose elements are shown as others
 use Rattle.std.proofs.Common.{◌≡◌, Bool, true, false, ℕ, ◌+◌, ◌<◌, ◌≤◌, ◌==◌, ◌||◌, Option, Some, None, List, [], ◌∷◌, length, not, refl, ap, sym, ◌∙◌, arith}
-use Rattle.std.specs.Prelude.{find, filter, map, if◌then◌else◌}
+use Rattle.std.specs.Prelude.{◌&&◌, find, filter, map, if◌then◌else◌}
 use Rattle.std.specs.List.{list_any, AllByRecursion}
 use Rattle.std.specs.List.Sorted.{IsStrictlySortedBy}
 use Rattle.std.specs.Option.{option_map}
@@ -11,6 +11,9 @@ use Rattle.std.proofs.lemmas.Bool.Decides.{nat_tests}
 use Rattle.std.proofs.lemmas.Map.Keys.{sorted_head, sorted_tail}
 use Rattle.radio_tables.specs.Lists.{update_first, placed}
 use Rattle.radio_tables.proofs.FindLaws.{find_here, find_later}
+
+pub same_number : (k : ℕ) → (k == k) ≡ true
+same_number k = grind (arith, nat_tests)
 
 abbrev pub passing : {X : Type 0} → (X → Bool) → List X → ℕ
 passing p xs = length (filter p xs)
@@ -281,3 +284,14 @@ module _ {X : Type 0} (p : X → Bool) where
   pub none_passes : (xs : List X) → find p xs ≡ None → passing p xs ≡ 0
   none_passes [] none = refl
   none_passes (x ∷ xs) none = none_passes_at x xs (p x) refl (none_passes xs) none
+
+-- who is found in a list from which some were taken
+module _ {X : Type 0} (p q : X → Bool) where
+  any_at : (x : X) (xs : List X) (b : Bool) → list_any p (filter q xs) ≡ list_any (λ y. q y && p y) xs
+      → list_any p (if b then x ∷ filter q xs else filter q xs) ≡ ((b && p x) || list_any (λ y. q y && p y) xs)
+  any_at x xs true later = ap (λ b. p x || b) later
+  any_at x xs false later = later
+
+  pub any_filtered : (xs : List X) → list_any p (filter q xs) ≡ list_any (λ y. q y && p y) xs
+  any_filtered [] = refl
+  any_filtered (x ∷ xs) = any_at x xs (q x) (any_filtered xs)

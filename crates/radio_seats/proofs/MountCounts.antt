@@ -8,7 +8,7 @@ use Rattle.radio_tables.proofs.KeyLaws.{by_number}
 use Rattle.radio_seats.specs.declared.mounts.Mount.{Mount}
 use Rattle.radio_seats.specs.declared.mounts.NumberedName.{NumberedName}
 use Rattle.radio_seats.specs.Mounts.{is_numbered, is_named, name_of, name_in, IsThere, AreMounts}
-use Rattle.radio_seats.proofs.MountLemmas.{same_number}
+use Rattle.radio_seats.proofs.Lists.{same_number}
 
 -- counts that change
 module _ (names : List NumberedName) (mounts : List Mount) (last number sitters namers : ℕ) (mount : Mount) (found : find (is_numbered number) mounts ≡ Some mount) where

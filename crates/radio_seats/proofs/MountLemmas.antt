@@ -16,7 +16,7 @@ use Rattle.radio_tables.proofs.KeyLaws.{by_number, by_name, number_is, name_is, 
 use Rattle.radio_seats.specs.declared.mounts.Mount.{Mount}
 use Rattle.radio_seats.specs.declared.mounts.NumberedName.{NumberedName}
 use Rattle.radio_seats.specs.Board.{is_prepared}
-use Rattle.radio_seats.proofs.Lists.{placed_removed, none_removed}
+use Rattle.radio_seats.proofs.Lists.{same_number, placed_removed, none_removed}
 use Rattle.radio_seats.specs.Mounts.{is_numbered, is_named, name_of, name_in, naming_of, naming_in, is_number, AreMounts}
 
 -- the empty name is no mount's
@@ -27,9 +27,6 @@ no_empty_name (b ∷ name) e = refl
 
 same_name : (name : List ℕ) → bytes_eq name name ≡ true
 same_name name = (bytes_eq-Decides name name).1 refl
-
-pub same_number : (k : ℕ) → (k == k) ≡ true
-same_number k = grind (arith, nat_tests)
 
 turned : (a b : ℕ) → (a == b) ≡ false → (b == a) ≡ false
 turned a b e = grind (arith, nat_tests)

@@ -29,8 +29,7 @@ use Rattle.radio_seats.specs.Marks.{user_mark, mark_sent, is_mark}
 use Rattle.radio_seats.specs.Rows.{is_row, user_state}
 use Rattle.radio_seats.specs.Seats.{has_user}
 use Rattle.radio_seats.specs.Users.{by_mark, is_kept, of_mark, mark_in, IsMarkOf, IsMarked, IsSameUser, AreKept, is_own, is_other, is_other_in}
-use Rattle.radio_seats.proofs.OtherLemmas.{any_filtered}
-use Rattle.radio_seats.proofs.RowLemmas.{same_number}
+use Rattle.radio_seats.proofs.Lists.{any_filtered, same_number}
 
 -- the order of marks and numbers
 both_equal : (o p : Ordering) → is_eq (ordering_then o p) ≡ (is_eq o && is_eq p)

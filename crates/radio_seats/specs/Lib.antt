@@ -3,9 +3,7 @@ pub mod Guests
 pub mod Board
 pub mod Mounts
 pub mod Rows
-pub mod Lent
 pub mod Rests
 pub mod Marks
 pub mod Users
 pub mod SameUsers
-pub mod Listed

@@ -1,60 +1,27 @@
--- The rows of the table, in which a mount is a number, and the listeners that they show.
-use Rattle.std.specs.Prelude.{◌≡◌, ℕ, Bool, false, ◌==◌, ◌&&◌, if◌then◌else◌, List, length, Option, Some, None, filter}
+-- The rows of listeners, in which a mount is a number, and what can happen to each.
+use Rattle.std.specs.Prelude.{ℕ, Bool, false, ◌==◌, ◌&&◌, if◌then◌else◌, List, Option, Some, None}
 use Rattle.radio_policy.specs.declared.rule.Rule.{Rule}
 use Rattle.radio_seats.specs.declared.seat.Guest.{Guest}
 use Rattle.radio_seats.specs.declared.seat.Seat.{Seat}
-use Rattle.radio_seats.specs.declared.seat.Seating.{Seating}
-use Rattle.radio_seats.specs.declared.seat.Seating.TheVariants.{Sits, Finished}
-use Rattle.radio_seats.specs.declared.seat.Listener.{Listener}
 use Rattle.radio_seats.specs.declared.row.RowState.{RowState}
 use Rattle.radio_seats.specs.declared.row.RowState.TheVariants.{Seated, Ended}
 use Rattle.radio_seats.specs.declared.row.ListenerRow.{ListenerRow}
-use Rattle.radio_seats.specs.declared.mounts.Mount.{Mount}
-use Rattle.radio_seats.specs.Guests.{seat_of_guest, guest_in}
+use Rattle.radio_seats.specs.Guests.{guest_in}
 use Rattle.radio_seats.specs.Marks.{mark_sent}
 use Rattle.radio_seats.specs.Seats.{has_user}
-use Rattle.radio_seats.specs.Mounts.{sitting_in, naming_in}
 
 abbrev pub is_row : ℕ → ListenerRow → Bool
 is_row id row = row.id == id
-
--- what a row shows, where mounts of these numbers have these names
-abbrev pub named_state : (ℕ → List ℕ) → RowState → Seating
-named_state name (Seated seat) = Sits (seat_of_guest seat.place (name seat.mount) seat.session seat.guest)
-named_state name (Ended rule mount) = Finished rule (name mount)
-
-abbrev pub named : (ℕ → List ℕ) → ListenerRow → Listener
-named name row = record { id = row.id; seating = named_state name row.state }
-
--- a row of one who sits at the mount of this number
-abbrev pub state_at : ℕ → RowState → Bool
-state_at number (Seated seat) = seat.mount == number
-state_at number (Ended rule mount) = false
-
-abbrev pub sits_by : ℕ → ListenerRow → Bool
-sits_by number row = state_at number row.state
 
 -- where he sits, or sat last
 abbrev pub last_number : RowState → ℕ
 last_number (Seated seat) = seat.mount
 last_number (Ended rule mount) = mount
 
--- a row of one who sits at the mount of this number, or sat there last
-abbrev pub names_by : ℕ → ListenerRow → Bool
-names_by number row = last_number row.state == number
-
-abbrev pub last_in : Option ListenerRow → Option ℕ
-last_in None = None
-last_in (Some row) = Some (last_number row.state)
-
 -- where he sits
 abbrev pub number_of : RowState → Option ℕ
 number_of (Seated seat) = Some seat.mount
 number_of (Ended rule mount) = None
-
-abbrev pub number_in : Option ListenerRow → Option ℕ
-number_in None = None
-number_in (Some row) = number_of row.state
 
 -- he has heard his stream up to this place
 abbrev pub heard : ℕ → RowState → RowState
@@ -101,11 +68,6 @@ seated_row id number seat =
 
 abbrev pub with_state : RowState → ListenerRow → ListenerRow
 with_state state row = record row { state = state }
-
--- each mount's counts are those of the rows of those who sit there, and of those who sit there or sat there last
-pub record AreCounted (mounts : List Mount) (rows : List ListenerRow) : Type 0 where
-  pub sitting : (number : ℕ) → sitting_in mounts number ≡ length (filter (sits_by number) rows)
-  pub naming : (number : ℕ) → naming_in mounts number ≡ length (filter (names_by number) rows)
 
 -- a seat at the mount of this number, of one who sent this user
 abbrev pub user_state : ℕ → List ℕ → RowState → Bool

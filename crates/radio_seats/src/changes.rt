@@ -9,7 +9,7 @@ use radio_policy::Rule;
 use radio_tables::Change;
 
 /// A change of a row after which its listener is of the same user, or has lost his seat.
-pub(crate) trait KeepsUser: Change<ListenerRow> {
+pub trait KeepsUser: Change<ListenerRow> {
     ghost use Rattle.radio_seats.specs.declared.row.ListenerRow.{ListenerRow};
     ghost use Rattle.radio_seats.specs.Users.{IsSameUser};
 
@@ -19,8 +19,9 @@ pub(crate) trait KeepsUser: Change<ListenerRow> {
 
 /// The listener has heard his stream up to this place.
 #[derive(Drop)]
-pub(crate) struct Advances {
-    pub(crate) place: Place,
+pub struct Advances {
+    /// The place.
+    pub place: Place,
 }
 
 impl Change<ListenerRow> for Advances {
@@ -46,9 +47,11 @@ impl KeepsUser for Advances {
 
 /// A listener who sits at the mount of this number hears this session from now on.
 #[derive(Drop)]
-pub(crate) struct Hears {
-    pub(crate) number: u64,
-    pub(crate) session: u64,
+pub struct Hears {
+    /// The number of the mount.
+    pub number: u64,
+    /// The number of the session.
+    pub session: u64,
 }
 
 impl Hears {
@@ -89,10 +92,13 @@ impl KeepsUser for Hears {
 
 /// The listener sits at the mount of this number from now on.
 #[derive(Drop)]
-pub(crate) struct Moves {
-    pub(crate) mount: u64,
-    pub(crate) session: u64,
-    pub(crate) place: Place,
+pub struct Moves {
+    /// The number of the mount.
+    pub mount: u64,
+    /// The number of the session that he hears there.
+    pub session: u64,
+    /// The place from which on he hears it.
+    pub place: Place,
 }
 
 impl Change<ListenerRow> for Moves {
@@ -120,8 +126,9 @@ impl KeepsUser for Moves {
 
 /// The listener loses his seat by the rule.
 #[derive(Drop)]
-pub(crate) struct Ends {
-    pub(crate) rule: Rule,
+pub struct Ends {
+    /// The rule.
+    pub rule: Rule,
 }
 
 impl Change<ListenerRow> for Ends {
@@ -177,10 +184,13 @@ pub trait GuestMoment {
 /// A listener who sits at the mount of this number, and of whom the test holds, loses his seat by
 /// the rule.
 #[derive(Drop)]
-pub(crate) struct FinishesAt<'a, T: SeatTest> {
-    pub(crate) number: u64,
-    pub(crate) test: &'a T,
-    pub(crate) rule: Rule,
+pub struct FinishesAt<'a, T: SeatTest> {
+    /// The number of the mount.
+    pub number: u64,
+    /// The test.
+    pub test: &'a T,
+    /// The rule.
+    pub rule: Rule,
 }
 
 impl<T: SeatTest> Change<ListenerRow> for FinishesAt<'_, T> {

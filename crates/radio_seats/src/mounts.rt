@@ -14,13 +14,15 @@ use std::marker::Model;
 
 /// A mount that was prepared.
 #[derive(Drop)]
-pub(crate) struct Mount {
-    pub(crate) number: u64,
-    pub(crate) name: MountName,
+pub struct Mount {
+    /// Its number.
+    pub number: u64,
+    /// Its name.
+    pub name: MountName,
     /// How many sit there.
-    pub(crate) sitting: u64,
+    pub sitting: u64,
     /// How many sit there, or sat there last: their rows name it.
-    pub(crate) naming: u64,
+    pub naming: u64,
 }
 
 impl Row for Mount {
@@ -86,7 +88,7 @@ impl Change<Mount> for Counts {
 
 /// The prepared mounts, by their numbers and by their names.
 #[derive(Drop)]
-pub(crate) struct Mounts {
+pub struct Mounts {
     mounts: Table<Mount>,
     names: Table<NumberedName>,
     last: u64,
@@ -106,7 +108,7 @@ impl Model for Mounts {
 
 impl Mounts {
     /// No mounts. It takes no memory.
-    pub(crate) fn new(alloc: Global) -> Mounts
+    pub fn new(alloc: Global) -> Mounts
         ensures { result ≡ record { names = []; mounts = [] } }
     {
         Mounts {
@@ -117,7 +119,7 @@ impl Mounts {
     }
 
     /// The number of the mount, if it was prepared.
-    pub(crate) fn number(&self, name: &MountName) -> Option<u64>
+    pub fn number(&self, name: &MountName) -> Option<u64>
         // it is the only number under which the name is found
         ensures only { (number : _) → bytes_eq (name_in self.now.mounts number) name.now ≡ is_number result number }
         ensures there { IfSome result (λ number. IsThere self.now.mounts number) }
@@ -131,7 +133,7 @@ impl Mounts {
     }
 
     /// The mount of this number.
-    pub(crate) fn get(&self, number: u64) -> Option<&Mount>
+    pub fn get(&self, number: u64) -> Option<&Mount>
         ensures { option_copied result ≡ find (is_numbered number) self.now.mounts }
     {
         self.mounts.get(&number)
@@ -139,7 +141,7 @@ impl Mounts {
 
     /// The mount is prepared from now on; of one that was, nothing changes. `OutOfMemory` where
     /// memory was refused, and where the numbers are spent; nothing has changed then.
-    pub(crate) fn prepare(&mut self, name: &MountName) -> Result<(), OutOfMemory>
+    pub fn prepare(&mut self, name: &MountName) -> Result<(), OutOfMemory>
         ensures prepared { OnOk result ((other : _) → is_prepared self.new.names other ≡ (is_prepared self.old.names other || bytes_eq name.now other)) }
         // who sits at a mount of a number, or sat there last, does so still
         ensures sitting { (number : _) → sitting_in self.new.mounts number ≡ sitting_in self.old.mounts number }
@@ -188,7 +190,7 @@ impl Mounts {
     }
 
     /// The mount is not prepared any more. It takes no memory.
-    pub(crate) fn release(&mut self, name: &MountName)
+    pub fn release(&mut self, name: &MountName)
         // nobody sits there, or sat there last
         requires sitting { (number : _) → bytes_eq (name_in self.old.mounts number) name.now ≡ true → sitting_in self.old.mounts number ≡ 0 }
         requires naming { (number : _) → bytes_eq (name_in self.old.mounts number) name.now ≡ true → naming_in self.old.mounts number ≡ 0 }
@@ -203,7 +205,7 @@ impl Mounts {
     }
 
     /// One more sits at the mount of this number.
-    pub(crate) fn gain(&mut self, number: u64)
+    pub fn gain(&mut self, number: u64)
         requires there { IsThere self.old.mounts number }
         requires room_to_sit { sitting_in self.old.mounts number + 1 < 2 ^ 64 }
         requires room_to_name { naming_in self.old.mounts number + 1 < 2 ^ 64 }
@@ -220,7 +222,7 @@ impl Mounts {
     }
 
     /// So many have lost their seats at the mount of this number, and sat there last.
-    pub(crate) fn lose(&mut self, number: u64, count: u64)
+    pub fn lose(&mut self, number: u64, count: u64)
         ensures sitting { (other : _) → sitting_in self.new.mounts other ≡ sitting_in self.old.mounts other - (if number == other then count else 0) }
         ensures naming { (other : _) → naming_in self.new.mounts other ≡ naming_in self.old.mounts other }
         ensures names { (other : _) → name_in self.new.mounts other ≡ name_in self.old.mounts other }
@@ -235,7 +237,7 @@ impl Mounts {
     }
 
     /// One has left his seat at the mount of this number, if he had one, and sat there last.
-    pub(crate) fn leave(&mut self, number: Option<u64>)
+    pub fn leave(&mut self, number: Option<u64>)
         ensures sitting { (other : _) → sitting_in self.new.mounts other ≡ sitting_in self.old.mounts other - one_at number other }
         ensures naming { (other : _) → naming_in self.new.mounts other ≡ naming_in self.old.mounts other }
         ensures names { (other : _) → name_in self.new.mounts other ≡ name_in self.old.mounts other }
@@ -248,7 +250,7 @@ impl Mounts {
     }
 
     /// One row less names the mount of this number, if it named one.
-    pub(crate) fn give_up(&mut self, number: Option<u64>)
+    pub fn give_up(&mut self, number: Option<u64>)
         ensures sitting { (other : _) → sitting_in self.new.mounts other ≡ sitting_in self.old.mounts other }
         ensures naming { (other : _) → naming_in self.new.mounts other ≡ naming_in self.old.mounts other - one_at number other }
         ensures names { (other : _) → name_in self.new.mounts other ≡ name_in self.old.mounts other }

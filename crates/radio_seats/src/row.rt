@@ -1,7 +1,7 @@
 //! The rows of the table, in which a mount is a number.
 
 ghost use Rattle.std.specs.Prelude.{◌≡◌};
-ghost use Rattle.radio_seats.specs.Rows.{number_of, last_number, state_at, holds_in, holds_at, user_state, state_moment};
+ghost use Rattle.radio_seats.specs.Rows.{number_of, last_number, holds_in, holds_at, user_state, state_moment};
 
 use crate::{Guest, GuestMoment, SeatTest};
 use radio_blocks::Place;
@@ -10,26 +10,35 @@ use radio_tables::Row;
 
 /// A seat, in which the mount is its number.
 #[derive(Drop)]
-pub(crate) struct NumberedSeat {
+pub struct NumberedSeat {
     // what a push and a draw read comes first, and lies together
-    pub(crate) place: Place,
-    pub(crate) mount: u64,
-    pub(crate) session: u64,
-    pub(crate) guest: Guest,
+    /// How far he has heard the stream of his session.
+    pub place: Place,
+    /// The number of the mount that he hears.
+    pub mount: u64,
+    /// The number of the session that he hears.
+    pub session: u64,
+    /// Who has the seat.
+    pub guest: Guest,
 }
 
 /// Whether a listener sits.
 #[derive(Drop)]
-pub(crate) enum RowState {
+pub enum RowState {
     /// He has this seat.
     Seated(NumberedSeat),
     /// He has lost his seat at the mount of this number by the rule.
-    Ended { rule: Rule, mount: u64 },
+    Ended {
+        /// The rule.
+        rule: Rule,
+        /// The number of the mount where he sat last.
+        mount: u64,
+    },
 }
 
 impl RowState {
     /// The number of the mount where he sits.
-    pub(crate) fn mount(&self) -> Option<u64>
+    pub fn mount(&self) -> Option<u64>
         ensures { result ≡ number_of self.now }
     {
         match self {
@@ -39,7 +48,7 @@ impl RowState {
     }
 
     /// The number of the mount where he sits, or sat last.
-    pub(crate) fn last_mount(&self) -> u64
+    pub fn last_mount(&self) -> u64
         ensures { result ≡ last_number self.now }
     {
         match self {
@@ -49,7 +58,7 @@ impl RowState {
     }
 
     /// Whether it is a seat of which the test holds.
-    pub(crate) fn passes<T: SeatTest>(&self, test: &T) -> bool
+    pub fn passes<T: SeatTest>(&self, test: &T) -> bool
         ensures { result ≡ holds_in (T.passes test.now) self.now }
     {
         match self {
@@ -59,7 +68,7 @@ impl RowState {
     }
 
     /// Whether it is such a seat at the mount of this number.
-    pub(crate) fn passes_at<T: SeatTest>(&self, number: u64, test: &T) -> bool
+    pub fn passes_at<T: SeatTest>(&self, number: u64, test: &T) -> bool
         ensures { result ≡ holds_at (T.passes test.now) number self.now }
     {
         match self {
@@ -71,7 +80,7 @@ impl RowState {
     }
 
     /// The moment of the guest who has the seat, or the other where it is lost.
-    pub(crate) fn moment_or<M: GuestMoment>(&self, moment: &M, other: u64) -> u64
+    pub fn moment_or<M: GuestMoment>(&self, moment: &M, other: u64) -> u64
         ensures { result ≡ state_moment (M.gives moment.now) other self.now }
     {
         match self {
@@ -81,7 +90,7 @@ impl RowState {
     }
 
     /// Whether it is a seat at the mount of this number, of one who sent this user.
-    pub(crate) fn is_of_user(&self, number: u64, user: &[u8]) -> bool
+    pub fn is_of_user(&self, number: u64, user: &[u8]) -> bool
         ensures { result ≡ user_state number user.now self.now }
     {
         match self {
@@ -93,11 +102,13 @@ impl RowState {
 
 /// A listener, as the table keeps him.
 #[derive(Drop)]
-pub(crate) struct ListenerRow {
-    pub(crate) id: u64,
+pub struct ListenerRow {
+    /// His number.
+    pub id: u64,
     /// The mark of the user that he sent when he sat down, if he did.
-    pub(crate) mark: Option<u64>,
-    pub(crate) state: RowState,
+    pub mark: Option<u64>,
+    /// Whether he sits.
+    pub state: RowState,
 }
 
 impl Row for ListenerRow {

@@ -25,7 +25,7 @@ use std::marker::Model;
 /// sent which user, so that a question about a user looks at his rows alone. Contracts see the list
 /// of the rows.
 #[derive(Drop)]
-pub(crate) struct Rows {
+pub struct Rows {
     rows: Table<ListenerRow>,
     users: Users,
 }
@@ -44,7 +44,7 @@ impl Model for Rows {
 
 impl Rows {
     /// No rows. It takes no memory.
-    pub(crate) fn new(alloc: Global) -> Rows
+    pub fn new(alloc: Global) -> Rows
         ensures { result ≡ [] }
     {
         Rows {
@@ -54,14 +54,14 @@ impl Rows {
     }
 
     /// The row of this number.
-    pub(crate) fn get(&self, id: u64) -> Option<&ListenerRow>
+    pub fn get(&self, id: u64) -> Option<&ListenerRow>
         ensures { option_copied result ≡ find (is_row id) self.now }
     {
         self.rows.get(&id)
     }
 
     /// The first row past this number, or the first of all where none is given.
-    pub(crate) fn after(&self, last: Option<u64>) -> Option<&ListenerRow>
+    pub fn after(&self, last: Option<u64>) -> Option<&ListenerRow>
         ensures next { option_copied result ≡ find (λ row. is_past nat_cmp last row.id) self.now }
         ensures rising { IsStrictlySortedBy nat_cmp (map (λ (row : RowOf). row.id) self.now) }
     {
@@ -69,7 +69,7 @@ impl Rows {
     }
 
     /// How many rows there are.
-    pub(crate) fn len(&self) -> usize
+    pub fn len(&self) -> usize
         ensures count { result ≡ length self.now }
         ensures rising { IsStrictlySortedBy nat_cmp (map (λ (row : RowOf). row.id) self.now) }
     {
@@ -77,7 +77,7 @@ impl Rows {
     }
 
     /// The rows, in the order of their numbers.
-    pub(crate) fn iter(&self) -> Values<'_, u64, ListenerRow>
+    pub fn iter(&self) -> Values<'_, u64, ListenerRow>
         ensures rest { result ≡ self.now }
         ensures runs { ShowsInOrder (deref {X = RowOf}) }
     {
@@ -85,14 +85,14 @@ impl Rows {
     }
 
     /// Changes the row of this number, if there is one. It takes no memory.
-    pub(crate) fn change<C: KeepsUser>(&mut self, id: u64, change: &C)
+    pub fn change<C: KeepsUser>(&mut self, id: u64, change: &C)
         ensures { self.new ≡ update_first (is_row id) (C.gives change.now) self.old }
     {
         self.rows.change(&id, change);
     }
 
     /// Changes all rows. It takes no memory.
-    pub(crate) fn change_all<C: KeepsUser>(&mut self, change: &C)
+    pub fn change_all<C: KeepsUser>(&mut self, change: &C)
         ensures { self.new ≡ map (C.gives change.now) self.old }
     {
         self.rows.change_all(change);
@@ -100,7 +100,7 @@ impl Rows {
 
     /// The listener of this number sits at the mount of that number; of a row that he had, nothing
     /// is left. `OutOfMemory` where memory was refused; nothing has changed then.
-    pub(crate) fn insert(&mut self, id: u64, number: u64, seat: Seat) -> Result<(), OutOfMemory>
+    pub fn insert(&mut self, id: u64, number: u64, seat: Seat) -> Result<(), OutOfMemory>
         ensures ok { OnOk result (self.new ≡ placed (λ (a b : RowOf). nat_cmp a.id b.id) (seated_row id number seat) self.old) }
         ensures err { OnErr result (self.new ≡ self.old) }
     {
@@ -121,7 +121,7 @@ impl Rows {
     }
 
     /// Removes the row of this number. It takes no memory.
-    pub(crate) fn remove(&mut self, id: u64)
+    pub fn remove(&mut self, id: u64)
         ensures removed { self.new ≡ filter (λ row. not (is_row id row)) self.old }
     {
         let gone = self.rows.remove(&id);
@@ -132,7 +132,7 @@ impl Rows {
 
     /// Whether one of the rows is of one who is asked for. The time grows as the number of the rows
     /// whose users have one mark with his.
-    pub(crate) fn has_user(&self, asked: &UserAt<'_>) -> bool
+    pub fn has_user(&self, asked: &UserAt<'_>) -> bool
         ensures { result ≡ list_any (is_other asked.now.own asked.now.number asked.now.user.now) self.now }
     {
         // no listener has two rows

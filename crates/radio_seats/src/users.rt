@@ -17,13 +17,13 @@ use std::hash::{DefaultHasher, Hasher};
 
 /// Who is asked for.
 #[derive(Clone, Copy)]
-pub(crate) struct UserAt<'a> {
+pub struct UserAt<'a> {
     /// The number of the mount where he sits.
-    pub(crate) number: u64,
+    pub number: u64,
     /// The user that he sent.
-    pub(crate) user: &'a [u8],
+    pub user: &'a [u8],
     /// The listener who is left out, if one is.
-    pub(crate) own: Option<u64>,
+    pub own: Option<u64>,
 }
 
 impl UserAt<'_> {

@@ -11,8 +11,8 @@ use crate::listings::mount_rows;
 use bytes::Bytes;
 use radio_events::Text;
 use radio_house::House;
+use radio_listeners::Seats;
 use radio_listing::{Server, Text as Shown, base_url, icecast_status};
-use radio_seats::Seats;
 use radio_settings::WebPath;
 use std::alloc::Global;
 

@@ -23,7 +23,7 @@ use radio_blocks::Place;
 use radio_changes::{Change, TimedState};
 use radio_events::{Event, Reply};
 use radio_house::{House, Standing};
-use radio_seats::Seats;
+use radio_listeners::Seats;
 use radio_settings::Settings;
 use radio_values::MountName;
 use std::alloc::Global;

@@ -1,6 +1,6 @@
 use Rattle.std.proofs.Common.{◌<◌, ◌^◌, length, refl, ap, sym, ◌∙◌, arith}
 use Rattle.radio_seats.specs.Board.{Board}
-use Rattle.radio_seats.proofs.RowLemmas.{same_board}
+use Rattle.radio_listeners.proofs.RowLemmas.{same_board}
 use Rattle.radio_fallback.specs.Carry.{Carry, turns}
 use Rattle.radio_fallback.proofs.CarryLemmas.{begins, as_many, goes_on, fewer_left, all_counted, has_room, nobody_is_next}
 use Rattle.radio_fallback.proofs.carrying.carry.Goals as goal

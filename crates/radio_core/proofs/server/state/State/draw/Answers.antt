@@ -11,7 +11,7 @@ use Rattle.radio_core.proofs.StepLemmas.{seat_sits}
 use Rattle.radio_core.proofs.server.state.State.draw.Goals as goal
 use Rattle.radio_seats.specs.declared.seat.Seat.{Seat}
 use Rattle.radio_seats.specs.declared.seat.Listener.{Listener}
-use Rattle.radio_seats.specs.Lent.{lent_seat}
+use Rattle.radio_listeners.specs.Lent.{lent_seat}
 use Rattle.radio_house.specs.Waiting.{heard_at}
 use Rattle.radio_seats.specs.Seats.{seat_of}
 

@@ -1,6 +1,6 @@
 use Rattle.std.proofs.Common.{◌≤◌, ap, sym, subst, ◌∙◌}
 use Rattle.std.specs.Option.{option_copied}
-use Rattle.radio_seats.specs.Lent.{lent_seat}
+use Rattle.radio_listeners.specs.Lent.{lent_seat}
 use Rattle.radio_parts.specs.Kept.{first_start}
 use Rattle.radio_parts.specs.Sessions.{Session, session_of}
 use Rattle.radio_parts.specs.Stream.{end_of}

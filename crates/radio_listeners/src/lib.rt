@@ -1,0 +1,22 @@
+//! The table of listeners: who sits at which mount, and who has lost his seat where, and by which
+//! rule.
+//!
+//! - [`Seats`]: the table. Contracts see it as a board: the names of the mounts that were prepared,
+//!   and the list of its listeners, in the order of their numbers. It has a row of each, which knows
+//!   its mount by a number, and the mounts with their counts.
+//! - [`LentSeat`], [`ListenerStanding`]: what the table answers of a listener.
+//! - [`Seats::guests_at`]: who sits at a mount, each as a [`LentListener`].
+//! - [`Seats::last_mount`]: where a listener sits, or sat last.
+//! - [`Seats::next`], [`Seats::count_beside`], [`Seats::user_beside`]: what a move asks, which takes listeners
+//!   in the order of their numbers, and leaves his own seat out of account.
+#![tactic(auto)]
+
+mod beside;
+mod last;
+mod lent;
+mod listed;
+mod seats;
+
+pub use lent::{LentSeat, ListenerStanding};
+pub use listed::LentListener;
+pub use seats::Seats;
