@@ -8,7 +8,7 @@ use crate::activity::Activity;
 use crate::pace::Pace;
 use crate::readiness::Readiness;
 use crate::stream::{Shut, read_once, write_once};
-use radio_serving::{CallCount, History, Line, Received, Sent};
+use radio_connections::{CallCount, History, Line, Received, Sent};
 use std::alloc::Global;
 use std::io::{Read, Write};
 use std::sync::Arc;

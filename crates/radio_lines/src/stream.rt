@@ -4,7 +4,7 @@ ghost use Rattle.radio_lines.specs.Streams.{IsGivenBy, IsTakenBy};
 
 use crate::readiness::Readiness;
 use mio::net::TcpStream;
-use radio_serving::{Received, Sent};
+use radio_connections::{Received, Sent};
 use std::io::{ErrorKind, Read, Write};
 use std::net::Shutdown;
 

@@ -3,7 +3,7 @@
 ghost use Rattle.std.specs.Prelude.{◌≡◌, ◌≤◌, ◌<◌, drop, length};
 ghost use Rattle.radio_masters.specs.Pulls.{HasBorne, IsWritten};
 
-use radio_serving::{Line, Sent};
+use radio_connections::{Line, Sent};
 use std::marker::Model;
 
 /// The bytes of a request that are still to be written. In contracts they are the list of these bytes.

@@ -8,9 +8,9 @@ ghost use Rattle.radio_masters.specs.Pulls.{Comes, GoesOnHere, IsTurn, turn_of};
 
 use crate::OutOfMemory;
 use crate::asking::Asking;
+use radio_connections::{Line, Received};
 use radio_pull::{RelayPull, ask, close, take};
 use radio_relay::request_text;
-use radio_serving::{Line, Received};
 use radio_session::{Ending, Server, State};
 use radio_settings::RelaySetting;
 use std::alloc::Global;

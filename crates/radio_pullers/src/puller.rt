@@ -5,8 +5,7 @@ use crate::running::RunningRelay;
 use crate::station::Station;
 use mio::net::TcpStream;
 use radio_board::Board;
-use radio_book::{Chronicle, House};
-use radio_hall::Caller;
+use radio_callers::{Caller, SharedServer};
 use radio_lines::{Reach, SocketLine, Sockets, moment};
 use radio_masters::{Asked, MountPull, PullTurn, RelayEnd};
 use radio_serving::{Server, Watched};
@@ -43,13 +42,13 @@ struct Puller<'a, R: Clock + Wait, N: Reach, S: Server + Drop> {
 
 /// Pulls this relay in, with a pass of its own, until it is to stop. A pull that has ended is begun again after five
 /// seconds.
-pub(crate) fn pull_relay<R: Clock + Wait, N: Reach, C: Chronicle, H: House>(
+pub(crate) fn pull_relay<R: Clock + Wait, N: Reach, S: SharedServer>(
     rt: &R,
-    station: &Station<'_, N, C, H>,
+    station: &Station<'_, N, S>,
     relay: &RunningRelay,
 ) {
-    if let Some(pass) = station.hall.pass(rt) {
-        let caller = Caller::new(rt, station.hall, pass);
+    if let Some(pass) = station.server.pass(rt) {
+        let caller = Caller::new(rt, station.server, pass);
         pull_as(rt, station.net, station.board, relay, caller);
     }
     relay.note_end();

@@ -1,6 +1,6 @@
 //! The relays of a station, each in a thread of its own.
 
-ghost use Rattle.std.specs.Thread.{IsSend, IsSync};
+ghost use Rattle.std.specs.Thread.{IsSync};
 
 use crate::OutOfMemory;
 use crate::list_fetch::Listed;
@@ -9,8 +9,7 @@ use crate::roster::Roster;
 use crate::running::RunningRelay;
 use crate::station::Station;
 use radio_board::Board;
-use radio_book::{Chronicle, House};
-use radio_hall::Hall;
+use radio_callers::SharedServer;
 use radio_lines::Reach;
 use radio_relay::{RelayOrder, plan};
 use radio_settings::{RelaySetting, Settings};
@@ -50,28 +49,24 @@ impl Keeper {
 
     /// A relay that is to start now; those are told that are to stop. `None` where none is to start, or memory is refused
     /// for it.
-    fn next_start<R: Clock + Wait, N: Reach, C: Chronicle, H: House>(
+    fn next_start<R: Clock + Wait, N: Reach, S: SharedServer>(
         &mut self,
         rt: &R,
-        station: &Station<'_, N, C, H>,
+        station: &Station<'_, N, S>,
     ) -> Option<Arc<RunningRelay>> {
         if self.has_failed {
             self.has_failed = false;
             return None;
         }
         self.refresh_list(rt, station);
-        match station.hall.wanted(rt) {
+        match station.server.wanted(rt) {
             Ok(wanted) => self.start_for(station.board.alloc(), station.settings, wanted),
             Err(_) => None,
         }
     }
 
     /// Asks the slave's master for its list, if there is one and it is time.
-    fn refresh_list<R: Clock + Wait, N: Reach, C: Chronicle, H: House>(
-        &mut self,
-        rt: &R,
-        station: &Station<'_, N, C, H>,
-    ) {
+    fn refresh_list<R: Clock + Wait, N: Reach, S>(&mut self, rt: &R, station: &Station<'_, N, S>) {
         if let Some(slave) = &station.settings.slave {
             self.listed.refresh(rt, station.net, station.board, slave);
         }
@@ -124,24 +119,18 @@ impl Keeper {
 /// Keeps the relays running that the settings and the slave's list wish, those that are on demand while
 /// somebody sits at their mounts, until all are to stop. Where memory is refused for
 /// one, or no thread can be had, it is tried again.
-pub fn keep_relays<R, N, C, H>(
-    rt: &R,
-    net: &N,
-    hall: &Hall<C, H>,
-    board: &Board,
-    settings: &Settings,
-)
+pub fn keep_relays<R, N, S>(rt: &R, net: &N, server: &S, board: &Board, settings: &Settings)
 where
     R: Clock + Threads + Wait + Sync,
     N: Reach + Sync,
-    C: Chronicle + Send + Sync,
-    H: House + Send + Sync,
+    S: SharedServer + Sync,
+    S::Pass: Send,
 {
     let mut keeper = Keeper::new(board.alloc());
     let kept = &mut keeper;
     let station = &Station {
         net,
-        hall,
+        server,
         board,
         settings,
     };
@@ -149,23 +138,23 @@ where
         thread::scope_env(),
         rt,
         move |scope|
-            requires { IsSync R.row × IsSync N.row × IsSend C.row × IsSync C.row × IsSend H.row × IsSync H.row }
+            requires { IsSync R.row × IsSync N.row × IsSync S.row }
         { start_relays(scope, kept, rt, station) },
     )
 }
 
 /// Starts each relay when it is to start, in a thread of this scope, until all are to stop.
-fn start_relays<'s, E, R, N, C, H>(
+fn start_relays<'s, E, R, N, S>(
     scope: &Scope<'s, E>,
     keeper: &mut Keeper,
     rt: &'s R,
-    station: &'s Station<'s, N, C, H>,
+    station: &'s Station<'s, N, S>,
 )
 where
     R: Clock + Threads + Wait + Sync,
     N: Reach + Sync,
-    C: Chronicle + Send + Sync,
-    H: House + Send + Sync,
+    S: SharedServer + Sync,
+    S::Pass: Send,
 {
     'rounds: for _ in rt.forever() {
         if !goes_on(scope, keeper, rt, station) {
@@ -175,17 +164,17 @@ where
 }
 
 /// Starts the relay that is to start now, or rests where none is, unless all are to stop. Whether they are not.
-fn goes_on<'s, E, R, N, C, H>(
+fn goes_on<'s, E, R, N, S>(
     scope: &Scope<'s, E>,
     keeper: &mut Keeper,
     rt: &'s R,
-    station: &'s Station<'s, N, C, H>,
+    station: &'s Station<'s, N, S>,
 ) -> bool
 where
     R: Clock + Threads + Wait + Sync,
     N: Reach + Sync,
-    C: Chronicle + Send + Sync,
-    H: House + Send + Sync,
+    S: SharedServer + Sync,
+    S::Pass: Send,
 {
     if station.board.is_over() {
         return false;
@@ -198,17 +187,17 @@ where
 }
 
 /// Pulls this relay in by a thread of the scope. Whether there is one for it.
-fn begin<'s, E, R, N, C, H>(
+fn begin<'s, E, R, N, S>(
     scope: &Scope<'s, E>,
     rt: &'s R,
-    station: &'s Station<'s, N, C, H>,
+    station: &'s Station<'s, N, S>,
     relay: Arc<RunningRelay>,
 ) -> bool
 where
     R: Clock + Threads + Wait + Sync,
     N: Reach + Sync,
-    C: Chronicle + Send + Sync,
-    H: House + Send + Sync,
+    S: SharedServer + Sync,
+    S::Pass: Send,
 {
     let thread = scope.spawn(move || pull_relay(rt, station, &relay));
     let has_begun = thread.is_ok();

@@ -10,8 +10,7 @@ use crate::seats::{open_desks, seats_of};
 use crate::{BindFault, ServeFault};
 use mio::net::TcpStream;
 use radio_board::{Board, Limits, LogOutput, Outlet};
-use radio_book::{Chronicle, House};
-use radio_hall::Hall;
+use radio_callers::SharedServer;
 use radio_intake::{Intake, IntakePass};
 use radio_lines::{Reach, SocketLine, Sockets};
 use radio_pullers::{has_relays, keep_relays};
@@ -66,19 +65,19 @@ impl Listening {
         self.doors.address()
     }
 
-    /// Accepts connections, and serves them in this hall, until a fault. A worker that can't be started is left out;
+    /// Accepts connections, and serves them by this server, until a fault. A worker that can't be started is left out;
     /// `OutOfMemory` where none can be, or where memory was refused before one began.
     ///
-    /// Of the settings, which are those of the hall, its relays and its slave are read: each relay is pulled over `net` in a
-    /// thread of its own.
+    /// Of the settings, which are those of the server, its relays and its slave are read: each relay is pulled over `net`
+    /// in a thread of its own.
     ///
     /// The log is written to standard output, by this stream of it, where that does not wait; what can't be written so is
     /// lost.
-    pub fn serve<R, N, C, H, O>(
+    pub fn serve<R, N, S, O>(
         self,
         rt: &R,
         net: &N,
-        hall: &Hall<C, H>,
+        server: &S,
         settings: &Settings,
         service: Service,
         output: LogOutput<O>,
@@ -86,24 +85,24 @@ impl Listening {
     where
         R: Clock + Threads + Wait + Sync,
         N: Reach + Sync,
-        C: Chronicle + Send + Sync,
-        H: House + Send + Sync,
+        S: SharedServer + Sync,
+        S::Pass: Send,
         O: Write + Drop + Send,
     {
         let Listening { alloc, doors } = self;
         let mut acceptor = Acceptor::new(alloc, doors, output);
-        let fault = serve_by(rt, net, alloc, hall, settings, service, &mut acceptor);
+        let fault = serve_by(rt, net, alloc, server, settings, service, &mut acceptor);
         drop(acceptor);
         fault
     }
 }
 
-/// Serves connections that this acceptor accepts, in this hall.
-fn serve_by<R, N, C, H, O>(
+/// Serves connections that this acceptor accepts, by this server.
+fn serve_by<R, N, S, O>(
     rt: &R,
     net: &N,
     alloc: Global,
-    hall: &Hall<C, H>,
+    server: &S,
     settings: &Settings,
     service: Service,
     acceptor: &mut Acceptor<O>,
@@ -111,8 +110,8 @@ fn serve_by<R, N, C, H, O>(
 where
     R: Clock + Threads + Wait + Sync,
     N: Reach + Sync,
-    C: Chronicle + Send + Sync,
-    H: House + Send + Sync,
+    S: SharedServer + Sync,
+    S::Pass: Send,
     O: Write + Drop + Send,
 {
     match open_board(net, alloc, acceptor, service) {
@@ -121,7 +120,7 @@ where
                 let station = Station {
                     rt,
                     net,
-                    hall,
+                    server,
                     settings,
                     service,
                     board: &board,
@@ -156,26 +155,26 @@ fn open_board<N: Reach, O: Write + Drop>(
 
 /// What is served, how, and by what all threads tell each other.
 #[derive(Drop)]
-struct Station<'a, R, N: Reach, C: Chronicle, H: House> {
+struct Station<'a, R, N: Reach, S> {
     rt: &'a R,
     net: &'a N,
-    hall: &'a Hall<C, H>,
+    server: &'a S,
     settings: &'a Settings,
     service: Service,
     board: &'a Board,
 }
 
 /// Serves connections by workers with these sockets, whom this acceptor hands them, and writes the rest of the log.
-fn serve_at<R, N, C, H, O>(
-    station: &Station<'_, R, N, C, H>,
+fn serve_at<R, N, S, O>(
+    station: &Station<'_, R, N, S>,
     sockets: &mut Vec<Sockets>,
     acceptor: &mut Acceptor<O>,
 ) -> ServeFault
 where
     R: Clock + Threads + Wait + Sync,
     N: Reach + Sync,
-    C: Chronicle + Send + Sync,
-    H: House + Send + Sync,
+    S: SharedServer + Sync,
+    S::Pass: Send,
     O: Write + Drop + Send,
 {
     let fault = serve_all(station, sockets, acceptor);
@@ -185,16 +184,16 @@ where
 
 /// Serves connections through an intake, until all stop. `OutOfMemory` where memory was refused for it, or for the
 /// workers' seats.
-fn serve_all<R, N, C, H, O>(
-    station: &Station<'_, R, N, C, H>,
+fn serve_all<R, N, S, O>(
+    station: &Station<'_, R, N, S>,
     sockets: &mut Vec<Sockets>,
     acceptor: &mut Acceptor<O>,
 ) -> ServeFault
 where
     R: Clock + Threads + Wait + Sync,
     N: Reach + Sync,
-    C: Chronicle + Send + Sync,
-    H: House + Send + Sync,
+    S: SharedServer + Sync,
+    S::Pass: Send,
     O: Write + Drop + Send,
 {
     match Intake::new(station.board.alloc()) {
@@ -210,8 +209,8 @@ where
 
 /// Serves connections through this intake, whose pass the acceptor and the workers share. `OutOfMemory` where memory was
 /// refused for the workers' seats.
-fn serve_through<R, N, C, H, O>(
-    station: &Station<'_, R, N, C, H>,
+fn serve_through<R, N, S, O>(
+    station: &Station<'_, R, N, S>,
     intake: &Intake<Coming>,
     pass: &mut IntakePass<Coming>,
     sockets: &mut Vec<Sockets>,
@@ -220,8 +219,8 @@ fn serve_through<R, N, C, H, O>(
 where
     R: Clock + Threads + Wait + Sync,
     N: Reach + Sync,
-    C: Chronicle + Send + Sync,
-    H: House + Send + Sync,
+    S: SharedServer + Sync,
+    S::Pass: Send,
     O: Write + Drop + Send,
     requires own { pass.old.intake ≡ intake.now }
     requires parts { all_parts ≤ pass.old.parts }
@@ -238,8 +237,8 @@ where
 
 /// The acceptor puts connections into this intake by his hand, and workers with these sockets take them out by their pass,
 /// until all stop. His fault, and whether there was memory for the workers' seats.
-fn work_together<R, N, C, H, O>(
-    station: &Station<'_, R, N, C, H>,
+fn work_together<R, N, S, O>(
+    station: &Station<'_, R, N, S>,
     intake: &Intake<Coming>,
     hand: &mut IntakePass<Coming>,
     pass: &mut IntakePass<Coming>,
@@ -249,8 +248,8 @@ fn work_together<R, N, C, H, O>(
 where
     R: Clock + Threads + Wait + Sync,
     N: Reach + Sync,
-    C: Chronicle + Send + Sync,
-    H: House + Send + Sync,
+    S: SharedServer + Sync,
+    S::Pass: Send,
     O: Write + Drop + Send,
     requires hand { hand.old.intake ≡ intake.now }
     requires own { pass.old.intake ≡ intake.now }
@@ -268,8 +267,8 @@ where
 }
 
 /// The acceptor puts connections into this intake by his hand, until all stop. His fault.
-fn accept<R, N, C, H, O>(
-    station: &Station<'_, R, N, C, H>,
+fn accept<R, N, S, O>(
+    station: &Station<'_, R, N, S>,
     intake: &Intake<Coming>,
     hand: &mut IntakePass<Coming>,
     acceptor: &mut Acceptor<O>,
@@ -277,8 +276,6 @@ fn accept<R, N, C, H, O>(
 where
     R: Clock + Wait,
     N: Reach,
-    C: Chronicle,
-    H: House,
     O: Write + Drop,
     requires { hand.old.intake ≡ intake.now }
 {
@@ -287,8 +284,8 @@ where
 
 /// The workers with these sockets work, and relays are kept running beside them, if the settings wish some. Whether there
 /// was memory for the workers' seats.
-fn work_beside_relays<R, N, C, H>(
-    station: &Station<'_, R, N, C, H>,
+fn work_beside_relays<R, N, S>(
+    station: &Station<'_, R, N, S>,
     intake: &Intake<Coming>,
     pass: &mut IntakePass<Coming>,
     sockets: &mut Vec<Sockets>,
@@ -296,8 +293,8 @@ fn work_beside_relays<R, N, C, H>(
 where
     R: Clock + Threads + Wait + Sync,
     N: Reach + Sync,
-    C: Chronicle + Send + Sync,
-    H: House + Send + Sync,
+    S: SharedServer + Sync,
+    S::Pass: Send,
     requires own { pass.old.intake ≡ intake.now }
     requires parts { all_parts ≤ pass.old.parts + 1 }
 {
@@ -315,25 +312,25 @@ where
 }
 
 /// Relays are kept running, until all are to stop.
-fn keep_all<R, N, C, H>(station: &Station<'_, R, N, C, H>)
+fn keep_all<R, N, S>(station: &Station<'_, R, N, S>)
 where
     R: Clock + Threads + Wait + Sync,
     N: Reach + Sync,
-    C: Chronicle + Send + Sync,
-    H: House + Send + Sync,
+    S: SharedServer + Sync,
+    S::Pass: Send,
 {
     keep_relays(
         station.rt,
         station.net,
-        station.hall,
+        station.server,
         station.board,
         station.settings,
     )
 }
 
 /// The workers with these sockets work, until all are to stop. Whether there was memory for their seats.
-fn work_at<R, N, C, H>(
-    station: &Station<'_, R, N, C, H>,
+fn work_at<R, N, S>(
+    station: &Station<'_, R, N, S>,
     intake: &Intake<Coming>,
     pass: &mut IntakePass<Coming>,
     sockets: &mut Vec<Sockets>,
@@ -341,14 +338,14 @@ fn work_at<R, N, C, H>(
 where
     R: Clock + Threads + Wait + Sync,
     N: Reach + Sync,
-    C: Chronicle + Send + Sync,
-    H: House + Send + Sync,
+    S: SharedServer + Sync,
+    S::Pass: Send,
     requires own { pass.old.intake ≡ intake.now }
     requires parts { all_parts ≤ pass.old.parts + 1 }
 {
     match seats_of(
         station.rt,
-        station.hall,
+        station.server,
         station.board,
         intake,
         pass,
@@ -366,26 +363,26 @@ where
 }
 
 /// Workers at these seats work, until all are to stop.
-fn run_at<R, N, C, H>(
-    station: &Station<'_, R, N, C, H>,
+fn run_at<R, N, S>(
+    station: &Station<'_, R, N, S>,
     intake: &Intake<Coming>,
-    seats: &mut [Seat<C, H, Coming, SocketPost<'_, R>>],
+    seats: &mut [Seat<S::Pass, Coming, SocketPost<'_, R>>],
 )
 where
     R: Clock + Threads + Wait + Sync,
     N: Reach + Sync,
-    C: Chronicle + Send + Sync,
-    H: House + Send + Sync,
+    S: SharedServer + Sync,
+    S::Pass: Send,
     requires { All (λ seat. seat.hand.intake ≡ intake.now) seats.old }
 {
     let place = Workplace {
-        hall: station.hall,
+        server: station.server,
         intake,
         gate: &OpenGate,
         patience_s: station.service.patience_s,
         turns: u64::MAX,
     };
-    run_workers::<R, C, H, Coming, SocketLine<TcpStream>, SocketPost<'_, R>, OpenGate>(
+    run_workers::<R, S, Coming, SocketLine<TcpStream>, SocketPost<'_, R>, OpenGate>(
         station.rt,
         station.board.alloc(),
         &place,

@@ -7,8 +7,7 @@ use crate::doors::Coming;
 use crate::post::SocketPost;
 use crate::{OutOfMemory, ServeFault};
 use radio_board::{Board, Desk};
-use radio_book::{Chronicle, House};
-use radio_hall::Hall;
+use radio_callers::SharedServer;
 use radio_intake::{Intake, IntakePass};
 use radio_lines::{Reach, Sockets};
 use radio_workers::{Seat, add_seat};
@@ -52,34 +51,34 @@ fn add_desk<N: Reach>(
     Ok(())
 }
 
-/// Seats for the workers with these sockets, in this hall. `OutOfMemory` where memory was refused.
-pub(crate) fn seats_of<'a, R: Clock + Wait, C: Chronicle, H: House>(
+/// Seats for the workers with these sockets, over this server. `OutOfMemory` where memory was refused.
+pub(crate) fn seats_of<'a, R: Clock + Wait, S: SharedServer>(
     rt: &'a R,
-    hall: &Hall<C, H>,
+    server: &S,
     board: &'a Board,
     intake: &Intake<Coming>,
     pass: &mut IntakePass<Coming>,
     sockets: &mut Vec<Sockets>,
-) -> Result<Vec<Seat<C, H, Coming, SocketPost<'a, R>>>, OutOfMemory>
+) -> Result<Vec<Seat<S::Pass, Coming, SocketPost<'a, R>>>, OutOfMemory>
     requires own { pass.old.intake ≡ intake.now }
     requires parts { all_parts ≤ pass.old.parts + 1 }
     ensures own { pass.new.intake ≡ intake.now }
     ensures seats { IfOk result (λ seats. All (λ seat. seat.hand.intake ≡ intake.now) seats.items) }
 {
     let mut seats = Vec::new(board.alloc());
-    fill_seats(rt, hall, board, intake, pass, sockets, &mut seats)?;
+    fill_seats(rt, server, board, intake, pass, sockets, &mut seats)?;
     Ok(seats)
 }
 
 /// Adds those seats.
-fn fill_seats<'a, R: Clock + Wait, C: Chronicle, H: House>(
+fn fill_seats<'a, R: Clock + Wait, S: SharedServer>(
     rt: &'a R,
-    hall: &Hall<C, H>,
+    server: &S,
     board: &'a Board,
     intake: &Intake<Coming>,
     pass: &mut IntakePass<Coming>,
     sockets: &mut Vec<Sockets>,
-    seats: &mut Vec<Seat<C, H, Coming, SocketPost<'a, R>>>,
+    seats: &mut Vec<Seat<S::Pass, Coming, SocketPost<'a, R>>>,
 ) -> Result<(), OutOfMemory>
     requires own { pass.old.intake ≡ intake.now }
     requires parts { all_parts ≤ pass.old.parts + 1 }
@@ -91,7 +90,7 @@ fn fill_seats<'a, R: Clock + Wait, C: Chronicle, H: House>(
         let Some(post) = next_post(rt, board, sockets) else {
             return Ok(());
         };
-        add_seat(seats, intake, pass, hall.pass(rt), post)?;
+        add_seat(seats, intake, pass, server.pass(rt), post)?;
     }
     Ok(())
 }

@@ -1,5 +1,5 @@
 -- What is taken through a pass of an intake, step after step.
-use Rattle.std.proofs.Common.{◌≡◌, refl, sym, ◌∙◌, ap, List, [], ◌∷◌, ◌++◌, rules, append-nil, append_assoc}
+use Rattle.std.proofs.Common.{◌≡◌, refl, sym, ◌∙◌, ap, [], ◌∷◌, ◌++◌, append-nil, append_assoc}
 use Rattle.radio_intake.specs.Passes.{Told}
 use Rattle.radio_workers.specs.Hands.{HasTakenMore}
 

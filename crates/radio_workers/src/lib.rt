@@ -1,8 +1,8 @@
-//! Workers, each in a thread of its own, who serve connections over one hall.
+//! Workers, each in a thread of its own, who serve connections over one server.
 //!
 //! - [`run_workers`]: runs a worker for each seat, until all have stopped.
-//! - [`Workplace`]: what all workers share: the hall, the intake from which they take connections, and the gate.
-//! - [`Seat`]: what one worker has: a pass of the hall, one of the intake, and a post. [`add_seat`] makes one.
+//! - [`Workplace`]: what all workers share: the server, the intake from which they take connections, and the gate.
+//! - [`Seat`]: what one worker has: a pass of the server, one of the intake, and a post. [`add_seat`] makes one.
 //! - [`Post`]: where a worker's turns come from, and whom he tells what came of them ([`Call`], [`Seen`]).
 //!
 //! A worker's turns are those of [`radio_serving::Worker`], whose contracts hold of each worker.

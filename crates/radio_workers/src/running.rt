@@ -5,7 +5,7 @@ ghost use Rattle.radio_workers.specs.Hands.{HasTakenMore};
 
 use crate::shift::work;
 use crate::{Post, Seat, Workplace};
-use radio_book::{Chronicle, House};
+use radio_callers::SharedServer;
 use radio_serving::{Gate, Line};
 use std::alloc::Global;
 use std::sync::Wait;
@@ -16,16 +16,16 @@ use std::thread::{Threads, for_each_mut};
 ///
 /// Nothing here asks for memory, and no memory that is refused to a worker ends him. One for whom no thread can be had is
 /// left out as long as others work.
-pub fn run_workers<R, C, H, T, L, P, G>(
+pub fn run_workers<R, S, T, L, P, G>(
     rt: &R,
     alloc: Global,
-    place: &Workplace<'_, C, H, T, G>,
-    seats: &mut [Seat<C, H, T, P>],
+    place: &Workplace<'_, S, T, G>,
+    seats: &mut [Seat<S::Pass, T, P>],
 )
 where
     R: Threads + Wait + Sync,
-    C: Chronicle + Send + Sync,
-    H: House + Send + Sync,
+    S: SharedServer + Sync,
+    S::Pass: Send,
     T: Send + Drop,
     L: Line + Send,
     P: Post<T, L> + Send,
@@ -45,6 +45,6 @@ where
         &|_, seat|
             requires { seat.now.hand.intake ≡ place.now.intake.now }
             ensures { HasTakenMore seat.entry.now.hand seat.exit.now.hand }
-        { work::<R, C, H, T, L, P, G>(rt, alloc, place, seat) },
+        { work::<R, S, T, L, P, G>(rt, alloc, place, seat) },
     );
 }

@@ -5,8 +5,7 @@ ghost use Rattle.radio_workers.specs.Hands.{HasTakenMore};
 
 use crate::leaving::leave_all;
 use crate::{Call, Post, Seat, Seen, Workplace};
-use radio_book::{Chronicle, House, Pass};
-use radio_hall::Caller;
+use radio_callers::{Caller, SharedServer};
 use radio_intake::{Intake, IntakePass};
 use radio_serving::{
     Conn, Gate, Line, Server, Watched, Worker, close_first_lingering, count_lingering,
@@ -23,11 +22,11 @@ struct Shift<S: Server + Drop, L: Line> {
 
 /// Works at this seat, turn after turn, until his post tells him to stop, or he has made all turns. Then all of his
 /// clients leave, and their connections are closed.
-pub(crate) fn work<R: Wait, C: Chronicle, H: House, T: Drop, L: Line, P: Post<T, L>, G: Gate>(
+pub(crate) fn work<R: Wait, S: SharedServer, T: Drop, L: Line, P: Post<T, L>, G: Gate>(
     rt: &R,
     alloc: Global,
-    place: &Workplace<'_, C, H, T, G>,
-    seat: &mut Seat<C, H, T, P>,
+    place: &Workplace<'_, S, T, G>,
+    seat: &mut Seat<S::Pass, T, P>,
 )
     requires own { seat.old.hand.intake ≡ place.now.intake.now }
     ensures taken { HasTakenMore seat.old.hand seat.new.hand }
@@ -39,32 +38,32 @@ pub(crate) fn work<R: Wait, C: Chronicle, H: House, T: Drop, L: Line, P: Post<T,
 }
 
 /// The pass stands at its seat again.
-fn put_back<C: Chronicle, H: House>(own: &mut Option<Pass<C, H>>, pass: Pass<C, H>) {
+fn put_back<A: Drop>(own: &mut Option<A>, pass: A) {
     *own = Some(pass);
 }
 
-/// Works with this pass of the hall, which comes back with the receipts of all that was applied.
-fn work_with<R: Wait, C: Chronicle, H: House, T: Drop, L: Line, P: Post<T, L>, G: Gate>(
+/// Works with this pass of the server, by which all is applied, and which comes back.
+fn work_with<R: Wait, S: SharedServer, T: Drop, L: Line, P: Post<T, L>, G: Gate>(
     rt: &R,
     alloc: Global,
-    place: &Workplace<'_, C, H, T, G>,
+    place: &Workplace<'_, S, T, G>,
     post: &mut P,
     hand: &mut IntakePass<T>,
-    pass: Pass<C, H>,
-) -> Pass<C, H>
+    pass: S::Pass,
+) -> S::Pass
     requires own { hand.old.intake ≡ place.now.intake.now }
     ensures taken { HasTakenMore hand.old hand.new }
 {
-    let server = Caller::new(rt, place.hall, pass);
-    serve(rt, alloc, place, post, hand, server).into_pass()
+    let caller = Caller::new(rt, place.server, pass);
+    serve(rt, alloc, place, post, hand, caller).into_pass()
 }
 
 /// Serves connections over this server, turn after turn, until all have been made or the post says stop; gives the server
 /// back once all clients have left.
-fn serve<R, S, C, H, T, L, P, G>(
+fn serve<R, A, S, T, L, P, G>(
     rt: &R,
     alloc: Global,
-    place: &Workplace<'_, C, H, T, G>,
+    place: &Workplace<'_, A, T, G>,
     post: &mut P,
     hand: &mut IntakePass<T>,
     server: S,
@@ -72,8 +71,6 @@ fn serve<R, S, C, H, T, L, P, G>(
 where
     R: Wait,
     S: Server + Drop,
-    C: Chronicle,
-    H: House,
     T: Drop,
     L: Line,
     P: Post<T, L>,
@@ -98,10 +95,10 @@ impl<S: Server + Drop, L: Line> Shift<S, L> {
 
     /// Turn after turn, as long as the post goes on.
     #[tactic(auto, using(crate::proofs::Takings::taken_none, crate::proofs::Takings::taken_one, crate::proofs::Takings::taken_then))]
-    fn make_turns<R: Wait, C: Chronicle, H: House, T: Drop, P: Post<T, L>, G: Gate>(
+    fn make_turns<R: Wait, A, T: Drop, P: Post<T, L>, G: Gate>(
         &mut self,
         rt: &R,
-        place: &Workplace<'_, C, H, T, G>,
+        place: &Workplace<'_, A, T, G>,
         post: &mut P,
         hand: &mut IntakePass<T>,
     )
@@ -117,10 +114,10 @@ impl<S: Server + Drop, L: Line> Shift<S, L> {
 
     /// The next turn, unless the post tells him to stop. Whether it does not.
     #[tactic(auto, using(crate::proofs::Takings::taken_none))]
-    fn goes_on<R: Wait, C: Chronicle, H: House, T: Drop, P: Post<T, L>, G: Gate>(
+    fn goes_on<R: Wait, A, T: Drop, P: Post<T, L>, G: Gate>(
         &mut self,
         rt: &R,
-        place: &Workplace<'_, C, H, T, G>,
+        place: &Workplace<'_, A, T, G>,
         post: &mut P,
         hand: &mut IntakePass<T>,
     ) -> bool
@@ -137,10 +134,10 @@ impl<S: Server + Drop, L: Line> Shift<S, L> {
     }
 
     /// Does what he is called to: takes in those who wait, and makes the turn.
-    fn follow<R: Wait, C: Chronicle, H: House, T: Drop, P: Post<T, L>, G: Gate>(
+    fn follow<R: Wait, A, T: Drop, P: Post<T, L>, G: Gate>(
         &mut self,
         rt: &R,
-        place: &Workplace<'_, C, H, T, G>,
+        place: &Workplace<'_, A, T, G>,
         post: &mut P,
         hand: &mut IntakePass<T>,
         call: Call,

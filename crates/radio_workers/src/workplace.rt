@@ -3,16 +3,14 @@
 ghost use Rattle.std.specs.Prelude.{◌≡◌, ◌-◌, ◌<◌, All, OnOk, OnErr};
 
 use crate::OutOfMemory;
-use radio_book::{Chronicle, House, Pass};
-use radio_hall::Hall;
 use radio_intake::{Intake, IntakePass};
 use radio_serving::Gate;
 
 /// What all workers share.
 #[derive(Drop)]
-pub struct Workplace<'a, C: Chronicle, H: House, T, G: Gate> {
-    /// The house whose connections they serve.
-    pub hall: &'a Hall<C, H>,
+pub struct Workplace<'a, S, T, G: Gate> {
+    /// The server that they ask.
+    pub server: &'a S,
     /// Where they take connections from.
     pub intake: &'a Intake<T>,
     /// Whom each tells of his writes.
@@ -25,22 +23,22 @@ pub struct Workplace<'a, C: Chronicle, H: House, T, G: Gate> {
 
 /// What one worker has.
 #[derive(Drop)]
-pub struct Seat<C: Chronicle, H: House, T: Drop, P: Drop> {
-    /// A pass of the hall. It has the receipts of all that was applied at this seat, once the worker has ended.
-    pub pass: Option<Pass<C, H>>,
+pub struct Seat<A: Drop, T: Drop, P: Drop> {
+    /// A pass of the server, by which he asks it. It stands here again once he has ended.
+    pub pass: Option<A>,
     /// A pass of the intake.
     pub hand: IntakePass<T>,
     /// Where his turns come from.
     pub post: P,
 }
 
-/// Adds a seat with this pass of the hall, this post, and one part of the intake from those of `hand`. `OutOfMemory` where
+/// Adds a seat with this pass of the server, this post, and one part of the intake from those of `hand`. `OutOfMemory` where
 /// memory was refused: no part was taken then, and the seats are as they were.
-pub fn add_seat<C: Chronicle, H: House, T: Drop, P: Drop>(
-    seats: &mut Vec<Seat<C, H, T, P>>,
+pub fn add_seat<A: Drop, T: Drop, P: Drop>(
+    seats: &mut Vec<Seat<A, T, P>>,
     intake: &Intake<T>,
     hand: &mut IntakePass<T>,
-    pass: Option<Pass<C, H>>,
+    pass: Option<A>,
     post: P,
 ) -> Result<(), OutOfMemory>
     requires own { hand.old.intake ≡ intake.now }

@@ -14,10 +14,12 @@ use crate::workers::Rush;
 use radio_access::Lists;
 use radio_book::{Entry, House, Kept, PASSES, Pass};
 use radio_documents::SettingsFault;
-use radio_events::Event;
-use radio_hall::Hall;
+use radio_events::{Event, Reply};
+use radio_hall::{Caller, Hall, OutOfMemory};
+use radio_serving::Server;
 use radio_settings::Settings;
 use radio_settling::{SettleFault, settle};
+use radio_values::MountName;
 use std::alloc::Global;
 use std::marker::Brand;
 use std::sync::Wait;
@@ -42,6 +44,40 @@ impl<'a, R: Wait, H: House> Callee for PassCaller<'a, R, H> {
             }
             Err(_) => None,
         }
+    }
+}
+
+/// A caller of a hall, whom a worker asks at a station: a name with one lifetime.
+#[derive(Drop)]
+pub struct HallCaller<'a, R: Wait, H: House> {
+    caller: Caller<'a, R, Hall<Kept, H>>,
+}
+
+impl<'a, R: Wait, H: House> HallCaller<'a, R, H> {
+    /// A caller of this hall, with this pass.
+    pub fn new(rt: &'a R, hall: &'a Hall<Kept, H>, pass: Pass<Kept, H>) -> HallCaller<'a, R, H> {
+        HallCaller {
+            caller: Caller::new(rt, hall, pass),
+        }
+    }
+
+    /// His pass, when he calls no more.
+    pub fn into_pass(self) -> Pass<Kept, H> {
+        self.caller.into_pass()
+    }
+}
+
+impl<'a, R: Wait, H: House> Server for HallCaller<'a, R, H> {
+    ghost steps = { λ from event reply to. Unit {0} };
+
+    ghost refuses = { λ from event. Unit {0} };
+
+    fn apply(&mut self, event: Event) -> Result<Reply, OutOfMemory> {
+        self.caller.apply(event)
+    }
+
+    fn last_mount(&self, id: u64) -> Option<MountName> {
+        self.caller.last_mount(id)
     }
 }
 

@@ -1,13 +1,13 @@
 //! A worker over a hall: another caller who sets a title, and a gate that asks for the lock.
 
 use crate::calls::{Callee, title_event};
-use crate::halls::{PassCaller, Visit, is_well_visited};
+use crate::halls::{HallCaller, PassCaller, Visit, is_well_visited};
 use crate::memory_line::Look;
 use crate::rows::*;
 use crate::stations::Station;
 use crate::steps::Step;
 use radio_book::{House, Kept, Pass};
-use radio_hall::{Caller, Hall};
+use radio_hall::Hall;
 use radio_serving::{Gate, Turn};
 use std::alloc::Global;
 use std::cell::Cell;
@@ -30,7 +30,7 @@ fn sets_title<H: House, R: Wait>(
 }
 
 /// A worker over a hall, with a pass and no connection.
-type HallStation<'a, R, H> = Station<Caller<'a, R, Kept, H>>;
+type HallStation<'a, R, H> = Station<HallCaller<'a, R, H>>;
 
 fn open_station<'a, H: House, R: Wait>(
     rt: &'a R,
@@ -38,7 +38,7 @@ fn open_station<'a, H: House, R: Wait>(
     hall: &'a Hall<Kept, H>,
 ) -> Option<HallStation<'a, R, H>> {
     let pass = hall.pass(rt)?;
-    Some(Station::new(alloc, Caller::new(rt, hall, pass)))
+    Some(Station::new(alloc, HallCaller::new(rt, hall, pass)))
 }
 
 /// Adds the worker's pass, when he serves no more. Whether there was memory for it.

@@ -4,14 +4,14 @@
 use crate::faults::{
     BEHIND_A_SOURCE, Beside, CALLS, Failure, PLAIN, are_played, failing, is_refused,
 };
-use crate::halls::{Visit, is_well_visited};
+use crate::halls::{HallCaller, Visit, is_well_visited};
 use crate::moments::LONG_TIMEOUT;
 use crate::slow::{CLOSED, CLOSES_WHILE_OWED, KEPT, LAGS, SHORT_QUEUE};
 use crate::stations::{Refusing, Station};
 use crate::steps::Step;
 use radio_book::{Entry, House, Kept, Pass};
 use radio_events::Event;
-use radio_hall::{Caller, Hall};
+use radio_hall::Hall;
 use radio_serving::Server;
 use std::alloc::Global;
 use std::sync::Wait;
@@ -96,18 +96,18 @@ pub fn is_row_played<H: House, R: Wait>(
     kept: KeptRow,
 ) -> bool {
     match hall.pass(rt) {
-        Some(pass) => is_played_by(alloc, Caller::new(rt, hall, pass), passes, kept.row),
+        Some(pass) => is_played_by(alloc, HallCaller::new(rt, hall, pass), passes, kept.row),
         None => false,
     }
 }
 
 /// A caller of a hall who is refused memory at one call.
-type RefusedCaller<'a, R, H> = Refusing<Caller<'a, R, Kept, H>>;
+type RefusedCaller<'a, R, H> = Refusing<HallCaller<'a, R, H>>;
 
 /// Whether a row is played by a worker who asks this caller, whose pass is added.
 fn is_played_by<H: House, R: Wait>(
     alloc: Global,
-    caller: Caller<'_, R, Kept, H>,
+    caller: HallCaller<'_, R, H>,
     passes: &mut Vec<Pass<Kept, H>>,
     row: Row,
 ) -> bool {

@@ -187,7 +187,7 @@ fn is_emptied<H: House + Send + Sync, R: Threads + Wait + Sync>(
     hall: &Hall<Kept, H>,
     intake: &Intake<Manners>,
     pass: &mut IntakePass<Manners>,
-    seats: &mut [Seat<Kept, H, Manners, MemoryPost>],
+    seats: &mut [Seat<Pass<Kept, H>, Manners, MemoryPost>],
     rush: Rush,
 ) -> bool
     requires own { pass.old.intake ≡ intake.now }
@@ -205,7 +205,7 @@ fn work<H: House + Send + Sync, R: Threads + Wait + Sync>(
     alloc: Global,
     hall: &Hall<Kept, H>,
     intake: &Intake<Manners>,
-    seats: &mut [Seat<Kept, H, Manners, MemoryPost>],
+    seats: &mut [Seat<Pass<Kept, H>, Manners, MemoryPost>],
     rush: Rush,
 ) -> bool
     requires seats { All (λ seat. seat.hand.intake ≡ intake.now) seats.old }
@@ -217,13 +217,13 @@ fn work<H: House + Send + Sync, R: Threads + Wait + Sync>(
         has_seen_others: AtomicBool::new(false),
     };
     let place = Workplace {
-        hall,
+        server: hall,
         intake,
         gate: &gate,
         patience_s: 10,
         turns: rush.turns,
     };
-    run_workers::<R, Kept, H, Manners, MemoryLine, MemoryPost, HoldsFirst>(
+    run_workers::<R, Hall<Kept, H>, Manners, MemoryLine, MemoryPost, HoldsFirst>(
         rt, alloc, &place, seats,
     );
     drop(place);

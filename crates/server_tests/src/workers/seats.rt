@@ -50,7 +50,7 @@ impl Post<Manners, MemoryLine> for MemoryPost {
 }
 
 /// Seats of workers over lines in memory.
-pub type Seats<H> = Vec<Seat<Kept, H, Manners, MemoryPost>>;
+pub type Seats<H> = Vec<Seat<Pass<Kept, H>, Manners, MemoryPost>>;
 
 /// Adds seats for two workers.
 fn add_two<H: House, R: Wait>(
@@ -138,7 +138,7 @@ pub fn add_passes<H: House>(seats: Seats<H>, passes: &mut Vec<Pass<Kept, H>>) ->
 }
 
 fn add_pass<H: House>(
-    seat: Seat<Kept, H, Manners, MemoryPost>,
+    seat: Seat<Pass<Kept, H>, Manners, MemoryPost>,
     passes: &mut Vec<Pass<Kept, H>>,
 ) -> bool {
     let Seat { pass, .. } = seat;

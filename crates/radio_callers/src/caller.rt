@@ -1,0 +1,53 @@
+//! One who asks a server that others ask too.
+
+ghost use Rattle.std.specs.Prelude.{◌≡◌};
+
+use crate::{OutOfMemory, SharedServer};
+use radio_events::{Event, Reply, Server};
+use radio_values::MountName;
+use std::marker::Model;
+use std::sync::Wait;
+
+/// A caller of a server, with his pass. In contracts he is his pass.
+#[derive(Drop)]
+pub struct Caller<'a, R: Wait, S: SharedServer> {
+    rt: &'a R,
+    server: &'a S,
+    pass: S::Pass,
+}
+
+impl<'a, R: Wait, S: SharedServer> Model for Caller<'a, R, S> {
+    ghost Value = { S.Pass };
+
+    ghost view = { λ c. c.pass };
+}
+
+impl<'a, R: Wait, S: SharedServer> Caller<'a, R, S> {
+    /// A caller of this server, with this pass.
+    pub fn new(rt: &'a R, server: &'a S, pass: S::Pass) -> Caller<'a, R, S>
+        ensures { result ≡ pass }
+    {
+        Caller { rt, server, pass }
+    }
+
+    /// His pass, when he calls no more.
+    pub fn into_pass(self) -> S::Pass
+        ensures { result ≡ self.entry }
+    {
+        self.pass
+    }
+}
+
+impl<'a, R: Wait, S: SharedServer> Server for Caller<'a, R, S> {
+    ghost steps = { S.steps };
+
+    ghost refuses = { S.refuses };
+
+    fn apply(&mut self, event: Event) -> Result<Reply, OutOfMemory> {
+        self.server.apply(self.rt, &mut self.pass, event)
+    }
+
+    fn last_mount(&self, id: u64) -> Option<MountName> {
+        self.server.last_mount(self.rt, id)
+    }
+}
