@@ -8,7 +8,7 @@ use radio_sockets::ServeFault;
 use std::{fmt, io};
 
 /// Why `radiod` ends. Its text is the line on standard error, after `radiod: `.
-#[derive(Debug, Drop)]
+#[derive(Drop)]
 pub enum Fault {
     /// The words are none that the program knows.
     Usage,
@@ -31,7 +31,7 @@ pub enum Fault {
 }
 
 /// Why a text is not TOML, and at which character of which line, both counted from 1.
-#[derive(Debug, Drop)]
+#[derive(Drop)]
 pub struct Misreading {
     pub line: usize,
     pub column: usize,
@@ -39,7 +39,7 @@ pub struct Misreading {
 }
 
 /// Why an address cannot be bound.
-#[derive(Debug, Drop)]
+#[derive(Drop)]
 pub enum NotBound {
     /// It is no IP address.
     NoAddress,
@@ -60,6 +60,13 @@ impl Fault {
             Fault::Play(_) | Fault::CannotBind { .. } | Fault::Serve(_) | Fault::OutOfMemory => 1,
         }
     }
+}
+
+/// Writes which file cannot be read.
+fn write_unread<W: fmt::Write>(f: &mut fmt::Formatter<W>, path: &str) -> fmt::Result
+    ensures { IsPlainFormatter f.old → WritesOnOk W.write_str_gives f.old result (codes "cannot read " ++ path.now) f.new }
+{
+    write!(f, "cannot read {path}")
 }
 
 /// Writes which line of which file is at fault.
@@ -89,7 +96,7 @@ impl fmt::Display for Fault {
     fn fmt<W: fmt::Write>(&self, f: &mut fmt::Formatter<W>) -> fmt::Result {
         match self {
             Fault::Usage => f.write_str("usage: radiod play SETTINGS | radiod serve SETTINGS"),
-            Fault::CannotRead { path, .. } => write!(f, "cannot read {path}"),
+            Fault::CannotRead { path, .. } => write_unread(f, path.as_str()),
             Fault::Line { path, line } => write_line(f, path.as_str(), *line),
             Fault::NotToml(_) => f.write_str("not toml"),
             Fault::Settings(fault) => write!(f, "{fault}"),

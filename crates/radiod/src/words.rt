@@ -5,7 +5,7 @@ use std::env::Args;
 use std::io::ErrorKind;
 
 /// What the program is to do, with the settings of the file of this path.
-#[derive(Debug, Drop)]
+#[derive(Drop)]
 pub enum Call {
     /// To play a script.
     Play(String),
