@@ -1,5 +1,4 @@
-//! What no clause says: streams and texts from outside, that calls succeed where there is memory, and that a refused
-//! call changes nothing.
+//! What no clause says: streams and texts from outside, and that calls succeed where there is memory.
 
 mod texts;
 mod unweaving;
@@ -7,9 +6,6 @@ mod weaving;
 
 use radio_icy::OutOfMemory;
 use std::alloc::Global;
-
-/// A title between sound, with a block after each four bytes.
-const X_STREAM: &[u8] = b"abcd\x01StreamTitle='X';efgh\x00";
 
 /// The longest title.
 const LONGEST: &[u8] = &[b'a'; 4065];

@@ -1,4 +1,4 @@
-//! Intakes with ample memory, and with memory refused, of one thread and of two. A line is a number here.
+//! Intakes with ample memory, of one thread and of two. A line is a number here.
 
 ghost use Rattle.std.specs.Prelude.{◌≡◌, ◌-◌};
 ghost use Rattle.radio_intake.specs.Passes.{all_parts};
@@ -63,75 +63,6 @@ fn is_filled_and_emptied<R: Wait>(rt: &R, alloc: Global) -> bool {
 #[test]
 fn the_1025th_is_handed_back(rt: HostRuntime) {
     assert!(rt; is_filled_and_emptied(&rt, rt.alloc()));
-}
-
-// Puts a line that owns memory: whether there was memory, and room.
-fn is_put<R: Wait>(
-    rt: &R,
-    alloc: Global,
-    intake: &Intake<Box<u64>>,
-    pass: &mut IntakePass<Box<u64>>,
-    number: u64,
-) -> bool
-    requires { pass.old.intake ≡ intake.now }
-    ensures { (pass.new.intake ≡ intake.now) × (pass.new.parts ≡ pass.old.parts) }
-{
-    let Ok(line) = Box::new(alloc, number) else {
-        return false;
-    };
-    intake.put(rt, pass, line).is_ok()
-}
-
-// Takes such a line: its number.
-fn number_taken<R: Wait>(
-    rt: &R,
-    intake: &Intake<Box<u64>>,
-    pass: &mut IntakePass<Box<u64>>,
-) -> Option<u64>
-    requires { pass.old.intake ≡ intake.now }
-    ensures { (pass.new.intake ≡ intake.now) × (pass.new.parts ≡ pass.old.parts) }
-{
-    intake.take(rt, pass).map(|line| *line)
-}
-
-// Two passes put a line each, and the second takes one: its number, and how many are left.
-fn hand_to_other<R: Wait>(
-    rt: &R,
-    alloc: Global,
-    intake: &Intake<Box<u64>>,
-    pass: &mut IntakePass<Box<u64>>,
-) -> (Option<u64>, usize)
-    requires { (pass.old.intake ≡ intake.now) × (pass.old.parts ≡ all_parts) }
-{
-    let mut other = intake.split(pass);
-    is_put(rt, alloc, intake, pass, 7);
-    is_put(rt, alloc, intake, &mut other, 8);
-    let taken = number_taken(rt, intake, &mut other);
-    intake.join(pass, other);
-    (taken, intake.tally(rt, pass))
-}
-
-// The line that is left goes with the intake.
-fn is_handed_to_other<R: Wait>(rt: &R, alloc: Global) -> bool {
-    match Intake::new(alloc) {
-        Ok((intake, mut pass)) => hand_to_other(rt, alloc, &intake, &mut pass) == (Some(7), 1),
-        Err(_) => false,
-    }
-}
-
-#[test]
-fn what_two_passes_tell(rt: HostRuntime) {
-    assert!(rt; is_handed_to_other(&rt, rt.alloc()));
-}
-
-// Run it with each request for memory refused in turn, by `rt try --test --fail-alloc N`.
-fn is_made_after_refusals(alloc: Global) -> bool {
-    Intake::<u64>::new(alloc).is_ok() || Intake::<u64>::new(alloc).is_ok()
-}
-
-#[test]
-fn an_intake_is_made_once_there_is_memory(rt: HostRuntime) {
-    assert!(rt; is_made_after_refusals(rt.alloc()));
 }
 
 // Puts many lines, and tries again where one is handed back.

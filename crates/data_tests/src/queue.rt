@@ -56,21 +56,6 @@ fn offset_of(alloc: Global, first: u64, other: u64, blocks: &[&[u8]]) -> Result<
     Ok(queue.offset().bytes_before())
 }
 
-/// Where listeners begin whose bursts are 9 and 3 bytes, and how far behind place 7 is.
-fn starts_and_lag(alloc: Global) -> Result<[u64; 3], OutOfMemory> {
-    let queue = queue_of(alloc, 10, 10, &FOUR_EACH[..3])?;
-    Ok([
-        queue.start_for(9).bytes_before(),
-        queue.start_for(3).bytes_before(),
-        queue.lag(Place::new(7)),
-    ])
-}
-
-#[test]
-fn bursts_and_lag_of_three_blocks(rt: HostRuntime) {
-    assert!(rt; starts_and_lag(rt.alloc()) == Ok([4, 12, 5]));
-}
-
 /// Pushes so many handles on a block.
 fn push_shared(queue: &mut BlockQueue, block: &Block, count: u32) -> Result<(), OutOfMemory> {
     for _ in 0..count {

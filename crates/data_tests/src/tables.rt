@@ -1,10 +1,10 @@
-//! Tables by number, with ample memory and with memory refused. Those by name are the server's.
+//! Tables by number, with ample memory. Those by name are the server's.
 
 ghost use Rattle.std.specs.Prelude.{◌≡◌, ◌==◌, List, ℕ, find};
 ghost use Rattle.std.specs.Option.{option_copied};
 ghost use Rattle.radio_tables.specs.Lists.{update_first};
 
-use radio_tables::{Change, OutOfMemory, Row, Table, TryChange};
+use radio_tables::{Change, OutOfMemory, Row, Table};
 
 #[derive(Clone, Copy)]
 struct Listener {
@@ -57,26 +57,6 @@ fn listener_of(listeners: &Table<Listener>, id: u64) -> Option<&Listener>
     listeners.get(&id)
 }
 
-#[derive(Drop)]
-struct MoreSeconds(u32);
-
-impl TryChange<Listener> for MoreSeconds {
-    ghost use Rattle.std.specs.Prelude.{refl};
-
-    ghost gives = { λ change listener. record listener { seconds = change.0 } };
-
-    ghost keeps_key = { λ change listener. refl };
-
-    // It is refused memory at 13 seconds.
-    fn try_apply(&self, row: &mut Listener) -> Result<(), OutOfMemory> {
-        if self.0 == 13 {
-            return Err(OutOfMemory {});
-        }
-        row.seconds = self.0;
-        Ok(())
-    }
-}
-
 /// How many rows are inserted where memory is ample, in no order.
 const MANY: u64 = 10_000;
 
@@ -114,12 +94,6 @@ fn are_changed(listeners: &mut Table<Listener>) -> bool {
     one && has_seconds(listeners, 1, 8) && has_seconds(listeners, 9, 8)
 }
 
-fn are_tried(listeners: &mut Table<Listener>) -> bool {
-    let refused = listeners.try_change(&7, &MoreSeconds(13)).is_err()
-        && has_seconds(listeners, 7, 8);
-    refused && listeners.try_change(&7, &MoreSeconds(12)).is_ok() && has_seconds(listeners, 7, 12)
-}
-
 fn are_removed(listeners: &mut Table<Listener>, id: u64) -> bool {
     listeners.remove(&id).is_some()
         && listeners.remove(&id).is_none()
@@ -130,7 +104,6 @@ fn are_kept(listeners: &mut Table<Listener>) -> bool {
     insert_all(listeners, &ARRIVING).is_ok()
         && has_ids(listeners, &[1, 2, 5, 7, 9])
         && are_changed(listeners)
-        && are_tried(listeners)
         && are_removed(listeners, 5)
 }
 

@@ -5,9 +5,6 @@ ghost use Rattle.std.specs.Prelude.{◌≤◌, length};
 use super::*;
 use radio_icy::{Item, Unweaver, Weaver};
 
-/// What is told of `X_STREAM` when it is taken apart.
-const X_TOLD: &[u8] = b"abcd<StreamTitle='X';>efgh";
-
 /// Tells items behind what came before: sound as it is, and each text in brackets.
 fn gather(items: &[Item], told: &mut Vec<u8>) -> Result<(), OutOfMemory> {
     for item in items {
@@ -65,32 +62,6 @@ fn is_told(
     let mut unweaver = Unweaver::new(alloc, interval);
     feed_pieces(&mut unweaver, stream, piece, &mut told)?;
     Ok(told.as_slice() == want)
-}
-
-#[test]
-fn pieces_of_each_size(rt: HostRuntime) {
-    for size in 1..=X_STREAM.len() {
-        assert!(rt; is_told(rt.alloc(), 4, X_STREAM, size, X_TOLD) == Ok(true));
-    }
-}
-
-/// Streams with a block after each byte or each four, and how many items are in them: runs of sound are joined.
-const COUNTS: &[(usize, &[u8], usize)] = &[(1, b"a\0b\0c\0d", 1), (4, X_STREAM, 3), (4, b"", 0)];
-
-fn has_count(
-    alloc: Global,
-    interval: usize,
-    piece: &[u8],
-    want: usize,
-) -> Result<bool, OutOfMemory> {
-    Ok(Unweaver::new(alloc, interval.max(1)).feed(piece)?.len() == want)
-}
-
-#[test]
-fn runs_of_sound_are_joined(rt: HostRuntime) {
-    for (interval, piece, want) in COUNTS {
-        assert!(rt; has_count(rt.alloc(), *interval, piece, *want) == Ok(true));
-    }
 }
 
 /// Feeds two pieces.

@@ -1,4 +1,4 @@
-//! Weaving: what no listener can come to today, how much room is asked for, and what is left where memory is refused.
+//! Weaving: what no listener can come to today, and how much room is asked for.
 //! Streams and titles are in the end-to-end scripts.
 
 use super::*;
