@@ -3,8 +3,8 @@
 use radio_addr::Peer;
 use radio_blocks::{Block, Place};
 use radio_events::Command;
-use radio_icy::Title;
 use radio_seats::Seat;
+use radio_titles::Title;
 use radio_values::{MountName, Shown};
 
 /// What an event changes.

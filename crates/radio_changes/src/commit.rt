@@ -11,10 +11,10 @@ use crate::state::State;
 use radio_blocks::{Block, Place};
 use radio_fallback::{Carried, Move, carry};
 use radio_house::ClientState;
-use radio_icy::Title;
 use radio_parts::LagsBehind;
 use radio_policy::Rule;
 use radio_seats::Seat;
+use radio_titles::Title;
 use radio_values::{MountName, Shown};
 
 /// What a change answers that carries nobody along.

@@ -9,7 +9,7 @@ use crate::{
 use bytes::Bytes;
 use radio_blocks::Block;
 use radio_creds::Pair;
-use radio_icy::Title;
+use radio_titles::Title;
 use radio_values::{MountName, Shown};
 
 impl Event {

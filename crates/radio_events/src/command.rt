@@ -2,7 +2,7 @@
 
 use bytes::Bytes;
 use radio_creds::Pair;
-use radio_icy::Title;
+use radio_titles::Title;
 use radio_values::MountName;
 
 /// What a client sends who gives a command.

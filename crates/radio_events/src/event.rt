@@ -5,7 +5,7 @@ use bytes::Bytes;
 use radio_addr::Peer;
 use radio_blocks::Block;
 use radio_creds::Pair;
-use radio_icy::Title;
+use radio_titles::Title;
 use radio_values::Shown;
 
 /// What a client sends who wants to feed a mount.

@@ -2,8 +2,8 @@
 
 use crate::{OutOfMemory, Text};
 use radio_blocks::Pieces;
-use radio_icy::Title;
 use radio_policy::Rule;
+use radio_titles::Title;
 use radio_values::{AllowedOrigin, Shown};
 
 /// What the head of a listener's stream says.

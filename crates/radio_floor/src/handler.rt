@@ -1,8 +1,8 @@
 //! What is done with what comes to a connection.
 
 ghost use Rattle.std.specs.Prelude.{◌≡◌, ℕ, List, [], ◌∷◌, ◌++◌, IfOk, OnOk};
-ghost use Rattle.radio_icy.specs.Cleaning.{cleaned};
-ghost use Rattle.radio_icy.specs.Limits.{max_title};
+ghost use Rattle.radio_titles.specs.Cleaning.{cleaned};
+ghost use Rattle.radio_titles.specs.Limits.{max_title};
 ghost use Rattle.radio_house.specs.World.{World};
 ghost use Rattle.radio_events.specs.declared.event.Event.TheVariants.{Leave, Clock};
 ghost use Rattle.radio_core.specs.Step.{Represents, world_after};
@@ -15,10 +15,10 @@ use crate::labelled::{Connection, Labelled};
 use radio_core::Core;
 use radio_events::Event;
 use radio_exchanges::cores_exchange_as_their_states;
-use radio_icy::Title;
 use radio_script::Input;
 use radio_session::{Ending, Session, State, exchange};
 use radio_tables::Visit;
+use radio_titles::Title;
 use std::alloc::Global;
 
 /// What a connection is told at a delivery: the bytes that went out, and how it goes on.

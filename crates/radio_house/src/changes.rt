@@ -16,10 +16,10 @@ use crate::relays::{Relay, RelayState, SetRelayState};
 use crate::timeouts::TimesOut;
 use radio_addr::Peer;
 use radio_blocks::Block;
-use radio_icy::Title;
 use radio_parts::{NewTitle, Session, deliver};
 use radio_policy::Rule;
 use radio_tables::Table;
+use radio_titles::Title;
 use radio_values::{MountName, Shown};
 use std::alloc::Global;
 

@@ -3,7 +3,6 @@ pub mod WeavingLemmas
 pub mod UnweavingLemmas
 pub mod ItemsLemmas
 pub mod TitlesLemmas
-pub mod CleaningLemmas
 pub mod StreamLemmas
 pub mod BareLemmas
 pub mod UnwovenLemmas

@@ -1,4 +1,3 @@
-pub mod Limits
 pub mod Block
 pub mod Weaving
 pub mod Stream
@@ -6,5 +5,3 @@ pub mod Unweaving
 pub mod Bare
 pub mod Items
 pub mod Titles
-pub mod Cleaning
-pub mod Sendable

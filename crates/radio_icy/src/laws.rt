@@ -11,7 +11,6 @@ ghost use Rattle.radio_icy.specs.Stream.{IsWoven, AreUntitled, sound_of_calls, p
 ghost use Rattle.radio_icy.specs.Unweaving.{Unweaving, new_unweaving, heard, after_feeding, heard_by_pieces, after_pieces};
 ghost use Rattle.radio_icy.specs.Bare.{bare, after_block, block_texts, sound_in, texts_in};
 ghost use Rattle.radio_icy.specs.Titles.{title_of, HasNoUrlInside, IsTitleIn};
-ghost use Rattle.radio_icy.specs.Cleaning.{cleaned, shown_chars, is_shown};
 
 /// What a weaver writes over a list of calls, from the start of a stream, is woven: the sound of all calls, cut after
 /// each multiple of the interval, with the block of each part. Without any title each block is one zero byte.
@@ -77,21 +76,4 @@ pub fn titles_of_texts()
 /// A text has a title exactly where it stands between `StreamTitle='` and the first place where a title ends.
 pub fn titles_in_texts()
     ensures { (text : List ℕ) (title : List ℕ) → (title_of text ≡ Some title) ↔ IsTitleIn text title }
-{}
-
-/// A cleaned text is UTF-8 of at most n bytes, and is left as it is by cleaning. Its characters are the longest front
-/// of those that may be shown which fits n bytes: no longer front of them does. No byte of it is below 32, and none
-/// is 127.
-pub fn clean_texts()
-    ensures text { (n : ℕ) (bytes : List ℕ) → IsUtf8 (cleaned n bytes) }
-    ensures fits { (n : ℕ) (bytes : List ℕ) → length (cleaned n bytes) ≤ n }
-    ensures again { (n : ℕ) (bytes : List ℕ) → cleaned n (cleaned n bytes) ≡ cleaned n bytes }
-
-    ensures shown { (n : ℕ) (bytes : List ℕ) → list_all is_shown (chars (cleaned n bytes)) ≡ true }
-    ensures bytes { (n : ℕ) (bytes : List ℕ) → list_all is_shown (cleaned n bytes) ≡ true }
-    ensures front { (n : ℕ) (bytes : List ℕ)
-        → take (length (chars (cleaned n bytes))) (shown_chars bytes) ≡ chars (cleaned n bytes) }
-    ensures longest { (n : ℕ) (bytes : List ℕ) (k : ℕ)
-        → length (encode_utf8_all (take k (shown_chars bytes))) ≤ n
-        → take k (chars (cleaned n bytes)) ≡ take k (shown_chars bytes) }
 {}

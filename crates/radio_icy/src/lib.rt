@@ -7,32 +7,23 @@
 //! - [`Weaver`] puts a stream's titles into its sound, for one listener.
 //! - [`Unweaver`] takes sound and texts out of such a stream, as [`Item`]s, however the stream is cut.
 //! - [`title_of`] finds the title in a block's text.
-//! - [`clean_title`] and [`clean_field`] make texts from outside fit to be sent; a [`Title`] is one that was.
-//! - [`laws`] says what is true of all streams and texts.
+//! - A [`Title`], and what makes texts from outside fit to be sent, are those of `radio_titles`.
+//! - [`laws`] says what is true of all streams, and of their texts.
 #![tactic(auto)]
 
 mod block;
-mod clean;
 mod items;
 pub mod laws;
-mod sendable;
 mod texts;
 mod title;
 mod unweaver;
 mod weaver;
 
-pub use clean::{clean_field, clean_title};
 pub use items::Item;
-pub use sendable::Title;
+pub use radio_titles::{MAX_FIELD, MAX_TITLE, Title, clean_field, clean_title};
 pub use title::title_of;
 pub use unweaver::Unweaver;
 pub use weaver::Weaver;
 
 /// The error of each call that takes memory: there was none.
 pub type OutOfMemory = std::alloc::AllocError;
-
-/// The most bytes that a title may have, so that its text fits a block of 255 times 16 bytes.
-pub const MAX_TITLE: usize = 4065;
-
-/// The most bytes that a shown field may have: a stream's name, genre or type.
-pub const MAX_FIELD: usize = 255;

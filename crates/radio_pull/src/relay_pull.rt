@@ -8,9 +8,9 @@ ghost use Rattle.radio_pull.specs.Pulling.{answered, begun, event_for, event_of}
 use crate::OutOfMemory;
 use bytes::Bytes;
 use radio_events::{Event, Reply};
-use radio_icy::Title;
 use radio_relay::{Pull, PullItem};
 use radio_session::{Ending, State};
+use radio_titles::Title;
 use radio_values::{MountName, Shown};
 use std::alloc::Global;
 use std::marker::Model;

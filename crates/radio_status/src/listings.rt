@@ -15,13 +15,13 @@ use bytes::Bytes;
 use radio_creds::Pair;
 use radio_events::{Listing, Text};
 use radio_house::House;
-use radio_icy::Title;
 use radio_listeners::{LentListener, Seats};
 use radio_listing::{
     ListenerRow, MountRow, PublicRow, Text as Shown, list_clients, list_mounts, stats, status,
     stream_list,
 };
 use radio_parts::Session;
+use radio_titles::Title;
 use radio_values::MountName;
 use std::alloc::Global;
 

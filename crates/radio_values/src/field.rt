@@ -1,12 +1,12 @@
 //! What heads show: cleaned texts.
 ghost use Rattle.std.specs.Prelude.{◌≡◌, IfOk, true};
 ghost use Rattle.std.specs.List.{list_all};
-ghost use Rattle.radio_icy.specs.Cleaning.{cleaned, is_shown};
-ghost use Rattle.radio_icy.specs.Limits.{max_field};
+ghost use Rattle.radio_titles.specs.Cleaning.{cleaned, is_shown};
+ghost use Rattle.radio_titles.specs.Limits.{max_field};
 ghost use Rattle.radio_values.specs.Field.{IsClean};
 
 use crate::OutOfMemory;
-use radio_icy::clean_field;
+use radio_titles::clean_field;
 use std::alloc::Global;
 use std::marker::Model;
 use std::sync::ArcStr;
@@ -39,7 +39,7 @@ impl Field {
     pub fn clean(alloc: Global, bytes: &[u8]) -> Result<Field, OutOfMemory>
         ensures { IfOk result (λ field. field ≡ cleaned max_field bytes.now) }
     {
-        radio_icy::laws::clean_texts();
+        radio_titles::laws::clean_texts();
         Ok(Field {
             text: ArcStr::from_string(clean_field(alloc, bytes)?)?,
         })
@@ -59,7 +59,7 @@ impl Field {
         ensures clean { IsClean self.now }
         ensures shown { list_all is_shown self.now ≡ true }
     {
-        radio_icy::laws::clean_texts();
+        radio_titles::laws::clean_texts();
         self.text.as_str().as_bytes()
     }
 }

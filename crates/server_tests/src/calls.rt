@@ -10,7 +10,7 @@ use radio_events::{
     Asked, Boxed, Command, CommandRequest, Event, ListenRequest, Listing, OpenedBy, Reply,
     SourceRequest,
 };
-use radio_icy::Title;
+use radio_titles::Title;
 use radio_values::{MountName, Shown};
 use std::alloc::Global;
 

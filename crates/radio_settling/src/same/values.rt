@@ -4,8 +4,8 @@ ghost use Rattle.std.specs.Prelude.{◌≡◌, ◌↔◌, IsTrue};
 
 use radio_addr::Peer;
 use radio_creds::Pair;
-use radio_icy::Title;
 use radio_policy::Rule;
+use radio_titles::Title;
 use radio_values::{AllowedOrigin, MountName, Shown};
 
 pub(crate) fn is_same_name(a: &MountName, b: &MountName) -> bool

@@ -1,8 +1,8 @@
 //! Titles that can be sent.
 ghost use Rattle.std.specs.Prelude.{◌≡◌, ◌≤◌, length, IfOk};
-ghost use Rattle.radio_icy.specs.Cleaning.{cleaned};
-ghost use Rattle.radio_icy.specs.Limits.{max_title};
-ghost use Rattle.radio_icy.specs.Sendable.{IsTitle};
+ghost use Rattle.radio_titles.specs.Cleaning.{cleaned};
+ghost use Rattle.radio_titles.specs.Limits.{max_title};
+ghost use Rattle.radio_titles.specs.Sendable.{IsTitle};
 
 use crate::{OutOfMemory, clean_title};
 use bytes::Bytes;
@@ -21,7 +21,7 @@ pub struct Title {
 
 impl Model for Title {
     ghost use Rattle.std.specs.Prelude.{ℕ, List};
-    ghost use Rattle.radio_icy.specs.Sendable.{IsTitle};
+    ghost use Rattle.radio_titles.specs.Sendable.{IsTitle};
 
     ghost Value = { List ℕ };
 
