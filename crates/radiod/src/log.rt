@@ -2,63 +2,20 @@
 
 use crate::fault::{Fault, NotBound};
 use crate::output::terminal;
-use radio_log::{Fact, Moment, Note, Text, line};
+use radio_log::{Fact, Text};
 use radio_sockets::{LogOutput, write_at_once};
-use std::fmt::Display;
-use std::io::Write;
-use std::time::Clock;
-
-/// Which program this is, in the line of its start.
-const VERSION: &str = "radiod";
+use radio_startup::{line_now, tell, words_of};
 
 /// Says a fault on standard error. Where that takes nothing, the status of the program alone tells.
 pub fn say(rt: &HostRuntime, fault: &Fault) {
     let _ = eprintln!(rt; "radiod: {fault}");
 }
 
-/// Writes the line of a fact on standard output. Where that takes nothing, or memory is refused, there is none.
-pub fn tell(rt: &HostRuntime, fact: Fact<'_>) {
-    if let Some(bytes) = line_now(rt, fact) {
-        let _ = rt.stdout().write_all(bytes.as_slice());
-    }
-}
-
-/// The line of a fact, of this moment; `None` where memory is refused.
-fn line_now(rt: &HostRuntime, fact: Fact<'_>) -> Option<Vec<u8>> {
-    let note = Note {
-        moment: Moment::at(seconds_now(rt)),
-        fact,
-    };
-    match line(rt.alloc(), &note) {
-        Ok(bytes) => Some(bytes),
-        Err(_) => None,
-    }
-}
-
-/// How many seconds have passed since 1970; none where the clock tells none.
-fn seconds_now(rt: &HostRuntime) -> u64 {
-    match rt.since_1970() {
-        Ok(since) => since.as_secs(),
-        Err(_) => 0,
-    }
-}
-
-/// The program listens at this address.
-pub fn tell_start(rt: &HostRuntime, address: &str) {
-    tell(
-        rt,
-        Fact::Started {
-            version: Text::of(VERSION.as_bytes()),
-            address: Text::of(address.as_bytes()),
-        },
-    );
-}
-
 /// The program that served ends by this fault: it is said, and then its line is written where that does not wait, so
 /// that nobody who reads neither keeps the program from its end.
 pub fn tell_end(rt: &HostRuntime, fault: &Fault) {
     say(rt, fault);
-    let Some(why) = words_of(rt, fault) else {
+    let Some(why) = words_of(rt.alloc(), fault) else {
         return;
     };
     let ended = Fact::Ended {
@@ -93,7 +50,7 @@ fn write_last(rt: &HostRuntime, bytes: Vec<u8>) {
 /// is that of the settings.
 pub fn tell_fault(rt: &HostRuntime, path: &str, fault: &Fault) {
     say(rt, fault);
-    let (Some(why), Some(reason)) = (words_of(rt, fault), reason_of(rt, fault)) else {
+    let (Some(why), Some(reason)) = (words_of(rt.alloc(), fault), reason_of(rt, fault)) else {
         return;
     };
     let (line, column) = place_of(fault);
@@ -108,19 +65,10 @@ pub fn tell_fault(rt: &HostRuntime, path: &str, fault: &Fault) {
     tell(rt, Fact::Fault(told));
 }
 
-/// What is said of this; `None` where memory is refused.
-fn words_of<T: Display>(rt: &HostRuntime, said: &T) -> Option<String> {
-    match format!(in rt.alloc(); "{said}") {
-        Ok(words) => Some(words),
-        Err(_) => None,
-    }
-}
-
 /// The file that a fault is in.
 fn file_of<'a>(settings: &'a str, fault: &'a Fault) -> &'a str {
     match fault {
-        Fault::CannotRead { path, .. } | Fault::Line { path, .. } => path.as_str(),
-        Fault::NotToml(_) | Fault::Settings(_) => settings,
+        Fault::File(fault) => fault.file(settings),
         _ => "",
     }
 }
@@ -128,8 +76,7 @@ fn file_of<'a>(settings: &'a str, fault: &'a Fault) -> &'a str {
 /// The line and the column of a fault, 0 where none is known.
 fn place_of(fault: &Fault) -> (u64, u64) {
     match fault {
-        Fault::Line { line, .. } => (*line as u64, 0),
-        Fault::NotToml(misreading) => (misreading.line as u64, misreading.column as u64),
+        Fault::File(fault) => fault.place(),
         _ => (0, 0),
     }
 }
@@ -146,13 +93,12 @@ fn address_of(fault: &Fault) -> &str {
 /// is refused.
 fn reason_of(rt: &HostRuntime, fault: &Fault) -> Option<String> {
     match fault {
-        Fault::CannotRead { error, .. } => words_of(rt, error),
-        Fault::NotToml(misreading) => words_of(rt, &misreading.reason.as_str()),
+        Fault::File(fault) => fault.reason(rt.alloc()),
         Fault::CannotBind {
             reason: NotBound::Refused(error),
             ..
-        } => words_of(rt, error),
-        Fault::CannotBind { .. } => words_of(rt, &"not an IP address"),
-        _ => words_of(rt, &""),
+        } => words_of(rt.alloc(), error),
+        Fault::CannotBind { .. } => words_of(rt.alloc(), &"not an IP address"),
+        _ => words_of(rt.alloc(), &""),
     }
 }

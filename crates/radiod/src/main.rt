@@ -6,21 +6,17 @@
 #![tactic(auto)]
 
 mod fault;
-mod files;
 mod log;
 mod output;
 mod serving;
-mod warnings;
 mod words;
 
 use crate::fault::Fault;
-use crate::files::{read_lists, read_settings, read_settings_twice};
 use crate::log::{say, tell_fault};
 use crate::serving::serve_station;
 use crate::words::{Call, read_words};
-use radio_access::Lists;
 use radio_floor::{Tally, play};
-use radio_settings::Settings;
+use radio_startup::{Station, read_station, read_station_twice};
 use std::io::BufReader;
 use std::process::ExitCode;
 use std::sync::Wait;
@@ -57,65 +53,37 @@ fn serve_file<W: Clock + Threads + Wait + Sync>(
     waits: &W,
     path: &str,
 ) -> Result<(), Fault> {
-    match read_settings_twice(rt, path) {
-        Ok((settings, again)) => Err(serve_settings(rt, waits, path, settings, again)),
-        Err(fault) => {
-            tell_fault(rt, path, &fault);
+    match read_station_twice(rt, path) {
+        Ok((station, again)) => {
+            let fault = serve_station(rt, waits, path, station, &again);
+            drop(again);
             Err(fault)
         }
-    }
-}
-
-/// Serves connections with these settings, of which there are two copies, until the fault.
-fn serve_settings<W: Clock + Threads + Wait + Sync>(
-    rt: &HostRuntime,
-    waits: &W,
-    path: &str,
-    settings: Settings,
-    again: Settings,
-) -> Fault {
-    match read_lists(rt, &settings) {
-        Ok(lists) => {
-            let fault = serve_station(rt, waits, path, settings, lists, &again);
-            drop(again);
-            fault
-        }
         Err(fault) => {
-            drop(settings);
-            drop(again);
+            let fault = Fault::File(fault);
             tell_fault(rt, path, &fault);
-            fault
+            Err(fault)
         }
     }
 }
 
 /// Plays the script on standard input, with the settings of this file.
 fn play_script(rt: &HostRuntime, path: &str) -> Result<(), Fault> {
-    let (settings, lists) = read_station(rt, path)?;
-    play_with_settings(rt, settings, lists)
-}
-
-/// The settings of this file, and what the files hold that they name.
-fn read_station(rt: &HostRuntime, path: &str) -> Result<(Settings, Lists), Fault> {
-    let settings = read_settings(rt, path)?;
-    match read_lists(rt, &settings) {
-        Ok(lists) => Ok((settings, lists)),
-        Err(fault) => {
-            drop(settings);
-            Err(fault)
-        }
+    match read_station(rt, path) {
+        Ok(station) => play_in(rt, station),
+        Err(fault) => Err(Fault::File(fault)),
     }
 }
 
 /// Plays the script on standard input.
-fn play_with_settings(rt: &HostRuntime, settings: Settings, lists: Lists) -> Result<(), Fault> {
+fn play_in(rt: &HostRuntime, station: Station) -> Result<(), Fault> {
     let Ok(input) = BufReader::new(rt.alloc(), rt.stdin()) else {
-        drop(settings);
-        drop(lists);
+        drop(station);
         return Err(Fault::OutOfMemory);
     };
     let mut reader = Tally::new(input);
     let mut writer = Tally::new(rt.stdout());
+    let Station { settings, lists } = station;
     let played = play(rt.alloc(), settings, lists, &mut reader, &mut writer);
     drop(reader);
     drop(writer);

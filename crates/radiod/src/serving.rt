@@ -4,14 +4,13 @@ ghost use Rattle.std.specs.Prelude.{◌≡◌, ◌^◌};
 ghost use Rattle.radio_house.specs.World.{opening};
 
 use crate::fault::{Fault, NotBound};
-use crate::log::{tell_end, tell_fault, tell_start};
+use crate::log::{tell_end, tell_fault};
 use crate::output::terminal;
-use crate::warnings::warn;
-use radio_access::Lists;
 use radio_book::{House, PASSES, Unkept};
 use radio_hall::Hall;
 use radio_settings::Settings;
 use radio_sockets::{BindFault, Listening, LogOutput, ServeFault, Service, SystemNet};
+use radio_startup::{Station, tell_start, warn};
 use std::marker::Brand;
 use std::sync::Wait;
 use std::sync::ledger::Blank;
@@ -25,18 +24,16 @@ pub fn serve_station<W: Clock + Threads + Wait + Sync>(
     rt: &HostRuntime,
     waits: &W,
     path: &str,
-    settings: Settings,
-    lists: Lists,
+    station: Station,
     again: &Settings,
 ) -> Fault {
-    match bind(rt, &settings) {
+    match bind(rt, &station.settings) {
         Ok(listening) => {
-            warn(rt, &settings);
+            warn(rt, &station.settings);
             let fault = Fault::Serve(serve_in::<W, Brand>(
                 rt,
                 waits,
-                settings,
-                lists,
+                station,
                 again,
                 listening,
                 Blank::new(PASSES),
@@ -45,8 +42,7 @@ pub fn serve_station<W: Clock + Threads + Wait + Sync>(
             fault
         }
         Err(fault) => {
-            drop(settings);
-            drop(lists);
+            drop(station);
             tell_fault(rt, path, &fault);
             fault
         }
@@ -86,19 +82,19 @@ fn cannot_bind(rt: &HostRuntime, settings: &Settings, reason: NotBound) -> Fault
     }
 }
 
-/// Serves connections in a house of these settings and lists.
+/// Serves connections in a house of the station's settings and lists.
 fn serve_in<W: Clock + Threads + Wait + Sync, H: House + Send + Sync>(
     rt: &HostRuntime,
     waits: &W,
-    settings: Settings,
-    lists: Lists,
+    station: Station,
     again: &Settings,
     listening: Listening,
     blank: Blank,
 ) -> ServeFault
-    requires opening { H.opening ≡ opening settings lists }
+    requires opening { H.opening ≡ opening station.settings station.lists }
     requires ledger { (blank.name ≡ H.name) × (blank.parts ≡ H.parts) × (blank.parts ≡ 2 ^ 32) }
 {
+    let Station { settings, lists } = station;
     let hall: Hall<Unkept, H> = Hall::new(rt.alloc(), settings, lists, blank);
     let fault = serve_through(rt, waits, &hall, again, listening);
     drop(hall);

@@ -3,7 +3,7 @@ use Rattle.radiod.proofs.serving.serve_station.Given as goal
 
 -- the house that is opened here
 abbrev pub ghosts-serve_in-H-House : goal.ghosts-serve_in-H-House
-ghosts-serve_in-H-House g a = record { opening = opening a.settings a.lists }
+ghosts-serve_in-H-House g a = record { opening = opening a.station.settings a.station.lists }
 
 abbrev pub ghosts-serve_in-H-Ledger : goal.ghosts-serve_in-H-Ledger
 ghosts-serve_in-H-Ledger g a = record { name = a.blank.name; parts = a.blank.parts }

@@ -1,9 +1,13 @@
 //! What an operator should know of his settings.
 
-use crate::log::tell;
+use crate::notices::tell;
 use radio_log::{Fact, Text, Warning};
 use radio_settings::{MountSetting, Settings};
+use std::alloc::AllocGlobal;
 use std::fs;
+use std::fs::Files;
+use std::io::Print;
+use std::time::Clock;
 
 /// The passwords of the example, which everybody knows.
 const EXAMPLE_PASSWORDS: [&str; 2] = ["hackme", "letmein"];
@@ -18,7 +22,7 @@ const LIMITS: &str = "/proc/self/limits";
 const LINE_OF_DESCRIPTORS: &str = "Max open files";
 
 /// Writes a line of the log for each thing that an operator should know of these settings.
-pub fn warn(rt: &HostRuntime, settings: &Settings) {
+pub fn warn<R: Files + Clock + Print + AllocGlobal>(rt: &R, settings: &Settings) {
     warn_of_descriptors(rt, settings.limits.clients.get());
     let source = settings.access.source_password.as_str();
     warn_of_password(rt, "source-password", "", source);
@@ -33,7 +37,11 @@ pub fn warn(rt: &HostRuntime, settings: &Settings) {
 }
 
 /// Warns of the password of a mount's own source, unless it is the one of all mounts.
-fn warn_of_mount(rt: &HostRuntime, mount: &MountSetting, source_password: &str) {
+fn warn_of_mount<R: Clock + Print + AllocGlobal>(
+    rt: &R,
+    mount: &MountSetting,
+    source_password: &str,
+) {
     let password = mount.options.source.password.as_str();
     if password != source_password {
         warn_of_password(rt, "password", mount.name.as_str(), password);
@@ -41,7 +49,12 @@ fn warn_of_mount(rt: &HostRuntime, mount: &MountSetting, source_password: &str) 
 }
 
 /// Warns of a password that is empty or known to everybody.
-fn warn_of_password(rt: &HostRuntime, key: &str, mount: &str, password: &str) {
+fn warn_of_password<R: Clock + Print + AllocGlobal>(
+    rt: &R,
+    key: &str,
+    mount: &str,
+    password: &str,
+) {
     if password.is_empty() {
         tell_warning(rt, "empty-password", key, mount, 0);
     } else if is_example(password) {
@@ -58,7 +71,7 @@ fn is_example(password: &str) -> bool {
 }
 
 /// Warns where the system allows fewer descriptors than so many clients want.
-fn warn_of_descriptors(rt: &HostRuntime, clients: u32) {
+fn warn_of_descriptors<R: Files + Clock + Print + AllocGlobal>(rt: &R, clients: u32) {
     if let Some(limit) = descriptors(rt) {
         if u64::from(clients) + OTHER_DESCRIPTORS > limit {
             tell_warning(rt, "few-descriptors", "clients", "", limit);
@@ -66,7 +79,13 @@ fn warn_of_descriptors(rt: &HostRuntime, clients: u32) {
     }
 }
 
-fn tell_warning(rt: &HostRuntime, why: &str, key: &str, mount: &str, limit: u64) {
+fn tell_warning<R: Clock + Print + AllocGlobal>(
+    rt: &R,
+    why: &str,
+    key: &str,
+    mount: &str,
+    limit: u64,
+) {
     tell(
         rt,
         Fact::Warning(Warning {
@@ -79,7 +98,7 @@ fn tell_warning(rt: &HostRuntime, why: &str, key: &str, mount: &str, limit: u64)
 }
 
 /// How many descriptors the system allows the process; `None` where it does not tell, or where there is no limit.
-fn descriptors(rt: &HostRuntime) -> Option<u64> {
+fn descriptors<R: Files + AllocGlobal>(rt: &R) -> Option<u64> {
     let Ok(text) = fs::read_to_string(rt, LIMITS) else {
         return None;
     };

@@ -1,0 +1,128 @@
+//! The settings file.
+
+ghost use Rattle.std.specs.Prelude.{◌≡◌, Ok, IfOk};
+ghost use Rattle.radio_documents.specs.Document.{reading_of};
+
+use crate::fault::FileFault;
+use crate::lists::read_lists;
+use crate::misreading::misread;
+use radio_access::Lists;
+use radio_documents::SettingsFault;
+use radio_settings::Settings;
+use std::alloc::{AllocGlobal, Global};
+use std::fs::Files;
+use std::io::ErrorKind;
+use std::{fs, io};
+
+/// The settings of a file, and what the files hold that they name.
+#[derive(Drop)]
+pub struct Station {
+    pub settings: Settings,
+    pub lists: Lists,
+}
+
+/// The settings of the file of this path, and what the files hold that they name. A fault is the first of these: the file
+/// cannot be read, is not TOML, or has a fault of settings; then those of the files that it names, of which `deny-ip`
+/// comes first, then `allow-ip`, then each mount's `htpasswd` in the order of the tables.
+pub fn read_station<R: Files + AllocGlobal>(rt: &R, path: &str) -> Result<Station, FileFault> {
+    let bytes = read_file(rt, path)?;
+    station_of(rt, bytes.as_slice())
+}
+
+/// The same, and a second copy of the settings: the house takes one, and who pulls relays in beside it reads the other.
+pub fn read_station_twice<R: Files + AllocGlobal>(
+    rt: &R,
+    path: &str,
+) -> Result<(Station, Settings), FileFault>
+    ensures copies { IfOk result (λ read. read.1 ≡ read.0.settings) }
+{
+    let bytes = read_file(rt, path)?;
+    let again = settings_of(rt.alloc(), bytes.as_slice())?;
+    let station = station_of(rt, bytes.as_slice());
+    with_copy(station, again)
+}
+
+/// The station, if it was read, and these settings.
+fn with_copy(
+    station: Result<Station, FileFault>,
+    again: Settings,
+) -> Result<(Station, Settings), FileFault>
+    ensures { IfOk result (λ read. (Ok read.0 ≡ station) × (read.1 ≡ again)) }
+{
+    match station {
+        Ok(station) => Ok((station, again)),
+        Err(fault) => {
+            drop(again);
+            Err(fault)
+        }
+    }
+}
+
+/// The station whose settings these bytes say.
+fn station_of<R: Files + AllocGlobal>(rt: &R, bytes: &[u8]) -> Result<Station, FileFault>
+    ensures { IfOk result (λ station. reading_of bytes.now ≡ Ok station.settings) }
+{
+    let settings = settings_of(rt.alloc(), bytes)?;
+    with_lists(rt, settings)
+}
+
+/// The station of these settings.
+fn with_lists<R: Files + AllocGlobal>(rt: &R, settings: Settings) -> Result<Station, FileFault>
+    ensures { IfOk result (λ station. station.settings ≡ settings) }
+{
+    match read_lists(rt, &settings) {
+        Ok(lists) => Ok(Station { settings, lists }),
+        Err(fault) => {
+            drop(settings);
+            Err(fault)
+        }
+    }
+}
+
+/// The settings that these bytes say.
+fn settings_of(alloc: Global, bytes: &[u8]) -> Result<Settings, FileFault>
+    ensures { IfOk result (λ settings. reading_of bytes.now ≡ Ok settings) }
+{
+    match str::from_utf8(bytes) {
+        Ok(text) => settings_in(alloc, text),
+        Err(error) => Err(misread(alloc, bytes, error.valid_up_to(), "not UTF-8")),
+    }
+}
+
+/// The settings of a text.
+fn settings_in(alloc: Global, text: &str) -> Result<Settings, FileFault>
+    ensures { IfOk result (λ settings. reading_of text.now ≡ Ok settings) }
+{
+    match radio_documents::read_settings(alloc, text) {
+        Ok(settings) => Ok(settings),
+        Err(SettingsFault::NotToml) => Err(not_toml(alloc, text)),
+        Err(fault) => Err(FileFault::Settings(fault)),
+    }
+}
+
+/// Where and why a text that is not TOML is not.
+fn not_toml(alloc: Global, text: &str) -> FileFault {
+    let Err(error) = toml::table_from_str(alloc, text) else {
+        return FileFault::Settings(SettingsFault::NotToml);
+    };
+    match error.span() {
+        Some(span) => misread(alloc, text.as_bytes(), span.start, error.message()),
+        None => FileFault::OutOfMemory,
+    }
+}
+
+/// All of a file. Want of memory is not told as a file that cannot be read.
+pub fn read_file<R: Files + AllocGlobal>(rt: &R, path: &str) -> Result<Vec<u8>, FileFault> {
+    match fs::read(rt, path) {
+        Ok(bytes) => Ok(bytes),
+        Err(error) if error.kind() == ErrorKind::OutOfMemory => Err(FileFault::OutOfMemory),
+        Err(error) => Err(unreadable(rt.alloc(), path, error)),
+    }
+}
+
+fn unreadable(alloc: Global, path: &str, error: io::Error) -> FileFault {
+    match String::from_str(alloc, path) {
+        Ok(path) => FileFault::CannotRead { path, error },
+        Err(_) => FileFault::OutOfMemory,
+    }
+}

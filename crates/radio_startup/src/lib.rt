@@ -1,0 +1,22 @@
+//! What the program reads before it does its work, and what it tells of it.
+//!
+//! - [`read_station`], [`read_station_twice`]: the settings of a file, and what the files hold that they name.
+//! - [`FileFault`]: why such a file is not taken; its text is a line on standard error.
+//! - [`tell`], [`tell_start`], [`warn`]: lines of the log, written to standard output.
+//!
+//! All of it is generic over the runtime, so that no crate needs more of it than files, a clock, an allocator or
+//! standard output.
+#![tactic(auto)]
+
+mod fault;
+mod files;
+mod lists;
+mod misreading;
+mod notices;
+mod warnings;
+
+pub use fault::FileFault;
+pub use files::{Station, read_station, read_station_twice};
+pub use misreading::Misreading;
+pub use notices::{line_now, tell, tell_start, words_of};
+pub use warnings::warn;
