@@ -12,12 +12,18 @@ use std::alloc::Global;
 use std::marker::Model;
 
 /// The users of a mount that has a user list.
-#[derive(Drop)]
 pub struct MountUsers {
     /// The mount.
     pub mount: MountName,
     /// The users that it lets in.
     pub users: Users,
+}
+
+impl Drop for MountUsers {
+    fn drop(self) {
+        let MountUsers { mount: _, users } = self;
+        drop(users);
+    }
 }
 
 impl Row for MountUsers {
@@ -78,11 +84,23 @@ impl Change<MountUsers> for RemoveUser<'_> {
 }
 
 /// What the files that the settings name hold: `deny-ip`, `allow-ip` and each mount's `htpasswd`.
-#[derive(Drop)]
 pub struct Lists {
     denied: Option<AddressList>,
     allowed: Option<AddressList>,
     users: Table<MountUsers>,
+}
+
+impl Drop for Lists {
+    fn drop(self) {
+        let Lists {
+            denied,
+            allowed,
+            users,
+        } = self;
+        drop(denied);
+        drop(allowed);
+        drop(users);
+    }
 }
 
 impl Model for Lists {

@@ -12,9 +12,15 @@ use std::fmt;
 use std::marker::Model;
 
 /// A list of addresses, as one that a server denies or allows.
-#[derive(Drop)]
 pub struct AddressList {
     ranges: Vec<AddressRange>,
+}
+
+impl Drop for AddressList {
+    fn drop(self) {
+        let AddressList { ranges } = self;
+        drop(ranges);
+    }
 }
 
 impl Model for AddressList {

@@ -11,9 +11,15 @@ use std::marker::Model;
 pub const MAX_BLOCK: usize = 4096;
 
 /// Data that a source delivered at once: 1 to 4096 bytes. A listener begins at the start of one.
-#[derive(Drop)]
 pub struct Block {
     bytes: Bytes,
+}
+
+impl Drop for Block {
+    fn drop(self) {
+        let Block { bytes } = self;
+        drop(bytes);
+    }
 }
 
 impl Model for Block {
@@ -81,7 +87,8 @@ impl Block {
     pub fn into_bytes(self) -> Bytes
         ensures { result ≡ self }
     {
-        self.bytes
+        let Block { bytes } = self;
+        bytes
     }
 
     /// The block that these bytes were.

@@ -10,10 +10,16 @@ use std::collections::VecDeque;
 use std::marker::Model;
 
 /// Data drawn from a stream, in order, as shared slices. In contracts they are the bytes joined.
-#[derive(Drop)]
 pub struct Pieces {
     alloc: Global,
     slices: Vec<Bytes>,
+}
+
+impl Drop for Pieces {
+    fn drop(self) {
+        let Pieces { alloc: _, slices } = self;
+        drop(slices);
+    }
 }
 
 impl Model for Pieces {

@@ -27,12 +27,23 @@ pub enum DrawFault {
 ///
 /// After each push it keeps the fewest whole blocks that have at least `limit` bytes together, or all blocks
 /// where these have fewer.
-#[derive(Drop)]
 pub struct BlockQueue {
     limit: u64,
     offset: u64,
     end: u64,
     blocks: VecDeque<Bytes>,
+}
+
+impl Drop for BlockQueue {
+    fn drop(self) {
+        let BlockQueue {
+            limit: _,
+            offset: _,
+            end: _,
+            blocks,
+        } = self;
+        drop(blocks);
+    }
 }
 
 impl Model for BlockQueue {

@@ -16,11 +16,22 @@ use std::marker::Model;
 /// The house, and the table of those who listen in it. Contracts see it as a `World` in which of
 /// each stream the last blocks are kept. Each live mount is prepared for listeners, and as long as
 /// there are some, so is each that waits for a session.
-#[derive(Drop)]
 pub(crate) struct State {
     pub(crate) alloc: Global,
     pub(crate) house: House,
     pub(crate) seats: Seats,
+}
+
+impl Drop for State {
+    fn drop(self) {
+        let State {
+            alloc: _,
+            house,
+            seats,
+        } = self;
+        drop(house);
+        drop(seats);
+    }
 }
 
 impl Model for State {

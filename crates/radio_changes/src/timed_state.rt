@@ -24,11 +24,17 @@ use std::marker::Model;
 
 /// The state, and a moment before which nothing in it is due: a clock before that moment walks
 /// nobody. Contracts see the state alone.
-#[derive(Drop)]
 pub struct TimedState {
     state: State,
     /// Each client, each listener and each session is due then or later.
     due_from: u64,
+}
+
+impl Drop for TimedState {
+    fn drop(self) {
+        let TimedState { state, due_from: _ } = self;
+        drop(state);
+    }
 }
 
 impl Model for TimedState {

@@ -10,12 +10,22 @@ use std::alloc::Global;
 use std::marker::Model;
 
 /// Bytes that are still to be written. In contracts they are the list of these bytes.
-#[derive(Drop)]
 pub(crate) struct Owed {
     alloc: Global,
     bytes: Vec<u8>,
     /// How many of the bytes were written.
     start: usize,
+}
+
+impl Drop for Owed {
+    fn drop(self) {
+        let Owed {
+            alloc: _,
+            bytes,
+            start: _,
+        } = self;
+        drop(bytes);
+    }
 }
 
 impl Model for Owed {

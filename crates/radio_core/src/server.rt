@@ -38,9 +38,15 @@ mod title;
 
 /// The server's state, seen as a `World` in which of each stream the last blocks are kept. There is
 /// always a state of a server that keeps whole streams for which it stands.
-#[derive(Drop)]
 pub struct Core {
     state: State,
+}
+
+impl Drop for Core {
+    fn drop(self) {
+        let Core { state } = self;
+        drop(state);
+    }
 }
 
 impl Model for Core {

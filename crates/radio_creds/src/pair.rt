@@ -11,10 +11,16 @@ use std::fmt;
 use std::marker::Model;
 
 /// A user and a password, as bytes: who asks, and what shows that it is them.
-#[derive(Drop)]
 pub struct Pair {
     text: Vec<u8>,
     colon: usize,
+}
+
+impl Drop for Pair {
+    fn drop(self) {
+        let Pair { text, colon: _ } = self;
+        drop(text);
+    }
 }
 
 impl Model for Pair {

@@ -20,9 +20,15 @@ use std::marker::Model;
 /// The users that are let in, each with the MD5 digest (RFC 1321) of the password.
 ///
 /// A look-up takes a number of steps that grows with the logarithm of the number of users.
-#[derive(Drop)]
 pub struct Users {
     digests: BTreeMap<Vec<u8>, PasswordDigest>,
+}
+
+impl Drop for Users {
+    fn drop(self) {
+        let Users { digests } = self;
+        drop(digests);
+    }
 }
 
 impl Model for Users {

@@ -9,7 +9,6 @@ use radio_titles::Title;
 use radio_values::Shown;
 
 /// What a client sends who wants to feed a mount.
-#[derive(Drop)]
 pub struct SourceRequest {
     /// The number of the client.
     pub id: u64,
@@ -19,6 +18,20 @@ pub struct SourceRequest {
     pub pair: Option<Pair>,
     /// What his head tells of the stream.
     pub shown: Shown,
+}
+
+impl Drop for SourceRequest {
+    fn drop(self) {
+        let SourceRequest {
+            id: _,
+            mount,
+            pair,
+            shown,
+        } = self;
+        drop(mount);
+        drop(pair);
+        drop(shown);
+    }
 }
 
 /// What a client sends who wants to hear a mount.

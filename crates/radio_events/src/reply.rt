@@ -7,12 +7,22 @@ use radio_titles::Title;
 use radio_values::{AllowedOrigin, Shown};
 
 /// What the head of a listener's stream says.
-#[derive(Drop)]
 pub struct StreamHead {
     /// What the session shows that he hears.
     pub shown: Shown,
     /// Whose pages may read the stream (`Access-Control-Allow-Origin`), where the settings say it.
     pub allow_origin: Option<AllowedOrigin>,
+}
+
+impl Drop for StreamHead {
+    fn drop(self) {
+        let StreamHead {
+            shown,
+            allow_origin,
+        } = self;
+        drop(shown);
+        drop(allow_origin);
+    }
 }
 
 impl StreamHead {

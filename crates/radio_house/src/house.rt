@@ -24,7 +24,6 @@ use std::alloc::Global;
 use std::marker::Model;
 
 /// All of the server's state but the table of listeners.
-#[derive(Drop)]
 pub struct House {
     /// The moment, in milliseconds.
     pub(crate) time: u64,
@@ -43,6 +42,28 @@ pub struct House {
     pub(crate) last_id: u64,
     /// No session's stream goes further than this.
     pub(crate) furthest: u64,
+}
+
+impl Drop for House {
+    fn drop(self) {
+        let House {
+            time: _,
+            settings,
+            lists,
+            live,
+            fallbacks,
+            clients,
+            relays,
+            last_id: _,
+            furthest: _,
+        } = self;
+        drop(settings);
+        drop(lists);
+        drop(live);
+        drop(fallbacks);
+        drop(clients);
+        drop(relays);
+    }
 }
 
 impl Model for House {

@@ -12,7 +12,6 @@ use std::alloc::Global;
 use std::marker::Model;
 
 /// Takes the sound and the texts out of a woven stream, however it is cut (ICY convention: `icy-metaint`).
-#[derive(Drop)]
 pub struct Unweaver {
     alloc: Global,
     /// Bytes of sound from one block to the next.
@@ -21,6 +20,18 @@ pub struct Unweaver {
     left: usize,
     /// What has come of a block that has begun.
     block: Option<Vec<u8>>,
+}
+
+impl Drop for Unweaver {
+    fn drop(self) {
+        let Unweaver {
+            alloc: _,
+            interval: _,
+            left: _,
+            block,
+        } = self;
+        drop(block);
+    }
 }
 
 impl Model for Unweaver {

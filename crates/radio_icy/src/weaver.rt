@@ -16,7 +16,6 @@ use std::marker::Model;
 /// After each interval of sound stands a metadata block. It carries the stream's title, where there is one that differs
 /// from the last one sent through this weaver, or none was sent; else it is one zero byte. The count of the interval
 /// goes on from call to call.
-#[derive(Drop)]
 pub struct Weaver {
     alloc: Global,
     /// Bytes of sound from one block to the next.
@@ -25,6 +24,18 @@ pub struct Weaver {
     place: usize,
     /// The last title sent.
     sent: Option<Vec<u8>>,
+}
+
+impl Drop for Weaver {
+    fn drop(self) {
+        let Weaver {
+            alloc: _,
+            interval: _,
+            place: _,
+            sent,
+        } = self;
+        drop(sent);
+    }
 }
 
 impl Model for Weaver {

@@ -28,10 +28,17 @@ use std::marker::Model;
 
 /// The listeners, each once, in the order of their numbers, and the mounts that were prepared for
 /// them. A listener can be seated at a prepared mount, and moved to one without memory.
-#[derive(Drop)]
 pub struct Seats {
     pub(crate) mounts: Mounts,
     pub(crate) rows: Rows,
+}
+
+impl Drop for Seats {
+    fn drop(self) {
+        let Seats { mounts, rows } = self;
+        drop(mounts);
+        drop(rows);
+    }
 }
 
 impl Model for Seats {

@@ -38,7 +38,6 @@ enum Part {
 
 /// What is noted of a connection: when it came, what was asked, how it was answered, how many bytes went, and how it
 /// ended. It changes nothing of what is answered.
-#[derive(Drop)]
 pub struct Account {
     alloc: Global,
     since_ms: u64,
@@ -54,6 +53,35 @@ pub struct Account {
     heard: Cell<Heard>,
     /// Where he was last, if it is not the mount that he asked for.
     last_mount: Cell<Option<Vec<u8>>>,
+}
+
+impl Drop for Account {
+    fn drop(self) {
+        let Account {
+            alloc: _,
+            since_ms: _,
+            handed,
+            fed,
+            status,
+            part,
+            is_asking,
+            is_source_told,
+            is_told,
+            end,
+            heard,
+            last_mount,
+        } = self;
+        drop(handed);
+        drop(fed);
+        drop(status);
+        drop(part);
+        drop(is_asking);
+        drop(is_source_told);
+        drop(is_told);
+        drop(end);
+        drop(heard);
+        drop(last_mount);
+    }
 }
 
 impl Account {

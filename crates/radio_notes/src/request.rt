@@ -13,13 +13,24 @@ use std::alloc::Global;
 const MOST_KEPT: usize = 255;
 
 /// What is kept of a request: its method, its path without its query, the user whom it names, and its user agent.
-#[derive(Drop)]
 pub(crate) struct Request {
     /// These four, one behind the other.
     bytes: Vec<u8>,
     path_at: u16,
     user_at: u16,
     agent_at: u16,
+}
+
+impl Drop for Request {
+    fn drop(self) {
+        let Request {
+            bytes,
+            path_at: _,
+            user_at: _,
+            agent_at: _,
+        } = self;
+        drop(bytes);
+    }
 }
 
 impl Request {

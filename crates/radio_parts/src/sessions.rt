@@ -25,7 +25,6 @@ use std::marker::Model;
 use std::mem;
 
 /// What a source feeds to a mount, from its admission on.
-#[derive(Drop)]
 pub struct Session {
     /// The mount that is fed.
     pub mount: KeptName,
@@ -39,6 +38,23 @@ pub struct Session {
     pub shown: Shown,
     /// The moment of its last block, or of its admission before there is one, in milliseconds.
     pub last_block: u64,
+}
+
+impl Drop for Session {
+    fn drop(self) {
+        let Session {
+            mount,
+            number: _,
+            stream,
+            title,
+            shown,
+            last_block: _,
+        } = self;
+        drop(mount);
+        drop(stream);
+        drop(title);
+        drop(shown);
+    }
 }
 
 impl Model for Session {

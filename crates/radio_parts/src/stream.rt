@@ -11,9 +11,15 @@ use std::marker::Model;
 
 /// The data of one session. The last blocks are kept; contracts read a byte before them as zero, so
 /// that places count the bytes of the whole stream.
-#[derive(Drop)]
 pub struct Stream {
     queue: BlockQueue,
+}
+
+impl Drop for Stream {
+    fn drop(self) {
+        let Stream { queue } = self;
+        drop(queue);
+    }
 }
 
 impl Model for Stream {

@@ -19,12 +19,23 @@ use std::marker::Model;
 /// number in the server once it is up.
 ///
 /// In contracts it is a `Pulling`.
-#[derive(Drop)]
 pub struct RelayPull {
     alloc: Global,
     mount: MountName,
     number: Option<u64>,
     pub(crate) pull: Pull,
+}
+
+impl Drop for RelayPull {
+    fn drop(self) {
+        let RelayPull {
+            alloc: _,
+            mount: _,
+            number: _,
+            pull,
+        } = self;
+        drop(pull);
+    }
 }
 
 impl Model for RelayPull {

@@ -46,10 +46,16 @@ pub(crate) enum Stage {
 /// What a master answers to the request for a mount, however it is cut: a head, and the stream behind it.
 ///
 /// In contracts it is its stage: the bytes of a head that has not ended, the stream behind one, or that it is over.
-#[derive(Drop)]
 pub struct Pull {
     alloc: Global,
     stage: Stage,
+}
+
+impl Drop for Pull {
+    fn drop(self) {
+        let Pull { alloc: _, stage } = self;
+        drop(stage);
+    }
 }
 
 impl Model for Pull {

@@ -10,9 +10,15 @@ use std::sync::Arc;
 
 /// The name of a mount that is kept in a place of its own in memory, so that what holds it is
 /// small. A clone shares that place. In contracts it is the name.
-#[derive(Drop)]
 pub struct KeptName {
     name: Arc<MountName>,
+}
+
+impl Drop for KeptName {
+    fn drop(self) {
+        let KeptName { name } = self;
+        drop(name);
+    }
 }
 
 impl Model for KeptName {

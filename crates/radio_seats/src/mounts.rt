@@ -87,11 +87,22 @@ impl Change<Mount> for Counts {
 }
 
 /// The prepared mounts, by their numbers and by their names.
-#[derive(Drop)]
 pub struct Mounts {
     mounts: Table<Mount>,
     names: Table<NumberedName>,
     last: u64,
+}
+
+impl Drop for Mounts {
+    fn drop(self) {
+        let Mounts {
+            mounts,
+            names,
+            last: _,
+        } = self;
+        drop(mounts);
+        drop(names);
+    }
 }
 
 impl Model for Mounts {

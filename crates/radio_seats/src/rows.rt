@@ -24,10 +24,17 @@ use std::marker::Model;
 /// The rows of listeners, each number once, in the order of the numbers. Beside them stands who
 /// sent which user, so that a question about a user looks at his rows alone. Contracts see the list
 /// of the rows.
-#[derive(Drop)]
 pub struct Rows {
     rows: Table<ListenerRow>,
     users: Users,
+}
+
+impl Drop for Rows {
+    fn drop(self) {
+        let Rows { rows, users } = self;
+        drop(rows);
+        drop(users);
+    }
 }
 
 impl Model for Rows {

@@ -54,7 +54,6 @@ pub struct Listener {
 }
 
 /// What stays as it is of a seat, wherever the listener sits.
-#[derive(Drop)]
 pub struct Guest {
     /// The mount that he asked for.
     pub home: KeptName,
@@ -66,6 +65,20 @@ pub struct Guest {
     pub interval: Option<u32>,
     /// The moment of his admission, in milliseconds.
     pub since: u64,
+}
+
+impl Drop for Guest {
+    fn drop(self) {
+        let Guest {
+            home,
+            peer: _,
+            pair,
+            interval: _,
+            since: _,
+        } = self;
+        drop(home);
+        drop(pair);
+    }
 }
 
 impl Guest {

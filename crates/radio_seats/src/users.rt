@@ -56,9 +56,15 @@ fn is_own(own: Option<u64>, id: u64) -> bool
 }
 
 /// Users, each known by a mark, and the numbers of the listeners who sent them.
-#[derive(Drop)]
 pub(crate) struct Users {
     pub(crate) seats: BTreeSet<(u64, u64)>,
+}
+
+impl Drop for Users {
+    fn drop(self) {
+        let Users { seats } = self;
+        drop(seats);
+    }
 }
 
 impl Users {

@@ -80,7 +80,6 @@ pub(crate) struct Says {
 /// fails the session: each later call is refused too, and its connection is to be shut.
 ///
 /// In contracts it is a `Conversation`.
-#[derive(Drop)]
 pub struct Session {
     // what a listener's draw reads comes first, and lies together
     alloc: Global,
@@ -90,6 +89,23 @@ pub struct Session {
     peer: Peer,
     held: Vec<u8>,
     hears: Hears,
+}
+
+impl Drop for Session {
+    fn drop(self) {
+        let Session {
+            alloc: _,
+            id: _,
+            has_failed: _,
+            says,
+            peer: _,
+            held,
+            hears,
+        } = self;
+        drop(says);
+        drop(held);
+        drop(hears);
+    }
 }
 
 impl Model for Session {

@@ -46,11 +46,18 @@ impl Named for RelaySetting {
 }
 
 /// Tables of a list, in their order. No two go by one name.
-#[derive(Drop)]
 pub struct NamedSettings<T: Named> {
     list: Vec<T>,
     /// Where in the list the one of a name stands.
     places: BTreeMap<MountName, usize>,
+}
+
+impl<T: Named> Drop for NamedSettings<T> {
+    fn drop(self) {
+        let NamedSettings { list, places } = self;
+        drop(list);
+        drop(places);
+    }
 }
 
 impl<T: Named> Model for NamedSettings<T> {

@@ -16,7 +16,6 @@ pub type SecondsOfDay = Within<1, 86400>;
 pub type Port = Within<1, 65535>;
 
 /// What a station sets.
-#[derive(Drop)]
 pub struct Settings {
     /// The keys above all tables: who may do what.
     pub access: AccessSettings,
@@ -36,8 +35,30 @@ pub struct Settings {
     pub slave: Option<SlaveSetting>,
 }
 
+impl Drop for Settings {
+    fn drop(self) {
+        let Settings {
+            access,
+            listen,
+            limits,
+            web,
+            mounts,
+            other_mounts,
+            relays,
+            slave,
+        } = self;
+        drop(access);
+        drop(listen);
+        drop(limits);
+        drop(web);
+        drop(mounts);
+        drop(other_mounts);
+        drop(relays);
+        drop(slave);
+    }
+}
+
 /// Passwords, users and address lists of the whole station.
-#[derive(Drop)]
 pub struct AccessSettings {
     /// What a source client sends, where its mount sets no password of its own.
     pub source_password: Text,
@@ -49,8 +70,22 @@ pub struct AccessSettings {
     pub addresses: AddressLists,
 }
 
+impl Drop for AccessSettings {
+    fn drop(self) {
+        let AccessSettings {
+            source_password,
+            admin,
+            relays,
+            addresses,
+        } = self;
+        drop(source_password);
+        drop(admin);
+        drop(relays);
+        drop(addresses);
+    }
+}
+
 /// A user and a password.
-#[derive(Drop)]
 pub struct Login {
     /// The user.
     pub username: Text,
@@ -58,8 +93,15 @@ pub struct Login {
     pub password: Text,
 }
 
+impl Drop for Login {
+    fn drop(self) {
+        let Login { username, password } = self;
+        drop(username);
+        drop(password);
+    }
+}
+
 /// Who may ask for the list of streams beside the admin: `relay-user` and `relay-password`.
-#[derive(Drop)]
 pub struct RelayAccess {
     /// The user.
     pub username: Text,
@@ -67,8 +109,15 @@ pub struct RelayAccess {
     pub password: Option<Text>,
 }
 
+impl Drop for RelayAccess {
+    fn drop(self) {
+        let RelayAccess { username, password } = self;
+        drop(username);
+        drop(password);
+    }
+}
+
 /// The lists of addresses that hold for all clients.
-#[derive(Drop)]
 pub struct AddressLists {
     /// The path of a list of addresses that are denied.
     pub deny_ip: Option<Text>,
@@ -76,8 +125,15 @@ pub struct AddressLists {
     pub allow_ip: Option<Text>,
 }
 
+impl Drop for AddressLists {
+    fn drop(self) {
+        let AddressLists { deny_ip, allow_ip } = self;
+        drop(deny_ip);
+        drop(allow_ip);
+    }
+}
+
 /// Where the server listens.
-#[derive(Drop)]
 pub struct ListenSettings {
     /// The address to bind.
     pub address: Text,
@@ -85,6 +141,19 @@ pub struct ListenSettings {
     pub port: Within<0, 65535>,
     /// How many threads serve.
     pub workers: Within<1, 64>,
+}
+
+impl Drop for ListenSettings {
+    fn drop(self) {
+        let ListenSettings {
+            address,
+            port,
+            workers,
+        } = self;
+        drop(address);
+        drop(port);
+        drop(workers);
+    }
 }
 
 /// The limits of the whole station.
@@ -105,7 +174,6 @@ pub struct LimitSettings {
 }
 
 /// A table `[[mount]]`.
-#[derive(Drop)]
 pub struct MountSetting {
     /// The mount's name.
     pub name: MountName,
@@ -113,8 +181,14 @@ pub struct MountSetting {
     pub options: MountOptions,
 }
 
+impl Drop for MountSetting {
+    fn drop(self) {
+        let MountSetting { name: _, options } = self;
+        drop(options);
+    }
+}
+
 /// What a mount may set, with every default in its place.
-#[derive(Drop)]
 pub struct MountOptions {
     /// Its source: `username` and `password`.
     pub source: Login,
@@ -124,6 +198,21 @@ pub struct MountOptions {
     pub stream: StreamOptions,
     /// Who may listen.
     pub users: UserOptions,
+}
+
+impl Drop for MountOptions {
+    fn drop(self) {
+        let MountOptions {
+            source,
+            listeners,
+            stream,
+            users,
+        } = self;
+        drop(source);
+        drop(listeners);
+        drop(stream);
+        drop(users);
+    }
 }
 
 /// How many may listen to a mount and how long, and where they go.
@@ -142,7 +231,6 @@ pub struct ListenerOptions {
 }
 
 /// What the listeners of a mount are sent, and whether it is listed.
-#[derive(Drop)]
 pub struct StreamOptions {
     /// Whether the mount stands in no public listing.
     pub hidden: bool,
@@ -156,8 +244,23 @@ pub struct StreamOptions {
     pub genre: Option<Field>,
 }
 
+impl Drop for StreamOptions {
+    fn drop(self) {
+        let StreamOptions {
+            hidden: _,
+            burst_size,
+            mp3_metadata_interval,
+            stream_name,
+            genre,
+        } = self;
+        drop(burst_size);
+        drop(mp3_metadata_interval);
+        drop(stream_name);
+        drop(genre);
+    }
+}
+
 /// Who may listen to a mount.
-#[derive(Drop)]
 pub struct UserOptions {
     /// The path of its user list; `None` for an open mount.
     pub htpasswd: Option<Text>,
@@ -165,8 +268,17 @@ pub struct UserOptions {
     pub allow_duplicate_users: bool,
 }
 
+impl Drop for UserOptions {
+    fn drop(self) {
+        let UserOptions {
+            htpasswd,
+            allow_duplicate_users: _,
+        } = self;
+        drop(htpasswd);
+    }
+}
+
 /// A table `[[relay]]`: a mount of another server that is pulled in.
-#[derive(Drop)]
 pub struct RelaySetting {
     /// The other server: `server` and `port`.
     pub master: Master,
@@ -180,8 +292,21 @@ pub struct RelaySetting {
     pub on_demand: bool,
 }
 
+impl Drop for RelaySetting {
+    fn drop(self) {
+        let RelaySetting {
+            master,
+            mount: _,
+            local_mount: _,
+            login,
+            on_demand: _,
+        } = self;
+        drop(master);
+        drop(login);
+    }
+}
+
 /// A server that streams are pulled from.
-#[derive(Drop)]
 pub struct Master {
     /// Its name or address.
     pub server: Field,
@@ -189,8 +314,15 @@ pub struct Master {
     pub port: Port,
 }
 
+impl Drop for Master {
+    fn drop(self) {
+        let Master { server, port } = self;
+        drop(server);
+        drop(port);
+    }
+}
+
 /// The table `[slave]`: a master whose mounts are all pulled in.
-#[derive(Drop)]
 pub struct SlaveSetting {
     /// The master: `master-server` and `master-port`.
     pub master: Master,
@@ -198,4 +330,17 @@ pub struct SlaveSetting {
     pub login: Login,
     /// After how many seconds the list of streams is asked for again.
     pub master_update_interval: SecondsOfDay,
+}
+
+impl Drop for SlaveSetting {
+    fn drop(self) {
+        let SlaveSetting {
+            master,
+            login,
+            master_update_interval,
+        } = self;
+        drop(master);
+        drop(login);
+        drop(master_update_interval);
+    }
 }

@@ -5,7 +5,6 @@ ghost use Rattle.radio_settings.specs.Web.{is_web_path, web_path};
 use radio_values::AllowedOrigin;
 
 /// The table `[web]`: what browsers are told, and the scripts of web sites. Where it is absent nothing of it is on.
-#[derive(Drop)]
 pub struct WebSettings {
     /// Whose pages may read streams and what everybody may read; `None` where nothing is said of it.
     pub allow_origin: Option<AllowedOrigin>,
@@ -13,6 +12,17 @@ pub struct WebSettings {
     pub icecast_status: bool,
     /// Whether `/` answers a page of what is on air.
     pub page: bool,
+}
+
+impl Drop for WebSettings {
+    fn drop(self) {
+        let WebSettings {
+            allow_origin,
+            icecast_status: _,
+            page: _,
+        } = self;
+        drop(allow_origin);
+    }
 }
 
 /// What a path of the web site names.

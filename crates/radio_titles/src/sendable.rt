@@ -14,9 +14,15 @@ use std::marker::Model;
 ///
 /// [`Title::clean`] is the one call that makes one, so each is clean.
 /// A clone shares the text, which is not copied for it.
-#[derive(Drop)]
 pub struct Title {
     text: Bytes,
+}
+
+impl Drop for Title {
+    fn drop(self) {
+        let Title { text } = self;
+        drop(text);
+    }
 }
 
 impl Model for Title {

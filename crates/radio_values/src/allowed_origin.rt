@@ -15,9 +15,15 @@ pub const MAX_ORIGIN: usize = 255;
 /// characters of ASCII; whether it is an origin is not looked at.
 ///
 /// A clone shares the text, which is not copied for it.
-#[derive(Drop)]
 pub struct AllowedOrigin {
     text: ArcStr,
+}
+
+impl Drop for AllowedOrigin {
+    fn drop(self) {
+        let AllowedOrigin { text } = self;
+        drop(text);
+    }
 }
 
 impl Model for AllowedOrigin {

@@ -15,9 +15,15 @@ use std::sync::ArcStr;
 ///
 /// [`Field::clean`] is the one call that makes one, so each is clean.
 /// A clone shares the text, which is not copied for it.
-#[derive(Drop)]
 pub struct Field {
     text: ArcStr,
+}
+
+impl Drop for Field {
+    fn drop(self) {
+        let Field { text } = self;
+        drop(text);
+    }
 }
 
 impl Model for Field {
@@ -75,7 +81,6 @@ impl Clone for Field {
 }
 
 /// What the heads of a stream's listeners show of it. A clone shares the three texts.
-#[derive(Drop)]
 pub struct Shown {
     /// The content type, as in `Content-Type`.
     pub content_type: Field,
@@ -83,6 +88,19 @@ pub struct Shown {
     pub name: Field,
     /// The genre, as in `icy-genre`; empty where there is none.
     pub genre: Field,
+}
+
+impl Drop for Shown {
+    fn drop(self) {
+        let Shown {
+            content_type,
+            name,
+            genre,
+        } = self;
+        drop(content_type);
+        drop(name);
+        drop(genre);
+    }
 }
 
 impl Shown {

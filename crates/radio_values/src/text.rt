@@ -9,9 +9,15 @@ use std::sync::ArcStr;
 /// A text of the settings, as it stands there: a user, a password, an address or a path.
 ///
 /// A clone shares the text, which is not copied for it.
-#[derive(Drop)]
 pub struct Text {
     text: ArcStr,
+}
+
+impl Drop for Text {
+    fn drop(self) {
+        let Text { text } = self;
+        drop(text);
+    }
 }
 
 impl Model for Text {

@@ -31,10 +31,16 @@ use std::marker::Model;
 
 /// The state, in which events are looked at. Contracts see it as a `World` in which of each stream
 /// the last blocks are kept.
-#[derive(Drop)]
 pub(super) struct State {
     pub(super) alloc: Global,
     state: TimedState,
+}
+
+impl Drop for State {
+    fn drop(self) {
+        let State { alloc: _, state } = self;
+        drop(state);
+    }
 }
 
 impl Model for State {

@@ -19,9 +19,15 @@ use std::marker::Model;
 
 /// A source's body, which has a place of its own in memory, so that a connection without one is
 /// small.
-#[derive(Drop)]
 pub(crate) struct KeptBody {
     body: Box<Body>,
+}
+
+impl Drop for KeptBody {
+    fn drop(self) {
+        let KeptBody { body } = self;
+        drop(body);
+    }
 }
 
 impl Model for KeptBody {
