@@ -133,34 +133,30 @@ fn are_served_at_each_call(alloc: Global, beside: &Beside, failure: Failure) -> 
     true
 }
 
-#[test]
-fn a_listeners_fault_is_his_alone(rt: HostRuntime) {
-    assert!(rt; are_served_at_each_call(rt.alloc(), PLAIN, Failure::Fault));
+/// Whose line fails, and how.
+const FAILURES: &[(&Beside, Failure)] = &[
+    (PLAIN, Failure::Fault),
+    (WITH_TITLE, Failure::Fault),
+    (PLAIN, Failure::Closing),
+    (WITH_TITLE, Failure::Closing),
+    (BEHIND_A_SOURCE, Failure::Fault),
+    (BEHIND_A_SOURCE, Failure::Closing),
+];
+
+/// Whether the others are served whoever fails, and how.
+fn are_served_at_each_failure(alloc: Global) -> bool {
+    for (beside, failure) in FAILURES {
+        if !are_served_at_each_call(alloc, beside, *failure) {
+            return false;
+        }
+    }
+    true
 }
 
+/// A fault of a listener's line, or his closing, is his alone; behind a source that fails he ends.
 #[test]
-fn with_titles_a_fault_is_his_alone(rt: HostRuntime) {
-    assert!(rt; are_served_at_each_call(rt.alloc(), WITH_TITLE, Failure::Fault));
-}
-
-#[test]
-fn a_listeners_closing_is_his_alone(rt: HostRuntime) {
-    assert!(rt; are_served_at_each_call(rt.alloc(), PLAIN, Failure::Closing));
-}
-
-#[test]
-fn with_titles_a_closing_is_his_alone(rt: HostRuntime) {
-    assert!(rt; are_served_at_each_call(rt.alloc(), WITH_TITLE, Failure::Closing));
-}
-
-#[test]
-fn without_its_source_a_listener_ends(rt: HostRuntime) {
-    assert!(rt; are_served_at_each_call(rt.alloc(), BEHIND_A_SOURCE, Failure::Fault));
-}
-
-#[test]
-fn behind_a_source_that_closes_a_listener_ends(rt: HostRuntime) {
-    assert!(rt; are_served_at_each_call(rt.alloc(), BEHIND_A_SOURCE, Failure::Closing));
+fn a_fault_is_his_alone(rt: HostRuntime) {
+    assert!(rt; are_served_at_each_failure(rt.alloc()));
 }
 
 /// A listener whose peer closes behind his head.

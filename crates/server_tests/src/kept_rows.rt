@@ -170,35 +170,16 @@ fn settles_refused<R: AllocGlobal + Threads + Wait + Sync>(rt: &R, call: u64) ->
 #[test]
 fn who_fails_has_left_the_house(rt: HostRuntime) {
     assert!(rt; have_left_at_each_call(&rt, PLAIN, Failure::Fault, &[2]));
-}
-
-#[test]
-fn whose_peer_closes_has_left_the_house(rt: HostRuntime) {
     assert!(rt; have_left_at_each_call(&rt, PLAIN, Failure::Closing, &[2]));
-}
-
-#[test]
-fn behind_a_source_both_have_left_the_house(rt: HostRuntime) {
     assert!(rt; have_left_at_each_call(&rt, BEHIND_A_SOURCE, Failure::Fault, &[1, 2]));
 }
 
+/// He stays while he stalls, and has left where he has stalled, lags, or closes while he is owed.
 #[test]
-fn who_stalls_stays_in_the_house(rt: HostRuntime) {
+fn who_is_slow_has_left_the_house(rt: HostRuntime) {
     assert!(rt; are_kept(&rt, LONG_TIMEOUT, KEPT, &[]));
-}
-
-#[test]
-fn who_has_stalled_has_left_the_house(rt: HostRuntime) {
     assert!(rt; are_kept(&rt, LONG_TIMEOUT, CLOSED, &[2]));
-}
-
-#[test]
-fn who_lags_has_left_the_house(rt: HostRuntime) {
     assert!(rt; are_kept(&rt, SHORT_QUEUE, LAGS, &[2]));
-}
-
-#[test]
-fn who_closes_while_he_is_owed_has_left_the_house(rt: HostRuntime) {
     assert!(rt; are_kept(&rt, "", CLOSES_WHILE_OWED, &[2]));
 }
 

@@ -1,12 +1,6 @@
 //! Mounts that relays feed on demand: who sits there, and which are wanted.
 
 use super::words::*;
-use std::alloc::Global;
-
-/// Whether a station replies so.
-fn replies(alloc: Global, table: &[(Call, &str)]) -> bool {
-    replies_in_turn(alloc, &[], table)
-}
 
 /// A listener waits where a relay feeds on demand, hears it from its start, and waits again; then a
 /// source that is no relay.
@@ -29,11 +23,6 @@ const WAITS: &[(Call, &str)] = &[
     (Call::Listen(4, "/d"), "seated audio/aac,Night,"),
 ];
 
-#[test]
-fn listener_who_waits(rt: HostRuntime) {
-    assert!(rt; replies(rt.alloc(), WAITS));
-}
-
 /// Where nobody feeds, commands find no mount, and listings none.
 const IDLE: &[(Call, &str)] = &[
     (Call::Arrive, "arrived 1"),
@@ -50,11 +39,6 @@ const IDLE: &[(Call, &str)] = &[
     (Call::Draw(1, 9), "drawn "),
 ];
 
-#[test]
-fn mount_that_waits(rt: HostRuntime) {
-    assert!(rt; replies(rt.alloc(), IDLE));
-}
-
 /// Listeners where relays feed on demand, and one where none does.
 const TWO_WAIT: &[(Call, &str)] = &[
     (Call::Arrive, "arrived 1"),
@@ -67,11 +51,6 @@ const TWO_WAIT: &[(Call, &str)] = &[
     (Call::Listen(4, "/d"), "seated audio/mpeg,,"),
 ];
 
-#[test]
-fn wanted_mounts(rt: HostRuntime) {
-    assert!(rt; wants_then(rt.alloc(), TWO_WAIT, &["/d", "/w"]));
-}
-
 /// The last listener leaves, whose relay has come up.
 const HAS_LEFT: &[(Call, &str)] = &[
     (Call::Arrive, "arrived 1"),
@@ -81,6 +60,12 @@ const HAS_LEFT: &[(Call, &str)] = &[
 ];
 
 #[test]
-fn mount_that_nobody_wants(rt: HostRuntime) {
+fn events_on_demand(rt: HostRuntime) {
+    assert!(rt; all_reply(rt.alloc(), &[], &[WAITS, IDLE]));
+}
+
+#[test]
+fn wanted_mounts(rt: HostRuntime) {
+    assert!(rt; wants_then(rt.alloc(), TWO_WAIT, &["/d", "/w"]));
     assert!(rt; wants_then(rt.alloc(), HAS_LEFT, &[]));
 }

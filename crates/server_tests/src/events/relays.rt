@@ -1,12 +1,6 @@
 //! Relays: what each event makes of one, and what it is denied.
 
 use super::words::*;
-use std::alloc::Global;
-
-/// Whether a station replies so.
-fn replies(alloc: Global, table: &[(Call, &str)]) -> bool {
-    replies_in_turn(alloc, &[], table)
-}
 
 const UP: Call = Call::RelayUp("/a", "audio/aac");
 
@@ -34,11 +28,6 @@ const FEEDS: &[(Call, &str)] = &[
     (Call::Arrive, "arrived 3"),
 ];
 
-#[test]
-fn relay_that_feeds(rt: HostRuntime) {
-    assert!(rt; replies(rt.alloc(), FEEDS));
-}
-
 /// A relay that is denied takes no number; the sessions of relays count among the sources.
 const DENIALS: &[(Call, &str)] = &[
     (UP, "arrived 1"),
@@ -62,11 +51,6 @@ const DENIALS: &[(Call, &str)] = &[
     (Call::RelayUp("/c", "audio/aac"), "deny mount-in-use"),
 ];
 
-#[test]
-fn relay_denials(rt: HostRuntime) {
-    assert!(rt; replies(rt.alloc(), DENIALS));
-}
-
 /// A relay whose session a command has ended is told so until it goes down.
 const KILLED: &[(Call, &str)] = &[
     (UP, "arrived 1"),
@@ -86,11 +70,6 @@ const KILLED: &[(Call, &str)] = &[
     (Call::Push(3, "xy"), "noted"),
 ];
 
-#[test]
-fn relay_that_is_killed(rt: HostRuntime) {
-    assert!(rt; replies(rt.alloc(), KILLED));
-}
-
 /// One that has sent nothing in the time for it is finished, and is told so.
 const SILENT: &[(Call, &str)] = &[
     (UP, "arrived 1"),
@@ -103,11 +82,6 @@ const SILENT: &[(Call, &str)] = &[
     (Call::RelayDown(1), "noted"),
 ];
 
-#[test]
-fn relay_that_is_silent(rt: HostRuntime) {
-    assert!(rt; replies(rt.alloc(), SILENT));
-}
-
 /// A relay is no client, and its session is one of the sources.
 const COUNTED: &[(Call, &str)] = &[
     (UP, "arrived 1"),
@@ -117,11 +91,6 @@ const COUNTED: &[(Call, &str)] = &[
         "{\"clients\":1,\"listeners\":0,\"mounts\":[{\"genre\":\"\",\"hidden\":false,\"listeners\":0,\"mount\":\"/a\",\"name\":\"Night\",\"session\":1,\"title\":\"\",\"type\":\"audio/aac\"}],\"sources\":1}",
     ),
 ];
-
-#[test]
-fn relay_that_is_counted(rt: HostRuntime) {
-    assert!(rt; replies(rt.alloc(), COUNTED));
-}
 
 /// A relay that comes up on a mount with `fallback-override` calls home who had asked for it.
 const CALLS_HOME: &[(Call, &str)] = &[
@@ -138,6 +107,7 @@ const CALLS_HOME: &[(Call, &str)] = &[
 ];
 
 #[test]
-fn relay_that_calls_home(rt: HostRuntime) {
-    assert!(rt; replies(rt.alloc(), CALLS_HOME));
+fn events_of_relays(rt: HostRuntime) {
+    let tables = &[FEEDS, DENIALS, KILLED, SILENT, COUNTED, CALLS_HOME];
+    assert!(rt; all_reply(rt.alloc(), &[], tables));
 }

@@ -1,7 +1,6 @@
 //! Each event at each standing of a client.
 
 use super::words::*;
-use std::alloc::Global;
 
 /// A source is 1, a listener is 2, and 3 has asked for nothing.
 const THREE_CLIENTS: &[(Call, &str)] = &[
@@ -12,11 +11,6 @@ const THREE_CLIENTS: &[(Call, &str)] = &[
     (Call::Push(1, "abcd"), "noted"),
     (Call::Listen(2, "/a"), "seated audio/aac,Night,"),
 ];
-
-/// Whether they are replied to so, and then what the table has.
-fn three_clients(alloc: Global, table: &[(Call, &str)]) -> bool {
-    replies_in_turn(alloc, THREE_CLIENTS, table)
-}
 
 /// What does not fit a client is stray, and changes nothing.
 const STRAY_EVENTS: &[(Call, &str)] = &[
@@ -33,11 +27,6 @@ const STRAY_EVENTS: &[(Call, &str)] = &[
     (Call::Draw(2, 9), "drawn abcd"),
 ];
 
-#[test]
-fn stray_events(rt: HostRuntime) {
-    assert!(rt; three_clients(rt.alloc(), STRAY_EVENTS));
-}
-
 /// A listener is handed the stream piece by piece, as he has room and as it grows.
 const PIECE_BY_PIECE: &[(Call, &str)] = &[
     (Call::Draw(2, 3), "drawn abc"),
@@ -47,11 +36,6 @@ const PIECE_BY_PIECE: &[(Call, &str)] = &[
     (Call::Draw(2, 100), "drawn fgh"),
     (Call::Draw(2, 100), "drawn "),
 ];
-
-#[test]
-fn draws_piece_by_piece(rt: HostRuntime) {
-    assert!(rt; three_clients(rt.alloc(), PIECE_BY_PIECE));
-}
 
 /// Each kind of reply.
 const EACH_REPLY: &[(Call, &str)] = &[
@@ -94,11 +78,6 @@ const SOURCE_ENDS: &[(Call, &str)] = &[
     (Call::Draw(2, 9), "stray"),
 ];
 
-#[test]
-fn source_that_ends(rt: HostRuntime) {
-    assert!(rt; three_clients(rt.alloc(), SOURCE_ENDS));
-}
-
 /// A source that leaves ends its session too; a listener of the next one hears that one alone.
 const SOURCE_LEAVES: &[(Call, &str)] = &[
     (Call::Leave(1), "noted"),
@@ -109,11 +88,6 @@ const SOURCE_LEAVES: &[(Call, &str)] = &[
     (Call::Listen(4, "/a"), "seated audio/aac,Night,"),
     (Call::Draw(4, 9), "drawn new"),
 ];
-
-#[test]
-fn source_that_leaves(rt: HostRuntime) {
-    assert!(rt; three_clients(rt.alloc(), SOURCE_LEAVES));
-}
 
 /// Each rule of the policy that can be met in a test; one who is denied has had his answer.
 const DENIALS: &[(Call, &str)] = &[
@@ -130,11 +104,6 @@ const DENIALS: &[(Call, &str)] = &[
     (Call::Leave(6), "noted"),
     (Call::Draw(2, 9), "drawn abcd"),
 ];
-
-#[test]
-fn denials(rt: HostRuntime) {
-    assert!(rt; three_clients(rt.alloc(), DENIALS));
-}
 
 /// A command is given once, by a client who has asked for nothing; who is finished by it is told so.
 const COMMANDS: &[(Call, &str)] = &[
@@ -158,15 +127,21 @@ const COMMANDS: &[(Call, &str)] = &[
     (Call::Leave(6), "noted"),
 ];
 
-#[test]
-fn commands_of_clients(rt: HostRuntime) {
-    assert!(rt; three_clients(rt.alloc(), COMMANDS));
-}
-
 /// Numbers are not given again.
 const NEXT_NUMBER: &[(Call, &str)] = &[(Call::Leave(3), "noted"), (Call::Arrive, "arrived 4")];
 
+/// What the three clients are replied to, a table each.
+const TABLES: &[&[(Call, &str)]] = &[
+    STRAY_EVENTS,
+    PIECE_BY_PIECE,
+    SOURCE_ENDS,
+    SOURCE_LEAVES,
+    DENIALS,
+    COMMANDS,
+    NEXT_NUMBER,
+];
+
 #[test]
-fn numbers_rise(rt: HostRuntime) {
-    assert!(rt; three_clients(rt.alloc(), NEXT_NUMBER));
+fn events_at_each_standing(rt: HostRuntime) {
+    assert!(rt; all_reply(rt.alloc(), THREE_CLIENTS, TABLES));
 }

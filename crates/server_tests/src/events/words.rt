@@ -76,8 +76,18 @@ fn station(alloc: Global) -> Result<Core, SettingsFault> {
     Ok(Core::new(alloc, settings, Lists::new(alloc)))
 }
 
+/// Whether for each table a core replies as the first says, and then as that one.
+pub fn all_reply(alloc: Global, first: &[(Call, &str)], tables: &[&[(Call, &str)]]) -> bool {
+    for next in tables {
+        if !replies_in_turn(alloc, first, next) {
+            return false;
+        }
+    }
+    true
+}
+
 /// Whether a core replies as one table says, and then as the next.
-pub fn replies_in_turn(alloc: Global, first: &[(Call, &str)], next: &[(Call, &str)]) -> bool {
+fn replies_in_turn(alloc: Global, first: &[(Call, &str)], next: &[(Call, &str)]) -> bool {
     match station(alloc) {
         Ok(mut core) => {
             let replied = are_replied_in_turn(alloc, &mut core, first, next);
