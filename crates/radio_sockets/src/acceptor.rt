@@ -26,7 +26,7 @@ const MOST_LAST_WRITES: usize = 36;
 
 /// Who accepts connections, hands them to the workers, and writes the lines of the log.
 #[derive(Drop)]
-pub(crate) struct Acceptor<O: Write + Drop> {
+pub struct Acceptor<O: Write + Drop> {
     doors: Doors,
     outlet: Outlet<O>,
     accepts: Accepts,
@@ -37,7 +37,7 @@ pub(crate) struct Acceptor<O: Write + Drop> {
 
 impl<O: Write + Drop> Acceptor<O> {
     /// One who has accepted nothing yet, and writes to this output. It takes no memory.
-    pub(crate) fn new(alloc: Global, doors: Doors, output: LogOutput<O>) -> Acceptor<O> {
+    pub fn new(alloc: Global, doors: Doors, output: LogOutput<O>) -> Acceptor<O> {
         let outlet = Outlet::new(alloc, doors.registry(), output);
         Acceptor {
             doors,
@@ -49,12 +49,12 @@ impl<O: Write + Drop> Acceptor<O> {
     }
 
     /// What ends his waits from another thread.
-    pub(crate) fn waker(&self) -> io::Result<Waker> {
+    pub fn waker(&self) -> io::Result<Waker> {
         self.doors.waker()
     }
 
     /// Accepts and writes until all are to stop, or a fault; then all stop.
-    pub(crate) fn work<R: Clock + Wait>(
+    pub fn work<R: Clock + Wait>(
         &mut self,
         rt: &R,
         board: &Board,
@@ -181,7 +181,7 @@ impl<O: Write + Drop> Acceptor<O> {
 
     /// Writes of the log, at the end, what can be written without waiting, so that no line is left cut off but where there
     /// is no room.
-    pub(crate) fn write_rest<W: Wait>(&mut self, waits: &W, board: &Board) {
+    pub fn write_rest<W: Wait>(&mut self, waits: &W, board: &Board) {
         for _ in 0..MOST_LAST_WRITES {
             if self.doors.hear(0).is_err() {
                 return;

@@ -27,7 +27,7 @@ const NO_DESCRIPTORS: [i32; 2] = [24, 23];
 
 /// A connection that was accepted, and waits for a worker.
 #[derive(Drop)]
-pub(crate) struct Coming {
+pub struct Coming {
     /// Its socket, which does not wait.
     pub(crate) stream: TcpStream,
     /// Who has come.
@@ -36,7 +36,7 @@ pub(crate) struct Coming {
 
 /// The bound socket, and what the system has told of it.
 #[derive(Drop)]
-pub(crate) struct Doors {
+pub struct Doors {
     poll: Poll,
     events: Events<Global>,
     listener: TcpListener,
@@ -47,8 +47,11 @@ pub(crate) struct Doors {
 }
 
 impl Doors {
-    /// Binds this address and port, as [`Listening::bind`](crate::Listening::bind).
-    pub(crate) fn bind<R: Net>(
+    /// Binds this address and port; 0 for any port that is free.
+    ///
+    /// `NoAddress` where the address is no IP address; `Refused` where the system does not bind it
+    /// with this port, or tells nothing of sockets; `OutOfMemory` where memory was refused.
+    pub fn bind<R: Net>(
         rt: &R,
         alloc: Global,
         address: &str,
@@ -94,7 +97,7 @@ impl Doors {
     }
 
     /// The address and port that were bound.
-    pub(crate) fn address(&self) -> io::Result<SocketAddr> {
+    pub fn address(&self) -> io::Result<SocketAddr> {
         self.listener.local_addr()
     }
 

@@ -1,25 +1,23 @@
-//! A bound socket: the loops that accept connections and serve them by several workers, beside the relays of a station.
+//! What accepts connections, and what serves them: the two loops between which connections are handed on.
 //!
-//! - [`Listening`]: a bound socket. [`Listening::serve`] accepts connections, and serves them, until a fault; [`Service`]
-//!   says how.
+//! - [`Doors`]: a bound socket; [`Acceptor`]: who accepts connections there, and writes the log.
+//! - [`Coming`]: a connection that waits for a worker; [`SocketPost`]: where his turns come from. [`open_desks`] and
+//!   [`seats_of`] make what the workers begin with.
 //! - [`BindFault`], [`ServeFault`]: why nothing was bound, and why a server ends.
-//!
-//! What radiod needs of the crates below to call it is here too: the net as relays reach it ([`Reach`], [`SystemNet`]),
-//! and where the log goes ([`LogOutput`], [`write_at_once`]).
 #![tactic(auto)]
 
 mod acceptor;
 mod address;
 mod doors;
 mod fault;
-mod listening;
 mod post;
 mod seats;
 
+pub use acceptor::Acceptor;
+pub use doors::{Coming, Doors};
 pub use fault::{BindFault, ServeFault};
-pub use listening::{Listening, Service};
-pub use radio_board::{LogOutput, write_at_once};
-pub use radio_lines::{Reach, SystemNet};
+pub use post::SocketPost;
+pub use seats::{open_desks, seats_of};
 
 /// What a call answers where memory was refused.
 pub type OutOfMemory = std::alloc::AllocError;

@@ -37,7 +37,7 @@ const MOST_AT_ONCE: usize = 64;
 
 /// Where a worker's turns come from. Moments are in milliseconds.
 #[derive(Drop)]
-pub(crate) struct SocketPost<'a, R: Clock + Wait> {
+pub struct SocketPost<'a, R: Clock + Wait> {
     rt: &'a R,
     board: &'a Board,
     desk: &'a Desk,

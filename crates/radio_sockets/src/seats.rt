@@ -20,7 +20,7 @@ const MOST_WORKERS: u32 = 64;
 
 /// The sockets and the desks of so many workers. One to whom the system tells nothing of sockets is left out; `Accept`
 /// where all are.
-pub(crate) fn open_desks<N: Reach>(
+pub fn open_desks<N: Reach>(
     net: &N,
     alloc: Global,
     workers: u32,
@@ -52,7 +52,7 @@ fn add_desk<N: Reach>(
 }
 
 /// Seats for the workers with these sockets, over this server. `OutOfMemory` where memory was refused.
-pub(crate) fn seats_of<'a, R: Clock + Wait, S: SharedServer>(
+pub fn seats_of<'a, R: Clock + Wait, S: SharedServer>(
     rt: &'a R,
     server: &S,
     board: &'a Board,

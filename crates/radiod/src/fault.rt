@@ -2,7 +2,7 @@ ghost use Rattle.std.specs.Prelude.{◌≡◌};
 ghost use Rattle.radiod.specs.FaultLines.{exit_status};
 
 use radio_floor::PlayFault;
-use radio_sockets::ServeFault;
+use radio_listening::ServeFault;
 use radio_startup::FileFault;
 use std::{fmt, io};
 

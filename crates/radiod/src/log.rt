@@ -2,8 +2,8 @@
 
 use crate::fault::{Fault, NotBound};
 use crate::output::terminal;
+use radio_listening::{LogOutput, write_at_once};
 use radio_log::{Fact, Text};
-use radio_sockets::{LogOutput, write_at_once};
 use radio_startup::{line_now, tell, words_of};
 
 /// Says a fault on standard error. Where that takes nothing, the status of the program alone tells.

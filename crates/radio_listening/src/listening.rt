@@ -3,10 +3,6 @@
 ghost use Rattle.std.specs.Prelude.{◌≡◌, ◌+◌, ◌≤◌, All};
 ghost use Rattle.radio_intake.specs.Passes.{all_parts};
 
-use crate::acceptor::Acceptor;
-use crate::doors::{Coming, Doors};
-use crate::post::SocketPost;
-use crate::seats::{open_desks, seats_of};
 use crate::{BindFault, ServeFault};
 use mio::net::TcpStream;
 use radio_board::{Board, Limits, LogOutput, Outlet};
@@ -16,6 +12,7 @@ use radio_lines::{Reach, SocketLine, Sockets};
 use radio_pullers::{has_relays, keep_relays};
 use radio_serving::OpenGate;
 use radio_settings::Settings;
+use radio_sockets::{Acceptor, Coming, Doors, SocketPost, open_desks, seats_of};
 use radio_workers::{Seat, Workplace, run_workers};
 use std::alloc::Global;
 use std::io;
@@ -46,10 +43,7 @@ pub struct Listening {
 }
 
 impl Listening {
-    /// Binds this address and port; 0 for any port that is free.
-    ///
-    /// `NoAddress` where the address is no IP address; `Refused` where the system does not bind it
-    /// with this port, or tells nothing of sockets; `OutOfMemory` where memory was refused.
+    /// Binds this address and port, with the faults of [`Doors::bind`].
     pub fn bind<R: Net>(
         rt: &R,
         alloc: Global,

@@ -1,0 +1,19 @@
+//! A bound socket, and the service behind it: workers who serve connections, beside the relays of a station.
+//!
+//! - [`Listening`]: a bound socket. [`Listening::serve`] accepts connections, and serves them, until a fault; [`Service`]
+//!   says how.
+//! - [`BindFault`], [`ServeFault`]: why nothing was bound, and why a server ends.
+//!
+//! What radiod needs of the crates below to call it is here too: the net as relays reach it ([`Reach`], [`SystemNet`]),
+//! and where the log goes ([`LogOutput`], [`write_at_once`]).
+#![tactic(auto)]
+
+mod listening;
+
+pub use listening::{Listening, Service};
+pub use radio_board::{LogOutput, write_at_once};
+pub use radio_lines::{Reach, SystemNet};
+pub use radio_sockets::{BindFault, ServeFault};
+
+/// What a call answers where memory was refused.
+pub type OutOfMemory = std::alloc::AllocError;
