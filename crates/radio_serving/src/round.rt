@@ -10,14 +10,14 @@ use radio_notes::Log;
 pub(crate) fn serve_each<S: Server, L: Line, G: Gate>(
     server: &mut S,
     conns: &mut Vec<Conn<L>>,
+    buffer: &mut [u8; READ_ROOM],
     gate: &G,
     now: Now,
     log: &Log,
 )
     ensures { ServesEach S.steps now.ms now.patience_ms now.news server.old conns.old.items server.new conns.new.items }
 {
-    let mut buffer = [0u8; READ_ROOM];
     for conn in conns.iter_mut() {
-        serve(server, conn, &mut buffer, gate, now, log);
+        serve(server, conn, buffer, gate, now, log);
     }
 }
