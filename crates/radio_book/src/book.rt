@@ -31,10 +31,16 @@ pub const PASSES: u64 = 1 << 32;
 
 /// A core, and a chronicle of what happened to it. In contracts it is the core, and the entries
 /// that are stored.
-#[derive(Drop)]
 pub struct Book<C: Chronicle, H: House> {
     alloc: Global,
     accounts: Accounts<C, H>,
+}
+
+impl<C: Chronicle, H: House> Drop for Book<C, H> {
+    fn drop(self) {
+        let Book { alloc: _, accounts } = self;
+        drop(accounts);
+    }
 }
 
 impl<C: Chronicle, H: House> Model for Book<C, H> {
@@ -149,7 +155,8 @@ impl<H: House> Book<Kept, H> {
         ensures history { result.items ≡ self.history }
         ensures run { ∥ IsRun H.opening result.items ∥₁ }
     {
-        entries_of(self.accounts.story)
+        let Book { alloc: _, accounts } = self;
+        entries_of(accounts.story)
     }
 }
 

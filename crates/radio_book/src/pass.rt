@@ -8,10 +8,16 @@ use std::marker::{Model, PhantomData};
 
 /// What a caller of a house has: the receipts of his calls, in their order, if the house stores
 /// entries; and for each client and each relay that he has let in the right to see it off.
-#[derive(Drop)]
 pub struct Pass<C: Chronicle, H: House> {
     pub(crate) holdings: Holdings<H>,
     of: PhantomData<C>,
+}
+
+impl<C: Chronicle, H: House> Drop for Pass<C, H> {
+    fn drop(self) {
+        let Pass { holdings, of: _ } = self;
+        drop(holdings);
+    }
 }
 
 impl<C: Chronicle, H: House> Model for Pass<C, H> {

@@ -6,11 +6,22 @@ use std::marker::Model;
 /// The receipt of a call of a book: at this place of the house's history stands this entry.
 ///
 /// [`Book::apply`](crate::Book::apply) alone makes one.
-#[derive(Drop)]
 pub struct Receipt {
     pub(crate) serial: u64,
     pub(crate) event: Event,
     pub(crate) reply: Reply,
+}
+
+impl Drop for Receipt {
+    fn drop(self) {
+        let Receipt {
+            serial: _,
+            event,
+            reply,
+        } = self;
+        drop(event);
+        drop(reply);
+    }
 }
 
 impl Model for Receipt {
@@ -60,7 +71,11 @@ impl Receipt {
     pub fn into_reply(self) -> Reply
         ensures { result ≡ self.reply }
     {
-        let Receipt { event, reply, .. } = self;
+        let Receipt {
+            serial: _,
+            event,
+            reply,
+        } = self;
         drop(event);
         reply
     }

@@ -22,9 +22,15 @@ use std::sync::{Mutex, MutexGuard, Wait};
 const TRIES: u32 = 64;
 
 /// A book that several threads call, one at a time.
-#[derive(Drop)]
 pub struct Hall<C: Chronicle, H: House> {
     book: Mutex<Book<C, H>>,
+}
+
+impl<C: Chronicle, H: House> Drop for Hall<C, H> {
+    fn drop(self) {
+        let Hall { book } = self;
+        drop(book);
+    }
 }
 
 impl<C: Chronicle, H: House> Hall<C, H> {
@@ -111,6 +117,7 @@ impl<C: Chronicle, H: House> Hall<C, H> {
 
     /// The book, which no thread calls any more.
     pub fn into_book(self) -> Book<C, H> {
-        self.book.into_inner()
+        let Hall { book } = self;
+        book.into_inner()
     }
 }
