@@ -7,24 +7,30 @@
 //!   is shown something of the station.
 //! - [`Entry`]: one event with its reply, of which histories are made.
 //! - [`Server`]: whoever applies events.
+//! - [`SharedServer`]: a server that several threads ask, each by a pass of its own.
+//! - [`Caller`]: such a server as one of them asks it: a [`Server`], with a pass.
 //! - `again` of either is an equal copy.
 #![tactic(auto)]
 
 mod again;
 mod boxed;
+mod caller;
 mod command;
 mod entry;
 mod event;
 mod reply;
 mod server;
+mod shared_server;
 mod text;
 
 pub use boxed::Boxed;
+pub use caller::Caller;
 pub use command::{Asked, Command, CommandRequest, Listing, OpenedBy};
 pub use entry::Entry;
 pub use event::{Event, ListenRequest, SourceRequest};
 pub use reply::{Reply, StreamHead};
 pub use server::Server;
+pub use shared_server::SharedServer;
 pub use text::Text;
 
 /// What a call answers where memory was refused. Nothing has changed then.

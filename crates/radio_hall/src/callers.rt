@@ -2,8 +2,7 @@
 
 use crate::{Hall, OutOfMemory};
 use radio_book::{Chronicle, House, Pass};
-use radio_callers::SharedServer;
-use radio_events::{Event, Reply};
+use radio_events::{Event, Reply, SharedServer};
 use radio_values::MountName;
 use std::sync::Wait;
 

@@ -1,7 +1,7 @@
 //! A book that several threads call, under one lock.
 //!
 //! - [`Hall`]: the lock round a book; [`Hall::apply`] is one event, in the lock's order.
-//! - [`Caller`]: whom a worker asks, of `radio_callers`: a hall is a [`SharedServer`](radio_callers::SharedServer).
+//! - [`Caller`]: whom a worker asks, of `radio_events`: a hall is a [`SharedServer`](radio_events::SharedServer).
 //! - [`passes_gain_what_was_applied`]: a law, which runs no code.
 //!
 //! Whenever the lock is free, its book has what [`Book::is_told`](radio_book::Book::is_told) says:
@@ -14,7 +14,7 @@ mod laws;
 
 pub use hall::Hall;
 pub use laws::passes_gain_what_was_applied;
-pub use radio_callers::Caller;
+pub use radio_events::Caller;
 
 /// What a call answers where memory was refused.
 pub type OutOfMemory = std::alloc::AllocError;

@@ -6,7 +6,7 @@ ghost use Rattle.radio_intake.specs.Passes.{all_parts};
 use crate::{BindFault, ServeFault};
 use mio::net::TcpStream;
 use radio_board::{Board, Limits, LogOutput, Outlet};
-use radio_callers::SharedServer;
+use radio_events::SharedServer;
 use radio_intake::{Intake, IntakePass};
 use radio_lines::{Reach, SocketLine, Sockets};
 use radio_pullers::{has_relays, keep_relays};

@@ -5,7 +5,7 @@ use crate::running::RunningRelay;
 use crate::station::Station;
 use mio::net::TcpStream;
 use radio_board::Board;
-use radio_callers::{Caller, SharedServer};
+use radio_events::{Caller, SharedServer};
 use radio_lines::{Reach, SocketLine, Sockets, moment};
 use radio_masters::{Asked, MountPull, PullTurn, RelayEnd};
 use radio_serving::{Server, Watched};

@@ -9,7 +9,7 @@ use crate::roster::Roster;
 use crate::running::RunningRelay;
 use crate::station::Station;
 use radio_board::Board;
-use radio_callers::SharedServer;
+use radio_events::SharedServer;
 use radio_lines::Reach;
 use radio_relay::{RelayOrder, plan};
 use radio_settings::{RelaySetting, Settings};

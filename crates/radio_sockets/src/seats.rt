@@ -7,7 +7,7 @@ use crate::doors::Coming;
 use crate::post::SocketPost;
 use crate::{OutOfMemory, ServeFault};
 use radio_board::{Board, Desk};
-use radio_callers::SharedServer;
+use radio_events::SharedServer;
 use radio_intake::{Intake, IntakePass};
 use radio_lines::{Reach, Sockets};
 use radio_workers::{Seat, add_seat};

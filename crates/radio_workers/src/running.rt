@@ -5,7 +5,7 @@ ghost use Rattle.radio_workers.specs.Hands.{HasTakenMore};
 
 use crate::shift::work;
 use crate::{Post, Seat, Workplace};
-use radio_callers::SharedServer;
+use radio_events::SharedServer;
 use radio_serving::{Gate, Line};
 use std::alloc::Global;
 use std::sync::Wait;

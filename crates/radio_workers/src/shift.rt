@@ -5,7 +5,7 @@ ghost use Rattle.radio_workers.specs.Hands.{HasTakenMore};
 
 use crate::leaving::leave_all;
 use crate::{Call, Post, Seat, Seen, Workplace};
-use radio_callers::{Caller, SharedServer};
+use radio_events::{Caller, SharedServer};
 use radio_intake::{Intake, IntakePass};
 use radio_serving::{
     Conn, Gate, Line, Server, Watched, Worker, close_first_lingering, count_lingering,

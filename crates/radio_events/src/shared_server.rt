@@ -3,8 +3,7 @@
 ghost use Rattle.std.specs.Prelude.{◌≡◌, IfOk, OnErr};
 ghost use Rattle.radio_events.specs.declared.event.Event.{Event as EventOf};
 
-use crate::OutOfMemory;
-use radio_events::{Event, Reply};
+use crate::{Event, OutOfMemory, Reply};
 use radio_values::MountName;
 use std::sync::Wait;
 

@@ -2,8 +2,7 @@
 
 ghost use Rattle.std.specs.Prelude.{◌≡◌};
 
-use crate::{OutOfMemory, SharedServer};
-use radio_events::{Event, Reply, Server};
+use crate::{Event, OutOfMemory, Reply, Server, SharedServer};
 use radio_values::MountName;
 use std::marker::Model;
 use std::sync::Wait;
