@@ -7,3 +7,6 @@ pub mod Feeds
 pub mod Given
 pub mod Words
 pub mod Limits
+pub mod Devices
+pub mod Tally
+pub mod Reading

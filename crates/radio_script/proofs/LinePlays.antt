@@ -9,9 +9,9 @@ use Rattle.std.proofs.KnownBytes.{Appends-nil}
 use Rattle.radio_deliveries.specs.Limits.{max_line, max_lines}
 use Rattle.radio_deliveries.specs.declared.faults.PlayFault.{PlayFault}
 use Rattle.radio_deliveries.specs.declared.faults.PlayFault.TheVariants.{Read, Write, Line, TooMuch, OutOfMemory}
-use Rattle.radio_devices.specs.declared.reading.LineRead.TheVariants.{Whole, Last, Nothing, TooLong}
+use Rattle.radio_deliveries.specs.declared.reading.LineRead.TheVariants.{Whole, Last, Nothing, TooLong}
 use Rattle.radio_deliveries.specs.Feeds.{has_feed}
-use Rattle.radio_devices.specs.Reading.{ReadsLine}
+use Rattle.radio_deliveries.specs.Reading.{ReadsLine}
 use Rattle.radio_script.specs.Script.{lines_of}
 use Rattle.radio_script.specs.Runs.{Conduct}
 use Rattle.radio_script.specs.Plays.{IfKnown, Writes, IsPlayed, IsPlayedBefore, Plays}

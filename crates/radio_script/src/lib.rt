@@ -1,6 +1,5 @@
 //! Scripts, whoever performs them: from the lines that a script delivers to the lines of its
-//! transcript. It passes on the lines and faults of `radio_deliveries` and the devices of
-//! `radio_devices`.
+//! transcript. It passes on the lines, faults and devices of `radio_deliveries`.
 //!
 //! - Who performs: [`Performer`].
 //! - The loops over deliveries: [`play_with`], from a reader to a writer, and [`run_with`], over a
@@ -18,9 +17,8 @@ pub use laws::{scripts_have_one_transcript, transcripts_go_on_as_they_began};
 pub use performer::Performer;
 pub use playing::play_with;
 pub use radio_deliveries::{
-    Delivery, Input, MAX_LINE, MAX_LINES, OutOfMemory, PerformFault, PlayFault, RunFault,
-    escapes_read_back, push_answer, push_escaped, read_delivery, texts_are_spelled,
-    transcripts_are_read_one_way, unescape,
+    Counted, CountedRead, CountedWrite, Delivery, Input, MAX_LINE, MAX_LINES, OutOfMemory,
+    PerformFault, PlayFault, RunFault, Tally, escapes_read_back, push_answer, push_escaped,
+    read_delivery, texts_are_spelled, transcripts_are_read_one_way, unescape,
 };
-pub use radio_devices::{Counted, CountedRead, CountedWrite, Tally};
 pub use running::run_with;

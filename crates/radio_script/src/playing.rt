@@ -3,13 +3,15 @@
 ghost use Rattle.std.specs.Prelude.{◌≡◌, ◌≢◌, ◌+◌, ◌≤◌, ℕ, List, true, Ok, Err, length};
 ghost use Rattle.radio_script.specs.Answers.{AnswersLine, IsPerformed, PlaysLine};
 ghost use Rattle.radio_script.specs.Plays.{EndsThere, IfKnown, Plays, Writes};
-ghost use Rattle.radio_devices.specs.Reading.{reader_failures, writer_failures};
+ghost use Rattle.radio_deliveries.specs.Reading.{reader_failures, writer_failures};
 ghost use Rattle.radio_deliveries.specs.Limits.{max_line, max_lines};
 ghost use Rattle.radio_script.specs.Script.{meaning_of};
 
 use crate::performer::Performer;
-use radio_deliveries::{Delivery, MAX_LINES, PerformFault, PlayFault, read_delivery};
-use radio_devices::{CountedRead, CountedWrite, LineRead, next_byte, read_line, write_whole};
+use radio_deliveries::{
+    CountedRead, CountedWrite, Delivery, LineRead, MAX_LINES, PerformFault, PlayFault, next_byte,
+    read_delivery, read_line, write_whole,
+};
 use std::alloc::Global;
 
 // The line that is played, and what its delivery came to.

@@ -2,7 +2,7 @@ use Rattle.std.proofs.Common.{◌≡◌, ◌+◌, ◌-◌, ◌≤◌, length, ve
 use Rattle.std.specs.Io.KnownBytes.{Consumes}
 use Rattle.radio_deliveries.specs.Limits.{max_line}
 use Rattle.radio_deliveries.specs.Feeds.{has_feed}
-use Rattle.radio_devices.proofs.reading.read_line.Given as goal
+use Rattle.radio_deliveries.proofs.reading.read_line.Given as goal
 
 abbrev pub invariant-loop-reader : goal.invariant-loop-reader
 invariant-loop-reader g l = record {

@@ -2,7 +2,7 @@ use Rattle.std.proofs.Common.{length-drop, take, drop, arith}
 use Rattle.std.proofs.Math.Seq.{take-add}
 use Rattle.std.proofs.lemmas.List.{take_rest}
 use Rattle.std.proofs.KnownBytes.{Appends-trans}
-use Rattle.radio_devices.proofs.writing.write_whole.Goals as goal
+use Rattle.radio_deliveries.proofs.writing.write_whole.Goals as goal
 
 pub loop-done-preserved : goal.loop-done-preserved
 loop-done-preserved g c =

@@ -2,12 +2,12 @@
 
 ghost use Rattle.std.specs.Prelude.{◌≡◌, ◌+◌, ◌<◌, ◌≤◌, [], ◌∷◌, length, vec_len, false, OnOk, OnErr, IfOk, MatchOption, ◌⊎◌};
 ghost use Rattle.std.specs.Io.KnownBytes.{Consumes, IsAtEnd, Keeps};
-ghost use Rattle.radio_devices.specs.Devices.{bumped};
-ghost use Rattle.radio_devices.specs.Reading.{reader_failures, ReadsLine};
+ghost use Rattle.radio_deliveries.specs.Devices.{bumped};
+ghost use Rattle.radio_deliveries.specs.Reading.{reader_failures, ReadsLine};
 ghost use Rattle.radio_deliveries.specs.Limits.{max_line};
 
 use crate::devices::CountedRead;
-use radio_deliveries::{MAX_LINE, PlayFault};
+use crate::{MAX_LINE, PlayFault};
 use std::io;
 
 /// What the reading of a line found.

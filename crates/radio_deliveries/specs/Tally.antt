@@ -1,6 +1,6 @@
 -- What a tally keeps beside its device.
 use Rattle.std.specs.Prelude.{ℕ, Bool}
-use Rattle.radio_devices.specs.declared.tally.Tally.{Tally}
+use Rattle.radio_deliveries.specs.declared.tally.Tally.{Tally}
 
 -- the device that is counted
 abbrev pub device_of : {D : Type 0} → Tally D → D

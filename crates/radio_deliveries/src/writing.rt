@@ -2,7 +2,7 @@
 
 ghost use Rattle.std.specs.Prelude.{◌≡◌, ◌+◌, ◌≤◌, ℕ, true, length, take, OnOk, OnErr};
 ghost use Rattle.std.specs.Io.KnownBytes.{Appends};
-ghost use Rattle.radio_devices.specs.Devices.{bumped};
+ghost use Rattle.radio_deliveries.specs.Devices.{bumped};
 
 use crate::devices::CountedWrite;
 use std::io;

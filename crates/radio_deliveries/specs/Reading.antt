@@ -2,12 +2,12 @@
 use Rattle.std.specs.Prelude.{ℕ, ◌≡◌, ◌<◌, ◌≤◌, false, List, [], ◌∷◌, ◌++◌, length, Option, Result, Ok, Err}
 use Rattle.std.specs.Io.KnownBytes.{Consumes, IsAtEnd}
 use Rattle.radio_deliveries.specs.Feeds.{has_feed}
-use Rattle.radio_devices.specs.Devices.{bumped}
+use Rattle.radio_deliveries.specs.Devices.{bumped}
 use Rattle.radio_deliveries.specs.Limits.{max_line}
 use Rattle.radio_deliveries.specs.declared.faults.PlayFault.{PlayFault}
 use Rattle.radio_deliveries.specs.declared.faults.PlayFault.TheVariants.{Read, Write, OutOfMemory}
-use Rattle.radio_devices.specs.declared.reading.LineRead.{LineRead}
-use Rattle.radio_devices.specs.declared.reading.LineRead.TheVariants.{Whole, Last, Nothing, TooLong}
+use Rattle.radio_deliveries.specs.declared.reading.LineRead.{LineRead}
+use Rattle.radio_deliveries.specs.declared.reading.LineRead.TheVariants.{Whole, Last, Nothing, TooLong}
 
 -- The reader, known by the bytes that it had and has left, gave a line, or what of it came.
 abbrev pub ReadsLine : Option (List ℕ) → Option (List ℕ) → Result LineRead PlayFault → List ℕ → Type 0

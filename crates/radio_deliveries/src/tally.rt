@@ -3,7 +3,7 @@
 ghost use Rattle.std.specs.Prelude.{◌≡◌, ◌<◌, ◌≤◌, ℕ, Bool, true, false, length, IfOk, OnOk, OnErr};
 ghost use Rattle.std.specs.Io.{ReadsAtMost, WritesAtMost};
 ghost use Rattle.std.specs.Io.KnownBytes.{Keeps, ReadConsumes, WriteAppends};
-ghost use Rattle.radio_devices.specs.Devices.{bumped};
+ghost use Rattle.radio_deliveries.specs.Devices.{bumped};
 
 use crate::devices::{Counted, CountedRead, CountedWrite};
 use std::io;
@@ -19,7 +19,7 @@ pub struct Tally<D> {
 }
 
 impl<D> Tally<D> {
-    ghost use Rattle.radio_devices.specs.Tally.{calls_of, device_of, failures_of, has_flushed};
+    ghost use Rattle.radio_deliveries.specs.Tally.{calls_of, device_of, failures_of, has_flushed};
 
     /// The device, never called and never failed yet: nothing was written that it may keep back.
     pub fn new(device: D) -> Tally<D>
@@ -38,7 +38,7 @@ impl<D> Tally<D> {
 }
 
 impl<D> Counted for Tally<D> {
-    ghost use Rattle.radio_devices.specs.Tally.{calls_of, failures_of};
+    ghost use Rattle.radio_deliveries.specs.Tally.{calls_of, failures_of};
 
     ghost calls = { calls_of };
 
@@ -54,7 +54,7 @@ impl<D> Counted for Tally<D> {
 }
 
 impl<D: Read> Read for Tally<D> {
-    ghost use Rattle.radio_devices.specs.Tally.{calls_of, device_of, failures_of};
+    ghost use Rattle.radio_deliveries.specs.Tally.{calls_of, device_of, failures_of};
 
     ghost remaining = { λ t. D.remaining (device_of t) };
 
@@ -83,7 +83,7 @@ impl<D: Read> CountedRead for Tally<D> {
 }
 
 impl<D: Write> Write for Tally<D> {
-    ghost use Rattle.radio_devices.specs.Tally.{calls_of, device_of, failures_of, has_flushed};
+    ghost use Rattle.radio_deliveries.specs.Tally.{calls_of, device_of, failures_of, has_flushed};
 
     ghost contents = { λ t. D.contents (device_of t) };
 
@@ -113,7 +113,7 @@ impl<D: Write> Write for Tally<D> {
 }
 
 impl<D: Write> CountedWrite for Tally<D> {
-    ghost use Rattle.radio_devices.specs.Tally.{has_flushed};
+    ghost use Rattle.radio_deliveries.specs.Tally.{has_flushed};
 
     ghost is_flushed = { has_flushed };
 

@@ -4,7 +4,7 @@ use Rattle.std.proofs.lemmas.Grind.{common_steps}
 use Rattle.std.proofs.lemmas.List.{length_push}
 use Rattle.std.proofs.KnownBytes.{Consumes-trans}
 use Rattle.radio_deliveries.proofs.FeedLemmas.{has_feed-push}
-use Rattle.radio_devices.proofs.reading.read_line.Goals as goal
+use Rattle.radio_deliveries.proofs.reading.read_line.Goals as goal
 
 pub returns-then-is_err-clause-reads : goal.returns-then-is_err-clause-reads
 returns-then-is_err-clause-reads g c =

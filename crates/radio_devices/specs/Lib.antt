@@ -1,3 +1,0 @@
-pub mod Devices
-pub mod Tally
-pub mod Reading
