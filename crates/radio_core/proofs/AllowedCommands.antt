@@ -10,7 +10,7 @@ use Rattle.radio_events.specs.declared.command.Asked.{Asked}
 use Rattle.radio_events.specs.declared.command.Command.{Command}
 use Rattle.radio_events.specs.declared.event.Event.{Event}
 use Rattle.radio_core.specs.Allowed.{IsCommanded}
-use Rattle.radio_house.specs.CommandFacts.{facts_asked, needs_of, opened_by, opener_in, opens}
+use Rattle.radio_facts.specs.CommandFacts.{facts_asked, needs_of, opened_by, opener_in, opens}
 use Rattle.radio_house.specs.World.{World}
 
 -- a pair that opens it was sent, and the rows behind allow it

@@ -8,7 +8,7 @@ use Rattle.radio_seats.specs.declared.seat.Seat.{Seat}
 use Rattle.radio_seats.specs.Seats.{seat_of}
 use Rattle.radio_events.specs.declared.command.Command.TheVariants.{KillClient}
 use Rattle.radio_events.specs.declared.event.Event.{Event}
-use Rattle.radio_house.specs.CommandFacts.{is_live, sits_at}
+use Rattle.radio_facts.specs.CommandFacts.{is_live, sits_at}
 use Rattle.radio_house.specs.World.{World}
 use Rattle.radio_core.specs.Allowed.{IsCommanded}
 use Rattle.radio_core.proofs.AllowedCommands.{may_kill, needs_hold}

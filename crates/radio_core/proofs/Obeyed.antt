@@ -28,7 +28,7 @@ use Rattle.radio_house.specs.Relays.{relay_of}
 use Rattle.radio_access.specs.Lists.{Lists, with_user_at, without_user_at}
 use Rattle.radio_core.specs.Allowed.{IsCommanded, ChangesUsers, Adds, Deletes}
 use Rattle.radio_core.proofs.ChangedUsers.{with_lists, sound_set, users_fates}
-use Rattle.radio_house.specs.CommandFacts.{is_live, opens}
+use Rattle.radio_facts.specs.CommandFacts.{is_live, opens}
 use Rattle.radio_house.specs.Facts.{sight_of}
 use Rattle.radio_core.specs.Finishes.{Cause, SessionIsOver, IsKilled, HisSessionIsKilled}
 use Rattle.radio_core.specs.Moves.{TakesTo, ByKilling, ByMoving}

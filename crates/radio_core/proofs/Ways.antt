@@ -51,7 +51,7 @@ use Rattle.radio_events.specs.declared.command.Asked.{Asked}
 use Rattle.radio_events.specs.declared.command.Asked.TheVariants.{NoCommand, MissingArgument, Listing as AsksFor, Command as Asks}
 use Rattle.radio_events.specs.declared.command.CommandRequest.{CommandRequest}
 use Rattle.radio_core.specs.Command.{does_asked}
-use Rattle.radio_house.specs.CommandFacts.{rows_to_command}
+use Rattle.radio_facts.specs.CommandFacts.{rows_to_command}
 use Rattle.radio_seats.specs.Seats.{seat_of}
 use Rattle.radio_parts.specs.Sessions.{Session, session_of}
 use Rattle.radio_core.specs.Step.{outcome}

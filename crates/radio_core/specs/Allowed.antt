@@ -10,7 +10,7 @@ use Rattle.radio_events.specs.declared.command.CommandRequest.{CommandRequest}
 use Rattle.radio_events.specs.declared.command.Listing.{Listing}
 use Rattle.radio_events.specs.declared.event.Event.{Event}
 use Rattle.radio_events.specs.declared.event.Event.TheVariants.{Command}
-use Rattle.radio_house.specs.CommandFacts.{rows_to_command}
+use Rattle.radio_facts.specs.CommandFacts.{rows_to_command}
 use Rattle.radio_house.specs.declared.standing.Standing.TheVariants.{Undecided}
 use Rattle.radio_house.specs.World.{World, standing_of}
 

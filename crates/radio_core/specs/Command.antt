@@ -12,7 +12,7 @@ use Rattle.radio_events.specs.declared.text.Text.{Text}
 use Rattle.radio_events.specs.declared.text.Text.TheVariants.{Done, Moved, Ended}
 use Rattle.radio_changes.specs.declared.change.Change.TheVariants.{Nothing, Answer, Obey}
 use Rattle.radio_core.specs.declared.outcome.Outcome.{Outcome}
-use Rattle.radio_house.specs.CommandFacts.{rows_to_command}
+use Rattle.radio_facts.specs.CommandFacts.{rows_to_command}
 use Rattle.radio_changes.specs.Counts.{counts_by}
 use Rattle.radio_status.specs.Listings.{shown}
 use Rattle.radio_house.specs.World.{World, standing_of}

@@ -22,7 +22,7 @@ use Rattle.radio_events.specs.declared.command.Command.{Command as TheCommand}
 use Rattle.radio_core.specs.Closing.{Closes}
 use Rattle.radio_core.specs.Command.{obeys}
 use Rattle.radio_core.specs.Allowed.{IsCommanded}
-use Rattle.radio_house.specs.CommandFacts.{rows_to_command}
+use Rattle.radio_facts.specs.CommandFacts.{rows_to_command}
 use Rattle.radio_house.specs.Facts.{rows_to_arrive, rows_to_feed, rows_to_raise, rows_to_push, rows_to_listen, walks_to}
 use Rattle.radio_core.specs.Listen.{first_seat}
 use Rattle.radio_house.specs.Streams.{interval_for, head_of}

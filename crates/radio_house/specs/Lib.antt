@@ -7,7 +7,6 @@ pub mod Streams
 pub mod Waiting
 pub mod Wanted
 pub mod Facts
-pub mod CommandFacts
 pub mod Timeouts
 pub mod Due
 pub mod HouseChanges

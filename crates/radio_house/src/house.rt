@@ -1,13 +1,13 @@
 //! All of the server's state but the table of listeners.
 
-ghost use Rattle.std.specs.Prelude.{◌≡◌, find, length, map, IfOk};
+ghost use Rattle.std.specs.Prelude.{◌≡◌, ◌+◌, nat_lt, find, length, map, IfOk};
 ghost use Rattle.std.specs.Cmp.Lexicographic.{slice_cmp};
 ghost use Rattle.std.specs.List.Sorted.{IsStrictlySortedBy};
 ghost use Rattle.std.specs.Option.{option_copied};
 ghost use Rattle.std.specs.Ordering.{nat_cmp};
 ghost use Rattle.radio_parts.specs.Sessions.{Session as SessionOf, session_of};
 ghost use Rattle.radio_parts.specs.Timeouts.{is_silent};
-ghost use Rattle.radio_house.specs.Facts.{live_end, live_number};
+ghost use Rattle.radio_house.specs.Facts.{largest_number, live_end, live_number};
 ghost use Rattle.radio_house.specs.World.{opening};
 
 use crate::OutOfMemory;
@@ -122,6 +122,13 @@ impl House {
         &self.settings
     }
 
+    /// What the files that the settings name hold, and the users who were set or taken away since.
+    pub fn lists(&self) -> &Lists
+        ensures { result.now ≡ self.now.lists }
+    {
+        &self.lists
+    }
+
     /// The number that was given last, to a client or a relay.
     pub fn last_number(&self) -> u64
         ensures { result ≡ self.now.last_id }
@@ -158,6 +165,17 @@ impl House {
             Some(session) => session.stream.end(),
             None => 0,
         }
+    }
+
+    /// Whether the mount's stream would have more bytes than can be counted with so many more.
+    pub fn is_spent_by(&self, mount: &MountName, more: u64) -> bool
+        ensures { result ≡ nat_lt largest_number (live_end self.now mount.now + more) }
+    {
+        // no stream goes further, so that none is looked up before one has nearly 2^64 bytes
+        if self.furthest.checked_add(more).is_some() {
+            return false;
+        }
+        self.live_end(mount).checked_add(more).is_none()
     }
 
     /// The number of the mount's session.

@@ -1,11 +1,11 @@
-//! The house, which is the server's state without its listeners: who is there beside them, what is
-//! looked up in it, and what can be changed in it.
+//! The house, which is the server's state without its listeners: who is there beside them, and what
+//! can be changed in it.
 //!
 //! - [`House`]: the moment, the settings and their lists, the live mounts' sessions, the fallbacks
-//!   that were set, clients and relays. It is looked at by [`House::standing`], `*_facts`,
+//!   that were set, clients and relays. It is looked at by [`House::standing`],
 //!   [`House::sessions`] and others, beside the listeners where these are asked for, and is what a
 //!   walk sees (`View` of `radio_fallback`). Each other call makes one change; [`House::end_outsiders`]
-//!   makes it among the listeners, who are lent.
+//!   makes it among the listeners, who are lent. For the policy it is looked up by `radio_facts`.
 //!   At a mount that a relay feeds on demand listeners may sit while it waits for a session
 //!   ([`House::is_on_demand`], [`House::silence`]).
 //! - [`ClientState`], [`RelayState`], [`Standing`]: what clients and relays do, and how they stand.
@@ -13,13 +13,12 @@
 
 mod changes;
 mod clients;
-mod command_facts;
 mod due;
-mod facts;
 mod fallbacks;
 mod house;
 mod outsiders;
 mod relays;
+mod sight;
 mod standing;
 mod streams;
 mod timeouts;

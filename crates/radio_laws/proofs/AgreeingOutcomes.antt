@@ -32,7 +32,7 @@ use Rattle.radio_house.specs.declared.standing.Standing.{Standing}
 use Rattle.radio_house.specs.declared.standing.Standing.TheVariants.{Unknown, Undecided as IsUndecided, Feeds as IsFeeding, Sits, Answered as IsAnswered, Finished}
 use Rattle.radio_house.specs.Clients.{Client, client_of}
 use Rattle.radio_core.specs.Command.{does_asked}
-use Rattle.radio_house.specs.CommandFacts.{facts_asked, needs_of, sits_at}
+use Rattle.radio_facts.specs.CommandFacts.{facts_asked, needs_of, sits_at}
 use Rattle.radio_core.specs.Draw.{hands_out_at}
 use Rattle.radio_house.specs.Facts.{rows_to_push, rows_to_listen, walks_to}
 use Rattle.radio_core.specs.Listen.{asks_to_hear, sits_where}

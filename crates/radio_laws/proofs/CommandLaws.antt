@@ -22,7 +22,7 @@ use Rattle.radio_changes.specs.declared.change.Change.TheVariants.{Obey}
 use Rattle.radio_house.specs.declared.standing.Standing.TheVariants.{Unknown, Sits, Answered, Finished}
 use Rattle.radio_changes.specs.Changes.{answered, carried_along, changed, session_over}
 use Rattle.radio_core.specs.Allowed.{IsCommanded}
-use Rattle.radio_house.specs.CommandFacts.{opened_by, opens_as_source, is_live, sits_at}
+use Rattle.radio_facts.specs.CommandFacts.{opened_by, opens_as_source, is_live, sits_at}
 use Rattle.radio_policy.specs.declared.rule.Rule.TheVariants.{NoMount, NoDestination, SameMount, NoClient, Killed}
 use Rattle.radio_seats.specs.declared.seat.Seat.{Seat}
 use Rattle.radio_seats.specs.Seats.{seat_in, seat_of, count_at, AreByNumber}

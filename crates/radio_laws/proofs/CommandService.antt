@@ -20,7 +20,7 @@ use Rattle.radio_events.specs.declared.command.Command.{Command as TheCommand}
 use Rattle.radio_events.specs.declared.command.Command.TheVariants.{MoveClients, KillClient, KillSource, SetTitle, SetFallback, AddUser, DeleteUser}
 use Rattle.radio_events.specs.declared.event.Event.TheVariants.{Command}
 use Rattle.radio_core.specs.Command.{said_of}
-use Rattle.radio_house.specs.CommandFacts.{opened_by, opener_in, opens, opens_as_source, is_live, sits_at, needs_of, facts_asked}
+use Rattle.radio_facts.specs.CommandFacts.{opened_by, opener_in, opens, opens_as_source, is_live, sits_at, needs_of, facts_asked}
 use Rattle.radio_changes.specs.Counts.{counts_by}
 use Rattle.radio_fallback.specs.declared.moves.Carried.{Carried}
 use Rattle.radio_events.specs.Texts.{IsShort}

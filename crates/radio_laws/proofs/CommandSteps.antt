@@ -19,7 +19,7 @@ use Rattle.radio_core.specs.Command.{obeys, does_asked, said_of}
 use Rattle.radio_changes.specs.Counts.{counts_by}
 use Rattle.radio_core.specs.Outcomes.{on_verdict, if_undecided}
 use Rattle.radio_core.specs.Step.{outcome, reply_to, world_after}
-use Rattle.radio_house.specs.CommandFacts.{rows_to_command}
+use Rattle.radio_facts.specs.CommandFacts.{rows_to_command}
 use Rattle.radio_house.specs.World.{World, standing_of}
 
 does_so : (w : World) (id : ℕ) (command : TheCommand) (now : Standing) (peer : Peer) (verdict : Verdict) (asked : Asked) → now ≡ Undecided peer → verdict ≡ Allow

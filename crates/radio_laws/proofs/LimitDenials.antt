@@ -21,7 +21,7 @@ use Rattle.radio_core.specs.declared.outcome.Outcome.{Outcome}
 use Rattle.radio_events.specs.declared.reply.Reply.TheVariants.{Arrived, Feeding, Deny}
 use Rattle.radio_house.specs.declared.standing.Standing.{Standing}
 use Rattle.radio_house.specs.declared.standing.Standing.TheVariants.{Unknown, Undecided, Feeds, Sits, Answered, Finished}
-use Rattle.radio_house.specs.CommandFacts.{facts_asked, rows_to_command}
+use Rattle.radio_facts.specs.CommandFacts.{facts_asked, rows_to_command}
 use Rattle.radio_policy.specs.declared.facts.CommandFacts.{CommandFacts}
 use Rattle.radio_house.specs.Facts.{is_full as is_too_many, arrive_facts, source_facts_at, relay_facts_at, rows_to_raise, names_mount}
 use Rattle.radio_laws.specs.Limits.{IsFullAt, AdmitsByLimits}

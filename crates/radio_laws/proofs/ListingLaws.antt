@@ -30,7 +30,7 @@ use Rattle.radio_house.specs.declared.standing.Standing.TheVariants.{Undecided, 
 use Rattle.radio_changes.specs.Changes.{changed}
 use Rattle.radio_core.specs.Command.{does_asked, shows}
 use Rattle.radio_core.specs.Allowed.{IsListed}
-use Rattle.radio_house.specs.CommandFacts.{is_live, facts_asked, rows_to_command}
+use Rattle.radio_facts.specs.CommandFacts.{is_live, facts_asked, rows_to_command}
 use Rattle.radio_changes.specs.Counts.{counts_by}
 use Rattle.radio_status.specs.Listings.{shown}
 use Rattle.radio_core.specs.Pages.{IsShownBy, IsListing, IsAtPath}

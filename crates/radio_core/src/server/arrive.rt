@@ -7,6 +7,7 @@ use crate::outcome::Outcome;
 use radio_addr::Peer;
 use radio_changes::Change;
 use radio_events::Reply;
+use radio_facts::arrive_facts;
 use radio_policy::{Action, Verdict, judge};
 
 impl State {
@@ -14,7 +15,7 @@ impl State {
     pub(super) fn arrive(&self, peer: Peer) -> Outcome
         ensures { result ≡ arrives self.now peer }
     {
-        let facts = self.house().arrive_facts(peer);
+        let facts = arrive_facts(self.house(), peer);
         match judge(&Action::Arrive(facts)) {
             Verdict::Deny(rule) => Outcome {
                 reply: Reply::Deny(rule),

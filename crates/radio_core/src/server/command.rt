@@ -1,6 +1,6 @@
 ghost use Rattle.std.specs.Prelude.{◌≡◌, IfOk};
 ghost use Rattle.radio_core.specs.Command.{gives_command, does_asked, said_of};
-ghost use Rattle.radio_house.specs.CommandFacts.{rows_to_command};
+ghost use Rattle.radio_facts.specs.CommandFacts.{rows_to_command};
 ghost use Rattle.radio_core.specs.Outcomes.{on_verdict};
 ghost use Rattle.radio_changes.specs.Counts.{nobody};
 ghost use Rattle.radio_core.specs.Planned.{uncounted, told_counts};
@@ -12,6 +12,7 @@ use crate::OutOfMemory;
 use crate::outcome::Outcome;
 use radio_changes::Change;
 use radio_events::{Asked, Command, CommandRequest, Reply, Text};
+use radio_facts::command_facts;
 use radio_house::Standing;
 use radio_policy::{Action, Verdict, judge};
 use radio_status::shown;
@@ -40,9 +41,12 @@ impl State {
         ensures { IfOk result (λ o. o ≡ uncounted
             (on_verdict (verdict_in (rows_to_command self.now asked)) (Change.Answer asked.id) (does_asked self.now asked.id asked.asked))) }
     {
-        let facts = self
-            .house()
-            .command_facts(self.seats(), &asked.asked, asked.pair.as_ref());
+        let facts = command_facts(
+            self.house(),
+            self.seats(),
+            &asked.asked,
+            asked.pair.as_ref(),
+        );
         match judge(&Action::Command(facts)) {
             Verdict::Deny(rule) => {
                 let id = asked.id;

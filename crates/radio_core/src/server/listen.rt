@@ -11,6 +11,7 @@ use crate::outcome::Outcome;
 use radio_addr::Peer;
 use radio_changes::Change;
 use radio_events::{ListenRequest, Reply, StreamHead};
+use radio_facts::{listen_facts, mount_named};
 use radio_fallback::Landing;
 use radio_house::Standing;
 use radio_parts::Session;
@@ -52,10 +53,10 @@ impl State {
             _ => return Err(Outcome::stray()),
         };
         let house = self.house();
-        let Some(home) = house.mount_named(asked.mount.as_slice()) else {
+        let Some(home) = mount_named(house, asked.mount.as_slice()) else {
             return Err(Outcome::refused(Rule::BadMount, asked.id));
         };
-        let (facts, landing) = house.listen_facts(self.seats(), &home, asked.pair.as_ref());
+        let (facts, landing) = listen_facts(house, self.seats(), &home, asked.pair.as_ref());
         match judge(&Action::Listen(Some(facts))) {
             Verdict::Deny(rule) => Err(Outcome::refused(rule, asked.id)),
             Verdict::Allow => Ok(Welcome {

@@ -6,6 +6,7 @@ use crate::outcome::Outcome;
 use radio_blocks::Block;
 use radio_changes::Change;
 use radio_events::Reply;
+use radio_facts::push_facts;
 use radio_house::Standing;
 use radio_policy::{Action, Verdict, judge};
 
@@ -19,7 +20,7 @@ impl State {
             Standing::Finished(rule) => return Outcome::finished(rule),
             _ => return Outcome::stray(),
         };
-        let facts = self.house().push_facts(&mount, &block);
+        let facts = push_facts(self.house(), &mount, &block);
         match judge(&Action::Push(facts)) {
             Verdict::Deny(rule) => Outcome::denied(rule),
             Verdict::Allow => Outcome {

@@ -11,6 +11,7 @@ use crate::OutOfMemory;
 use crate::outcome::Outcome;
 use radio_changes::Change;
 use radio_events::Reply;
+use radio_facts::{mount_named, relay_facts};
 use radio_house::Standing;
 use radio_policy::{Action, Rule, Verdict, judge};
 use radio_values::{MountName, Shown};
@@ -33,10 +34,10 @@ impl State {
             (λ rule. verdict_in (rows_to_raise self.now.house mount.now shown.now) ≡ Verdict.Deny rule) }
     {
         let house = self.house();
-        let Some(name) = house.mount_named(mount) else {
+        let Some(name) = mount_named(house, mount) else {
             return Err(Rule::BadMount);
         };
-        let facts = house.relay_facts(&name, shown);
+        let facts = relay_facts(house, &name, shown);
         match judge(&Action::RelayUp(Some(facts))) {
             Verdict::Deny(rule) => Err(rule),
             Verdict::Allow => Ok(name),

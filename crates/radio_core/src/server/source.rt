@@ -10,6 +10,7 @@ use crate::OutOfMemory;
 use crate::outcome::Outcome;
 use radio_changes::Change;
 use radio_events::{Reply, SourceRequest};
+use radio_facts::{mount_named, source_facts};
 use radio_house::Standing;
 use radio_policy::{Action, Rule, Verdict, judge};
 use radio_values::{MountName, Shown};
@@ -52,10 +53,10 @@ impl State {
             _ => return Err(Outcome::stray()),
         }
         let house = self.house();
-        let Some(mount) = house.mount_named(asked.mount.as_slice()) else {
+        let Some(mount) = mount_named(house, asked.mount.as_slice()) else {
             return Err(Outcome::refused(Rule::BadMount, asked.id));
         };
-        let facts = house.source_facts(&mount, asked);
+        let facts = source_facts(house, &mount, asked);
         match judge(&Action::Source(Some(facts))) {
             Verdict::Deny(rule) => Err(Outcome::refused(rule, asked.id)),
             Verdict::Allow => Ok(mount),

@@ -6,7 +6,7 @@ use Rattle.radio_policy.specs.Table.{command_rows}
 use Rattle.radio_policy.specs.Verdicts.{verdict_in}
 use Rattle.radio_events.specs.declared.command.CommandRequest.{CommandRequest}
 use Rattle.radio_changes.specs.declared.change.Change.TheVariants.{Answer}
-use Rattle.radio_house.specs.CommandFacts.{facts_asked, rows_to_command}
+use Rattle.radio_facts.specs.CommandFacts.{facts_asked, rows_to_command}
 use Rattle.radio_house.specs.World.{World, world}
 use Rattle.radio_core.specs.declared.outcome.Outcome.{Outcome}
 use Rattle.radio_core.specs.Command.{does_asked}

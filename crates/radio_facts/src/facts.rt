@@ -1,0 +1,126 @@
+//! What is looked up for who arrives, feeds a mount, delivers a block or wants to hear a mount.
+
+ghost use Rattle.std.specs.Prelude.{◌≡◌, true, false, length, MatchOption};
+ghost use Rattle.std.specs.Option.{option_copied};
+ghost use Rattle.radio_house.specs.Facts.{arrive_facts, source_facts_at, relay_facts_at, push_facts, listen_facts_at, walks_to, is_full, is_in_settings, is_known, names_mount};
+
+use radio_access::{is_refused_type, is_source_pair};
+use radio_addr::Peer;
+use radio_blocks::Block;
+use radio_creds::Pair;
+use radio_events::SourceRequest;
+use radio_fallback::{Landing, Walk, walk_from};
+use radio_house::House;
+use radio_listeners::Seats;
+use radio_policy::{ArriveFacts, ListenFacts, PushFacts, RelayFacts, SourceFacts};
+use radio_settings::Settings;
+use radio_values::{MountName, Shown};
+
+/// The mount that a path names; `None` where it names none, or is one of the web site's.
+pub fn mount_named(house: &House, path: &[u8]) -> Option<MountName>
+    ensures { MatchOption result (names_mount house.now.settings path.now ≡ false)
+        (λ mount. (names_mount house.now.settings path.now ≡ true) × (mount ≡ path.now)) }
+{
+    let mount = MountName::read(path)?;
+    if house.settings().web.has(path) {
+        return None;
+    }
+    Some(mount)
+}
+
+/// What is looked up for a connection that arrives from this address.
+pub fn arrive_facts(house: &House, peer: Peer) -> ArriveFacts
+    ensures { result ≡ arrive_facts house.now peer }
+{
+    let lists = house.lists();
+    ArriveFacts {
+        address_is_denied: lists.is_denied(peer),
+        address_is_allowed: lists.is_allowed(peer),
+        clients_are_full: is_full(house.client_count(), house.settings().limits.clients.get()),
+        number_is_spent: house.last_number() == u64::MAX,
+    }
+}
+
+/// What is looked up for a source that wants to feed the mount.
+pub fn source_facts(house: &House, mount: &MountName, asked: &SourceRequest) -> SourceFacts
+    ensures { result ≡ source_facts_at house.now mount.now asked.now }
+{
+    SourceFacts {
+        is_source_pair: is_source_pair(house.settings(), mount, asked.pair.as_ref()),
+        sources_are_full: sources_are_full(house),
+        mount_is_live: house.session(mount).is_some(),
+        type_is_refused: is_refused_type(asked.shown.content_type.as_bytes()),
+    }
+}
+
+/// What is looked up for a relay that wants to feed the mount, and shows this.
+pub fn relay_facts(house: &House, mount: &MountName, shown: &Shown) -> RelayFacts
+    ensures { result ≡ relay_facts_at house.now mount.now shown.now }
+{
+    RelayFacts {
+        sources_are_full: sources_are_full(house),
+        mount_is_live: house.session(mount).is_some(),
+        type_is_refused: is_refused_type(shown.content_type.as_bytes()),
+        number_is_spent: house.last_number() == u64::MAX,
+    }
+}
+
+/// What is looked up for a source that delivers a block on the mount.
+pub fn push_facts(house: &House, mount: &MountName, block: &Block) -> PushFacts
+    ensures { result ≡ push_facts house.now mount.now block.now }
+{
+    PushFacts {
+        number_is_spent: house.is_spent_by(mount, block.len() as u64),
+    }
+}
+
+/// What is looked up for a listener who sends this pair, or none, and wants to hear the mount,
+/// and where his walk from there ends. A digest is made for each mount with users at which the
+/// walk looks for a seat: two at the most.
+pub fn listen_facts(
+    house: &House,
+    seats: &Seats,
+    mount: &MountName,
+    pair: Option<&Pair>,
+) -> (ListenFacts, Landing)
+    ensures facts { result.0 ≡ listen_facts_at house.now seats.now.seats mount.now (option_copied pair.entry) }
+    ensures landing { result.1 ≡ walks_to house.now seats.now.seats mount.now (option_copied pair.entry) }
+{
+    let Walk { first, landing } = walk_from(house, seats, mount, pair);
+    let facts = ListenFacts {
+        mount_is_known: is_known(house, mount),
+        users_accept: first.users_accept,
+        user_is_twice: first.user_is_twice,
+        walk_stops: landing.stop(),
+    };
+    (facts, landing)
+}
+
+/// Whether the settings know the mount, or it is live.
+fn is_known(house: &House, mount: &MountName) -> bool
+    ensures { result ≡ is_known house.now mount.now }
+{
+    is_in_settings(house.settings(), mount) || house.session(mount).is_some()
+}
+
+/// Whether there are as many sessions as there may be.
+fn sources_are_full(house: &House) -> bool
+    ensures { result ≡ is_full (length house.now.live) house.now.settings.limits.sources }
+{
+    let count = house.sessions().len() as u64;
+    is_full(count, house.settings().limits.sources.get())
+}
+
+/// Whether there are as many as there may be.
+fn is_full(count: u64, limit: u32) -> bool
+    ensures { result ≡ is_full count limit }
+{
+    count >= u64::from(limit)
+}
+
+/// Whether the settings have a table for the mount, or a relay that feeds it.
+fn is_in_settings(settings: &Settings, mount: &MountName) -> bool
+    ensures { result ≡ is_in_settings settings.now mount.now }
+{
+    settings.mounts.get(mount).is_some() || settings.relays.get(mount).is_some()
+}
