@@ -2,7 +2,8 @@
 //!
 //! - [`Line`], [`Gate`]: where a connection's bytes come from and go to, and who is told of writes.
 //! - [`CallCount`], [`History`]: what a line notes for proofs alone.
-//! - [`Conn`]: a connection. [`Conn::admitted`] makes it of an arrival, and [`serve`] serves it, at a moment ([`Now`]).
+//! - [`Conn`]: a connection. [`Conn::admitted`] makes it of an arrival, and [`serve`] serves it, at a moment ([`Now`]),
+//!   with what its worker lends it ([`Workspace`]).
 //! - [`Server`]: whom a connection asks. [`fills_room`]: whether there may be more than it drew.
 //! - [`count_lingering`], [`close_first_lingering`]: those on which nothing more is written.
 #![tactic(auto)]
@@ -15,6 +16,7 @@ mod lingering;
 mod owed;
 mod refusals;
 mod serving;
+mod workspace;
 
 pub use calls::CallCount;
 pub use conn::{Conn, Fate, Status};
@@ -24,7 +26,8 @@ pub use lingering::{close_first_lingering, count_lingering};
 pub use radio_session::Server;
 pub use serving::Now;
 pub use serving::drawing::fills_room;
-pub use serving::moment::{READ_ROOM, serve};
+pub use serving::moment::serve;
+pub use workspace::Workspace;
 
 /// What a call answers where memory was refused.
 pub type OutOfMemory = std::alloc::AllocError;

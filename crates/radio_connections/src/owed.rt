@@ -8,6 +8,10 @@ use radio_events::Reply;
 use radio_session::{OutOfMemory, Session, State};
 use std::alloc::Global;
 use std::marker::Model;
+use std::mem;
+
+/// How many bytes a memory has at most that is kept to be lent again.
+const MOST_KEPT: usize = 16384;
 
 /// Bytes that are still to be written. In contracts they are the list of these bytes.
 pub(crate) struct Owed {
@@ -57,15 +61,37 @@ impl Owed {
         &self.bytes.as_slice()[self.start..]
     }
 
-    /// So many were written. Once all are, their memory is given back.
+    /// So many were written.
     pub(crate) fn take_off(&mut self, count: usize)
         requires { count ≤ length self.old }
         ensures { self.new ≡ drop count self.old }
     {
         self.start += count;
         if self.start == self.bytes.len() {
-            self.bytes = Vec::new(self.alloc);
+            self.bytes.clear();
             self.start = 0;
+        }
+    }
+
+    /// Takes the spare memory for what is told next, where nothing is owed.
+    pub(crate) fn take_memory(&mut self, spare: &mut Vec<u8>)
+        ensures { self.new ≡ self.old }
+    {
+        if self.bytes.is_empty() {
+            spare.clear();
+            mem::swap(&mut self.bytes, spare);
+        }
+    }
+
+    /// Gives its memory back, where nothing is owed: as the spare, unless that would keep too much.
+    pub(crate) fn give_memory_back(&mut self, spare: &mut Vec<u8>)
+        ensures { self.new ≡ self.old }
+    {
+        if self.bytes.is_empty() {
+            let memory = mem::replace(&mut self.bytes, Vec::new(self.alloc));
+            if memory.capacity() <= MOST_KEPT {
+                *spare = memory;
+            }
         }
     }
 

@@ -10,7 +10,7 @@ ghost use Rattle.radio_serving.specs.Admission.{IsAdmission, IsTurnedOff};
 use crate::round::serve_each;
 use crate::{Conn, Gate, Line, OutOfMemory, Server, Turn};
 use radio_addr::Peer;
-use radio_connections::{Now, READ_ROOM};
+use radio_connections::{Now, Workspace};
 use radio_events::Event;
 use radio_notes::Log;
 use std::alloc::Global;
@@ -28,8 +28,7 @@ pub struct Worker<S: Server + Drop> {
     told_ms: u64,
     patience_ms: u64,
     log: Log,
-    /// Where the bytes of a line come first. What it holds between turns says nothing.
-    buffer: [u8; READ_ROOM],
+    workspace: Workspace,
 }
 
 impl<S: Server + Drop> Model for Worker<S> {
@@ -54,7 +53,7 @@ impl<S: Server + Drop> Worker<S> {
             told_ms: 0,
             patience_ms: patience_s as u64 * 1000,
             log: Log::new(alloc),
-            buffer: [0; READ_ROOM],
+            workspace: Workspace::new(alloc),
         }
     }
 
@@ -122,8 +121,8 @@ impl<S: Server + Drop> Worker<S> {
             patience_ms: self.patience_ms,
             news: turn.news,
         };
-        let buffer = &mut self.buffer;
-        serve_each(&mut self.server, conns, buffer, gate, now, &self.log);
+        let workspace = &mut self.workspace;
+        serve_each(&mut self.server, conns, workspace, gate, now, &self.log);
         conns.retain(|conn| conn.stays());
     }
 

@@ -5,7 +5,7 @@ ghost use Rattle.radio_connections.specs.Duties.{IsReadOnce};
 ghost use Rattle.radio_connections.specs.Serving.{IsServed};
 ghost use Rattle.radio_connections.specs.Leaving.{IsEnded, NotesFinish, HasAnswered, is_over};
 
-use crate::serving::moment::READ_ROOM;
+use crate::workspace::READ_ROOM;
 use crate::serving::{LINGER_MS, Now};
 use crate::{Conn, Fate, Line, Received};
 

@@ -8,7 +8,7 @@ ghost use Rattle.radio_connections.specs.Answering.{IsHeardOn};
 
 use crate::serving::Now;
 use crate::serving::answering::answer_all;
-use crate::serving::moment::READ_ROOM;
+use crate::workspace::READ_ROOM;
 use crate::{Conn, Fate, Line, Received, Server};
 use radio_notes::Log;
 

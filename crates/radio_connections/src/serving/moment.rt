@@ -10,25 +10,23 @@ use crate::serving::flushing::{flush, give_up};
 use crate::serving::leaving::leave;
 use crate::serving::lingering::linger;
 use crate::serving::listening::listen;
+use crate::workspace::{READ_ROOM, Workspace};
 use crate::{Conn, Fate, Gate, Line, Server};
 use radio_notes::Log;
-
-/// How many bytes are read from a line in a turn at most.
-pub const READ_ROOM: usize = 16384;
 
 /// Serves a connection: first what it is owed is written. While something is owed, it is neither
 /// read nor drawn for. Of one that is at its end the log is told.
 pub fn serve<S: Server, L: Line, G: Gate>(
     server: &mut S,
     conn: &mut Conn<L>,
-    buffer: &mut [u8; READ_ROOM],
+    workspace: &mut Workspace,
     gate: &G,
     now: Now,
     log: &Log,
 )
     ensures { ServesInTurn S.steps now.ms now.patience_ms now.news server.old conn.old server.new conn.new }
 {
-    write_and_work(server, conn, buffer, gate, now, log);
+    write_and_work(server, conn, workspace, gate, now, log);
     tell_end(conn, now, log);
 }
 
@@ -36,7 +34,7 @@ pub fn serve<S: Server, L: Line, G: Gate>(
 fn write_and_work<S: Server, L: Line, G: Gate>(
     server: &mut S,
     conn: &mut Conn<L>,
-    buffer: &mut [u8; READ_ROOM],
+    workspace: &mut Workspace,
     gate: &G,
     now: Now,
     log: &Log,
@@ -49,9 +47,11 @@ fn write_and_work<S: Server, L: Line, G: Gate>(
         leave(server, conn);
         return;
     }
-    work(server, conn, buffer, now, log);
+    conn.owed.take_memory(&mut workspace.spare);
+    work(server, conn, &mut workspace.buffer, now, log);
     leave(server, conn);
     flush(conn, gate, now);
+    conn.owed.give_memory_back(&mut workspace.spare);
     leave(server, conn);
 }
 

@@ -1,0 +1,30 @@
+//! What a worker lends each connection that he serves.
+
+use std::alloc::Global;
+
+/// How many bytes are read from a line in a turn at most.
+pub(crate) const READ_ROOM: usize = 16384;
+
+/// What a worker lends each connection in its turn: where the bytes of its line come first, and memory for
+/// what it is owed. What stands in either between turns says nothing.
+pub struct Workspace {
+    pub(crate) buffer: [u8; READ_ROOM],
+    pub(crate) spare: Vec<u8>,
+}
+
+impl Drop for Workspace {
+    fn drop(self) {
+        let Workspace { buffer: _, spare } = self;
+        drop(spare);
+    }
+}
+
+impl Workspace {
+    /// It takes no memory but its own; what is lent comes with what connections give back.
+    pub fn new(alloc: Global) -> Workspace {
+        Workspace {
+            buffer: [0; READ_ROOM],
+            spare: Vec::new(alloc),
+        }
+    }
+}
