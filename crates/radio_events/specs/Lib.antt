@@ -2,3 +2,4 @@ pub mod Events
 pub mod Replies
 pub mod Texts
 pub mod Servers
+pub mod Endings

@@ -5,6 +5,7 @@
 //! - [`Boxed`]: a value in an allocation of its own, as a command's request is.
 //! - [`Reply`]: what the server replies; a [`Text`] is its answer to a command, or to one who
 //!   is shown something of the station.
+//! - [`State`], [`Ending`]: whether a connection goes on, and the word by which it ends.
 //! - [`Entry`]: one event with its reply, of which histories are made.
 //! - [`Server`]: whoever applies events.
 //! - [`SharedServer`]: a server that several threads ask, each by a pass of its own.
@@ -21,6 +22,7 @@ mod event;
 mod reply;
 mod server;
 mod shared_server;
+mod state;
 mod text;
 
 pub use boxed::Boxed;
@@ -31,6 +33,7 @@ pub use event::{Event, ListenRequest, SourceRequest};
 pub use reply::{Reply, StreamHead};
 pub use server::Server;
 pub use shared_server::SharedServer;
+pub use state::{Ending, State};
 pub use text::Text;
 
 /// What a call answers where memory was refused. Nothing has changed then.

@@ -5,8 +5,8 @@ use Rattle.radio_events.specs.declared.reply.Reply.{Reply}
 use Rattle.radio_house.specs.World.{World}
 use Rattle.radio_core.specs.Step.{Represents, core_steps, reply_to, world_after}
 use Rattle.radio_session.specs.declared.session.Says.{Says}
-use Rattle.radio_session.specs.declared.state.State.{State}
-use Rattle.radio_session.specs.declared.state.State.TheVariants.{Running, Shut}
+use Rattle.radio_events.specs.declared.state.State.{State}
+use Rattle.radio_events.specs.declared.state.State.TheVariants.{Running, Shut}
 use Rattle.radio_session.specs.Saying.{Said, said}
 use Rattle.radio_session.specs.Exchanges.{Exchange, prefixed, is_leave, LeavesAfter, GoesOn, Exchanges}
 use Rattle.radio_exchanges.specs.Exchanges.{WorldExchange, ExchangesAs, exchanged, left_after, then_exchanged}

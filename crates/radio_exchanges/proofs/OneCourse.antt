@@ -9,8 +9,8 @@ use Rattle.radio_relay.specs.declared.pull.Stage.TheVariants.{Head, Behind, Over
 use Rattle.radio_relay.specs.Cuts.{PullingIsOne}
 use Rattle.radio_relay.specs.Items.{items_of}
 use Rattle.radio_relay.specs.Pulled.{GoesOn, IsPulledAt, Pulled, Standing as AnswerStanding, Stops}
-use Rattle.radio_session.specs.declared.state.State.{State}
-use Rattle.radio_session.specs.declared.state.State.TheVariants.{Running, Shut}
+use Rattle.radio_events.specs.declared.state.State.{State}
+use Rattle.radio_events.specs.declared.state.State.TheVariants.{Running, Shut}
 use Rattle.radio_pull.specs.Pulling.{Pulling, Standing, answered, event_for}
 use Rattle.radio_pull.specs.Course.{Asks, Brings, ComesOf, Follows, GoesDownIfShut, Onwards}
 use Rattle.radio_exchanges.specs.Pulls.{AskingIsOne, GoingDownIsOne, TakingIsOne}

@@ -3,8 +3,8 @@ use Rattle.std.proofs.Common.{◌≡◌, ℕ, List, [], ◌∷◌, ◌++◌, ref
 use Rattle.radio_events.specs.declared.event.Event.{Event}
 use Rattle.radio_house.specs.World.{World}
 use Rattle.radio_core.specs.Step.{reply_to, world_after}
-use Rattle.radio_session.specs.declared.state.State.{State}
-use Rattle.radio_session.specs.declared.state.State.TheVariants.{Running, Shut}
+use Rattle.radio_events.specs.declared.state.State.{State}
+use Rattle.radio_events.specs.declared.state.State.TheVariants.{Running, Shut}
 use Rattle.radio_session.specs.Saying.{Said, said}
 use Rattle.radio_session.specs.Told.{told, while_open}
 use Rattle.radio_exchanges.specs.Exchanges.{WorldExchange, exchanged, replies_to, then_exchanged}

@@ -6,8 +6,8 @@ use Rattle.radio_events.specs.declared.reply.Reply.{Reply}
 use Rattle.radio_house.specs.World.{World}
 use Rattle.radio_core.specs.Step.{Represents, reply_to, world_after}
 use Rattle.radio_session.specs.declared.session.Says.{Says}
-use Rattle.radio_session.specs.declared.state.State.{State}
-use Rattle.radio_session.specs.declared.state.State.TheVariants.{Running, Shut}
+use Rattle.radio_events.specs.declared.state.State.{State}
+use Rattle.radio_events.specs.declared.state.State.TheVariants.{Running, Shut}
 use Rattle.radio_session.specs.Exchanges.{Exchange, ended_with, is_leave, nothing_exchanged, prefixed}
 use Rattle.radio_session.specs.Saying.{Said, said}
 

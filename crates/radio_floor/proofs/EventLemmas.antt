@@ -20,8 +20,8 @@ use Rattle.radio_titles.specs.Limits.{max_title}
 use Rattle.radio_session.specs.declared.session.Hears.{Hears}
 use Rattle.radio_session.specs.declared.session.Hears.TheVariants.{Head, Body, Nothing}
 use Rattle.radio_session.specs.declared.session.Says.{Says}
-use Rattle.radio_session.specs.declared.state.State.{State}
-use Rattle.radio_session.specs.declared.state.State.TheVariants.{Running, Shut}
+use Rattle.radio_events.specs.declared.state.State.{State}
+use Rattle.radio_events.specs.declared.state.State.TheVariants.{Running, Shut}
 use Rattle.radio_session.specs.Conversation.{Conversation}
 use Rattle.radio_exchanges.specs.Exchanges.{WorldExchange, exchanged, then_exchanged}
 use Rattle.radio_session.specs.Exchanges.{is_leave}
@@ -42,7 +42,7 @@ use Rattle.radio_floor.specs.ScriptState.{opening_script, opens, connects, relay
 use Rattle.radio_settings.specs.declared.settings.RelaySetting.{RelaySetting}
 use Rattle.radio_pull.specs.Pulling.{Pulling, event_of}
 use Rattle.radio_relay.specs.Items.{items_of}
-use Rattle.radio_session.specs.declared.state.Ending.TheVariants.{Done}
+use Rattle.radio_events.specs.declared.state.Ending.TheVariants.{Done}
 use Rattle.std.specs.Option.{option_map}
 use Rattle.radio_floor.proofs.PullEventLemmas.{LeadBy, PullLeads, asks_lead, goes_lead, one_more, takes_lead}
 use Rattle.radio_floor.specs.Transcript.{conduct, IsTranscriptOf}

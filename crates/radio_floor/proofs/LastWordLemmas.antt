@@ -4,8 +4,9 @@ use Rattle.radio_events.specs.declared.event.Event.{Event}
 use Rattle.radio_events.specs.declared.reply.Reply.{Reply}
 use Rattle.radio_core.specs.Step.{reply_to, world_after}
 use Rattle.radio_deliveries.specs.TranscriptLines.{answer_lines}
-use Rattle.radio_session.specs.declared.state.State.{State}
-use Rattle.radio_session.specs.Conversation.{Conversation, ending_word}
+use Rattle.radio_events.specs.declared.state.State.{State}
+use Rattle.radio_events.specs.Endings.{ending_word}
+use Rattle.radio_session.specs.Conversation.{Conversation}
 use Rattle.radio_session.specs.Saying.{said}
 use Rattle.radio_exchanges.specs.Exchanges.{WorldExchange, then_exchanged, exchanged}
 use Rattle.radio_session.specs.LastWords.{EndsWith, DenialsNameTheirRule, CommandsAreAnswered, FinishesAreSilent}

@@ -7,9 +7,9 @@ use Rattle.radio_deliveries.specs.declared.delivery.Input.TheVariants.{Data, Roo
 use Rattle.radio_session.specs.Conversation.{Conversation}
 use Rattle.radio_session.specs.Hearing.{Heard}
 use Rattle.radio_session.specs.Laws.{HearingIsOne}
-use Rattle.radio_session.specs.declared.state.State.{State}
-use Rattle.radio_session.specs.declared.state.State.TheVariants.{Shut}
-use Rattle.radio_session.specs.declared.state.Ending.TheVariants.{Done}
+use Rattle.radio_events.specs.declared.state.State.{State}
+use Rattle.radio_events.specs.declared.state.State.TheVariants.{Shut}
+use Rattle.radio_events.specs.declared.state.Ending.TheVariants.{Done}
 use Rattle.radio_house.specs.World.{World}
 use Rattle.radio_events.specs.declared.event.Event.{Event}
 use Rattle.radio_pull.specs.Pulling.{Pulling, Standing}

@@ -12,8 +12,8 @@ use Rattle.radio_house.specs.World.{World}
 use Rattle.radio_relay.specs.declared.items.PullItem.{PullItem}
 use Rattle.radio_relay.specs.declared.items.PullItem.TheVariants.{Up, Sound, Title as Named}
 use Rattle.radio_relay.specs.Pulled.{GoesOn, Standing as AnswerStanding, Stops}
-use Rattle.radio_session.specs.declared.state.State.{State}
-use Rattle.radio_session.specs.declared.state.State.TheVariants.{Running, Shut}
+use Rattle.radio_events.specs.declared.state.State.{State}
+use Rattle.radio_events.specs.declared.state.State.TheVariants.{Running, Shut}
 use Rattle.radio_pull.specs.Pulling.{Pulling, Standing, answered, event_of}
 use Rattle.radio_pull.specs.Course.{Asks, AsksIf, Brings, ComesOf, Follows, GoesDown, GoesDownIfShut, Onwards}
 use Rattle.radio_floor.specs.ScriptEvents.{ComeAbout, MayHave}

@@ -21,9 +21,9 @@ use Rattle.radio_tables.specs.Lists.{update_first, placed}
 use Rattle.std.specs.declared.cmp.Ordering.{Ordering}
 use Rattle.std.specs.Ordering.{nat_cmp}
 use Rattle.radio_core.specs.Step.{Step, reply_to, world_after}
-use Rattle.radio_session.specs.declared.state.State.{State}
-use Rattle.radio_session.specs.declared.state.State.TheVariants.{Running, Shut}
-use Rattle.radio_session.specs.declared.state.Ending.TheVariants.{Done}
+use Rattle.radio_events.specs.declared.state.State.{State}
+use Rattle.radio_events.specs.declared.state.State.TheVariants.{Running, Shut}
+use Rattle.radio_events.specs.declared.state.Ending.TheVariants.{Done}
 use Rattle.radio_deliveries.specs.declared.delivery.Delivery.{Delivery}
 use Rattle.radio_deliveries.specs.declared.delivery.Delivery.TheVariants.{Open, Pull, To, Clock as ClockIs}
 use Rattle.radio_deliveries.specs.declared.delivery.Input.{Input}
@@ -32,7 +32,8 @@ use Rattle.radio_floor.specs.declared.labelled.Labelled.{Labelled}
 use Rattle.radio_floor.specs.declared.labelled.Connection.{Connection}
 use Rattle.radio_floor.specs.declared.labelled.Connection.TheVariants.{Client, Relay}
 use Rattle.radio_deliveries.specs.TranscriptLines.{answer_lines}
-use Rattle.radio_session.specs.Conversation.{asking, Conversation, fresh, saying_now, ending_word}
+use Rattle.radio_events.specs.Endings.{ending_word}
+use Rattle.radio_session.specs.Conversation.{asking, Conversation, fresh, saying_now}
 use Rattle.radio_session.specs.Hearing.{Heard, IsHeard}
 use Rattle.radio_session.specs.Saying.{said}
 use Rattle.radio_exchanges.specs.Exchanges.{exchanged}

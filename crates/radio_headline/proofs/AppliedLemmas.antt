@@ -10,8 +10,8 @@ use Rattle.radio_core.specs.Run.{world_after_all}
 use Rattle.radio_core.specs.Step.{reply_to, world_after}
 use Rattle.radio_house.specs.World.{World}
 use Rattle.radio_session.specs.declared.session.Says.{Says}
-use Rattle.radio_session.specs.declared.state.State.{State}
-use Rattle.radio_session.specs.declared.state.State.TheVariants.{Running, Shut}
+use Rattle.radio_events.specs.declared.state.State.{State}
+use Rattle.radio_events.specs.declared.state.State.TheVariants.{Running, Shut}
 use Rattle.radio_exchanges.specs.Exchanges.{WorldExchange, exchanged, then_exchanged}
 use Rattle.radio_session.specs.Exchanges.{is_leave}
 use Rattle.radio_session.specs.declared.session.Closing.{Closing}

@@ -22,9 +22,9 @@ use Rattle.radio_heads.specs.Head.{ShowsRequest}
 use Rattle.radio_heads.specs.Laws.{IsSettled, HeadsLieWithin}
 use Rattle.radio_source.specs.Place.{Place, after, data_of}
 use Rattle.radio_relay.specs.Request.{request_text}
-use Rattle.radio_session.specs.declared.state.State.{State}
-use Rattle.radio_session.specs.declared.state.State.TheVariants.{Running, Shut}
-use Rattle.radio_session.specs.declared.state.Ending.TheVariants.{Done}
+use Rattle.radio_events.specs.declared.state.State.{State}
+use Rattle.radio_events.specs.declared.state.State.TheVariants.{Running, Shut}
+use Rattle.radio_events.specs.declared.state.Ending.TheVariants.{Done}
 use Rattle.radio_session.specs.Conversation.{Conversation, asking, saying_now}
 use Rattle.radio_exchanges.specs.Exchanges.{exchanged}
 use Rattle.radio_session.specs.Hearing.{Heard}

@@ -9,8 +9,8 @@ use Rattle.radio_house.specs.World.{World}
 use Rattle.radio_heads.specs.Head.{RequestParts}
 use Rattle.radio_session.specs.declared.session.Closing.{Closing}
 use Rattle.radio_session.specs.declared.session.Says.{Says}
-use Rattle.radio_session.specs.declared.state.State.{State}
-use Rattle.radio_session.specs.declared.state.State.TheVariants.{Running, Shut}
+use Rattle.radio_events.specs.declared.state.State.{State}
+use Rattle.radio_events.specs.declared.state.State.TheVariants.{Running, Shut}
 use Rattle.radio_session.specs.Conversation.{asking}
 use Rattle.radio_exchanges.specs.Exchanges.{WorldExchange, exchanged, then_exchanged}
 use Rattle.radio_session.specs.Framing.{greeting_of}

@@ -19,7 +19,7 @@ use Rattle.radio_heads.specs.Reading.{IsReading}
 use Rattle.radio_source.specs.Feeding.{unfed}
 use Rattle.radio_source.specs.Place.{Place, after, data_of, has_ended, fault_at}
 use Rattle.radio_session.specs.declared.session.Hears.TheVariants.{Head, Body, Nothing}
-use Rattle.radio_session.specs.declared.state.State.TheVariants.{Running}
+use Rattle.radio_events.specs.declared.state.State.TheVariants.{Running}
 use Rattle.radio_session.specs.Asking.{asks_to_feed, asks_by_get, asks_to_hear, gives_command, is_for_commands, path_in}
 use Rattle.radio_session.specs.Conversation.{Conversation, asking, saying_now}
 use Rattle.radio_exchanges.specs.Exchanges.{exchanged}

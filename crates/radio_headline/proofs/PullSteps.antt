@@ -27,9 +27,9 @@ use Rattle.radio_relay.specs.declared.items.PullItem.TheVariants.{Up}
 use Rattle.radio_relay.specs.declared.pull.Stage.{Stage}
 use Rattle.radio_relay.specs.declared.pull.Stage.TheVariants.{Head, Behind}
 use Rattle.radio_relay.proofs.CutLemmas.{AfterPieces, HeardInPieces, after-cut}
-use Rattle.radio_session.specs.declared.state.State.{State}
-use Rattle.radio_session.specs.declared.state.State.TheVariants.{Running, Shut}
-use Rattle.radio_session.specs.declared.state.Ending.TheVariants.{BadPull}
+use Rattle.radio_events.specs.declared.state.State.{State}
+use Rattle.radio_events.specs.declared.state.State.TheVariants.{Running, Shut}
+use Rattle.radio_events.specs.declared.state.Ending.TheVariants.{BadPull}
 use Rattle.radio_pull.specs.Pulling.{Pulling}
 use Rattle.radio_pull.specs.Course.{Brings, ComesOf, Takes}
 use Rattle.radio_deliveries.specs.declared.delivery.Input.TheVariants.{Data}

@@ -12,9 +12,9 @@ use Rattle.radio_core.specs.Step.{Step, reply_to, world_after}
 use Rattle.radio_house.specs.World.{World}
 use Rattle.radio_relay.specs.declared.items.PullItem.{PullItem}
 use Rattle.radio_relay.specs.declared.items.PullItem.TheVariants.{Up, Sound, Title as Named}
-use Rattle.radio_session.specs.declared.state.State.{State}
-use Rattle.radio_session.specs.declared.state.State.TheVariants.{Running, Shut}
-use Rattle.radio_session.specs.declared.state.Ending.{Ending}
+use Rattle.radio_events.specs.declared.state.State.{State}
+use Rattle.radio_events.specs.declared.state.State.TheVariants.{Running, Shut}
+use Rattle.radio_events.specs.declared.state.Ending.{Ending}
 use Rattle.radio_pull.specs.Pulling.{Standing, answered, event_of, going_on}
 use Rattle.radio_pull.specs.Course.{Asks, AsksIf, Brings, Follows, GoesDown, GoesDownIfShut}
 use Rattle.radio_headline.specs.Course.{Noted, noting}

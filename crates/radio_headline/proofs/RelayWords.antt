@@ -7,7 +7,7 @@ use Rattle.radio_events.specs.declared.reply.Reply.{Reply}
 use Rattle.radio_events.specs.declared.reply.Reply.TheVariants.{Arrived, Feeding, Seated, Drawn, Noted as WasNoted, Text, Deny, Finished, Stray}
 use Rattle.radio_relay.specs.declared.items.PullItem.{PullItem}
 use Rattle.radio_relay.specs.declared.items.PullItem.TheVariants.{Up, Sound, Title as Named}
-use Rattle.radio_session.specs.declared.state.State.TheVariants.{Running}
+use Rattle.radio_events.specs.declared.state.State.TheVariants.{Running}
 use Rattle.radio_pull.specs.Pulling.{answered}
 use Rattle.radio_headline.proofs.Logs.{Each, Entry}
 use Rattle.radio_headline.proofs.AppliedLemmas.{EachAsked}

@@ -7,9 +7,9 @@ use Rattle.radio_relay.specs.declared.items.PullItem.{PullItem}
 use Rattle.radio_relay.specs.declared.pull.Stage.TheVariants.{Over}
 use Rattle.radio_relay.specs.Items.{items_of}
 use Rattle.radio_relay.specs.Pulled.{GoesOn, IsPulledAt, Pulled, Standing as AnswerStanding, Stops}
-use Rattle.radio_session.specs.declared.state.State.{State}
-use Rattle.radio_session.specs.declared.state.State.TheVariants.{Running, Shut}
-use Rattle.radio_session.specs.declared.state.Ending.TheVariants.{BadPull}
+use Rattle.radio_events.specs.declared.state.State.{State}
+use Rattle.radio_events.specs.declared.state.State.TheVariants.{Running, Shut}
+use Rattle.radio_events.specs.declared.state.Ending.TheVariants.{BadPull}
 use Rattle.radio_events.specs.Servers.{Steps}
 use Rattle.radio_pull.specs.Pulling.{Pulling, Standing, answered, event_for, going_on}
 

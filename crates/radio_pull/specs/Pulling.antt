@@ -8,10 +8,10 @@ use Rattle.radio_relay.specs.declared.items.PullItem.{PullItem}
 use Rattle.radio_relay.specs.declared.items.PullItem.TheVariants.{Up, Sound, Title as TitleItem}
 use Rattle.radio_relay.specs.declared.pull.Stage.{Stage}
 use Rattle.radio_relay.specs.declared.pull.Stage.TheVariants.{Head}
-use Rattle.radio_session.specs.declared.state.State.{State}
-use Rattle.radio_session.specs.declared.state.State.TheVariants.{Running, Shut}
-use Rattle.radio_session.specs.declared.state.Ending.{Ending}
-use Rattle.radio_session.specs.declared.state.Ending.TheVariants.{By}
+use Rattle.radio_events.specs.declared.state.State.{State}
+use Rattle.radio_events.specs.declared.state.State.TheVariants.{Running, Shut}
+use Rattle.radio_events.specs.declared.state.Ending.{Ending}
+use Rattle.radio_events.specs.declared.state.Ending.TheVariants.{By}
 
 -- the local mount of the relay, the number under which it feeds that once it is up, and how far the master's answer has come
 pub record Pulling : Type 0 where

@@ -2,8 +2,8 @@
 
 ghost use Rattle.std.specs.Prelude.{◌≡◌, ◌≢◌, IfOk, OnOk};
 ghost use Rattle.radio_relay.specs.declared.fault.PullFault.TheVariants.{OutOfMemory as NoMemory};
-ghost use Rattle.radio_session.specs.declared.state.State.TheVariants.{Shut};
-ghost use Rattle.radio_session.specs.declared.state.Ending.TheVariants.{BadPull};
+ghost use Rattle.radio_events.specs.declared.state.State.TheVariants.{Shut};
+ghost use Rattle.radio_events.specs.declared.state.Ending.TheVariants.{BadPull};
 ghost use Rattle.radio_pull.specs.Pulling.{Standing};
 ghost use Rattle.radio_pull.specs.Course.{Asks, AsksIf, Brings, GoesDown, Takes};
 

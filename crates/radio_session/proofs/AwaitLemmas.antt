@@ -8,8 +8,8 @@ use Rattle.radio_session.specs.declared.session.Says.{Says}
 use Rattle.radio_session.specs.declared.session.Closing.{Closing}
 use Rattle.radio_session.specs.declared.session.LastWord.{LastWord}
 use Rattle.radio_session.specs.declared.session.LastWord.TheVariants.{Complete}
-use Rattle.radio_session.specs.declared.state.State.{State}
-use Rattle.radio_session.specs.declared.state.State.TheVariants.{Running, Shut}
+use Rattle.radio_events.specs.declared.state.State.{State}
+use Rattle.radio_events.specs.declared.state.State.TheVariants.{Running, Shut}
 use Rattle.radio_session.specs.Saying.{Said, said}
 use Rattle.radio_events.specs.Servers.{Steps}
 use Rattle.radio_session.specs.Exchanges.{Exchange, nothing_exchanged, prefixed, ended_with, GoesOn, Exchanges}

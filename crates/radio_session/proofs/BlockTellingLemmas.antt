@@ -10,9 +10,9 @@ use Rattle.radio_events.specs.declared.event.Event.TheVariants.{Push, SourceEnd}
 use Rattle.radio_events.specs.declared.reply.Reply.{Reply}
 use Rattle.radio_session.specs.declared.session.LastWord.{LastWord}
 use Rattle.radio_session.specs.declared.session.Says.{Says}
-use Rattle.radio_session.specs.declared.state.State.{State}
-use Rattle.radio_session.specs.declared.state.State.TheVariants.{Running, Shut}
-use Rattle.radio_session.specs.declared.state.Ending.{Ending}
+use Rattle.radio_events.specs.declared.state.State.{State}
+use Rattle.radio_events.specs.declared.state.State.TheVariants.{Running, Shut}
+use Rattle.radio_events.specs.declared.state.Ending.{Ending}
 use Rattle.radio_session.specs.Saying.{said}
 use Rattle.radio_events.specs.Servers.{Steps}
 use Rattle.radio_session.specs.Exchanges.{Exchange, prefixed, GoesOn, Exchanges}

@@ -9,10 +9,10 @@ use Rattle.radio_events.specs.declared.reply.Reply.{Reply}
 use Rattle.radio_events.specs.declared.reply.Reply.TheVariants.{Arrived, Feeding, Seated, Drawn, Noted, Text, Deny, Finished, Stray}
 use Rattle.radio_events.specs.Replies.{IsQuiet, EndsByRule}
 use Rattle.radio_session.specs.declared.session.Says.{Says}
-use Rattle.radio_session.specs.declared.state.State.{State}
-use Rattle.radio_session.specs.declared.state.State.TheVariants.{Running, Shut}
-use Rattle.radio_session.specs.declared.state.Ending.{Ending}
-use Rattle.radio_session.specs.declared.state.Ending.TheVariants.{By}
+use Rattle.radio_events.specs.declared.state.State.{State}
+use Rattle.radio_events.specs.declared.state.State.TheVariants.{Running, Shut}
+use Rattle.radio_events.specs.declared.state.Ending.{Ending}
+use Rattle.radio_events.specs.declared.state.Ending.TheVariants.{By}
 use Rattle.radio_session.specs.Saying.{Said, said, tells}
 use Rattle.radio_events.specs.Servers.{Steps}
 use Rattle.radio_session.specs.Exchanges.{Exchange, nothing_exchanged, GoesOn, Exchanges}

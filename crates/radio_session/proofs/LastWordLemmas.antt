@@ -11,7 +11,7 @@ use Rattle.radio_session.specs.declared.session.LastWord.{LastWord}
 use Rattle.radio_session.specs.declared.session.LastWord.TheVariants.{Refusal, Complete, Faulty}
 use Rattle.radio_session.specs.declared.session.Greeting.{Greeting}
 use Rattle.radio_session.specs.declared.session.Greeting.TheVariants.{Welcome, Continue}
-use Rattle.radio_session.specs.declared.state.Ending.TheVariants.{By, Done, BadBody}
+use Rattle.radio_events.specs.declared.state.Ending.TheVariants.{By, Done, BadBody}
 use Rattle.radio_session.specs.Saying.{denial, denial_with, body_text, noted, text_answer}
 use Rattle.radio_session.specs.LastWords.{EndsWith, IsAbout, DenialsNameTheirRule, RulesWithoutStatusAreSilent, LateDenialsAreSilent}
 use Rattle.radio_session.specs.LastWords.{FinishesAreSilent, CommandsAreAnswered, RefusalsNameTheirRule, WholeBodiesAreDone, FaultyBodiesAreSilent}

@@ -21,8 +21,8 @@ use Rattle.radio_session.specs.declared.session.Hears.TheVariants.{Head, Body, N
 use Rattle.radio_session.specs.declared.session.LastWord.{LastWord}
 use Rattle.radio_session.specs.declared.session.Says.{Says}
 use Rattle.radio_session.specs.declared.session.framing.Framing.{Framing}
-use Rattle.radio_session.specs.declared.state.State.{State}
-use Rattle.radio_session.specs.declared.state.State.TheVariants.{Running, Shut}
+use Rattle.radio_events.specs.declared.state.State.{State}
+use Rattle.radio_events.specs.declared.state.State.TheVariants.{Running, Shut}
 use Rattle.radio_session.specs.Framing.{is_source, framing_of, start_of}
 use Rattle.radio_source.specs.Place.{Place, after, data_of}
 use Rattle.radio_source.specs.Feeding.{unfed}

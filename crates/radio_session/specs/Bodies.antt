@@ -10,7 +10,8 @@ use Rattle.radio_session.specs.declared.session.framing.Framing.TheVariants.{Pla
 use Rattle.radio_session.specs.Asking.{asks_to_feed}
 use Rattle.radio_source.specs.Place.{Broken, after, chunked_start}
 use Rattle.radio_session.specs.declared.session.LastWord.{LastWord}
-use Rattle.radio_session.specs.Conversation.{Conversation, ending_word}
+use Rattle.radio_events.specs.Endings.{ending_word}
+use Rattle.radio_session.specs.Conversation.{Conversation}
 use Rattle.radio_session.specs.Framing.{is_source, framing_of}
 use Rattle.radio_session.specs.Hearing.{Heard, request_heard}
 use Rattle.radio_session.specs.Saying.{last_ending}

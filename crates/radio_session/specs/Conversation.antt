@@ -1,14 +1,11 @@
 -- One connection's conversation with the server.
-use Rattle.std.specs.Prelude.{◌≡◌, ℕ, Bool, false, List, [], None, codes}
-use Rattle.radio_policy.specs.Words.{word_of}
+use Rattle.std.specs.Prelude.{◌≡◌, ℕ, Bool, false, List, [], None}
 use Rattle.radio_addr.specs.declared.peer.Peer.{Peer}
 use Rattle.radio_source.specs.Feeding.{unfed}
 use Rattle.radio_session.specs.declared.session.Hears.{Hears}
 use Rattle.radio_session.specs.declared.session.Hears.TheVariants.{Head, Body, Nothing}
 use Rattle.radio_session.specs.declared.session.Says.{Says}
 use Rattle.radio_session.specs.declared.session.Greeting.TheVariants.{Welcome}
-use Rattle.radio_session.specs.declared.state.Ending.{Ending}
-use Rattle.radio_session.specs.declared.state.Ending.TheVariants.{Done, By, BadBody, BadPull}
 
 -- the number of its client and its peer, the bytes of an unfinished head, how it goes on in both directions, and whether a call was refused for want of memory
 pub record Conversation : Type 0 where
@@ -36,10 +33,3 @@ fresh id peer = record { id = id; peer = peer; held = []; hears = Head; says = a
 -- how replies are told from now on
 abbrev pub saying_now : Conversation → Says → Conversation
 saying_now conversation says = record conversation { says = says }
-
--- the word for an ending in a transcript
-abbrev pub ending_word : Ending → List ℕ
-ending_word Done = codes "done"
-ending_word (By rule) = word_of rule
-ending_word BadBody = codes "bad-body"
-ending_word BadPull = codes "bad-pull"

@@ -5,9 +5,9 @@ use Rattle.radio_events.specs.declared.event.Event.TheVariants.{Leave}
 use Rattle.radio_events.specs.declared.reply.Reply.{Reply}
 use Rattle.radio_events.specs.Servers.{Steps}
 use Rattle.radio_session.specs.declared.session.Says.{Says}
-use Rattle.radio_session.specs.declared.state.State.{State}
-use Rattle.radio_session.specs.declared.state.State.TheVariants.{Running, Shut}
-use Rattle.radio_session.specs.declared.state.Ending.{Ending}
+use Rattle.radio_events.specs.declared.state.State.{State}
+use Rattle.radio_events.specs.declared.state.State.TheVariants.{Running, Shut}
+use Rattle.radio_events.specs.declared.state.Ending.{Ending}
 use Rattle.radio_session.specs.Saying.{Said, said}
 
 -- the bytes that went out, how replies are told from then on, and whether the connection goes on

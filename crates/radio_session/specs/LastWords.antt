@@ -10,9 +10,9 @@ use Rattle.radio_session.specs.declared.session.Says.{Says}
 use Rattle.radio_session.specs.declared.session.LastWord.{LastWord}
 use Rattle.radio_session.specs.declared.session.LastWord.TheVariants.{Refusal, Complete, Faulty}
 use Rattle.radio_session.specs.declared.session.Greeting.TheVariants.{Welcome, Continue}
-use Rattle.radio_session.specs.declared.state.State.TheVariants.{Shut}
-use Rattle.radio_session.specs.declared.state.Ending.{Ending}
-use Rattle.radio_session.specs.Conversation.{ending_word}
+use Rattle.radio_events.specs.declared.state.State.TheVariants.{Shut}
+use Rattle.radio_events.specs.declared.state.Ending.{Ending}
+use Rattle.radio_events.specs.Endings.{ending_word}
 use Rattle.radio_session.specs.Saying.{Said, said, text_answer}
 
 -- these bytes are told, and the connection is shut with this word

@@ -8,8 +8,7 @@ ghost use Rattle.radio_session.specs.Conversation.{saying_now};
 
 use crate::OutOfMemory;
 use crate::session::Session;
-use crate::state::State;
-use radio_events::{Event, Reply, Server};
+use radio_events::{Event, Reply, Server, State};
 
 /// Applies the events of the connection's client, one after another, and tells each reply behind the
 /// bytes of `out`. Where the connection ends, the others are not applied, and the client leaves. It

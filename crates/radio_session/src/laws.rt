@@ -1,8 +1,8 @@
 //! Laws on sessions, which run no code.
 
 ghost use Rattle.std.specs.Prelude.{◌≡◌, codes};
-ghost use Rattle.radio_session.specs.Conversation.{ending_word};
-ghost use Rattle.radio_session.specs.declared.state.Ending.TheVariants.{Done};
+ghost use Rattle.radio_events.specs.Endings.{ending_word};
+ghost use Rattle.radio_events.specs.declared.state.Ending.TheVariants.{Done};
 ghost use Rattle.radio_session.specs.LastWords.{DenialsNameTheirRule, RulesWithoutStatusAreSilent, LateDenialsAreSilent, FinishesAreSilent, CommandsAreAnswered};
 ghost use Rattle.radio_session.specs.LastWords.{RefusalsNameTheirRule, WholeBodiesAreDone, FaultyBodiesAreSilent};
 ghost use Rattle.radio_session.specs.Bodies.{PlainBodiesAreHeard, SizedBodiesAreHeard, ChunkedBodiesAreHeard, FaultyBodiesAreHeard};

@@ -3,7 +3,6 @@
 //!
 //! - [`Session`]: the connection. [`Session::take`] is given what comes, and answers the events that
 //!   it means; [`Session::give`] is given the reply to each, and tells it.
-//! - [`State`], [`Ending`]: whether the connection goes on, and the word by which it ends.
 //! - [`exchange`]: the events of a connection, applied one after another by whoever [`Server`]
 //!   them, each reply told, up to the end of the connection.
 //! - Laws, which run no code: [`bodies_are_heard_as_their_data`], [`cuts_do_not_matter`],
@@ -15,7 +14,6 @@
 mod exchanging;
 mod laws;
 mod session;
-mod state;
 
 pub use exchanging::exchange;
 pub use laws::{
@@ -23,9 +21,8 @@ pub use laws::{
     last_words_name_the_rule, listeners_are_told_what_they_draw, only_refused_calls_fail,
     who_waits_is_told_to_go_on,
 };
-pub use radio_events::Server;
+pub use radio_events::{Ending, Server, State};
 pub use session::Session;
-pub use state::{Ending, State};
 
 /// What a call answers where memory was refused.
 pub type OutOfMemory = std::alloc::AllocError;

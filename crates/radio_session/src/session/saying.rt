@@ -5,15 +5,14 @@ ghost use Rattle.radio_session.specs.Conversation.{saying_now};
 ghost use Rattle.radio_session.specs.Saying.{said, texted, denied, noted, counted, one_less, admitted, seated, drew, last_text, last_ending, greeting_text, text_answer, head_text, denial};
 ghost use Rattle.radio_session.specs.Draws.{draw, drawn, weaver_at};
 ghost use Rattle.radio_titles.specs.Limits.{max_title};
-ghost use Rattle.radio_session.specs.declared.state.State.TheVariants.{Running, Shut};
+ghost use Rattle.radio_events.specs.declared.state.State.TheVariants.{Running, Shut};
 
 use crate::OutOfMemory;
 use crate::session::answers::tell_answer;
 use crate::session::weaving::{interval_told, tell_draw, text_of, weaver_at};
 use crate::session::{Closing, Greeting, LastWord, Session};
-use crate::state::{Ending, State};
 use radio_blocks::Pieces;
-use radio_events::{Reply, StreamHead, Text};
+use radio_events::{Ending, Reply, State, StreamHead, Text};
 use radio_heads::{
     Answer, FieldValue, TextKind, WebAnswer, Welcome, write_answer, write_web_answer,
 };

@@ -3,8 +3,8 @@ use Rattle.std.proofs.lemmas.Result.{IfOk-weaker}
 use Rattle.radio_relay.specs.declared.fault.PullFault.TheVariants.{OutOfMemory}
 use Rattle.radio_relay.specs.declared.pull.Stage.{Stage}
 use Rattle.radio_relay.specs.Pulled.{stops}
-use Rattle.radio_session.specs.declared.state.State.TheVariants.{Shut}
-use Rattle.radio_session.specs.declared.state.Ending.TheVariants.{BadPull}
+use Rattle.radio_events.specs.declared.state.State.TheVariants.{Shut}
+use Rattle.radio_events.specs.declared.state.Ending.TheVariants.{BadPull}
 use Rattle.radio_pull.specs.Pulling.{Pulling}
 use Rattle.radio_pull.specs.Course.{GoesDown, Takes}
 use Rattle.radio_pull.proofs.conversing.take.Goals as goal

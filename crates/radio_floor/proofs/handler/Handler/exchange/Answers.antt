@@ -1,5 +1,5 @@
 use Rattle.std.proofs.Common.{◌≡◌, ◌++◌, List, ℕ, Some, sym, ap, ◌∙◌}
-use Rattle.radio_session.specs.declared.state.State.{State}
+use Rattle.radio_events.specs.declared.state.State.{State}
 use Rattle.radio_session.specs.Conversation.{Conversation, saying_now}
 use Rattle.radio_exchanges.specs.Exchanges.{exchanged}
 use Rattle.radio_session.specs.Exchanges.{Exchange}

@@ -1,7 +1,7 @@
 //! Whether a connection goes on, and how it ends.
 
 ghost use Rattle.std.specs.Prelude.{◌≡◌};
-ghost use Rattle.radio_session.specs.Conversation.{ending_word};
+ghost use Rattle.radio_events.specs.Endings.{ending_word};
 
 use radio_policy::Rule;
 
