@@ -10,7 +10,7 @@ use Rattle.radio_book.specs.Stamp.{Stamp}
 use Rattle.radio_book.specs.History.{entry_of, IsLegal}
 use Rattle.radio_book.specs.Wanted.{AreWanted}
 use Rattle.radio_book.specs.LastMounts.{WasAt}
-use Rattle.radio_house.specs.Wanted.{wanted}
+use Rattle.radio_facts.specs.Wanted.{wanted}
 use Rattle.radio_seats.specs.Seats.{last_mount_of}
 
 -- the run of the entries that are stored

@@ -1,6 +1,6 @@
 -- Mounts that are wanted, by a history.
 use Rattle.std.specs.Prelude.{◌≡◌, ℕ, List}
-use Rattle.radio_house.specs.Wanted.{wanted}
+use Rattle.radio_facts.specs.Wanted.{wanted}
 use Rattle.radio_house.specs.World.{World}
 use Rattle.radio_events.specs.declared.entry.Entry.{Entry}
 use Rattle.radio_chronicle.specs.History.{IsRun, world_of}

@@ -9,7 +9,7 @@ ghost use Rattle.radio_book.specs.History.{IsLegal, entry_of};
 ghost use Rattle.radio_book.specs.Wanted.{AreWanted};
 ghost use Rattle.radio_book.specs.LastMounts.{WasAt};
 ghost use Rattle.radio_seats.specs.Seats.{last_mount_of};
-ghost use Rattle.radio_house.specs.Wanted.{wanted};
+ghost use Rattle.radio_facts.specs.Wanted.{wanted};
 ghost use Rattle.radio_book.specs.Newcomers.{is_here, leaver_of};
 ghost use Rattle.radio_book.specs.declared.newcomer.Newcomer.{Newcomer};
 

@@ -52,7 +52,7 @@ use Rattle.radio_fallback.specs.declared.walking.Landing.TheVariants.{Lands, Sto
 use Rattle.radio_house.specs.Facts.{largest_number, is_full, is_in_settings, sight_of, walks_to, source_facts, relay_facts, listen_facts, names_mount}
 use Rattle.radio_parts.specs.Kept.{kept_session}
 use Rattle.radio_core.specs.Kept.{kept_of}
-use Rattle.radio_house.specs.Streams.{burst_of, head_of, interval_for}
+use Rattle.radio_facts.specs.Streams.{burst_of, head_of, interval_for}
 use Rattle.radio_core.specs.Listen.{first_seat, takes_seat, sits_where}
 use Rattle.radio_core.specs.Outcomes.{says, on_verdict, if_undecided, if_feeding, if_sitting}
 use Rattle.radio_core.specs.Push.{takes_in}

@@ -39,7 +39,7 @@ use Rattle.radio_house.specs.HouseChanges.{begun, raised, received}
 use Rattle.radio_changes.specs.Changes.{before_silence, session_silenced, silent_in, ticked}
 use Rattle.radio_house.specs.Facts.{live_end, sight_of}
 use Rattle.radio_core.specs.Lagging.{EachSeat}
-use Rattle.radio_house.specs.Streams.{burst_of}
+use Rattle.radio_facts.specs.Streams.{burst_of}
 use Rattle.radio_core.specs.Listen.{first_seat}
 use Rattle.radio_parts.specs.Sessions.{Session, session_of, opened, with_session, longer, with_title}
 use Rattle.radio_house.specs.Streams.{shown_for}

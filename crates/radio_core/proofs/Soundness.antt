@@ -13,7 +13,7 @@ use Rattle.radio_house.specs.House.{House}
 use Rattle.radio_house.specs.World.{World, standing_of}
 use Rattle.radio_changes.specs.Changes.{changed}
 use Rattle.radio_core.specs.Listen.{first_seat}
-use Rattle.radio_house.specs.Streams.{burst_of}
+use Rattle.radio_facts.specs.Streams.{burst_of}
 use Rattle.radio_seats.specs.Seats.{seat_of, seat_in, without_listener, AreByNumber}
 use Rattle.radio_parts.specs.Sessions.{Session, session_of, AreApart}
 use Rattle.radio_core.specs.Sound.{IsSeatedIn, IsSound}

@@ -34,7 +34,7 @@ use Rattle.radio_core.proofs.PlannedLemmas.{planned_so, completed_so}
 use Rattle.radio_core.proofs.SoundRuns.{sound_after, sound_opening}
 use Rattle.radio_seats.specs.declared.seat.Seat.{Seat}
 use Rattle.radio_seats.specs.Seats.{seat_of, last_mount_of}
-use Rattle.radio_house.specs.Wanted.{wanted}
+use Rattle.radio_facts.specs.Wanted.{wanted}
 
 -- its reply has no text, and its change needs no memory
 abbrev pub IsSmall : Outcome → Type 0

@@ -13,7 +13,7 @@ use Rattle.radio_house.specs.World.{World, standing_of}
 use Rattle.radio_fallback.specs.declared.walking.Landing.{Landing}
 use Rattle.radio_fallback.specs.declared.walking.Landing.TheVariants.{Lands, Stops}
 use Rattle.radio_house.specs.Facts.{rows_to_listen, walks_to}
-use Rattle.radio_house.specs.Streams.{burst_of, head_of, interval_for}
+use Rattle.radio_facts.specs.Streams.{burst_of, head_of, interval_for}
 use Rattle.radio_core.specs.Outcomes.{says, on_verdict, if_undecided}
 use Rattle.radio_house.specs.Waiting.{heard_at}
 

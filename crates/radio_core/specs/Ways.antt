@@ -25,7 +25,7 @@ use Rattle.radio_core.specs.Allowed.{IsCommanded}
 use Rattle.radio_facts.specs.CommandFacts.{rows_to_command}
 use Rattle.radio_house.specs.Facts.{rows_to_arrive, rows_to_feed, rows_to_raise, rows_to_push, rows_to_listen, walks_to}
 use Rattle.radio_core.specs.Listen.{first_seat}
-use Rattle.radio_house.specs.Streams.{interval_for, head_of}
+use Rattle.radio_facts.specs.Streams.{interval_for, head_of}
 use Rattle.radio_core.specs.Pages.{IsShownBy}
 use Rattle.radio_events.specs.declared.text.Text.{Text}
 use Rattle.radio_core.specs.Outcomes.{says}

@@ -5,7 +5,7 @@ ghost use Rattle.std.specs.Prelude.{◌≡◌, [], ◌∷◌, IsOk, IfOk, OnOk, 
 ghost use Rattle.radio_events.specs.declared.reply.Reply.{Reply as ReplyOf};
 ghost use Rattle.std.specs.Option.{option_copied};
 ghost use Rattle.radio_seats.specs.Seats.{last_mount_of};
-ghost use Rattle.radio_house.specs.Wanted.{wanted};
+ghost use Rattle.radio_facts.specs.Wanted.{wanted};
 ghost use Rattle.radio_house.specs.World.{World, opening};
 ghost use Rattle.radio_events.specs.Replies.{HoldsNoText};
 ghost use Rattle.radio_core.specs.Step.{Step, Represents, StandsForSome};

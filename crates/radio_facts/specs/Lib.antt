@@ -1,1 +1,3 @@
 pub mod CommandFacts
+pub mod Streams
+pub mod Wanted

@@ -5,7 +5,6 @@ pub mod House
 pub mod World
 pub mod Streams
 pub mod Waiting
-pub mod Wanted
 pub mod Facts
 pub mod Timeouts
 pub mod Due

@@ -1,8 +1,7 @@
--- What the settings make of a stream, and of a listener's.
-use Rattle.std.specs.Prelude.{ℕ, min, Bool, if◌then◌else◌, List, Option, Some, None, unwrap_or}
+-- What the settings make of a stream.
+use Rattle.std.specs.Prelude.{ℕ, List, unwrap_or}
 use Rattle.radio_values.specs.declared.field.Shown.{Shown}
 use Rattle.radio_settings.specs.Options.{options_for}
-use Rattle.radio_events.specs.declared.reply.StreamHead.{StreamHead}
 use Rattle.radio_house.specs.House.{House}
 
 -- what a stream on the mount shows: the name and the genre that the settings give it, else its own
@@ -10,15 +9,3 @@ abbrev pub shown_for : House → List ℕ → Shown → Shown
 shown_for house mount shown =
     let stream = (options_for house.settings mount).stream in
     record shown { name = unwrap_or stream.stream_name shown.name; genre = unwrap_or stream.genre shown.genre }
-
--- what the head of a stream says that shows this
-abbrev pub head_of : House → Shown → StreamHead
-head_of house shown = record { shown = shown; allow_origin = house.settings.web.allow_origin }
-
--- how many bytes a new listener of the mount may be sent at once
-abbrev pub burst_of : House → List ℕ → ℕ
-burst_of house mount = min (options_for house.settings mount).stream.burst_size house.settings.limits.queue_size
-
--- after how many bytes a listener of the mount is sent a metadata block, if he asked for metadata
-abbrev pub interval_for : House → List ℕ → Bool → Option ℕ
-interval_for house mount wants_metadata = (if wants_metadata then Some (options_for house.settings mount).stream.mp3_metadata_interval else None)

@@ -5,9 +5,10 @@
 //!   that were set, clients and relays. It is looked at by [`House::standing`],
 //!   [`House::sessions`] and others, beside the listeners where these are asked for, and is what a
 //!   walk sees (`View` of `radio_fallback`). Each other call makes one change; [`House::end_outsiders`]
-//!   makes it among the listeners, who are lent. For the policy it is looked up by `radio_facts`.
+//!   makes it among the listeners, who are lent. What else is looked up in it, for the policy among
+//!   others, is `radio_facts`'.
 //!   At a mount that a relay feeds on demand listeners may sit while it waits for a session
-//!   ([`House::is_on_demand`], [`House::silence`]).
+//!   ([`House::is_on_demand`], [`House::can_be_heard`]).
 //! - [`ClientState`], [`RelayState`], [`Standing`]: what clients and relays do, and how they stand.
 #![tactic(auto)]
 
@@ -20,7 +21,6 @@ mod outsiders;
 mod relays;
 mod sight;
 mod standing;
-mod streams;
 mod timeouts;
 mod waiting;
 

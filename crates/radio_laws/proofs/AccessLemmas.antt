@@ -15,7 +15,7 @@ use Rattle.radio_changes.specs.Changes.{changed}
 use Rattle.radio_house.specs.House.{House}
 use Rattle.radio_settings.specs.Options.{options_for}
 use Rattle.radio_core.specs.Listen.{first_seat}
-use Rattle.radio_house.specs.Streams.{burst_of, interval_for}
+use Rattle.radio_facts.specs.Streams.{burst_of, interval_for}
 use Rattle.radio_seats.specs.Seats.{seat_of, seat_in}
 use Rattle.radio_parts.specs.Sessions.{Session}
 use Rattle.radio_parts.specs.Stream.{AreRising, WholeStream, end_of, burst_start}

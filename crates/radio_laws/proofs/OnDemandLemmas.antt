@@ -22,7 +22,7 @@ use Rattle.radio_seats.specs.declared.seat.Seating.TheVariants.{Sits, Finished}
 use Rattle.radio_seats.specs.Seats.{is_seat_at, seats_at, count_at}
 use Rattle.radio_house.specs.House.{House}
 use Rattle.radio_house.specs.Waiting.{feeds_on_demand, is_on_demand, heard_at}
-use Rattle.radio_house.specs.Wanted.{is_wanted, with_wanted, wanted}
+use Rattle.radio_facts.specs.Wanted.{is_wanted, with_wanted, wanted}
 use Rattle.radio_house.specs.World.{World}
 use Rattle.radio_house.proofs.WaitingLemmas.{first_or_other}
 use Rattle.radio_laws.specs.OnDemand.{IsFedOnDemand, WaitsOnDemand, IsSatAt, WantedAreSatAt}

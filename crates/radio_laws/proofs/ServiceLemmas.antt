@@ -33,7 +33,7 @@ use Rattle.radio_house.specs.Streams.{shown_for}
 use Rattle.radio_core.specs.Source.{begins}
 use Rattle.radio_core.specs.Push.{takes_in}
 use Rattle.radio_core.specs.Listen.{first_seat, takes_seat, sits_where}
-use Rattle.radio_house.specs.Streams.{head_of}
+use Rattle.radio_facts.specs.Streams.{head_of}
 use Rattle.radio_core.specs.Draw.{hands_out, hands_out_at}
 use Rattle.radio_seats.specs.Seats.{seat_of}
 use Rattle.radio_laws.specs.Service.{IsTakenIn, IsHanded, Serves, ChangesNothing}

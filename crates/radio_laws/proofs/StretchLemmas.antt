@@ -37,7 +37,7 @@ use Rattle.radio_core.proofs.SeatSteps.{seats_step}
 use Rattle.radio_parts.proofs.RisingLemmas.{burst_within}
 use Rattle.radio_core.specs.Finishes.{Finishes}
 use Rattle.radio_core.specs.Listen.{first_seat}
-use Rattle.radio_house.specs.Streams.{burst_of}
+use Rattle.radio_facts.specs.Streams.{burst_of}
 use Rattle.radio_core.specs.SeatSteps.{SeatStep, Stays, IsHanded, SitsDown, IsMoved, Leaves as HeLeaves, IsEnded as HeIsEnded, IsGiven}
 use Rattle.radio_policy.specs.declared.rule.Rule.{Rule}
 use Rattle.radio_core.proofs.SoundSessions.{grown_cases}

@@ -7,7 +7,7 @@ use Rattle.radio_seats.specs.declared.seat.Listener.{Listener}
 use Rattle.radio_seats.specs.declared.seat.Seat.{Seat}
 use Rattle.radio_seats.specs.declared.seat.Seating.TheVariants.{Sits}
 use Rattle.radio_house.specs.Waiting.{is_on_demand}
-use Rattle.radio_house.specs.Wanted.{wanted}
+use Rattle.radio_facts.specs.Wanted.{wanted}
 use Rattle.radio_house.specs.World.{World}
 
 -- a relay of the settings feeds the mount, and does so on demand

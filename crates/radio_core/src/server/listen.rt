@@ -11,7 +11,7 @@ use crate::outcome::Outcome;
 use radio_addr::Peer;
 use radio_changes::Change;
 use radio_events::{ListenRequest, Reply, StreamHead};
-use radio_facts::{listen_facts, mount_named};
+use radio_facts::{burst_of, head_of, interval_for, listen_facts, mount_named, silence};
 use radio_fallback::Landing;
 use radio_house::Standing;
 use radio_parts::Session;
@@ -123,10 +123,10 @@ impl State {
         requires { welcome.home ≡ asked.mount }
         ensures { IfOk result (λ o. o ≡ takes_seat self.now.house asked welcome.peer (Some (silence_at self.now.house mount.now))) }
     {
-        match self.house().silence(self.alloc, *mount) {
-            Ok(silence) => {
-                let outcome = self.welcome(asked, welcome, &silence);
-                drop(silence);
+        match silence(self.alloc, self.house(), *mount) {
+            Ok(session) => {
+                let outcome = self.welcome(asked, welcome, &session);
+                drop(session);
                 outcome
             }
             Err(refused) => {
@@ -148,7 +148,7 @@ impl State {
     {
         let id = asked.id;
         let seat = self.first_seat(asked, welcome, session)?;
-        match self.house().head_of(&session.shown) {
+        match head_of(self.house(), &session.shown) {
             Ok(head) => Ok(seated(id, head, seat)),
             Err(refused) => {
                 drop(seat);
@@ -175,8 +175,8 @@ impl State {
         let house = self.house();
         let home = house.shared_name(self.alloc, asked_for)?;
         let mount = session.mount.get();
-        let burst = house.burst_of(mount);
-        let interval = house.interval_for(&asked_for, asked.wants_metadata);
+        let burst = burst_of(house, mount);
+        let interval = interval_for(house, &asked_for, asked.wants_metadata);
         Ok(Seat {
             home,
             mount: *mount,

@@ -11,7 +11,7 @@ use crate::OutOfMemory;
 use crate::outcome::Outcome;
 use radio_changes::Change;
 use radio_events::Reply;
-use radio_facts::{mount_named, relay_facts};
+use radio_facts::{mount_named, relay_facts, shown_for};
 use radio_house::Standing;
 use radio_policy::{Action, Rule, Verdict, judge};
 use radio_values::{MountName, Shown};
@@ -50,7 +50,7 @@ impl State {
         ensures { IfOk result (λ o. o ≡ raises self.now.house mount shown.now) }
     {
         let house = self.house();
-        let shown = house.shown_for(&mount, shown)?;
+        let shown = shown_for(house, &mount, shown)?;
         let id = house.last_number() + 1;
         Ok(Outcome {
             reply: Reply::Arrived(id),

@@ -10,7 +10,7 @@ use crate::OutOfMemory;
 use crate::outcome::Outcome;
 use radio_changes::Change;
 use radio_events::{Reply, SourceRequest};
-use radio_facts::{mount_named, source_facts};
+use radio_facts::{mount_named, shown_for, source_facts};
 use radio_house::Standing;
 use radio_policy::{Action, Rule, Verdict, judge};
 use radio_values::{MountName, Shown};
@@ -35,7 +35,7 @@ impl State {
     ) -> Result<Outcome, OutOfMemory>
         ensures { IfOk result (λ o. o ≡ says Feeding (Begin id mount (shown_for self.now.house mount shown.now))) }
     {
-        let shown = self.house().shown_for(&mount, shown)?;
+        let shown = shown_for(self.house(), &mount, shown)?;
         Ok(Outcome {
             reply: Reply::Feeding,
             change: Change::Begin { id, mount, shown },

@@ -3,7 +3,7 @@
 ghost use Rattle.std.specs.Prelude.{◌≡◌, map, IsOk, IfOk, OnOk, OnErr};
 ghost use Rattle.std.specs.Option.{option_copied};
 ghost use Rattle.radio_seats.specs.Seats.{last_mount_of};
-ghost use Rattle.radio_house.specs.Wanted.{wanted};
+ghost use Rattle.radio_facts.specs.Wanted.{wanted};
 ghost use Rattle.radio_house.specs.World.{opening, standing_of, has_relay};
 ghost use Rattle.radio_changes.specs.Changes.{NeedsNoMemory};
 ghost use Rattle.radio_changes.specs.Counts.{counted};
@@ -22,6 +22,7 @@ use radio_access::Lists;
 use radio_blocks::Place;
 use radio_changes::{Change, TimedState};
 use radio_events::{Event, Reply};
+use radio_facts::wanted;
 use radio_house::{House, Standing};
 use radio_listeners::Seats;
 use radio_settings::Settings;
@@ -209,7 +210,7 @@ impl State {
     pub(super) fn wanted(&self) -> Result<Vec<MountName>, OutOfMemory>
         ensures { IfOk result (λ mounts. mounts.items ≡ wanted self.now) }
     {
-        self.house().wanted(self.alloc, self.seats())
+        wanted(self.alloc, self.house(), self.seats())
     }
 
     /// How the client, or the relay, of this number stands.

@@ -1,7 +1,7 @@
 use Rattle.std.proofs.Common.{◌≡◌, drop, []}
 use Rattle.std.specs.Prelude.{fold}
-use Rattle.radio_house.specs.Wanted.{with_wanted}
-use Rattle.radio_house.proofs.waiting.wanted_among.Given as goal
+use Rattle.radio_facts.specs.Wanted.{with_wanted}
+use Rattle.radio_facts.proofs.waiting.wanted_among.Given as goal
 
 -- with the relays that are left they are all
 abbrev pub invariant-loop-relay : goal.invariant-loop-relay

@@ -1,5 +1,5 @@
 use Rattle.std.proofs.Common.{◌≡◌, ◌++◌}
-use Rattle.radio_house.proofs.waiting.names_of.Given as goal
+use Rattle.radio_facts.proofs.waiting.names_of.Given as goal
 
 -- the names so far and those that are left are all
 abbrev pub invariant-loop-name : goal.invariant-loop-name

@@ -1,0 +1,70 @@
+//! What the settings make of a stream, and of a listener's.
+
+ghost use Rattle.std.specs.Prelude.{◌≡◌, unwrap_or, IfOk};
+ghost use Rattle.radio_house.specs.Streams.{shown_for};
+ghost use Rattle.radio_facts.specs.Streams.{burst_of, interval_for, head_of};
+
+use crate::OutOfMemory;
+use radio_events::StreamHead;
+use radio_house::House;
+use radio_values::{Field, MountName, Shown};
+
+/// What a stream on the mount shows, which itself shows this. `OutOfMemory` where memory was
+/// refused.
+pub fn shown_for(house: &House, mount: &MountName, shown: &Shown) -> Result<Shown, OutOfMemory>
+    ensures { IfOk result (λ set. set ≡ shown_for house.now mount.now shown.now) }
+{
+    let stream = &house.settings().options(mount).stream;
+    Ok(Shown {
+        content_type: shown.content_type.clone()?,
+        name: field_or(&stream.stream_name, &shown.name)?,
+        genre: field_or(&stream.genre, &shown.genre)?,
+    })
+}
+
+/// What the head of a stream says that shows this. `OutOfMemory` where memory was refused.
+pub fn head_of(house: &House, shown: &Shown) -> Result<StreamHead, OutOfMemory>
+    ensures { IfOk result (λ head. head ≡ head_of house.now shown.now) }
+{
+    Ok(StreamHead {
+        shown: shown.clone()?,
+        allow_origin: house.settings().web.allow_origin.clone()?,
+    })
+}
+
+/// How many bytes a new listener of the mount may be sent at once.
+pub fn burst_of(house: &House, mount: &MountName) -> u64
+    ensures { result ≡ burst_of house.now mount.now }
+{
+    let burst = house.settings().options(mount).stream.burst_size.get();
+    burst.min(house.settings().limits.queue_size.get()) as u64
+}
+
+/// After how many bytes of data a listener of the mount is sent a metadata block, if he asked
+/// for metadata.
+pub fn interval_for(house: &House, mount: &MountName, wants_metadata: bool) -> Option<u32>
+    ensures { result ≡ interval_for house.now mount.now wants_metadata }
+{
+    if wants_metadata {
+        Some(
+            house
+                .settings()
+                .options(mount)
+                .stream
+                .mp3_metadata_interval
+                .get(),
+        )
+    } else {
+        None
+    }
+}
+
+/// The field that is set, or else the other. `OutOfMemory` where memory was refused.
+fn field_or(set: &Option<Field>, other: &Field) -> Result<Field, OutOfMemory>
+    ensures { IfOk result (λ field. field ≡ unwrap_or set.now other.now) }
+{
+    match set {
+        Some(field) => field.clone(),
+        None => other.clone(),
+    }
+}
