@@ -5,8 +5,8 @@ ghost use Rattle.radio_connections.specs.Duties.{IsReadOnce};
 ghost use Rattle.radio_connections.specs.Serving.{IsServed};
 ghost use Rattle.radio_connections.specs.Leaving.{IsEnded, NotesFinish, HasAnswered, is_over};
 
-use crate::workspace::READ_ROOM;
 use crate::serving::{LINGER_MS, Now};
+use crate::workspace::READ_ROOM;
 use crate::{Conn, Fate, Line, Received};
 
 /// Tells the peer that nothing more is written, and passes over what still comes, so that its last
