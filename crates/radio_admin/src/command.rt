@@ -77,7 +77,7 @@ pub struct OldUser {
 }
 
 /// A text as it was sent, decoded and UTF-8, but not cleaned. A title may have any bytes and any length, line ends and
-/// zero bytes too: `radio_titles::clean_title` makes of it what may be sent to listeners. The name of a user has the form
+/// zero bytes too: `radio_values::clean_title` makes of it what may be sent to listeners. The name of a user has the form
 /// that it has in a file of users.
 ///
 /// In contracts it is its bytes.

@@ -4,8 +4,7 @@ use radio_addr::Peer;
 use radio_blocks::{Block, Place};
 use radio_events::Command;
 use radio_seats::Seat;
-use radio_titles::Title;
-use radio_values::{MountName, Shown};
+use radio_values::{MountName, Shown, Title};
 
 /// What an event changes.
 #[derive(Drop)]

@@ -14,8 +14,7 @@ use radio_house::ClientState;
 use radio_parts::LagsBehind;
 use radio_policy::Rule;
 use radio_seats::Seat;
-use radio_titles::Title;
-use radio_values::{MountName, Shown};
+use radio_values::{MountName, Shown, Title};
 
 /// What a change answers that carries nobody along.
 pub(crate) const NOBODY: Carried = Carried { moved: 0, ended: 0 };

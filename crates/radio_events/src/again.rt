@@ -9,8 +9,7 @@ use crate::{
 use bytes::Bytes;
 use radio_blocks::Block;
 use radio_creds::Pair;
-use radio_titles::Title;
-use radio_values::{MountName, Shown};
+use radio_values::{MountName, Shown, Title};
 
 impl Event {
     /// An equal event. `OutOfMemory` where memory was refused.

@@ -2,8 +2,7 @@
 
 use bytes::Bytes;
 use radio_creds::Pair;
-use radio_titles::Title;
-use radio_values::MountName;
+use radio_values::{MountName, Title};
 
 /// What a client sends who gives a command.
 #[derive(Drop)]

@@ -5,8 +5,7 @@ use bytes::Bytes;
 use radio_addr::Peer;
 use radio_blocks::Block;
 use radio_creds::Pair;
-use radio_titles::Title;
-use radio_values::Shown;
+use radio_values::{Shown, Title};
 
 /// What a client sends who wants to feed a mount.
 pub struct SourceRequest {

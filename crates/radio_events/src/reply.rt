@@ -3,8 +3,7 @@
 use crate::{OutOfMemory, Text};
 use radio_blocks::Pieces;
 use radio_policy::Rule;
-use radio_titles::Title;
-use radio_values::{AllowedOrigin, Shown};
+use radio_values::{AllowedOrigin, Shown, Title};
 
 /// What the head of a listener's stream says.
 pub struct StreamHead {

@@ -7,8 +7,8 @@ use Rattle.radio_events.specs.declared.event.Event.TheVariants.{Arrive, Draw, Ti
 use Rattle.radio_events.specs.declared.reply.Reply.{Reply}
 use Rattle.radio_events.specs.declared.reply.Reply.TheVariants.{Arrived}
 use Rattle.radio_addr.specs.declared.peer.Peer.{Peer}
-use Rattle.radio_titles.specs.Cleaning.{cleaned}
-use Rattle.radio_titles.specs.Limits.{max_title}
+use Rattle.radio_values.specs.Cleaning.{cleaned}
+use Rattle.radio_values.specs.Limits.{max_title}
 use Rattle.radio_settings.specs.declared.settings.Settings.{Settings}
 use Rattle.radio_settings.specs.declared.settings.RelaySetting.{RelaySetting}
 use Rattle.radio_values.specs.MountName.{is_mount_name}

@@ -1,8 +1,8 @@
 //! What is done with what comes to a connection.
 
 ghost use Rattle.std.specs.Prelude.{◌≡◌, ℕ, List, [], ◌∷◌, ◌++◌, IfOk, OnOk};
-ghost use Rattle.radio_titles.specs.Cleaning.{cleaned};
-ghost use Rattle.radio_titles.specs.Limits.{max_title};
+ghost use Rattle.radio_values.specs.Cleaning.{cleaned};
+ghost use Rattle.radio_values.specs.Limits.{max_title};
 ghost use Rattle.radio_house.specs.World.{World};
 ghost use Rattle.radio_events.specs.declared.event.Event.TheVariants.{Leave, Clock};
 ghost use Rattle.radio_core.specs.Step.{Represents, world_after};
@@ -18,7 +18,7 @@ use radio_exchanges::cores_exchange_as_their_states;
 use radio_script::Input;
 use radio_session::{Ending, Session, State, exchange};
 use radio_tables::Visit;
-use radio_titles::Title;
+use radio_values::Title;
 use std::alloc::Global;
 
 /// What a connection is told at a delivery: the bytes that went out, and how it goes on.

@@ -2,8 +2,8 @@
 
 ghost use Rattle.std.specs.Prelude.{◌≡◌, IfOk};
 ghost use Rattle.std.specs.Option.{option_map};
-ghost use Rattle.radio_titles.specs.Cleaning.{cleaned};
-ghost use Rattle.radio_titles.specs.Limits.{max_title};
+ghost use Rattle.radio_values.specs.Cleaning.{cleaned};
+ghost use Rattle.radio_values.specs.Limits.{max_title};
 ghost use Rattle.radio_floor.specs.declared.labelled.Connection.TheVariants.{Relay};
 ghost use Rattle.radio_floor.specs.ScriptState.{AsksOn, ComesToRelay};
 ghost use Rattle.radio_floor.specs.ScriptServer.{AnswersAs, PullsAs};
@@ -15,7 +15,7 @@ use radio_exchanges::cores_pull_as_their_states;
 use radio_pull::{RelayPull, ask, close, take};
 use radio_script::Input;
 use radio_session::{Ending, State};
-use radio_titles::Title;
+use radio_values::Title;
 
 impl Handler {
     /// Something comes to a relay's connection: what it is told is how it goes on.

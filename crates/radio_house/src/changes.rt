@@ -19,8 +19,7 @@ use radio_blocks::Block;
 use radio_parts::{NewTitle, Session, deliver};
 use radio_policy::Rule;
 use radio_tables::Table;
-use radio_titles::Title;
-use radio_values::{MountName, Shown};
+use radio_values::{MountName, Shown, Title};
 use std::alloc::Global;
 
 impl House {

@@ -2,7 +2,7 @@
 ghost use Rattle.std.specs.Prelude.{◌≡◌, ◌≤◌, ◌++◌, length, take, vec_len, Some, IfSome, OnOk, OnErr};
 ghost use Rattle.std.specs.Option.{option_copied};
 ghost use Rattle.radio_icy.specs.Block.{metadata_block};
-ghost use Rattle.radio_titles.specs.Limits.{max_title};
+ghost use Rattle.radio_values.specs.Limits.{max_title};
 
 use crate::{MAX_TITLE, OutOfMemory};
 

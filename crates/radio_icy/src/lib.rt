@@ -7,7 +7,7 @@
 //! - [`Weaver`] puts a stream's titles into its sound, for one listener.
 //! - [`Unweaver`] takes sound and texts out of such a stream, as [`Item`]s, however the stream is cut.
 //! - [`title_of`] finds the title in a block's text.
-//! - A [`Title`], and what makes texts from outside fit to be sent, are those of `radio_titles`.
+//! - A [`Title`], and what makes texts from outside fit to be sent, are those of `radio_values`.
 //! - [`laws`] says what is true of all streams, and of their texts.
 #![tactic(auto)]
 
@@ -20,7 +20,7 @@ mod unweaver;
 mod weaver;
 
 pub use items::Item;
-pub use radio_titles::{MAX_FIELD, MAX_TITLE, Title, clean_field, clean_title};
+pub use radio_values::{MAX_FIELD, MAX_TITLE, Title, clean_field, clean_title};
 pub use title::title_of;
 pub use unweaver::Unweaver;
 pub use weaver::Weaver;

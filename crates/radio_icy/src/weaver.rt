@@ -3,7 +3,7 @@ ghost use Rattle.std.specs.Prelude.{◌≡◌, ◌+◌, ◌<◌, ◌≤◌, ◌+
 ghost use Rattle.std.specs.Option.{option_copied, option_map};
 ghost use Rattle.radio_icy.specs.Block.{news_of};
 ghost use Rattle.radio_icy.specs.Weaving.{new_weaving, from_place, woven, after_weaving};
-ghost use Rattle.radio_titles.specs.Limits.{max_title};
+ghost use Rattle.radio_values.specs.Limits.{max_title};
 
 use crate::block::{UNIT, append_block};
 use crate::texts::copy_of;

@@ -2,8 +2,8 @@
 use Rattle.std.specs.Prelude.{ℕ, ℤ, pos, negsuc, Bool, List, [], ◌∷◌, Option, None, Some, unwrap_or}
 use Rattle.std.specs.Option.{option_map, option_and_then}
 use Rattle.toml.specs.Data.{Data, Items, no_items, item, Members, no_members, get_member, as_str, as_integer, as_bool, as_array, as_table}
-use Rattle.radio_titles.specs.Cleaning.{cleaned}
-use Rattle.radio_titles.specs.Limits.{max_field}
+use Rattle.radio_values.specs.Cleaning.{cleaned}
+use Rattle.radio_values.specs.Limits.{max_field}
 use Rattle.radio_keys.specs.declared.key.Key.{Key}
 use Rattle.radio_keys.specs.Keys.{word}
 

@@ -10,8 +10,7 @@ use bytes::Bytes;
 use radio_events::{Event, Reply};
 use radio_relay::{Pull, PullItem};
 use radio_session::{Ending, State};
-use radio_titles::Title;
-use radio_values::{MountName, Shown};
+use radio_values::{MountName, Shown, Title};
 use std::alloc::Global;
 use std::marker::Model;
 

@@ -1,8 +1,8 @@
 -- The sound and the titles that are pulled in.
 use Rattle.std.proofs.Common.{◌≡◌, ℕ, List, [], ◌∷◌, ◌++◌, map, ap, ◌∙◌, refl, Option, None, Some}
 use Rattle.radio_icy.specs.Bare.{bare, block_texts, sound_in as sound_heard, texts_in}
-use Rattle.radio_titles.specs.Cleaning.{cleaned}
-use Rattle.radio_titles.specs.Limits.{max_title}
+use Rattle.radio_values.specs.Cleaning.{cleaned}
+use Rattle.radio_values.specs.Limits.{max_title}
 use Rattle.radio_icy.specs.Titles.{title_of}
 use Rattle.radio_icy.specs.Unweaving.{Atom, SoundByte, WholeText, new_unweaving, heard}
 use Rattle.radio_relay.specs.Pulled.{Part, SoundPart, title_parts, parts_heard}

@@ -7,9 +7,9 @@ use Rattle.radio_heads.specs.Laws.{IsCleanWelcome, IsShortWelcome}
 use Rattle.radio_heads.specs.Response.{ResponseParts}
 use Rattle.radio_heads.specs.declared.answer.Welcome.{Welcome}
 use Rattle.radio_icy.specs.Bare.{bare, block_texts}
-use Rattle.radio_titles.specs.Cleaning.{cleaned}
-use Rattle.radio_titles.specs.Limits.{max_title}
-use Rattle.radio_titles.specs.Sendable.{IsTitle}
+use Rattle.radio_values.specs.Cleaning.{cleaned}
+use Rattle.radio_values.specs.Limits.{max_title}
+use Rattle.radio_values.specs.Sendable.{IsTitle}
 use Rattle.radio_icy.specs.Stream.{IsWoven, sound_of_calls, parts_of, titles_sent}
 use Rattle.radio_icy.specs.Titles.{title_of, HasNoUrlInside}
 use Rattle.radio_icy.specs.Weaving.{Call}

@@ -6,8 +6,8 @@ use Rattle.radio_heads.specs.declared.outcome.Progress.TheVariants.{More, Whole}
 use Rattle.radio_heads.specs.declared.outcome.HeadFault.{HeadFault}
 use Rattle.radio_heads.specs.Reading.{IsReading}
 use Rattle.radio_heads.specs.Response.{ResponseParts, ShowsResponse}
-use Rattle.radio_titles.specs.Cleaning.{cleaned}
-use Rattle.radio_titles.specs.Limits.{max_title}
+use Rattle.radio_values.specs.Cleaning.{cleaned}
+use Rattle.radio_values.specs.Limits.{max_title}
 use Rattle.radio_icy.specs.Titles.{title_of}
 use Rattle.radio_icy.specs.Unweaving.{Atom, SoundByte, WholeText, new_unweaving, heard, after_feeding}
 use Rattle.radio_values.specs.declared.field.Shown.{Shown}

@@ -9,8 +9,7 @@ ghost use Rattle.radio_relay.specs.declared.items.PullItem.TheVariants.{Sound as
 use crate::OutOfMemory;
 use radio_blocks::{Block, Gathering};
 use radio_icy::{Item, title_of};
-use radio_titles::Title;
-use radio_values::Shown;
+use radio_values::{Shown, Title};
 use std::alloc::Global;
 use std::marker::Model;
 use std::mem;

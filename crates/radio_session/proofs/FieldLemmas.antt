@@ -6,7 +6,7 @@ use Rattle.std.specs.List.{list_all}
 use Rattle.std.proofs.lemmas.List.Sums.{AllPass-from_list_all}
 use Rattle.std.proofs.lemmas.List.Elements.{All-weaker}
 use Rattle.radio_heads.specs.FieldValue.{IsFieldText}
-use Rattle.radio_titles.specs.Cleaning.{is_shown}
+use Rattle.radio_values.specs.Cleaning.{is_shown}
 use Rattle.radio_values.specs.AllowedOrigin.{is_visible}
 
 or_true : (x y : Bool) → y ≡ true → (x || y) ≡ true

@@ -13,8 +13,8 @@ use Rattle.radio_events.specs.declared.command.Asked.TheVariants.{NoCommand, Mis
 use Rattle.radio_events.specs.declared.command.OpenedBy.TheVariants.{Admin, Source}
 use Rattle.radio_events.specs.declared.command.Command.TheVariants as asks
 use Rattle.radio_events.specs.declared.command.Listing.TheVariants as shows
-use Rattle.radio_titles.specs.Cleaning.{cleaned}
-use Rattle.radio_titles.specs.Limits.{max_title}
+use Rattle.radio_values.specs.Cleaning.{cleaned}
+use Rattle.radio_values.specs.Limits.{max_title}
 
 -- a command that was read, whose title is cleaned; some ask for a listing
 abbrev pub asked_with : Read → Asked

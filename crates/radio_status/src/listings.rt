@@ -21,8 +21,7 @@ use radio_listing::{
     stream_list,
 };
 use radio_parts::Session;
-use radio_titles::Title;
-use radio_values::MountName;
+use radio_values::{MountName, Title};
 use std::alloc::Global;
 
 /// How many milliseconds a second has.

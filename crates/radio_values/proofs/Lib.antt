@@ -1,1 +1,2 @@
+pub mod CleaningLemmas
 mod NameLemmas

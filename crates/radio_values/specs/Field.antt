@@ -1,7 +1,7 @@
 -- Fields: texts that heads may show.
 use Rattle.std.specs.Prelude.{◌≡◌, ℕ, List}
-use Rattle.radio_titles.specs.Cleaning.{cleaned}
-use Rattle.radio_titles.specs.Limits.{max_field}
+use Rattle.radio_values.specs.Cleaning.{cleaned}
+use Rattle.radio_values.specs.Limits.{max_field}
 
 -- a text that cleaning leaves as it is
 abbrev pub IsClean : List ℕ → Type 0

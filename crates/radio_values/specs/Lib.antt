@@ -1,3 +1,6 @@
+pub mod Limits
+pub mod Cleaning
+pub mod Sendable
 pub mod MountName
 pub mod MountNameInside
 pub mod Field

@@ -1,7 +1,7 @@
 -- What the heads of a stream's listeners show of it.
 use Rattle.std.specs.Prelude.{ℕ, List}
-use Rattle.radio_titles.specs.Cleaning.{cleaned}
-use Rattle.radio_titles.specs.Limits.{max_field}
+use Rattle.radio_values.specs.Cleaning.{cleaned}
+use Rattle.radio_values.specs.Limits.{max_field}
 use Rattle.radio_values.specs.declared.field.Shown.{Shown}
 
 -- a type, a name and a genre, each cleaned

@@ -1,12 +1,11 @@
 //! What heads show: cleaned texts.
 ghost use Rattle.std.specs.Prelude.{◌≡◌, IfOk, true};
 ghost use Rattle.std.specs.List.{list_all};
-ghost use Rattle.radio_titles.specs.Cleaning.{cleaned, is_shown};
-ghost use Rattle.radio_titles.specs.Limits.{max_field};
+ghost use Rattle.radio_values.specs.Cleaning.{cleaned, is_shown};
+ghost use Rattle.radio_values.specs.Limits.{max_field};
 ghost use Rattle.radio_values.specs.Field.{IsClean};
 
-use crate::OutOfMemory;
-use radio_titles::clean_field;
+use crate::{OutOfMemory, clean_field};
 use std::alloc::Global;
 use std::marker::Model;
 use std::sync::ArcStr;
@@ -45,7 +44,7 @@ impl Field {
     pub fn clean(alloc: Global, bytes: &[u8]) -> Result<Field, OutOfMemory>
         ensures { IfOk result (λ field. field ≡ cleaned max_field bytes.now) }
     {
-        radio_titles::laws::clean_texts();
+        crate::laws::clean_texts();
         Ok(Field {
             text: ArcStr::from_string(clean_field(alloc, bytes)?)?,
         })
@@ -65,7 +64,7 @@ impl Field {
         ensures clean { IsClean self.now }
         ensures shown { list_all is_shown self.now ≡ true }
     {
-        radio_titles::laws::clean_texts();
+        crate::laws::clean_texts();
         self.text.as_str().as_bytes()
     }
 }

@@ -10,8 +10,7 @@ use radio_events::{
     Asked, Boxed, Command, CommandRequest, Event, ListenRequest, Listing, OpenedBy, Reply,
     SourceRequest,
 };
-use radio_titles::Title;
-use radio_values::{MountName, Shown};
+use radio_values::{MountName, Shown, Title};
 use std::alloc::Global;
 
 /// How many calls a caller makes: a source and a listener arrive and say what they want, and two who

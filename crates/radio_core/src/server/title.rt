@@ -6,7 +6,7 @@ use crate::outcome::Outcome;
 use radio_changes::Change;
 use radio_events::Reply;
 use radio_house::Standing;
-use radio_titles::Title;
+use radio_values::Title;
 
 impl State {
     /// A source tells what is on the air.

@@ -8,8 +8,7 @@ use crate::OutOfMemory;
 use bytes::Bytes;
 use radio_admin::{AdminFault, Command as Read, CommandKind, NewUser, read_command};
 use radio_events::{Asked, Command, Listing, OpenedBy};
-use radio_titles::Title;
-use radio_values::MountName;
+use radio_values::{MountName, Title};
 use std::alloc::{AllocError, Global};
 
 /// The path of what everybody may see of the station.

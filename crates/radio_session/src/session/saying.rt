@@ -4,7 +4,7 @@ ghost use Rattle.radio_heads.specs.WebAnswer.{shared_text, web_answer_text};
 ghost use Rattle.radio_session.specs.Conversation.{saying_now};
 ghost use Rattle.radio_session.specs.Saying.{said, texted, denied, noted, counted, one_less, admitted, seated, drew, last_text, last_ending, greeting_text, text_answer, head_text, denial};
 ghost use Rattle.radio_session.specs.Draws.{draw, drawn, weaver_at};
-ghost use Rattle.radio_titles.specs.Limits.{max_title};
+ghost use Rattle.radio_values.specs.Limits.{max_title};
 ghost use Rattle.radio_events.specs.declared.state.State.TheVariants.{Running, Shut};
 
 use crate::OutOfMemory;

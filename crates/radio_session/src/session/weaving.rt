@@ -3,7 +3,7 @@
 ghost use Rattle.std.specs.Prelude.{◌≡◌, ◌≤◌, ◌++◌, length, option_copied, IfSome, OnOk, OnErr};
 ghost use Rattle.std.specs.List.{concat};
 ghost use Rattle.radio_icy.specs.Weaving.{woven, after_weaving};
-ghost use Rattle.radio_titles.specs.Limits.{max_title};
+ghost use Rattle.radio_values.specs.Limits.{max_title};
 ghost use Rattle.radio_session.specs.Draws.{draw, drawn, after_draw, interval_told, weaver_at};
 
 use crate::OutOfMemory;
@@ -11,7 +11,7 @@ use bytes::Bytes;
 use radio_blocks::Pieces;
 use radio_icy::Weaver;
 use radio_icy::laws::joined_weaving;
-use radio_titles::Title;
+use radio_values::Title;
 use std::alloc::Global;
 
 /// After how many bytes of data a metadata block is sent, if any is; an interval of none has no

@@ -5,8 +5,7 @@ ghost use Rattle.std.specs.Prelude.{◌≡◌, ◌↔◌, IsTrue};
 use radio_addr::Peer;
 use radio_creds::Pair;
 use radio_policy::Rule;
-use radio_titles::Title;
-use radio_values::{AllowedOrigin, MountName, Shown};
+use radio_values::{AllowedOrigin, MountName, Shown, Title};
 
 pub(crate) fn is_same_name(a: &MountName, b: &MountName) -> bool
     ensures { IsTrue result ↔ a.now ≡ b.now }

@@ -1,7 +1,7 @@
 use Rattle.std.proofs.Common.{◌≡◌, ◌<◌, ◌≤◌, ◌++◌, length, take, vec_len, IfSome}
 use Rattle.std.specs.Option.{option_copied}
 use Rattle.radio_icy.specs.Weaving.{from_place, woven, after_weaving}
-use Rattle.radio_titles.specs.Limits.{max_title}
+use Rattle.radio_values.specs.Limits.{max_title}
 use Rattle.radio_icy.proofs.weaver.append_woven.Given as goal
 
 -- what has been written and what is still to be woven make what is asked for

@@ -5,7 +5,7 @@
 ghost use Rattle.std.specs.Prelude.{◌≡◌, ℕ, ◌≤◌, List, length, take, true, encode_utf8_all};
 ghost use Rattle.std.specs.List.{list_all};
 ghost use Rattle.std.specs.Str.{IsUtf8, chars};
-ghost use Rattle.radio_titles.specs.Cleaning.{cleaned, shown_chars, is_shown};
+ghost use Rattle.radio_values.specs.Cleaning.{cleaned, shown_chars, is_shown};
 
 /// A cleaned text is UTF-8 of at most n bytes, and is left as it is by cleaning. Its characters are the longest front
 /// of those that may be shown which fits n bytes: no longer front of them does. No byte of it is below 32, and none

@@ -2,8 +2,8 @@ use Rattle.std.proofs.Common.{◌≡◌, ◌-◌, ◌≤◌, ◌++◌, length, d
 use Rattle.std.specs.Prelude.{filter, encode_utf8_all}
 use Rattle.std.specs.Str.{chars}
 use Rattle.std.specs.String.{string_bytes, string_len}
-use Rattle.radio_titles.specs.Cleaning.{is_shown, front_within}
-use Rattle.radio_titles.proofs.clean.shown_front.Given as goal
+use Rattle.radio_values.specs.Cleaning.{is_shown, front_within}
+use Rattle.radio_values.proofs.clean.shown_front.Given as goal
 
 -- what is made and what is still to be read make the whole
 abbrev pub invariant-loop-c : goal.invariant-loop-c

@@ -1,5 +1,5 @@
-use Rattle.radio_titles.proofs.CleaningLemmas.{cleaned-IsUtf8, cleaned-fits, cleaned-cleaned, cleaned-shown, cleaned-bytes, cleaned-front, cleaned-longest}
-use Rattle.radio_titles.proofs.laws.clean_texts.Goals as goal
+use Rattle.radio_values.proofs.CleaningLemmas.{cleaned-IsUtf8, cleaned-fits, cleaned-cleaned, cleaned-shown, cleaned-bytes, cleaned-front, cleaned-longest}
+use Rattle.radio_values.proofs.laws.clean_texts.Goals as goal
 
 pub returns-clause-text : goal.returns-clause-text
 returns-clause-text c = cleaned-IsUtf8

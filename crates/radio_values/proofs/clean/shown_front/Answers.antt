@@ -4,8 +4,8 @@ use Rattle.std.specs.String.{string_bytes, string_len}
 use Rattle.std.proofs.lemmas.Iterator.{YieldsList-from_chars}
 use Rattle.std.proofs.lemmas.Iterator.Consumers.{YieldsList-turn, YieldsList-end}
 use Rattle.std.proofs.lemmas.List.{length_push, drop_all, append-nil}
-use Rattle.radio_titles.proofs.CleaningLemmas.{kept, kept_past, kept_full, kept_more}
-use Rattle.radio_titles.proofs.clean.shown_front.Goals as goal
+use Rattle.radio_values.proofs.CleaningLemmas.{kept, kept_past, kept_full, kept_more}
+use Rattle.radio_values.proofs.clean.shown_front.Goals as goal
 
 pub returns-then-most-len-clause-made : goal.returns-then-most-len-clause-made
 returns-then-most-len-clause-made c =

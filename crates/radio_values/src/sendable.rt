@@ -1,8 +1,8 @@
 //! Titles that can be sent.
 ghost use Rattle.std.specs.Prelude.{◌≡◌, ◌≤◌, length, IfOk};
-ghost use Rattle.radio_titles.specs.Cleaning.{cleaned};
-ghost use Rattle.radio_titles.specs.Limits.{max_title};
-ghost use Rattle.radio_titles.specs.Sendable.{IsTitle};
+ghost use Rattle.radio_values.specs.Cleaning.{cleaned};
+ghost use Rattle.radio_values.specs.Limits.{max_title};
+ghost use Rattle.radio_values.specs.Sendable.{IsTitle};
 
 use crate::{OutOfMemory, clean_title};
 use bytes::Bytes;
@@ -27,7 +27,7 @@ impl Drop for Title {
 
 impl Model for Title {
     ghost use Rattle.std.specs.Prelude.{ℕ, List};
-    ghost use Rattle.radio_titles.specs.Sendable.{IsTitle};
+    ghost use Rattle.radio_values.specs.Sendable.{IsTitle};
 
     ghost Value = { List ℕ };
 

@@ -2,8 +2,8 @@
 ghost use Rattle.std.specs.Prelude.{◌≡◌, ◌≤◌, IfOk, filter, encode_utf8_all};
 ghost use Rattle.std.specs.Str.{chars};
 ghost use Rattle.std.specs.String.{string_bytes, string_len};
-ghost use Rattle.radio_titles.specs.Cleaning.{cleaned, front_within, is_shown};
-ghost use Rattle.radio_titles.specs.Limits.{max_title, max_field};
+ghost use Rattle.radio_values.specs.Cleaning.{cleaned, front_within, is_shown};
+ghost use Rattle.radio_values.specs.Limits.{max_title, max_field};
 
 use crate::{MAX_FIELD, MAX_TITLE, OutOfMemory};
 use std::alloc::Global;

@@ -19,7 +19,7 @@ use Rattle.std.proofs.Common.{ltb, ◌/◌, ◌%◌}
 use Rattle.std.proofs.lemmas.List.{nil_from_length, take_all, length-drop, length-append}
 use Rattle.std.proofs.lemmas.Str.{IsUtf8-nil, IsUtf8-from_is_utf8, IsUtf8-append, utf8_lossy-IsUtf8, utf8_lossy_step, utf8_valid_len_le, scalars-chars}
 use Rattle.std.proofs.lemmas.Str.{chars-encodes, length-encode}
-use Rattle.radio_titles.specs.Cleaning.{is_shown, front_within, shown_chars, cleaned}
+use Rattle.radio_values.specs.Cleaning.{is_shown, front_within, shown_chars, cleaned}
 
 -- the UTF-8 of what is kept of some characters in a room of m bytes
 abbrev pub kept : ℕ → List ℕ → List ℕ
