@@ -26,15 +26,31 @@ pub fn serve<S: Server, L: Line, G: Gate>(
 )
     ensures { ServesInTurn S.steps now.ms now.patience_ms now.news server.old conn.old server.new conn.new }
 {
-    write_and_work(server, conn, workspace, gate, now, log);
+    lend(conn, &mut workspace.spare);
+    write_and_work(server, conn, &mut workspace.buffer, gate, now, log);
+    take_back(conn, &mut workspace.spare);
     tell_end(conn, now, log);
+}
+
+/// Lends the spare memory to a connection that is owed nothing, for what it is told next.
+fn lend<L: Line>(conn: &mut Conn<L>, spare: &mut Vec<u8>)
+    ensures { conn.new ≡ conn.old }
+{
+    conn.owed.take_memory(spare);
+}
+
+/// Takes the memory back from a connection that is owed nothing.
+fn take_back<L: Line>(conn: &mut Conn<L>, spare: &mut Vec<u8>)
+    ensures { conn.new ≡ conn.old }
+{
+    conn.owed.give_memory_back(spare);
 }
 
 /// Writes what a connection is owed, and does what it does once nothing more is owed.
 fn write_and_work<S: Server, L: Line, G: Gate>(
     server: &mut S,
     conn: &mut Conn<L>,
-    workspace: &mut Workspace,
+    buffer: &mut [u8; READ_ROOM],
     gate: &G,
     now: Now,
     log: &Log,
@@ -47,11 +63,9 @@ fn write_and_work<S: Server, L: Line, G: Gate>(
         leave(server, conn);
         return;
     }
-    conn.owed.take_memory(&mut workspace.spare);
-    work(server, conn, &mut workspace.buffer, now, log);
+    work(server, conn, buffer, now, log);
     leave(server, conn);
     flush(conn, gate, now);
-    conn.owed.give_memory_back(&mut workspace.spare);
     leave(server, conn);
 }
 
