@@ -3,3 +3,4 @@ pub mod Cutting
 pub mod Gathering
 pub mod Queue
 pub mod QueueLaws
+pub mod Pieces

@@ -1,5 +1,5 @@
 //! Data that a listener draws.
-ghost use Rattle.std.specs.Prelude.{◌≡◌, ◌++◌, [], length, take, drop, IfOk, OnOk, OnErr};
+ghost use Rattle.std.specs.Prelude.{◌≡◌, ◌==◌, ◌++◌, [], suc, length, take, drop, IfOk, OnOk, OnErr};
 ghost use Rattle.std.specs.List.{concat};
 ghost use Rattle.radio_blocks.specs.Queue.{bytes_behind};
 
@@ -8,11 +8,19 @@ use bytes::Bytes;
 use std::alloc::Global;
 use std::collections::VecDeque;
 use std::marker::Model;
+use std::slice;
 
 /// Data drawn from a stream, in order, as shared slices. In contracts they are the bytes joined.
 pub struct Pieces {
     alloc: Global,
-    slices: Vec<Bytes>,
+    slices: Slices,
+}
+
+/// The slices, in order. Most draws bring one, which takes no memory.
+#[derive(Drop)]
+enum Slices {
+    One(Bytes),
+    Many(Vec<Bytes>),
 }
 
 impl Drop for Pieces {
@@ -25,10 +33,11 @@ impl Drop for Pieces {
 impl Model for Pieces {
     ghost use Rattle.std.specs.Prelude.{ℕ, List};
     ghost use Rattle.std.specs.List.{concat};
+    ghost use Rattle.radio_blocks.specs.Pieces.{slices_of};
 
     ghost Value = { List ℕ };
 
-    ghost view = { λ p. concat p.slices.items };
+    ghost view = { λ p. concat (slices_of p.slices) };
 }
 
 impl Pieces {
@@ -38,27 +47,8 @@ impl Pieces {
     {
         Pieces {
             alloc,
-            slices: Vec::new(alloc),
+            slices: Slices::Many(Vec::new(alloc)),
         }
-    }
-
-    /// Appends a shared slice; its bytes are not copied. `OutOfMemory` where memory was refused; the pieces are
-    /// unchanged then.
-    pub fn append_shared(&mut self, slice: Bytes) -> Result<(), OutOfMemory>
-        ensures ok { OnOk result (self.new ≡ self.old ++ slice) }
-        ensures err { OnErr result (self.new ≡ self.old) }
-    {
-        self.slices.push(slice)?;
-        Ok(())
-    }
-
-    /// Appends data, which are copied. `OutOfMemory` where memory was refused; the pieces are unchanged then.
-    pub fn append(&mut self, bytes: &[u8]) -> Result<(), OutOfMemory>
-        ensures ok { OnOk result (self.new ≡ self.old ++ bytes.now) }
-        ensures err { OnErr result (self.new ≡ self.old) }
-    {
-        let slice = Bytes::copy_from_slice(self.alloc, bytes)?;
-        self.append_shared(slice)
     }
 
     /// Appends at most `room` bytes of the blocks, from the block at `index` on, but for the `skip` bytes at the front.
@@ -73,21 +63,38 @@ impl Pieces {
         ensures ok { OnOk result (self.new ≡ self.old ++ take room (bytes_behind index skip blocks.now.items)) }
         ensures err { OnErr result (self.new ≡ self.old) }
     {
-        let before = self.slices.len();
-        let pushed = push_parts(&mut self.slices, blocks, index, skip, room);
-        if pushed.is_err() {
-            self.slices.truncate(before);
+        if self.slices().is_empty() && is_last(blocks, index) {
+            self.slices = Slices::One(part_of(&blocks[index], skip, room)?);
+            return Ok(());
         }
-        pushed
+        match &mut self.slices {
+            Slices::One(first) => {
+                let slices = one_and_parts(self.alloc, first, blocks, index, skip, room)?;
+                self.slices = Slices::Many(slices);
+                Ok(())
+            }
+            Slices::Many(slices) => {
+                let before = slices.len();
+                let pushed = push_parts(slices, blocks, index, skip, room);
+                if pushed.is_err() {
+                    slices.truncate(before);
+                }
+                pushed
+            }
+        }
     }
 
     /// Equal pieces: the slices are shared with these. `OutOfMemory` where memory was refused.
     pub fn again(&self) -> Result<Pieces, OutOfMemory>
         ensures { IfOk result (λ pieces. pieces ≡ self.now) }
     {
+        let slices = match &self.slices {
+            Slices::One(slice) => Slices::One(slice.clone()?),
+            Slices::Many(slices) => Slices::Many(slices.clone()?),
+        };
         Ok(Pieces {
             alloc: self.alloc,
-            slices: self.slices.clone()?,
+            slices,
         })
     }
 
@@ -95,7 +102,10 @@ impl Pieces {
     pub fn slices(&self) -> &[Bytes]
         ensures { concat result.now ≡ self.now }
     {
-        self.slices.as_slice()
+        match &self.slices {
+            Slices::One(slice) => slice::from_ref(slice),
+            Slices::Many(slices) => slices.as_slice(),
+        }
     }
 
     /// Writes the bytes behind those of a buffer. `OutOfMemory` where memory was refused; the buffer is unchanged then.
@@ -103,7 +113,7 @@ impl Pieces {
         ensures ok { OnOk result (out.new.items ≡ out.old.items ++ self.now) }
         ensures err { OnErr result (out.new.items ≡ out.old.items) }
     {
-        write_slices(self.slices.as_slice(), out)
+        write_slices(self.slices(), out)
     }
 }
 
@@ -119,6 +129,30 @@ fn write_slices(slices: &[Bytes], out: &mut Vec<u8>) -> Result<(), OutOfMemory>
         }
     }
     Ok(())
+}
+
+/// Whether the block at this place is the last one.
+fn is_last(blocks: &VecDeque<Bytes>, index: usize) -> bool
+    ensures { result ≡ (length blocks.now.items == suc index) }
+{
+    index < blocks.len() && blocks.len() - index == 1
+}
+
+/// A slice, and behind it as much of the blocks. `OutOfMemory` where memory was refused.
+fn one_and_parts(
+    alloc: Global,
+    first: &Bytes,
+    blocks: &VecDeque<Bytes>,
+    index: usize,
+    skip: usize,
+    room: usize,
+) -> Result<Vec<Bytes>, OutOfMemory>
+    ensures { IfOk result (λ slices. concat slices.items ≡ first.now ++ take room (bytes_behind index skip blocks.now.items)) }
+{
+    let mut slices = Vec::new(alloc);
+    slices.push(first.clone()?)?;
+    push_parts(&mut slices, blocks, index, skip, room)?;
+    Ok(slices)
 }
 
 fn push_parts(

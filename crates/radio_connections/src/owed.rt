@@ -87,7 +87,7 @@ impl Owed {
     pub(crate) fn give_memory_back(&mut self, spare: &mut Vec<u8>)
         ensures { self.new ≡ self.old }
     {
-        if self.bytes.is_empty() {
+        if self.bytes.is_empty() && self.bytes.capacity() > 0 {
             let memory = mem::replace(&mut self.bytes, Vec::new(self.alloc));
             if memory.capacity() <= MOST_KEPT {
                 *spare = memory;

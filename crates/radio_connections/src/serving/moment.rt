@@ -26,17 +26,19 @@ pub fn serve<S: Server, L: Line, G: Gate>(
 )
     ensures { ServesInTurn S.steps now.ms now.patience_ms now.news server.old conn.old server.new conn.new }
 {
-    lend(conn, &mut workspace.spare);
+    lend(conn, &mut workspace.spare, now);
     write_and_work(server, conn, &mut workspace.buffer, gate, now, log);
     take_back(conn, &mut workspace.spare);
     tell_end(conn, now, log);
 }
 
-/// Lends the spare memory to a connection that is owed nothing, for what it is told next.
-fn lend<L: Line>(conn: &mut Conn<L>, spare: &mut Vec<u8>)
+/// Lends the spare memory to a connection that is owed nothing, for what it is told of the news.
+fn lend<L: Line>(conn: &mut Conn<L>, spare: &mut Vec<u8>, now: Now)
     ensures { conn.new ≡ conn.old }
 {
-    conn.owed.take_memory(spare);
+    if now.news {
+        conn.owed.take_memory(spare);
+    }
 }
 
 /// Takes the memory back from a connection that is owed nothing.
