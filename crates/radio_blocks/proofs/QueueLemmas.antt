@@ -4,7 +4,7 @@ use Rattle.std.proofs.Common.{subst, inl, inr, slice_index_or, Some, arith, leng
 use Rattle.std.specs.Prelude.{nat_le, ◌⊎◌, find, unwrap_or, if◌then◌else◌}
 use Rattle.std.specs.List.{concat}
 use Rattle.std.proofs.lemmas.Bool.{le-leb, leb-false, leb-true}
-use Rattle.std.proofs.lemmas.List.{take-append-drop, drop_min, length-take, length-drop, drop_all, drop_more, take-append-le}
+use Rattle.std.proofs.lemmas.List.{take-append-drop, drop_min, length-take, drop_all, drop_more, take-append-le}
 use Rattle.std.proofs.lemmas.List.Folds.{concat-append}
 use Rattle.std.proofs.Math.Seq.{drop-append-add, drop-append_seam}
 use Rattle.radio_blocks.proofs.BlockLemmas.{concat-push}

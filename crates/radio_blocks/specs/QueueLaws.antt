@@ -1,7 +1,7 @@
 -- What a queue keeps of all the blocks that came.
-use Rattle.std.specs.Prelude.{◌≡◌, ℕ, ◌≤◌, ◌⊎◌, List, [], ◌∷◌, ◌++◌, length, drop}
+use Rattle.std.specs.Prelude.{◌≡◌, ℕ, ◌≤◌, ◌⊎◌, List, [], ◌∷◌, ◌++◌, length}
 use Rattle.std.specs.List.{concat}
-use Rattle.radio_blocks.specs.Queue.{KeptTail, nothing_kept, kept_end, with_pushed}
+use Rattle.radio_blocks.specs.Queue.{KeptTail, nothing_kept, with_pushed}
 
 -- blocks come one after another
 abbrev pub with_all : KeptTail → List (List ℕ) → KeptTail

@@ -1,5 +1,5 @@
 //! Data that a listener draws.
-ghost use Rattle.std.specs.Prelude.{◌≡◌, ◌==◌, ◌++◌, [], suc, length, take, drop, IfOk, OnOk, OnErr};
+ghost use Rattle.std.specs.Prelude.{◌≡◌, ◌==◌, ◌++◌, ◌∷◌, [], suc, length, take, drop, IfOk, OnOk, OnErr};
 ghost use Rattle.std.specs.List.{concat};
 ghost use Rattle.radio_blocks.specs.Queue.{bytes_behind};
 
@@ -63,25 +63,18 @@ impl Pieces {
         ensures ok { OnOk result (self.new ≡ self.old ++ take room (bytes_behind index skip blocks.now.items)) }
         ensures err { OnErr result (self.new ≡ self.old) }
     {
-        if self.slices().is_empty() && is_last(blocks, index) {
-            self.slices = Slices::One(part_of(&blocks[index], skip, room)?);
-            return Ok(());
-        }
-        match &mut self.slices {
+        let slices = match &mut self.slices {
             Slices::One(first) => {
                 let slices = one_and_parts(self.alloc, first, blocks, index, skip, room)?;
-                self.slices = Slices::Many(slices);
-                Ok(())
+                Slices::Many(slices)
             }
-            Slices::Many(slices) => {
-                let before = slices.len();
-                let pushed = push_parts(slices, blocks, index, skip, room);
-                if pushed.is_err() {
-                    slices.truncate(before);
-                }
-                pushed
+            Slices::Many(slices) if slices.is_empty() && is_last(blocks, index) => {
+                Slices::One(part_of(&blocks[index], skip, room)?)
             }
-        }
+            Slices::Many(slices) => return push_parts(slices, blocks, index, skip, room),
+        };
+        self.slices = slices;
+        Ok(())
     }
 
     /// Equal pieces: the slices are shared with these. `OutOfMemory` where memory was refused.
@@ -155,6 +148,7 @@ fn one_and_parts(
     Ok(slices)
 }
 
+/// Puts as much of the blocks behind the slices. `OutOfMemory` where memory was refused; the slices are unchanged then.
 fn push_parts(
     slices: &mut Vec<Bytes>,
     blocks: &VecDeque<Bytes>,
@@ -164,20 +158,43 @@ fn push_parts(
 ) -> Result<(), OutOfMemory>
     ensures ok { OnOk result (concat slices.new.items
         ≡ concat slices.old.items ++ take room (bytes_behind index skip blocks.now.items)) }
-    ensures err { OnErr result (take (length slices.old.items) slices.new.items ≡ slices.old.items) }
+    ensures err { OnErr result (slices.new.items ≡ slices.old.items) }
 {
+    let before = slices.len();
     let mut index = index;
     let mut skip = skip;
     let mut left = room;
     'index: while left > 0 && index < blocks.len() {
         let block = &blocks[index];
-        let part = part_of(block, skip, left)?;
-        left -= part.len();
-        slices.push(part)?;
+        match push_part(slices, block, skip, left) {
+            Ok(taken) => left -= taken,
+            Err(refused) => {
+                slices.truncate(before);
+                return Err(refused);
+            }
+        }
         skip = skip.saturating_sub(block.len());
         index += 1;
     }
     Ok(())
+}
+
+/// Puts at most `room` bytes of the block behind the slices, but for the `skip` bytes at its front, and tells how many they are.
+/// `OutOfMemory` where memory was refused; the slices are unchanged then.
+fn push_part(
+    slices: &mut Vec<Bytes>,
+    block: &Bytes,
+    skip: usize,
+    room: usize,
+) -> Result<usize, OutOfMemory>
+    ensures part { OnOk result (slices.new.items ≡ slices.old.items ++ take room (drop skip block.now) ∷ []) }
+    ensures taken { IfOk result (λ taken. taken ≡ length (take room (drop skip block.now))) }
+    ensures err { OnErr result (slices.new.items ≡ slices.old.items) }
+{
+    let part = part_of(block, skip, room)?;
+    let taken = part.len();
+    slices.push(part)?;
+    Ok(taken)
 }
 
 /// At most `room` bytes of the slice, but for the `skip` bytes at its front.

@@ -1,7 +1,6 @@
-use Rattle.std.proofs.Common.{◌≡◌, ◌+◌, ◌-◌, length, drop}
-use Rattle.std.specs.Prelude.{nat_le, find}
+use Rattle.std.proofs.Common.{◌≡◌, ◌+◌, length, drop}
 use Rattle.std.specs.List.{concat}
-use Rattle.radio_blocks.specs.Queue.{starts_from, kept_start}
+use Rattle.radio_blocks.specs.Queue.{kept_start}
 use Rattle.radio_blocks.proofs.QueueLemmas.{first_within}
 use Rattle.radio_blocks.proofs.queue.BlockQueue.start_for.Given as goal
 
