@@ -59,38 +59,41 @@ fn title_again(id: u64, text: &Title) -> Result<Event, OutOfMemory>
 }
 
 /// The same relay's coming. `OutOfMemory` where memory was refused.
-fn relay_again(mount: &Bytes, shown: &Shown) -> Result<Event, OutOfMemory>
+fn relay_again(mount: &Bytes, shown: &Boxed<Shown>) -> Result<Event, OutOfMemory>
     ensures { IfOk result (λ event. event ≡ Event.RelayUp mount.now shown.now) }
 {
+    let shows: &Shown = shown;
     Ok(Event::RelayUp {
         mount: mount.clone()?,
-        shown: shown.clone()?,
+        shown: Boxed::new(shown.allocator(), shows.clone()?)?,
     })
 }
 
 /// An equal request. `OutOfMemory` where memory was refused.
-fn source_again(asked: &SourceRequest) -> Result<SourceRequest, OutOfMemory>
+fn source_again(asked: &Boxed<SourceRequest>) -> Result<Boxed<SourceRequest>, OutOfMemory>
     ensures { IfOk result (λ again. again ≡ asked.now) }
 {
-    Ok(SourceRequest {
+    let again = SourceRequest {
         id: asked.id,
         mount: asked.mount.clone()?,
         pair: pair_again(&asked.pair)?,
         shown: asked.shown.clone()?,
-    })
+    };
+    Boxed::new(asked.allocator(), again)
 }
 
 /// An equal request. `OutOfMemory` where memory was refused.
-fn listen_again(asked: &ListenRequest) -> Result<ListenRequest, OutOfMemory>
+fn listen_again(asked: &Boxed<ListenRequest>) -> Result<Boxed<ListenRequest>, OutOfMemory>
     ensures { IfOk result (λ again. again ≡ asked.now) }
 {
-    Ok(ListenRequest {
+    let again = ListenRequest {
         id: asked.id,
         mount: asked.mount.clone()?,
         pair: pair_again(&asked.pair)?,
         wants_metadata: asked.wants_metadata,
         host: asked.host.clone()?,
-    })
+    };
+    Boxed::new(asked.allocator(), again)
 }
 
 /// An equal request, in an allocation of its own. `OutOfMemory` where memory was refused.

@@ -57,7 +57,7 @@ pub enum Event {
         peer: Peer,
     },
     /// A client wants to feed a mount.
-    Source(SourceRequest),
+    Source(Boxed<SourceRequest>),
     /// The source has delivered a block.
     Push {
         id: u64,
@@ -73,7 +73,7 @@ pub enum Event {
         text: Title,
     },
     /// A client wants to hear a mount.
-    Listen(ListenRequest),
+    Listen(Boxed<ListenRequest>),
     /// The listener has room for so many bytes of data.
     Draw {
         id: u64,
@@ -90,7 +90,7 @@ pub enum Event {
         /// The name of the mount, which need not be one.
         mount: Bytes,
         /// What the head of the master's answer tells of the stream.
-        shown: Shown,
+        shown: Boxed<Shown>,
     },
     /// The relay's connection to its master is closed.
     RelayDown {

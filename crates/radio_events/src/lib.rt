@@ -2,7 +2,7 @@
 //!
 //! - [`Event`]: what happens; [`SourceRequest`], [`ListenRequest`] and [`CommandRequest`] are what a
 //!   client asks for.
-//! - [`Boxed`]: a value in an allocation of its own, as a command's request is.
+//! - [`Boxed`]: a value in an allocation of its own, as what a client asks for is: so an event and a reply move for little.
 //! - [`Reply`]: what the server replies; a [`Text`] is its answer to a command, or to one who
 //!   is shown something of the station.
 //! - [`State`], [`Ending`]: whether a connection goes on, and the word by which it ends.

@@ -1,6 +1,6 @@
 //! What the server replies.
 
-use crate::{OutOfMemory, Text};
+use crate::{Boxed, OutOfMemory, Text};
 use radio_blocks::Pieces;
 use radio_policy::Rule;
 use radio_values::{AllowedOrigin, Shown, Title};
@@ -50,7 +50,7 @@ pub enum Reply {
         /// After how many bytes of data he is sent a metadata block, if he asked for metadata.
         interval: Option<u32>,
         /// What his head says beside it.
-        head: StreamHead,
+        head: Boxed<StreamHead>,
     },
     /// The listener's next data.
     Drawn {
@@ -87,7 +87,7 @@ impl Reply {
             Reply::Feeding => Ok(Reply::Feeding),
             Reply::Seated { interval, head } => Ok(Reply::Seated {
                 interval: *interval,
-                head: head.again()?,
+                head: Boxed::new(head.allocator(), head.again()?)?,
             }),
             Reply::Drawn { pieces, title } => Ok(Reply::Drawn {
                 pieces: pieces.again()?,

@@ -7,7 +7,7 @@ ghost use Rattle.radio_pull.specs.Pulling.{answered, begun, event_for, event_of}
 
 use crate::OutOfMemory;
 use bytes::Bytes;
-use radio_events::{Event, Reply};
+use radio_events::{Boxed, Event, Reply};
 use radio_relay::{Pull, PullItem};
 use radio_session::{Ending, State};
 use radio_values::{MountName, Shown, Title};
@@ -123,6 +123,7 @@ impl RelayPull {
         ensures { IfOk result (λ event. event ≡ Event.RelayUp self.now.mount shown) }
     {
         let mount = Bytes::copy_from_slice(self.alloc, self.mount.as_bytes())?;
+        let shown = Boxed::new(self.alloc, shown)?;
         Ok(Event::RelayUp { mount, shown })
     }
 

@@ -208,38 +208,41 @@ pub fn title_event(alloc: Global, id: u64, title: &[u8]) -> Result<Event, OutOfM
 
 /// This client would be a source, and tells of its stream: `audio/aac`, the name `Night`.
 pub fn source_event(alloc: Global, id: u64, path: &str) -> Result<Event, OutOfMemory> {
-    Ok(Event::Source(SourceRequest {
+    let request = SourceRequest {
         id,
         mount: Bytes::copy_from_slice(alloc, path.as_bytes())?,
         pair: basic(alloc, SOURCE_PAIR)?,
         shown: Shown::clean(alloc, b"audio/aac", b"Night", b"")?,
-    }))
+    };
+    Ok(Event::Source(Boxed::new(alloc, request)?))
 }
 
 /// A relay's master has answered, with a stream of this type.
 pub fn relay_event(alloc: Global, path: &str, content_type: &str) -> Result<Event, OutOfMemory> {
+    let shown = Shown::clean(alloc, content_type.as_bytes(), b"Night", b"")?;
     Ok(Event::RelayUp {
         mount: Bytes::copy_from_slice(alloc, path.as_bytes())?,
-        shown: Shown::clean(alloc, content_type.as_bytes(), b"Night", b"")?,
+        shown: Boxed::new(alloc, shown)?,
     })
 }
 
 /// This client would be a listener.
 pub fn listen_event(alloc: Global, id: u64, path: &str) -> Result<Event, OutOfMemory> {
-    Ok(Event::Listen(ListenRequest {
+    let request = ListenRequest {
         id,
         mount: Bytes::copy_from_slice(alloc, path.as_bytes())?,
         pair: None,
         wants_metadata: false,
         host: Bytes::from_static(b""),
-    }))
+    };
+    Ok(Event::Listen(Boxed::new(alloc, request)?))
 }
 
 /// This client gives a command, as the admin.
 pub fn command_event(alloc: Global, id: u64, asked: Asked) -> Result<Event, OutOfMemory> {
     let pair = basic(alloc, ADMIN_PAIR)?;
-    let request = Boxed::new(alloc, CommandRequest { id, asked, pair })?;
-    Ok(Event::Command(request))
+    let request = CommandRequest { id, asked, pair };
+    Ok(Event::Command(Boxed::new(alloc, request)?))
 }
 
 /// This client delivers these data. Of no data there is no block: a stray event stands in its place.

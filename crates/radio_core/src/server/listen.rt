@@ -4,20 +4,21 @@ ghost use Rattle.radio_events.specs.declared.reply.Reply.TheVariants.{Seated};
 ghost use Rattle.radio_changes.specs.declared.change.Change.TheVariants.{TakeSeat};
 ghost use Rattle.radio_core.specs.Outcomes.{says};
 ghost use Rattle.radio_core.specs.Listen.{asks_to_hear, sits_where, takes_seat, first_seat};
+ghost use Rattle.radio_facts.specs.Streams.{head_of};
 
 use super::state::State;
 use crate::OutOfMemory;
 use crate::outcome::Outcome;
 use radio_addr::Peer;
 use radio_changes::Change;
-use radio_events::{ListenRequest, Reply, StreamHead};
+use radio_events::{Boxed, ListenRequest, Reply, StreamHead};
 use radio_facts::{burst_of, head_of, interval_for, listen_facts, mount_named, silence};
 use radio_fallback::Landing;
 use radio_house::Standing;
 use radio_parts::Session;
 use radio_policy::{Action, Rule, Verdict, judge};
 use radio_seats::Seat;
-use radio_values::MountName;
+use radio_values::{MountName, Shown};
 
 /// One who may hear the mount that he asked for.
 #[derive(Clone, Copy)]
@@ -148,13 +149,20 @@ impl State {
     {
         let id = asked.id;
         let seat = self.first_seat(asked, welcome, session)?;
-        match head_of(self.house(), &session.shown) {
+        match self.head(&session.shown) {
             Ok(head) => Ok(seated(id, head, seat)),
             Err(refused) => {
                 drop(seat);
                 Err(refused)
             }
         }
+    }
+
+    /// What the head of one says who hears a session that shows this. `OutOfMemory` where memory was refused.
+    fn head(&self, shown: &Shown) -> Result<Boxed<StreamHead>, OutOfMemory>
+        ensures { IfOk result (λ head. head ≡ head_of self.now.house shown.now) }
+    {
+        Boxed::new(self.alloc, head_of(self.house(), shown)?)
     }
 
     /// The seat of a new listener in the session. `OutOfMemory` where memory was refused.
@@ -191,7 +199,7 @@ impl State {
 }
 
 /// The client of this number is seated, and is told what the head says.
-fn seated(id: u64, head: StreamHead, seat: Seat) -> Outcome
+fn seated(id: u64, head: Boxed<StreamHead>, seat: Seat) -> Outcome
     ensures { result ≡ says (Seated seat.interval head) (TakeSeat id seat) }
 {
     Outcome {

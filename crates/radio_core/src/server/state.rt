@@ -97,11 +97,11 @@ impl State {
     {
         match event {
             Event::Arrive { peer } => Ok(self.arrive(peer)),
-            Event::Source(asked) => self.source(asked),
+            Event::Source(asked) => self.source(asked.into_inner()),
             Event::Push { id, block } => Ok(self.push(id, block)),
             Event::SourceEnd { id } => Ok(self.source_end(id)),
             Event::Title { id, text } => Ok(self.title(id, text)),
-            Event::Listen(asked) => self.get(asked),
+            Event::Listen(asked) => self.get(asked.into_inner()),
             Event::Draw { id, room } => self.drawing_outcome(id, room),
             Event::Command(asked) => self.command(asked.into_inner()),
             Event::Leave { id } => Ok(self.leave(id)),

@@ -32,12 +32,13 @@ pub(crate) fn asks_to_feed(alloc: Global, id: u64, head: &Head) -> Result<Event,
     let shown = shown_by(alloc, head)?;
     let pair = pair_of(alloc, head)?;
     let mount = path_in(alloc, head)?;
-    Ok(Event::Source(SourceRequest {
+    let request = SourceRequest {
         id,
         mount,
         pair,
         shown,
-    }))
+    };
+    Ok(Event::Source(Boxed::new(alloc, request)?))
 }
 
 /// The event of a client who asks by GET: for a command where his head's path begins with `/admin/`,
@@ -67,13 +68,14 @@ fn asks_to_hear(alloc: Global, id: u64, head: &Head, path: Bytes) -> Result<Even
 {
     let pair = pair_of(alloc, head)?;
     let host = Bytes::copy_from_slice(alloc, host_for(path.as_slice(), head))?;
-    Ok(Event::Listen(ListenRequest {
+    let request = ListenRequest {
         id,
         mount: path,
         pair,
         wants_metadata: wants_metadata(head),
         host,
-    }))
+    };
+    Ok(Event::Listen(Boxed::new(alloc, request)?))
 }
 
 /// The host by which the client calls the server, where he asks for what is told in full addresses.
@@ -93,8 +95,8 @@ fn gives_command(alloc: Global, id: u64, head: &Head, path: &Bytes) -> Result<Ev
 {
     let pair = pair_of(alloc, head)?;
     let asked = asked_in(alloc, path.as_slice(), query_in(head))?;
-    let request = Boxed::new(alloc, CommandRequest { id, asked, pair })?;
-    Ok(Event::Command(request))
+    let request = CommandRequest { id, asked, pair };
+    Ok(Event::Command(Boxed::new(alloc, request)?))
 }
 
 /// The path that a head's target stands for, percent decoded. `OutOfMemory` where memory was refused.
