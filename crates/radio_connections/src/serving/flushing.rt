@@ -9,7 +9,7 @@ use crate::serving::answering::either;
 use crate::{Conn, Fate, Gate, Line, Sent};
 
 /// Writes once of what is owed, as far as the line takes it. The connection is cut off where the
-/// line fails.
+/// line fails. Most turns find nothing owed, so the rest is a call of its own.
 pub(crate) fn flush<L: Line, G: Gate>(conn: &mut Conn<L>, gate: &G, now: Now)
     ensures { IsFlushed now.ms conn.old conn.new }
 {
@@ -24,6 +24,7 @@ pub(crate) fn flush<L: Line, G: Gate>(conn: &mut Conn<L>, gate: &G, now: Now)
     }
 }
 
+#[inline(never)]
 fn write<L: Line, G: Gate>(conn: &mut Conn<L>, gate: &G, now: Now)
     requires fate { IsWritten conn.old.status.fate }
     requires some { 0 < length conn.old.owed }
@@ -46,6 +47,7 @@ fn write<L: Line, G: Gate>(conn: &mut Conn<L>, gate: &G, now: Now)
 
 /// Cuts a connection off of which nothing that it is owed has moved for too long. It does not draw
 /// what there is news of, and is behind then.
+#[cold]
 pub(crate) fn give_up<L: Line>(conn: &mut Conn<L>, now: Now)
     ensures { IsPatient now.ms now.patience_ms conn.old conn.new }
 {

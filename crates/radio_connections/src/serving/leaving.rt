@@ -25,6 +25,7 @@ pub(crate) fn leave<S: Server, L: Line>(server: &mut S, conn: &mut Conn<L>)
 }
 
 /// Notes, for the log, where the listener was last, who is forgotten when he has left.
+#[cold]
 fn note_mount<S: Server, L: Line>(server: &S, conn: &Conn<L>) {
     if !conn.account.is_listener() {
         return;
@@ -35,6 +36,7 @@ fn note_mount<S: Server, L: Line>(server: &S, conn: &Conn<L>) {
 }
 
 /// The client of this number leaves. Whether memory was not refused.
+#[cold]
 fn asks_to_leave<S: Server>(server: &mut S, refusals: &mut Refusals, id: u64) -> bool
     ensures { HasAskedToLeave S.steps result id server.old refusals.old server.new refusals.new }
 {
