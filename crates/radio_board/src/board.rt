@@ -2,7 +2,8 @@
 
 use crate::desk::Desk;
 use crate::lines::Lines;
-use crate::pace::{pace_of, slow_from};
+use crate::news::NewsFor;
+use crate::pace::{much_from, pace_of, slow_from};
 use mio::Waker;
 use radio_lines::Pace;
 use std::alloc::Global;
@@ -45,6 +46,8 @@ pub struct Board {
     most_lingering: usize,
     /// How many bytes a worker's listeners have still to draw where sources are read slowly.
     slow_from: u64,
+    /// How many bytes these may have still to draw, while they are not told of news.
+    much_from: u64,
     /// Whether lines of the log wait.
     has_lines: AtomicBool,
     lines: Mutex<Lines>,
@@ -66,6 +69,7 @@ impl Board {
             wants_closing: AtomicBool::new(false),
             most_lingering: limits.most_lingering,
             slow_from: slow_from(limits.queue_size),
+            much_from: much_from(limits.queue_size),
             has_lines: AtomicBool::new(false),
             lines: Mutex::new(Lines::new(alloc)),
         }
@@ -118,18 +122,33 @@ impl Board {
         self.told_ms()
     }
 
-    /// Listeners may have news, whoever serves them.
-    pub fn tell_news(&self) {
-        for desk in &self.desks {
-            desk.tell_news();
+    /// So many bytes have come from sources, and these listeners may have news. Whoever sees that the bytes have come has been
+    /// told of news.
+    pub fn note_received(&self, count: u64, news: NewsFor) {
+        for (number, desk) in self.desks.iter().enumerate() {
+            if news.is_for(number) {
+                desk.set_news();
+            }
         }
-    }
-
-    /// So many bytes have come from a worker's sources.
-    pub fn note_received(&self, count: u64) {
         if count > 0 {
             self.received.fetch_add(count, Ordering::SeqCst);
         }
+        self.wake_for(news);
+    }
+
+    /// Wakes whose listeners may have news.
+    fn wake_for(&self, news: NewsFor) {
+        for (number, desk) in self.desks.iter().enumerate() {
+            if news.is_for(number) {
+                desk.wake_for_news(self.is_much(desk));
+            }
+        }
+    }
+
+    /// Whether so much has come from sources which this worker's listeners have still to draw that they are told of it at
+    /// once.
+    pub fn is_much(&self, desk: &Desk) -> bool {
+        desk.behind(self.received()) >= self.much_from
     }
 
     /// How many bytes have come from sources.

@@ -14,6 +14,8 @@ pub struct Desk {
     works: AtomicBool,
     /// Whether he waits, or is about to.
     sleeps: AtomicBool,
+    /// Whether he waits with the news that there is.
+    is_paused: AtomicBool,
     /// Whether his listeners may have news.
     has_news: AtomicBool,
     /// Whether he has listeners.
@@ -37,6 +39,7 @@ impl Desk {
             waker,
             works: AtomicBool::new(false),
             sleeps: AtomicBool::new(false),
+            is_paused: AtomicBool::new(false),
             has_news: AtomicBool::new(false),
             has_listeners: AtomicBool::new(false),
             comings: AtomicUsize::new(0),
@@ -68,10 +71,13 @@ impl Desk {
         self.read_ms.load(Ordering::SeqCst)
     }
 
-    /// From now on he waits, unless there is something to do: whether there is.
-    pub fn lies_down(&self) -> bool {
+    /// From now on he waits, unless there is something to do: whether there is. With news he waits too, where it is paused.
+    pub fn lies_down(&self, is_paused: bool) -> bool {
+        if is_paused != self.is_paused() {
+            self.is_paused.store(is_paused, Ordering::SeqCst);
+        }
         self.sleeps.store(true, Ordering::SeqCst);
-        self.has_to_do()
+        self.has_to_do(is_paused)
     }
 
     /// He does not wait any more.
@@ -79,8 +85,13 @@ impl Desk {
         self.sleeps.store(false, Ordering::SeqCst);
     }
 
-    fn has_to_do(&self) -> bool {
-        self.comings() > 0 || (self.has_news.load(Ordering::SeqCst) && self.has_listeners())
+    /// Whether there is something to do, beside his lines; with news there is not, where it is paused.
+    pub fn has_to_do(&self, is_paused: bool) -> bool {
+        self.comings() > 0 || (!is_paused && self.has_news() && self.has_listeners())
+    }
+
+    fn is_paused(&self) -> bool {
+        self.is_paused.load(Ordering::SeqCst)
     }
 
     /// Ends his wait, if he waits.
@@ -91,17 +102,26 @@ impl Desk {
         }
     }
 
-    /// His listeners may have news. He is woken for it if he has listeners.
-    pub(crate) fn tell_news(&self) {
+    /// His listeners may have news.
+    pub(crate) fn set_news(&self) {
         self.has_news.store(true, Ordering::SeqCst);
-        if self.has_listeners() {
+    }
+
+    /// He is woken for news, if he has listeners and does not wait with it, or much has come.
+    pub(crate) fn wake_for_news(&self, is_much: bool) {
+        if self.has_listeners() && (is_much || !self.is_paused()) {
             self.wake();
         }
     }
 
-    /// Whether his listeners may have news since this was asked the last time.
+    /// Whether his listeners may have news since it was taken the last time.
+    pub fn has_news(&self) -> bool {
+        self.has_news.load(Ordering::SeqCst)
+    }
+
+    /// The same; and from now on they have none.
     pub fn take_news(&self) -> bool {
-        self.has_news.load(Ordering::SeqCst) && self.has_news.swap(false, Ordering::SeqCst)
+        self.has_news() && self.has_news.swap(false, Ordering::SeqCst)
     }
 
     /// A connection was put for him.

@@ -1,4 +1,5 @@
-//! From where on sources are read slowly, so that listeners of other workers can follow.
+//! From where on listeners are told of news at once, and sources are read slowly, so that listeners of other workers can
+//! follow.
 
 use radio_lines::Pace;
 
@@ -8,6 +9,19 @@ const MOST_BEHIND: u64 = 131_072;
 /// From where on sources are read slowly: a quarter of what is kept of a stream, if that is less.
 pub(crate) fn slow_from(queue_size: u64) -> u64 {
     MOST_BEHIND.min(queue_size / 4)
+}
+
+/// Below which `queue-size` listeners are told of all news at once: a source's first bytes, which are not counted, are more
+/// than much of it.
+const LEAST_QUEUE: u64 = 65_536;
+
+/// From where on listeners are told of news at once: a quarter of that, so that it is told long before.
+pub(crate) fn much_from(queue_size: u64) -> u64 {
+    if queue_size < LEAST_QUEUE {
+        0
+    } else {
+        slow_from(queue_size) / 4
+    }
 }
 
 /// The pace where the listeners of a worker are so many bytes behind, and sources are read slowly from so many on. They

@@ -27,8 +27,28 @@ const FEW_EVENTS: usize = 8;
 pub struct Heard {
     /// The clock's moment then, in milliseconds.
     pub ms: u64,
-    /// Whether there is something to do.
+    /// Whether a line has something to do.
     pub is_ready: bool,
+    /// Whether the thread's waker was called.
+    pub is_called: bool,
+}
+
+/// What the system has told at once.
+#[derive(Clone, Copy)]
+struct Told {
+    is_ready: bool,
+    is_called: bool,
+}
+
+impl Told {
+    /// What was heard, at this moment.
+    fn at(self, ms: u64) -> Heard {
+        Heard {
+            ms,
+            is_ready: self.is_ready,
+            is_called: self.is_called,
+        }
+    }
 }
 
 /// What the system has told of a thread's lines.
@@ -95,39 +115,43 @@ impl Sockets {
         &self.activity
     }
 
-    /// Hears from the system what is ready, and waits until there is something to do, so many
+    /// Hears from the system what is ready, and waits until a line has something to do or the waker is called, so many
     /// milliseconds at most. The system's fault where it tells nothing any more.
     pub fn hear<C: Clock>(&mut self, clock: &C, wait_ms: u64) -> io::Result<Heard> {
         let mut ms = moment(clock);
         let ends_ms = ms.saturating_add(wait_ms);
         for _ in 0..EVENTS {
-            let is_ready = self.poll(ends_ms.saturating_sub(ms))?;
+            let told = self.poll(ends_ms.saturating_sub(ms))?;
             ms = moment(clock);
-            if is_ready || ms >= ends_ms {
-                return Ok(Heard { ms, is_ready });
+            if told.is_ready || told.is_called || ms >= ends_ms {
+                return Ok(told.at(ms));
             }
         }
-        Ok(Heard {
-            ms,
+        let nothing = Told {
             is_ready: false,
-        })
+            is_called: false,
+        };
+        Ok(nothing.at(ms))
     }
 
-    /// Notes what the system tells within so many milliseconds. Whether there is something to do.
-    fn poll(&mut self, wait_ms: u64) -> io::Result<bool> {
+    /// Notes what the system tells within so many milliseconds.
+    fn poll(&mut self, wait_ms: u64) -> io::Result<Told> {
         let wait = Duration::from_millis(wait_ms);
         self.poll.poll(&mut self.events, Some(wait))?;
-        let mut is_woken = false;
+        let mut told = Told {
+            is_ready: false,
+            is_called: false,
+        };
         for event in &self.events {
             if event.token() == WAKER {
-                is_woken = true;
+                told.is_called = true;
             } else if let Some(readiness) = self.readiness.get(event.token().0) {
                 if readiness.mark(event) {
-                    is_woken = true;
+                    told.is_ready = true;
                 }
             }
         }
-        Ok(is_woken)
+        Ok(told)
     }
 
     /// The line to this address. It is being connected: until it is, the line takes and gives nothing. The system's fault

@@ -4,7 +4,7 @@ use crate::master::{MOST_SILENT_MS, addresses_of};
 use crate::running::RunningRelay;
 use crate::station::Station;
 use mio::net::TcpStream;
-use radio_board::Board;
+use radio_board::{Board, NewsFor};
 use radio_events::{Caller, SharedServer};
 use radio_lines::{Reach, SocketLine, Sockets, moment};
 use radio_masters::{Asked, MountPull, PullTurn, RelayEnd};
@@ -197,11 +197,9 @@ impl<'a, R: Clock + Wait, N: Reach, S: Server + Drop> Puller<'a, R, N, S> {
 
     /// Tells the workers of news, and hands the lines of the log on.
     fn tell_others(&self) {
-        if self.asked.server().take_news() {
-            self.board.tell_news();
-        }
-        self.board
-            .note_received(self.sockets.activity().take_received());
+        let news = NewsFor::from(self.asked.server().take_news());
+        let received = self.sockets.activity().take_received();
+        self.board.note_received(received, news);
         let lines = self.asked.log().lines().take();
         if !lines.is_empty() {
             self.board

@@ -34,6 +34,8 @@ pub struct Watched<S: Server + Drop> {
     is_blind: bool,
     has_news: Cell<bool>,
     has_more: Cell<bool>,
+    /// Whether a client feeds since this was asked the last time.
+    has_started: Cell<bool>,
 }
 
 impl<S: Server + Drop> Model for Watched<S> {
@@ -55,6 +57,7 @@ impl<S: Server + Drop> Watched<S> {
             is_blind: false,
             has_news: Cell::new(false),
             has_more: Cell::new(false),
+            has_started: Cell::new(false),
         }
     }
 
@@ -67,6 +70,16 @@ impl<S: Server + Drop> Watched<S> {
     /// Whether a draw has brought all that it had room for since this was asked the last time.
     pub fn take_more(&self) -> bool {
         self.has_more.replace(false)
+    }
+
+    /// Whether a client has begun to feed a mount since this was asked the last time.
+    pub fn take_started(&self) -> bool {
+        self.has_started.replace(false)
+    }
+
+    /// Whether the client of this number feeds a mount by what was asked, as far as memory was not refused for his number.
+    pub fn feeds(&self, id: u64) -> bool {
+        place_of(self.sources.as_slice(), id).is_some()
     }
 
     /// How many clients feed a mount by what was asked, as far as memory was not refused for their numbers.
@@ -106,6 +119,7 @@ impl<S: Server + Drop> Watched<S> {
         ensures { self.new ≡ self.old }
     {
         if matches!(reply, Reply::Feeding) {
+            self.has_started.set(true);
             if self.sources.push(id).is_err() {
                 self.is_blind = true;
             }

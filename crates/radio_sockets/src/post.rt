@@ -3,7 +3,7 @@
 use crate::doors::Coming;
 use mio::net::TcpStream;
 use radio_addr::Peer;
-use radio_board::{Board, Desk, ServedTime};
+use radio_board::{Board, Desk, NewsFor, NewsPause, ServedTime};
 use radio_lines::{Heard, SocketLine, Sockets, moment};
 use radio_notes::Log;
 use radio_serving::Turn;
@@ -41,8 +41,16 @@ pub struct SocketPost<'a, R: Clock + Wait> {
     rt: &'a R,
     board: &'a Board,
     desk: &'a Desk,
+    /// The number of his desk.
+    number: usize,
     sockets: Sockets,
     time: ServedTime,
+    /// When his listeners are told of news, by the clock.
+    pause: NewsPause,
+    /// Whether they may be told in this turn.
+    may_tell: bool,
+    /// The moment that the clock told last.
+    clock_ms: u64,
     /// The moment at which he began.
     since_ms: u64,
     /// The moment of the last turn.
@@ -54,26 +62,31 @@ pub struct SocketPost<'a, R: Clock + Wait> {
     has_begun: bool,
     /// Whether somebody has drawn all that he had room for.
     has_more: bool,
-    /// How many bytes had come from sources when the turn began.
+    /// How many bytes had come from sources when the last turn began before which no news was waited with.
     received: u64,
     /// The moment that the log was told, in seconds since 1970.
     seconds: u64,
 }
 
 impl<'a, R: Clock + Wait> SocketPost<'a, R> {
-    /// That of a worker at this desk, with these sockets. It takes no memory.
+    /// That of a worker at this desk of this number, with these sockets. It takes no memory.
     pub(crate) fn new(
         rt: &'a R,
         board: &'a Board,
         desk: &'a Desk,
+        number: usize,
         sockets: Sockets,
     ) -> SocketPost<'a, R> {
         SocketPost {
             rt,
             board,
             desk,
+            number,
             sockets,
             time: ServedTime::new(0),
+            pause: NewsPause::new(),
+            may_tell: false,
+            clock_ms: 0,
             since_ms: 0,
             turn_ms: 0,
             puts_off: false,
@@ -111,19 +124,20 @@ impl<'a, R: Clock + Wait> SocketPost<'a, R> {
     fn hear(&mut self) -> Option<Heard> {
         let wait_ms = self.wait_ms();
         let is_busy = wait_ms < WAIT_MS;
-        let is_called = !is_busy && (self.desk.lies_down() || self.board.is_over());
-        let told = self
-            .sockets
-            .hear(self.rt, if is_called { 0 } else { wait_ms });
+        let pause_ms = self.pause_ms();
+        let is_called = !is_busy && self.is_called(pause_ms > 0);
+        let most_ms = if is_called { 0 } else { wait_ms };
+        let told = self.sockets.hear(self.rt, until_told(most_ms, pause_ms));
         if !is_busy {
             self.desk.gets_up();
         }
         match told {
             Ok(heard) => {
                 self.advance(heard.ms);
+                let has_to_do = is_busy || is_called || heard.is_called && self.has_to_do();
                 Some(Heard {
-                    ms: heard.ms,
-                    is_ready: heard.is_ready || is_busy || is_called,
+                    is_ready: heard.is_ready || has_to_do,
+                    ..heard
                 })
             }
             Err(_) => {
@@ -131,6 +145,45 @@ impl<'a, R: Clock + Wait> SocketPost<'a, R> {
                 None
             }
         }
+    }
+
+    /// From now on he waits, unless there is something to do: whether there is.
+    fn is_called(&self, is_paused: bool) -> bool {
+        self.desk.lies_down(is_paused) || self.board.is_over() || is_paused && self.is_much()
+    }
+
+    /// Whether there is something to do, beside what his sockets tell.
+    fn has_to_do(&self) -> bool {
+        self.desk.has_to_do(self.pause_ms() > 0) || self.board.is_over()
+    }
+
+    /// For how many milliseconds his listeners are not told of the news that there is; 0 where there is none.
+    fn pause_ms(&self) -> u64 {
+        if self.desk.has_news() {
+            self.pause.left_ms(self.clock_ms, self.is_much())
+        } else {
+            0
+        }
+    }
+
+    /// Whether so much has come that his listeners are told at once.
+    fn is_much(&self) -> bool {
+        self.board.is_much(self.desk)
+    }
+
+    /// Whether his listeners are told in the next turn that they may have news. What had come of sources by then they have
+    /// drawn after it, unless it is waited with news.
+    fn take_news(&mut self) -> bool {
+        let received = self.board.received();
+        self.may_tell = self.pause.left_ms(self.clock_ms, self.is_much()) == 0;
+        let news = self.may_tell && self.desk.take_news();
+        if news {
+            self.pause.note(self.clock_ms);
+        }
+        if news || !self.desk.has_news() {
+            self.received = received;
+        }
+        news
     }
 
     /// Whether the last turn was so long ago that another is due.
@@ -151,6 +204,7 @@ impl<'a, R: Clock + Wait> SocketPost<'a, R> {
 
     /// It is this moment by the clock. All that had come when it was heard before was read.
     fn advance(&mut self, clock_ms: u64) {
+        self.clock_ms = clock_ms;
         let read_ms = self.time.advance(clock_ms);
         self.desk.set_read(self.since_ms.saturating_add(read_ms));
         let now_ms = self.since_ms.saturating_add(self.time.served_ms());
@@ -206,8 +260,7 @@ impl<'a, R: Clock + Wait> Post<Coming, SocketLine<TcpStream>> for SocketPost<'a,
         let ms = self.board.moment();
         let comings = self.comings(ms);
         self.turn_ms = ms;
-        self.received = self.board.received();
-        let news = self.desk.take_news();
+        let news = self.take_news();
         Some(Call {
             turn: Turn { ms, news },
             comings,
@@ -227,20 +280,38 @@ impl<'a, R: Clock + Wait> Post<Coming, SocketLine<TcpStream>> for SocketPost<'a,
         self.board.most_lingering(self.desk, lingering)
     }
 
+    fn tells_at_once(&mut self) -> bool {
+        let count = self.sockets.activity().take_received();
+        if !self.may_tell {
+            self.board.note_received(count, NewsFor::All);
+            return false;
+        }
+        self.board
+            .note_received(count, NewsFor::AllBut(self.number));
+        self.received = self.received.saturating_add(count);
+        self.pause.note(self.clock_ms);
+        true
+    }
+
     fn note(&mut self, seen: Seen, log: &Log) {
         self.has_more = seen.more;
         self.desk.set_connections(weight(seen), seen.has_listeners);
         self.desk.note_drawn(self.received, seen.more);
-        if seen.news {
-            self.board.tell_news();
-        }
-        // Whoever sees that they have come has been told of them.
-        self.board
-            .note_received(self.sockets.activity().take_received());
+        let received = self.sockets.activity().take_received();
+        self.board.note_received(received, NewsFor::from(seen.news));
         if seen.has_closed {
             self.board.note_closed();
         }
         self.hand_lines(log);
+    }
+}
+
+/// For how long he waits at most, who would wait so long, and where listeners are to be told of news then.
+fn until_told(wait_ms: u64, pause_ms: u64) -> u64 {
+    if pause_ms > 0 {
+        wait_ms.min(pause_ms)
+    } else {
+        wait_ms
     }
 }
 

@@ -102,6 +102,7 @@ fn next_post<'a, R: Clock + Wait>(
     sockets: &mut Vec<Sockets>,
 ) -> Option<SocketPost<'a, R>> {
     let own = sockets.pop()?;
-    let desk = board.desk(sockets.len())?;
-    Some(SocketPost::new(rt, board, desk, own))
+    let number = sockets.len();
+    let desk = board.desk(number)?;
+    Some(SocketPost::new(rt, board, desk, number, own))
 }

@@ -16,7 +16,8 @@ pub struct Call {
 /// What a worker tells after a turn.
 #[derive(Clone, Copy)]
 pub struct Seen {
-    /// Whether listeners may have news by what was done in this turn, whichever worker serves them.
+    /// Whether listeners may have news by what was done in this turn, whichever worker serves them, beside what sources have
+    /// brought.
     pub news: bool,
     /// Whether somebody has drawn all that he had room for, so that there may be more for him.
     pub more: bool,
@@ -41,6 +42,10 @@ pub trait Post<T, L: Line>: Drop {
 
     /// How many connections may linger, where so many do: of more, the oldest are closed.
     fn most_lingering(&mut self, lingering: usize) -> usize;
+
+    /// What his sources have brought in this turn is news to listeners, whichever worker serves them. Whether his own are
+    /// told of it in this turn.
+    fn tells_at_once(&mut self) -> bool;
 
     /// A turn is over, and this came of it. The lines of the log that wait are to be taken.
     fn note(&mut self, seen: Seen, log: &Log);

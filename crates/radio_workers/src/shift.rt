@@ -8,7 +8,7 @@ use crate::{Call, Post, Seat, Seen, Workplace};
 use radio_events::{Caller, SharedServer};
 use radio_intake::{Intake, IntakePass};
 use radio_serving::{
-    Conn, Gate, Line, Server, Watched, Worker, close_first_lingering, count_lingering,
+    Conn, Gate, Line, Server, Turn, Watched, Worker, close_first_lingering, count_lingering,
 };
 use std::alloc::Global;
 use std::sync::Wait;
@@ -17,6 +17,9 @@ use std::sync::Wait;
 #[derive(Drop)]
 struct Shift<S: Server + Drop, L: Line> {
     worker: Worker<Watched<S>>,
+    /// Those of clients who feed a mount, or have.
+    sources: Vec<Conn<L>>,
+    /// The others.
     conns: Vec<Conn<L>>,
 }
 
@@ -89,6 +92,7 @@ impl<S: Server + Drop, L: Line> Shift<S, L> {
         let watched = Watched::new(alloc, server);
         Shift {
             worker: Worker::new(alloc, watched, patience_s),
+            sources: Vec::new(alloc),
             conns: Vec::new(alloc),
         }
     }
@@ -177,13 +181,26 @@ impl<S: Server + Drop, L: Line> Shift<S, L> {
         }
     }
 
-    /// Serves each connection once, closes those who linger too long, and tells what came of it.
+    /// Serves each connection once, closes those who linger too long, and tells what came of it. Sources are served first, so
+    /// that listeners draw in the same turn what these bring.
     fn make_turn<T, P: Post<T, L>, G: Gate>(&mut self, gate: &G, post: &mut P, call: Call) {
-        let before = self.conns.len();
-        self.worker.serve_turn(&mut self.conns, gate, call.turn);
+        let before = self.count();
+        let Turn { ms, news } = call.turn;
+        self.worker
+            .serve_turn(&mut self.sources, gate, Turn { ms, news });
+        let brings = self.worker.server().take_news() && post.tells_at_once();
+        let news = news || brings;
+        self.worker
+            .serve_turn(&mut self.conns, gate, Turn { ms, news });
+        self.part_sources();
         self.close_oldest(post);
         let seen = self.seen(before);
         post.note(seen, self.worker.log());
+    }
+
+    /// How many connections he has.
+    fn count(&self) -> usize {
+        self.sources.len().saturating_add(self.conns.len())
     }
 
     /// What has come of a turn that began with so many connections.
@@ -191,28 +208,78 @@ impl<S: Server + Drop, L: Line> Shift<S, L> {
         Seen {
             news: self.worker.server().take_news(),
             more: self.worker.server().take_more(),
-            connections: self.conns.len(),
+            connections: self.count(),
             sources: self.worker.server().sources(),
             has_listeners: has_listeners(self.conns.as_slice()),
-            has_closed: self.conns.len() < before,
+            has_closed: self.count() < before,
         }
+    }
+
+    /// Whoever has begun to feed a mount stands among the sources from now on, unless memory is refused for that.
+    fn part_sources(&mut self) {
+        if !self.worker.server().take_started() {
+            return;
+        }
+        'started: for _ in 0..self.worker.server().sources() {
+            if !self.part_source() {
+                return;
+            }
+        }
+    }
+
+    /// The same of the first who stands among the others. Whether there was one.
+    fn part_source(&mut self) -> bool {
+        let Some(at) = first_source(self.worker.server(), self.conns.as_slice()) else {
+            return false;
+        };
+        if at >= self.conns.len() || self.sources.reserve(1).is_err() {
+            return false;
+        }
+        let conn = self.conns.remove(at);
+        self.sources.push_reserved(conn);
+        true
     }
 
     /// Closes the oldest of those who linger, if they are too many.
     fn close_oldest<T, P: Post<T, L>>(&mut self, post: &mut P) {
-        let count = count_lingering(self.conns.as_slice());
+        let count = self.count_lingering();
         'oldest: for _ in post.most_lingering(count)..count {
+            self.close_first_lingering();
+        }
+    }
+
+    /// How many linger.
+    fn count_lingering(&self) -> usize {
+        let sources = count_lingering(self.sources.as_slice());
+        sources.saturating_add(count_lingering(self.conns.as_slice()))
+    }
+
+    /// Closes the first of those who linger, a source only where no other does.
+    fn close_first_lingering(&mut self) {
+        if count_lingering(self.conns.as_slice()) > 0 {
             close_first_lingering(&mut self.conns);
+        } else {
+            close_first_lingering(&mut self.sources);
         }
     }
 
     /// All who are here leave, and their connections are closed.
     fn end(self) -> S {
         let mut server = self.worker.into_server();
+        leave_all(&mut server, self.sources.as_slice());
         leave_all(&mut server, self.conns.as_slice());
+        drop(self.sources);
         drop(self.conns);
         server.into_server()
     }
+}
+
+/// Where the first of them stands who feeds a mount.
+fn first_source<S: Server + Drop, L: Line>(
+    server: &Watched<S>,
+    conns: &[Conn<L>],
+) -> Option<usize> {
+    conns.iter().position(|conn| server.feeds(conn.id()))
 }
 
 /// Whether one of them has a seat.

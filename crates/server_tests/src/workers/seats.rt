@@ -44,6 +44,10 @@ impl Post<Manners, MemoryLine> for MemoryPost {
         usize::MAX
     }
 
+    fn tells_at_once(&mut self) -> bool {
+        true
+    }
+
     fn note(&mut self, _seen: Seen, log: &Log) {
         drop(log.take());
     }
