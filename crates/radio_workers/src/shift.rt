@@ -181,21 +181,24 @@ impl<S: Server + Drop, L: Line> Shift<S, L> {
         }
     }
 
-    /// Serves each connection once, closes those who linger too long, and tells what came of it. Sources are served first, so
-    /// that listeners draw in the same turn what these bring.
+    /// Serves each connection once, closes those who linger too long, and tells what came of it.
     fn make_turn<T, P: Post<T, L>, G: Gate>(&mut self, gate: &G, post: &mut P, call: Call) {
         let before = self.count();
-        let Turn { ms, news } = call.turn;
-        self.worker
-            .serve_turn(&mut self.sources, gate, Turn { ms, news });
-        let brings = self.worker.server().take_news() && post.tells_at_once();
-        let news = news || brings;
-        self.worker
-            .serve_turn(&mut self.conns, gate, Turn { ms, news });
+        self.serve_all(gate, post, call.turn);
         self.part_sources();
         self.close_oldest(post);
         let seen = self.seen(before);
         post.note(seen, self.worker.log());
+    }
+
+    /// Serves sources first, so that the others draw in the same turn what these bring.
+    fn serve_all<T, P: Post<T, L>, G: Gate>(&mut self, gate: &G, post: &mut P, turn: Turn) {
+        self.worker.serve_turn(&mut self.sources, gate, turn);
+        let brings = self.worker.server().take_news() && post.tells_at_once();
+        let Turn { ms, news } = turn;
+        let news = news || brings;
+        self.worker
+            .serve_turn(&mut self.conns, gate, Turn { ms, news });
     }
 
     /// How many connections he has.
