@@ -14,6 +14,7 @@ mod GoneLemmas
 mod HeardLaws
 mod InTime
 mod KilledLemmas
+mod LastMountLemmas
 mod LeftAlone
 mod LimitDenials
 mod LimitLemmas

@@ -18,3 +18,4 @@ pub mod Outstaying
 pub mod Shown
 pub mod Locality
 pub mod Users
+pub mod LastMounts

@@ -12,6 +12,7 @@ ghost use Rattle.radio_events.specs.Events.{client_in};
 ghost use Rattle.radio_laws.specs.Denials.{DenialsAreThePolicys, AddressesAreDenied, OnlySourcesFeed, KnownMountsAreKnown};
 ghost use Rattle.radio_laws.specs.FinishesTold.{FinishedAreTold};
 ghost use Rattle.radio_laws.specs.Access.{AccessIsKept};
+ghost use Rattle.radio_laws.specs.LastMounts.{IsLastWhereHeSits, FinishedRowsStay};
 ghost use Rattle.radio_laws.specs.Limits.{IsWithinLimits, AdmitsByLimits};
 ghost use Rattle.radio_laws.specs.LimitDenials.{DeniesByLimits};
 ghost use Rattle.radio_laws.specs.Admission.{BeginsAtABlock};
@@ -53,6 +54,14 @@ pub fn finished_are_told()
     // at which its condition held: the end of his mount's session, a block that left him too far
     // behind, or a moment at which his time was over
     ensures finished { (settings : Settings) (lists : Lists) (events : List Event) (event : Event) → FinishedAreTold settings lists events event }
+{}
+
+/// The law of last mounts.
+pub fn last_mounts_stay()
+    // whatever has happened, whoever has a seat sits last at its mount
+    ensures seated { (settings : Settings) (lists : Lists) (events : List Event) → IsLastWhereHeSits (run_after settings lists events) }
+    // and whoever was finished keeps the rule, and the mount where he sat last, whatever happens, until he leaves
+    ensures stays { (settings : Settings) (lists : Lists) (events : List Event) (event : Event) → FinishedRowsStay (run_after settings lists events) event }
 {}
 
 /// The law of access.
