@@ -1,7 +1,7 @@
 ghost use Rattle.std.specs.Prelude.{◌≡◌, IsOk, IfOk, OnOk, OnErr};
 ghost use Rattle.radio_seats.specs.Seats.{with_ended, with_session_at};
 ghost use Rattle.radio_parts.specs.Timeouts.{lags_behind};
-ghost use Rattle.radio_changes.specs.Changes.{changed, carried_along, called_home, session_ended, client_gone, NeedsNoMemory};
+ghost use Rattle.radio_changes.specs.Changes.{answered, changed, carried_along, called_home, session_ended, client_gone, NeedsNoMemory};
 ghost use Rattle.radio_changes.specs.Counts.{nobody, counted, counts_along, counts_home, counts_ended};
 ghost use Rattle.radio_changes.specs.KeptChanges.{kept_changed, kept_taken_in};
 
@@ -10,7 +10,7 @@ use crate::change::Change;
 use crate::state::State;
 use radio_blocks::{Block, Place};
 use radio_fallback::{Carried, Move, carry};
-use radio_house::ClientState;
+use radio_house::{ClientState, House};
 use radio_parts::LagsBehind;
 use radio_policy::Rule;
 use radio_seats::Seat;
@@ -30,7 +30,7 @@ impl State {
     {
         match change {
             Change::Admit { id, peer } => {
-                self.house.admit(id, peer)?;
+                self.control.admit(id, peer)?;
                 Ok(NOBODY)
             }
             Change::Begin { id, mount, shown } => self.begin(id, mount, shown),
@@ -50,7 +50,7 @@ impl State {
         match change {
             Change::End { id, mount } => {
                 let counts = self.end_session(mount);
-                self.house.set_state(id, ClientState::Answered);
+                self.answer(id);
                 counts
             }
             Change::EndAndLeave { id, mount } => {
@@ -59,7 +59,7 @@ impl State {
                 counts
             }
             Change::Answer { id } => {
-                self.house.set_state(id, ClientState::Answered);
+                self.answer(id);
                 NOBODY
             }
             Change::SetTitle { mount, title } => {
@@ -85,18 +85,25 @@ impl State {
         }
     }
 
+    /// The client has had his answer. It takes no memory.
+    pub(crate) fn answer(&mut self, id: u64)
+        ensures { self.new ≡ answered self.old id }
+    {
+        self.control.set_state(id, ClientState::Answered);
+    }
+
     /// The listener has heard his stream up to this place. It takes no memory.
     pub(crate) fn advance(&mut self, id: u64, place: Place)
         ensures { self.new ≡ changed self.old (Change.Advance id place) }
     {
-        self.seats.advance(id, place);
+        self.board.seats.advance(id, place);
     }
 
     /// What the mount's source feeds has this title from now on. It takes no memory.
     pub(crate) fn set_title(&mut self, mount: &MountName, title: Title)
         ensures { self.new ≡ changed self.old (Change.SetTitle mount.now title) }
     {
-        self.house.set_title(mount, title);
+        self.board.sessions.set_title(mount, title);
     }
 
     /// The mount's session has delivered a block, and the listeners of the mount lose their seats
@@ -106,7 +113,9 @@ impl State {
         ensures counts { IfOk result (λ counts. counts ≡ nobody) }
         ensures err { OnErr result (self.new ≡ self.old) }
     {
-        let end = self.house.receive(&mount, &block)?;
+        let moment = self.control.time();
+        let limit = self.control.settings().limits.queue_size.get() as u64;
+        let end = self.board.sessions.receive(&mount, &block, moment, limit)?;
         self.end_laggards(&mount, end);
         Ok(NOBODY)
     }
@@ -117,8 +126,9 @@ impl State {
         ensures { self.new ≡ record self.old { seats = with_ended self.old.seats (lags_behind mount.now end self.old.house.settings.limits.queue_size) Rule.Lagged } }
     {
         let end = Place::new(end);
-        let queue = self.house.settings().limits.queue_size.get() as u64;
+        let queue = self.control.settings().limits.queue_size.get() as u64;
         let _lost = self
+            .board
             .seats
             .finish_at_if(mount, &LagsBehind { end, queue }, Rule::Lagged);
     }
@@ -129,9 +139,10 @@ impl State {
         ensures counts { IfOk result (λ counts. counts ≡ nobody) }
         ensures err { OnErr result (self.new ≡ self.old) }
     {
-        self.house.prepare_to_seat(&mut self.seats, &seat.mount)?;
-        self.seats.add(id, seat)?;
-        self.house.set_state(id, ClientState::Listens);
+        self.control
+            .prepare_to_seat(&mut self.board.seats, &seat.mount)?;
+        self.board.seats.add(id, seat)?;
+        self.control.set_state(id, ClientState::Listens);
         Ok(NOBODY)
     }
 
@@ -142,8 +153,11 @@ impl State {
         ensures counts { IfOk result (λ counts. counts ≡ counted self.old (Change.Begin id mount shown)) }
         ensures err { OnErr result (self.new ≡ self.old) }
     {
-        self.seats.prepare(&mount)?;
-        match self.house.begin(self.alloc, id, mount, shown) {
+        self.board.seats.prepare(&mount)?;
+        match self
+            .control
+            .begin(&mut self.board.sessions, self.alloc, id, mount, shown)
+        {
             Ok(()) => Ok(self.open_session(mount, id)),
             Err(refused) => {
                 self.release_idle(&mount);
@@ -160,8 +174,11 @@ impl State {
         ensures counts { IfOk result (λ counts. counts ≡ counted self.old (Change.Raise id mount shown)) }
         ensures err { OnErr result (self.new ≡ self.old) }
     {
-        self.seats.prepare(&mount)?;
-        match self.house.raise(self.alloc, id, mount, shown) {
+        self.board.seats.prepare(&mount)?;
+        match self
+            .control
+            .raise(&mut self.board.sessions, self.alloc, id, mount, shown)
+        {
             Ok(()) => Ok(self.open_session(mount, id)),
             Err(refused) => {
                 self.release_idle(&mount);
@@ -175,8 +192,8 @@ impl State {
     fn release_idle(&mut self, mount: &MountName)
         ensures { self.new ≡ self.old }
     {
-        if !self.house.can_be_heard(mount) {
-            self.seats.release(mount);
+        if !self.house().can_be_heard(mount) {
+            self.board.seats.release(mount);
         }
     }
 
@@ -186,7 +203,7 @@ impl State {
         ensures state { self.new ≡ called_home (record self.old { seats = with_session_at self.old.seats mount number }) mount }
         ensures counts { result ≡ counts_home (record self.old { seats = with_session_at self.old.seats mount number }) mount }
     {
-        self.seats.give_session(&mount, number);
+        self.board.seats.give_session(&mount, number);
         self.call_home(mount)
     }
 
@@ -196,10 +213,11 @@ impl State {
         ensures counts { result ≡ counts_along self.old moving.now }
     {
         // before anybody has sat, not all mounts are prepared that wait for a session
-        if self.seats.len() == 0 {
+        if self.board.seats.len() == 0 {
             return NOBODY;
         }
-        carry(&self.house, &mut self.seats, moving)
+        let house = House::of(&self.control, &self.board.sessions);
+        carry(&house, &mut self.board.seats, moving)
     }
 
     /// Where the mount calls its listeners home, those come who had asked for it and sit elsewhere.
@@ -208,7 +226,7 @@ impl State {
         ensures state { self.new ≡ called_home self.old mount }
         ensures counts { result ≡ counts_home self.old mount }
     {
-        let options = self.house.settings().options(&mount);
+        let options = self.control.settings().options(&mount);
         if options.listeners.fallback_override {
             self.carry_along(&Move::Up(mount))
         } else {
@@ -222,7 +240,7 @@ impl State {
         ensures state { self.new ≡ session_ended self.old mount }
         ensures counts { result ≡ counts_ended self.old mount }
     {
-        self.house.close(&mount);
+        self.board.sessions.close(&mount);
         let counts = self.carry_along(&Move::Ended(mount));
         self.release_idle(&mount);
         counts
@@ -233,8 +251,8 @@ impl State {
         ensures { self.new ≡ client_gone self.old id }
     {
         let mount = self.last_mount(id).copied();
-        self.seats.remove(id);
-        self.house.forget(id);
+        self.board.seats.remove(id);
+        self.control.forget(id);
         if let Some(mount) = mount {
             self.release_idle(&mount);
         }

@@ -1,13 +1,15 @@
 //! The server's state, and what can be changed in it.
 //!
 //! - [`Change`]: what an event can change.
-//! - [`TimedState`]: the house (`radio_house`), and the table of those who listen in it
-//!   (`radio_seats`). Both are looked at by [`TimedState::house`] and [`TimedState::seats`];
+//! - [`TimedState`]: what is kept of all mounts together (`Control` of `radio_house`), and the board,
+//!   which has what goes by mounts: sessions, and who listens where. They are looked at by
+//!   [`TimedState::house`], which is all but the listeners, and [`TimedState::seats`];
 //!   [`TimedState::commit`] makes a change, whole or not at all.
 //!
 //! What comes of an event is `radio_core`'s.
 #![tactic(auto)]
 
+mod board;
 mod change;
 mod commit;
 mod obey;

@@ -13,7 +13,6 @@ use crate::state::State;
 use bytes::Bytes;
 use radio_events::Command;
 use radio_fallback::{Carried, Move};
-use radio_house::ClientState;
 use radio_policy::Rule;
 use radio_values::MountName;
 
@@ -27,8 +26,8 @@ impl State {
     {
         match command {
             Command::SetFallback { mount, fallback } => {
-                self.house.set_fallback(mount, fallback)?;
-                self.house.set_state(id, ClientState::Answered);
+                self.control.set_fallback(mount, fallback)?;
+                self.answer(id);
                 Ok(NOBODY)
             }
             Command::AddUser {
@@ -37,7 +36,7 @@ impl State {
                 password,
             } => self.obey_user(id, mount, user, password),
             command => {
-                self.house.set_state(id, ClientState::Answered);
+                self.answer(id);
                 Ok(self.do_in_place(command))
             }
         }
@@ -57,7 +56,7 @@ impl State {
         ensures err { OnErr result (self.new ≡ self.old) }
     {
         let counts = self.add_user(&mount, user.as_slice(), password.as_slice())?;
-        self.house.set_state(id, ClientState::Answered);
+        self.answer(id);
         Ok(counts)
     }
 
@@ -71,7 +70,7 @@ impl State {
                 self.carry_along(&Move::To { mount, destination })
             }
             Command::KillClient { listener, .. } => {
-                self.seats.end(listener, Rule::Killed);
+                self.board.seats.end(listener, Rule::Killed);
                 NOBODY
             }
             Command::KillSource { mount } => {
@@ -99,11 +98,11 @@ impl State {
     fn kill_source(&mut self, mount: MountName)
         ensures { self.new ≡ session_killed self.old (session_of self.old.house.live mount) }
     {
-        let Some(session) = self.house.session(&mount) else {
+        let Some(session) = self.board.sessions.session(&mount) else {
             return;
         };
         let number = session.number;
         let _counts = self.end_session(mount);
-        self.house.finish(number, Rule::SourceKilled);
+        self.control.finish(number, Rule::SourceKilled);
     }
 }

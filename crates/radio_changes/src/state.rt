@@ -1,41 +1,42 @@
-//! The house, and the table of those who listen in it.
+//! Control and board, which are all of the server's state.
 
 ghost use Rattle.std.specs.Prelude.{◌≡◌};
 ghost use Rattle.std.specs.Option.{option_copied};
 ghost use Rattle.radio_seats.specs.Seats.{last_mount_of};
 ghost use Rattle.radio_house.specs.World.{opening};
 
+use crate::board::Board;
 use radio_access::Lists;
-use radio_house::House;
-use radio_listeners::Seats;
+use radio_house::{Control, House};
 use radio_settings::Settings;
 use radio_values::MountName;
 use std::alloc::Global;
 use std::marker::Model;
 
-/// The house, and the table of those who listen in it. Contracts see it as a `World` in which of
-/// each stream the last blocks are kept. Each live mount is prepared for listeners, and as long as
-/// there are some, so is each that waits for a session.
+/// All of the server's state: what is kept of all mounts together, and what goes by mounts. Contracts
+/// see it as a `World` in which of each stream the last blocks are kept. Each live mount is prepared
+/// for listeners, and as long as there are some, so is each that waits for a session.
 pub(crate) struct State {
     pub(crate) alloc: Global,
-    pub(crate) house: House,
-    pub(crate) seats: Seats,
+    pub(crate) control: Control,
+    pub(crate) board: Board,
 }
 
 impl Drop for State {
     fn drop(self) {
         let State {
             alloc: _,
-            house,
-            seats,
+            control,
+            board,
         } = self;
-        drop(house);
-        drop(seats);
+        drop(control);
+        drop(board);
     }
 }
 
 impl Model for State {
-    ghost use Rattle.radio_house.specs.World.{World};
+    ghost use Rattle.radio_house.specs.Control.{house_of};
+    ghost use Rattle.radio_house.specs.World.{World, world};
     ghost use Rattle.radio_parts.specs.Prepared.{LiveArePrepared};
     ghost use Rattle.radio_changes.specs.Prepared.{OnDemandArePrepared};
     ghost use Rattle.std.specs.Coded.{codes};
@@ -45,9 +46,9 @@ impl Model for State {
 
     ghost coded = { Prim.hlevel (codes, creds_users.the_row.coded) };
 
-    ghost view = { λ c. record { house = c.house; seats = c.seats.seats } };
+    ghost view = { λ c. world (house_of c.control c.board.sessions) c.board.seats.seats };
 
-    ghost invariant = { λ c. LiveArePrepared c.house.live c.seats.prepared × OnDemandArePrepared c.house.settings c.seats };
+    ghost invariant = { λ c. LiveArePrepared c.board.sessions c.board.seats.prepared × OnDemandArePrepared c.control.settings c.board.seats };
 }
 
 impl State {
@@ -57,9 +58,16 @@ impl State {
     {
         State {
             alloc,
-            house: House::new(alloc, settings, lists),
-            seats: Seats::new(alloc),
+            control: Control::new(alloc, settings, lists),
+            board: Board::new(alloc),
         }
+    }
+
+    /// The house, which is all of the state but the table of listeners.
+    pub(crate) fn house(&self) -> House<'_>
+        ensures { result ≡ self.now.house }
+    {
+        House::of(&self.control, &self.board.sessions)
     }
 
     /// The mount where the listener of this number sits, or sat last; none where there is no such
@@ -67,6 +75,6 @@ impl State {
     pub(crate) fn last_mount(&self, id: u64) -> Option<&MountName>
         ensures { option_copied result ≡ last_mount_of self.now.seats id }
     {
-        self.seats.last_mount(id)
+        self.board.seats.last_mount(id)
     }
 }

@@ -14,7 +14,7 @@ impl State {
     pub(crate) fn tick(&mut self, ms: u64)
         ensures { self.new ≡ ticked self.old ms }
     {
-        self.house.time_out(ms);
+        self.control.time_out(ms);
         self.end_durations();
         self.end_silent();
     }
@@ -23,9 +23,10 @@ impl State {
     fn end_durations(&mut self)
         ensures { self.new ≡ durations_over self.old }
     {
-        let settings = self.house.settings();
-        let now = self.house.time();
-        self.seats
+        let settings = self.control.settings();
+        let now = self.control.time();
+        self.board
+            .seats
             .finish_if(&HasSatOut { settings, now }, Rule::TimeOver);
     }
 
@@ -33,11 +34,11 @@ impl State {
     fn end_silent(&mut self)
         ensures { self.new ≡ fold session_silenced self.old (silent_in self.old) }
     {
-        'sessions: while let Some(session) = self.house.first_silent() {
+        'sessions: while let Some(session) = self.house().first_silent() {
             let mount = *session.mount.get();
             let number = session.number;
             let _counts = self.end_session(mount);
-            self.house.finish(number, Rule::SourceSilent);
+            self.control.finish(number, Rule::SourceSilent);
         }
     }
 }

@@ -64,17 +64,17 @@ impl TimedState {
     }
 
     /// The house, which is all of the state but the table of listeners.
-    pub fn house(&self) -> &House
-        ensures { result.now ≡ self.now.house }
+    pub fn house(&self) -> House<'_>
+        ensures { result ≡ self.now.house }
     {
-        &self.state.house
+        self.state.house()
     }
 
     /// The table of listeners.
     pub fn seats(&self) -> &Seats
         ensures { result.now.seats ≡ self.now.seats }
     {
-        &self.state.seats
+        &self.state.board.seats
     }
 
     /// Makes a change, and answers how many listeners it has moved and finished. `OutOfMemory` where
@@ -131,20 +131,20 @@ impl State {
     fn set_time(&mut self, ms: u64)
         ensures { self.new ≡ at_moment self.old ms }
     {
-        self.house.set_time(ms);
+        self.control.set_time(ms);
     }
 
     /// When what the change brings is due.
     fn due_by(&self, change: &Change) -> u64
         ensures { result ≡ due_by self.now change.now }
     {
-        let limits = &self.house.settings().limits;
+        let limits = &self.control.settings().limits;
         match change {
-            Change::Admit { .. } => due_at(limits.header_timeout.get(), self.house.time()),
+            Change::Admit { .. } => due_at(limits.header_timeout.get(), self.control.time()),
             Change::Begin { .. } | Change::Raise { .. } | Change::Receive { .. } => {
-                due_at(limits.source_timeout.get(), self.house.time())
+                due_at(limits.source_timeout.get(), self.control.time())
             }
-            Change::TakeSeat { seat, .. } => seat_due(self.house.settings(), seat),
+            Change::TakeSeat { seat, .. } => seat_due(self.control.settings(), seat),
             _ => LAST_MOMENT,
         }
     }
@@ -154,6 +154,6 @@ impl State {
     fn first_due(&self) -> u64
         ensures { result ≡ first_due self.now }
     {
-        self.house.first_due(&self.seats)
+        self.house().first_due(&self.board.seats)
     }
 }

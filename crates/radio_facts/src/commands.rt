@@ -18,7 +18,7 @@ use radio_values::MountName;
 /// What is looked up for one who sends this pair, or none, and whose path and arguments ask for
 /// this, beside the listeners; `None` where the path names no command.
 pub fn command_facts(
-    house: &House,
+    house: &House<'_>,
     seats: &Seats,
     asked: &Asked,
     pair: Option<&Pair>,
@@ -36,7 +36,12 @@ pub fn command_facts(
     }
 }
 
-fn facts_for(house: &House, by: &OpenedBy, needs: CommandNeeds, pair: Option<&Pair>) -> CommandFacts
+fn facts_for(
+    house: &House<'_>,
+    by: &OpenedBy,
+    needs: CommandNeeds,
+    pair: Option<&Pair>,
+) -> CommandFacts
     ensures { result ≡ facts_for (world house.now []) by.now needs (option_copied pair.entry) }
 {
     CommandFacts {
@@ -48,7 +53,7 @@ fn facts_for(house: &House, by: &OpenedBy, needs: CommandNeeds, pair: Option<&Pa
     }
 }
 
-fn facts_to_list(house: &House, listing: &Listing, pair: Option<&Pair>) -> CommandFacts
+fn facts_to_list(house: &House<'_>, listing: &Listing, pair: Option<&Pair>) -> CommandFacts
     ensures { result ≡ facts_to_list (world house.now []) listing.now (option_copied pair.entry) }
 {
     CommandFacts {
@@ -63,7 +68,7 @@ fn facts_to_list(house: &House, listing: &Listing, pair: Option<&Pair>) -> Comma
 }
 
 /// What the command needs, and whether it is there.
-fn needs_of(house: &House, seats: &Seats, command: &Command) -> CommandNeeds
+fn needs_of(house: &House<'_>, seats: &Seats, command: &Command) -> CommandNeeds
     ensures { result ≡ needs_of (world house.now seats.now.seats) command.now }
 {
     match command {
@@ -90,13 +95,17 @@ fn needs_of(house: &House, seats: &Seats, command: &Command) -> CommandNeeds
 }
 
 /// Whether the mount is live.
-fn has_session(house: &House, mount: &MountName) -> bool
+fn has_session(house: &House<'_>, mount: &MountName) -> bool
     ensures { result ≡ is_live house.now mount.now }
 {
     house.session(mount).is_some()
 }
 
-fn destination_facts(house: &House, mount: &MountName, destination: &MountName) -> DestinationFacts
+fn destination_facts(
+    house: &House<'_>,
+    mount: &MountName,
+    destination: &MountName,
+) -> DestinationFacts
     ensures { CommandNeeds.Destination result ≡ CommandNeeds.Destination (record {
       mount_is_live = is_live house.now mount.now;
       destination_is_live = is_live house.now destination.now;

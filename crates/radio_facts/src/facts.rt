@@ -17,7 +17,7 @@ use radio_settings::Settings;
 use radio_values::{MountName, Shown};
 
 /// The mount that a path names; `None` where it names none, or is one of the web site's.
-pub fn mount_named(house: &House, path: &[u8]) -> Option<MountName>
+pub fn mount_named(house: &House<'_>, path: &[u8]) -> Option<MountName>
     ensures { MatchOption result (names_mount house.now.settings path.now ≡ false)
         (λ mount. (names_mount house.now.settings path.now ≡ true) × (mount ≡ path.now)) }
 {
@@ -29,7 +29,7 @@ pub fn mount_named(house: &House, path: &[u8]) -> Option<MountName>
 }
 
 /// What is looked up for a connection that arrives from this address.
-pub fn arrive_facts(house: &House, peer: Peer) -> ArriveFacts
+pub fn arrive_facts(house: &House<'_>, peer: Peer) -> ArriveFacts
     ensures { result ≡ arrive_facts house.now peer }
 {
     let lists = house.lists();
@@ -42,7 +42,7 @@ pub fn arrive_facts(house: &House, peer: Peer) -> ArriveFacts
 }
 
 /// What is looked up for a source that wants to feed the mount.
-pub fn source_facts(house: &House, mount: &MountName, asked: &SourceRequest) -> SourceFacts
+pub fn source_facts(house: &House<'_>, mount: &MountName, asked: &SourceRequest) -> SourceFacts
     ensures { result ≡ source_facts_at house.now mount.now asked.now }
 {
     SourceFacts {
@@ -54,7 +54,7 @@ pub fn source_facts(house: &House, mount: &MountName, asked: &SourceRequest) -> 
 }
 
 /// What is looked up for a relay that wants to feed the mount, and shows this.
-pub fn relay_facts(house: &House, mount: &MountName, shown: &Shown) -> RelayFacts
+pub fn relay_facts(house: &House<'_>, mount: &MountName, shown: &Shown) -> RelayFacts
     ensures { result ≡ relay_facts_at house.now mount.now shown.now }
 {
     RelayFacts {
@@ -66,7 +66,7 @@ pub fn relay_facts(house: &House, mount: &MountName, shown: &Shown) -> RelayFact
 }
 
 /// What is looked up for a source that delivers a block on the mount.
-pub fn push_facts(house: &House, mount: &MountName, block: &Block) -> PushFacts
+pub fn push_facts(house: &House<'_>, mount: &MountName, block: &Block) -> PushFacts
     ensures { result ≡ push_facts house.now mount.now block.now }
 {
     PushFacts {
@@ -78,7 +78,7 @@ pub fn push_facts(house: &House, mount: &MountName, block: &Block) -> PushFacts
 /// and where his walk from there ends. A digest is made for each mount with users at which the
 /// walk looks for a seat: two at the most.
 pub fn listen_facts(
-    house: &House,
+    house: &House<'_>,
     seats: &Seats,
     mount: &MountName,
     pair: Option<&Pair>,
@@ -97,14 +97,14 @@ pub fn listen_facts(
 }
 
 /// Whether the settings know the mount, or it is live.
-fn is_known(house: &House, mount: &MountName) -> bool
+fn is_known(house: &House<'_>, mount: &MountName) -> bool
     ensures { result ≡ is_known house.now mount.now }
 {
     is_in_settings(house.settings(), mount) || house.session(mount).is_some()
 }
 
 /// Whether there are as many sessions as there may be.
-fn sources_are_full(house: &House) -> bool
+fn sources_are_full(house: &House<'_>) -> bool
     ensures { result ≡ is_full (length house.now.live) house.now.settings.limits.sources }
 {
     let count = house.sessions().len() as u64;

@@ -11,7 +11,7 @@ use radio_values::{Field, MountName, Shown};
 
 /// What a stream on the mount shows, which itself shows this. `OutOfMemory` where memory was
 /// refused.
-pub fn shown_for(house: &House, mount: &MountName, shown: &Shown) -> Result<Shown, OutOfMemory>
+pub fn shown_for(house: &House<'_>, mount: &MountName, shown: &Shown) -> Result<Shown, OutOfMemory>
     ensures { IfOk result (λ set. set ≡ shown_for house.now mount.now shown.now) }
 {
     let stream = &house.settings().options(mount).stream;
@@ -23,7 +23,7 @@ pub fn shown_for(house: &House, mount: &MountName, shown: &Shown) -> Result<Show
 }
 
 /// What the head of a stream says that shows this. `OutOfMemory` where memory was refused.
-pub fn head_of(house: &House, shown: &Shown) -> Result<StreamHead, OutOfMemory>
+pub fn head_of(house: &House<'_>, shown: &Shown) -> Result<StreamHead, OutOfMemory>
     ensures { IfOk result (λ head. head ≡ head_of house.now shown.now) }
 {
     Ok(StreamHead {
@@ -33,7 +33,7 @@ pub fn head_of(house: &House, shown: &Shown) -> Result<StreamHead, OutOfMemory>
 }
 
 /// How many bytes a new listener of the mount may be sent at once.
-pub fn burst_of(house: &House, mount: &MountName) -> u64
+pub fn burst_of(house: &House<'_>, mount: &MountName) -> u64
     ensures { result ≡ burst_of house.now mount.now }
 {
     let burst = house.settings().options(mount).stream.burst_size.get();
@@ -42,7 +42,7 @@ pub fn burst_of(house: &House, mount: &MountName) -> u64
 
 /// After how many bytes of data a listener of the mount is sent a metadata block, if he asked
 /// for metadata.
-pub fn interval_for(house: &House, mount: &MountName, wants_metadata: bool) -> Option<u32>
+pub fn interval_for(house: &House<'_>, mount: &MountName, wants_metadata: bool) -> Option<u32>
     ensures { result ≡ interval_for house.now mount.now wants_metadata }
 {
     if wants_metadata {

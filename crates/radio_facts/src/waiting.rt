@@ -16,7 +16,7 @@ use std::alloc::Global;
 use std::collections::BTreeSet;
 
 /// What is heard at a mount that waits for a session. `OutOfMemory` where memory was refused.
-pub fn silence(alloc: Global, house: &House, mount: MountName) -> Result<Session, OutOfMemory>
+pub fn silence(alloc: Global, house: &House<'_>, mount: MountName) -> Result<Session, OutOfMemory>
     ensures { IfOk result (λ session. session ≡ silence_at house.now mount) }
 {
     let shown = shown_for(
@@ -29,7 +29,11 @@ pub fn silence(alloc: Global, house: &House, mount: MountName) -> Result<Session
 
 /// The mounts where one of these listeners sits, which relays feed on demand, in the order of
 /// their bytes. `OutOfMemory` where memory was refused.
-pub fn wanted(alloc: Global, house: &House, seats: &Seats) -> Result<Vec<MountName>, OutOfMemory>
+pub fn wanted(
+    alloc: Global,
+    house: &House<'_>,
+    seats: &Seats,
+) -> Result<Vec<MountName>, OutOfMemory>
     ensures { IfOk result (λ mounts. mounts.items ≡ wanted (world house.now seats.now.seats)) }
 {
     let names = wanted_among(alloc, house.settings().relays.as_slice(), seats)?;

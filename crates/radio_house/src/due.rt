@@ -7,22 +7,25 @@ ghost use Rattle.radio_house.specs.Due.{client_due, first_due};
 ghost use Rattle.radio_house.specs.World.{world};
 
 use crate::clients::{Client, ClientState};
+use crate::control::Control;
 use crate::house::House;
 use radio_listeners::Seats;
 use radio_parts::{GuestDue, LAST_MOMENT, due_at, first_session_due};
 
-impl House {
+impl House<'_> {
     /// The earliest moment at which a client, one of these listeners, or a session is due, in
     /// milliseconds. The time grows as their number.
     pub fn first_due(&self, seats: &Seats) -> u64
         ensures { result ≡ first_due (world self.now seats.now.seats) }
     {
-        let seconds = self.settings.limits.source_timeout.get();
-        let sessions = first_session_due(&self.live, seconds);
-        let others = self.first_listener_due(seats).min(sessions);
-        self.first_client_due().min(others)
+        let seconds = self.settings().limits.source_timeout.get();
+        let sessions = first_session_due(self.sessions(), seconds);
+        let others = self.control.first_listener_due(seats).min(sessions);
+        self.control.first_client_due().min(others)
     }
+}
 
+impl Control {
     fn first_client_due(&self) -> u64
         ensures { result ≡ earliest (client_due self.now.settings.limits.header_timeout) self.now.clients }
     {

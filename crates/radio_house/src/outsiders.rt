@@ -6,7 +6,7 @@ ghost use Rattle.radio_seats.specs.Seats.{with_ended};
 ghost use Rattle.radio_seats.specs.Rests.{how_many};
 ghost use Rattle.radio_house.specs.Outsiders.{is_shut_out};
 
-use crate::house::House;
+use crate::control::Control;
 use radio_access::Lists;
 use radio_blocks::Place;
 use radio_listeners::Seats;
@@ -32,7 +32,7 @@ impl SeatTest for IsShutOut<'_> {
     }
 }
 
-impl House {
+impl Control {
     /// Those lose their seats at the mount whom its users do not let in; how many they are. It takes
     /// no memory.
     pub fn end_outsiders(&self, seats: &mut Seats, mount: &MountName) -> u64

@@ -12,15 +12,16 @@ use radio_fallback::{StreamEnd, View};
 use radio_settings::Settings;
 use radio_values::MountName;
 
-impl House {
+impl<'a> House<'a> {
     /// The mount to which the listeners of this one fall back, if to any: what a command has set,
     /// else what the settings say.
-    pub fn fallback_name(&self, mount: &MountName) -> Option<&MountName>
+    pub fn fallback_name(&self, mount: &MountName) -> Option<&'a MountName>
         ensures { option_copied result ≡ fallback_of self.now mount.now }
     {
-        match self.fallbacks.get(mount) {
+        let control = self.control;
+        match control.fallbacks.get(mount) {
             Some(set) => set.fallback.as_ref(),
-            None => self
+            None => control
                 .settings
                 .options(mount)
                 .listeners
@@ -30,7 +31,7 @@ impl House {
     }
 }
 
-impl View for House {
+impl View for House<'_> {
     ghost use Rattle.radio_house.specs.Facts.{sight_of};
 
     ghost sight = { sight_of };
@@ -40,15 +41,15 @@ impl View for House {
     }
 
     fn limit(&self, mount: &MountName) -> Option<u32> {
-        limit_of(&self.settings, mount)
+        limit_of(self.settings(), mount)
     }
 
     fn lets_in(&self, mount: &MountName, pair: Option<&Pair>) -> bool {
-        self.lists.lets_in(mount, pair)
+        self.lists().lets_in(mount, pair)
     }
 
     fn allows_duplicates(&self, mount: &MountName) -> bool {
-        self.settings.options(mount).users.allow_duplicate_users
+        self.settings().options(mount).users.allow_duplicate_users
     }
 
     fn fallback(&self, mount: &MountName) -> Option<MountName> {
@@ -56,7 +57,7 @@ impl View for House {
     }
 
     fn hands_on_when_full(&self, mount: &MountName) -> bool {
-        self.settings.options(mount).listeners.fallback_when_full
+        self.settings().options(mount).listeners.fallback_when_full
     }
 
     fn stream_end(&self, mount: &MountName) -> StreamEnd {

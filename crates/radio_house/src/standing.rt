@@ -6,6 +6,7 @@ ghost use Rattle.radio_house.specs.Relays.{relay_of};
 ghost use Rattle.radio_house.specs.World.{world, standing_of, standing_of_listener, standing_of_relay};
 
 use crate::clients::ClientState;
+use crate::control::Control;
 use crate::house::House;
 use crate::relays::RelayState;
 use radio_addr::Peer;
@@ -30,14 +31,15 @@ pub enum Standing {
     Finished(Rule),
 }
 
-impl House {
+impl House<'_> {
     /// How the client, or the relay, of this number stands, who has his place among these listeners
     /// if he is one.
     pub fn standing(&self, seats: &Seats, id: u64) -> Standing
         ensures { result ≡ standing_of (world self.now seats.now.seats) id }
     {
-        let Some(client) = self.clients.get(&id) else {
-            return self.relay_standing(id);
+        let control = self.control;
+        let Some(client) = control.clients.get(&id) else {
+            return control.relay_standing(id);
         };
         let state = client.state;
         match state {
@@ -49,6 +51,15 @@ impl House {
         }
     }
 
+    /// Whether there is a relay of this number.
+    pub fn has_relay(&self, id: u64) -> bool
+        ensures { result ≡ is_some (relay_of self.now.relays id) }
+    {
+        self.control.has_relay(id)
+    }
+}
+
+impl Control {
     /// How the relay of this number stands.
     fn relay_standing(&self, id: u64) -> Standing
         ensures { result ≡ standing_of_relay (relay_of self.now.relays id) }
@@ -63,8 +74,7 @@ impl House {
         }
     }
 
-    /// Whether there is a relay of this number.
-    pub fn has_relay(&self, id: u64) -> bool
+    fn has_relay(&self, id: u64) -> bool
         ensures { result ≡ is_some (relay_of self.now.relays id) }
     {
         self.relays.get(&id).is_some()

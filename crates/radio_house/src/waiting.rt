@@ -6,17 +6,18 @@ ghost use Rattle.radio_seats.specs.Board.{is_prepared};
 ghost use Rattle.radio_house.specs.Waiting.{is_on_demand, feeds_on_demand, heard_at};
 
 use crate::OutOfMemory;
+use crate::control::Control;
 use crate::house::House;
 use radio_listeners::Seats;
 use radio_settings::RelaySetting;
 use radio_values::MountName;
 
-impl House {
+impl House<'_> {
     /// Whether a relay of the settings feeds the mount on demand.
     pub fn is_on_demand(&self, mount: &MountName) -> bool
         ensures { result ≡ is_on_demand self.now.settings mount.now }
     {
-        match self.settings.relays.get(mount) {
+        match self.settings().relays.get(mount) {
             Some(relay) => relay.on_demand,
             None => false,
         }
@@ -32,7 +33,9 @@ impl House {
             None => self.is_on_demand(mount),
         }
     }
+}
 
+impl Control {
     /// Listeners can be seated from now on at each mount that a relay feeds on demand. `OutOfMemory`
     /// where memory was refused; then they can be at some of these.
     fn prepare_on_demand(&self, seats: &mut Seats) -> Result<(), OutOfMemory>

@@ -31,7 +31,7 @@ const SECOND: u64 = 1000;
 /// listed. `OutOfMemory` where memory was refused.
 pub fn shown(
     alloc: Global,
-    house: &House,
+    house: &House<'_>,
     seats: &Seats,
     listing: &Listing,
 ) -> Result<Text, OutOfMemory>
@@ -47,7 +47,7 @@ pub fn shown(
 }
 
 /// What the server does as a whole. `OutOfMemory` where memory was refused.
-fn stats_shown(alloc: Global, house: &House, seats: &Seats) -> Result<Text, OutOfMemory>
+fn stats_shown(alloc: Global, house: &House<'_>, seats: &Seats) -> Result<Text, OutOfMemory>
     ensures { IfOk result (λ text. text ≡ shown (world house.now seats.now.seats) Stats) }
 {
     let clients = house.client_count();
@@ -56,7 +56,7 @@ fn stats_shown(alloc: Global, house: &House, seats: &Seats) -> Result<Text, OutO
 }
 
 /// All live mounts. `OutOfMemory` where memory was refused.
-fn mounts_shown(alloc: Global, house: &House, seats: &Seats) -> Result<Text, OutOfMemory>
+fn mounts_shown(alloc: Global, house: &House<'_>, seats: &Seats) -> Result<Text, OutOfMemory>
     ensures { IfOk result (λ text. text ≡ shown (world house.now seats.now.seats) Mounts) }
 {
     let rows = mount_rows(alloc, house, seats)?;
@@ -64,7 +64,7 @@ fn mounts_shown(alloc: Global, house: &House, seats: &Seats) -> Result<Text, Out
 }
 
 /// The mounts that a relay may pull. `OutOfMemory` where memory was refused.
-fn streams_shown(alloc: Global, house: &House, seats: &Seats) -> Result<Text, OutOfMemory>
+fn streams_shown(alloc: Global, house: &House<'_>, seats: &Seats) -> Result<Text, OutOfMemory>
     ensures { IfOk result (λ text. text ≡ shown (world house.now seats.now.seats) Streams) }
 {
     let rows = mount_rows(alloc, house, seats)?;
@@ -72,7 +72,7 @@ fn streams_shown(alloc: Global, house: &House, seats: &Seats) -> Result<Text, Ou
 }
 
 /// What everybody may see. `OutOfMemory` where memory was refused.
-fn status_shown(alloc: Global, house: &House, seats: &Seats) -> Result<Text, OutOfMemory>
+fn status_shown(alloc: Global, house: &House<'_>, seats: &Seats) -> Result<Text, OutOfMemory>
     ensures { IfOk result (λ text. text ≡ shown (world house.now seats.now.seats) Status) }
 {
     let bytes = status_bytes(alloc, house, seats)?;
@@ -82,7 +82,7 @@ fn status_shown(alloc: Global, house: &House, seats: &Seats) -> Result<Text, Out
     })
 }
 
-fn status_bytes(alloc: Global, house: &House, seats: &Seats) -> Result<Bytes, OutOfMemory>
+fn status_bytes(alloc: Global, house: &House<'_>, seats: &Seats) -> Result<Bytes, OutOfMemory>
     ensures { IfOk result (λ bytes. bytes ≡ status_text (mount_rows (world house.now seats.now.seats))) }
 {
     let rows = mount_rows(alloc, house, seats)?;
@@ -92,7 +92,7 @@ fn status_bytes(alloc: Global, house: &House, seats: &Seats) -> Result<Bytes, Ou
 /// The live mounts, in the order of their names. `OutOfMemory` where memory was refused.
 pub(crate) fn mount_rows<'a>(
     alloc: Global,
-    house: &'a House,
+    house: &House<'a>,
     seats: &Seats,
 ) -> Result<Vec<MountRow<'a>>, OutOfMemory>
     ensures { IfOk result (λ rows. rows.items ≡ mount_rows (world house.now seats.now.seats)) }
@@ -105,7 +105,7 @@ pub(crate) fn mount_rows<'a>(
 }
 
 /// What listings tell of a live mount.
-fn mount_row<'a>(house: &'a House, seats: &Seats, session: &'a Session) -> MountRow<'a>
+fn mount_row<'a>(house: &House<'a>, seats: &Seats, session: &'a Session) -> MountRow<'a>
     ensures { result ≡ mount_row (world house.now seats.now.seats) session.now }
 {
     let mount = session.mount.get();
@@ -121,7 +121,7 @@ fn mount_row<'a>(house: &'a House, seats: &Seats, session: &'a Session) -> Mount
 }
 
 /// What everybody may see of a live mount.
-fn public_row<'a>(house: &House, seats: &Seats, session: &'a Session) -> PublicRow<'a>
+fn public_row<'a>(house: &House<'_>, seats: &Seats, session: &'a Session) -> PublicRow<'a>
     ensures { result ≡ public_row (world house.now seats.now.seats) session.now }
 {
     let mount = session.mount.get();
@@ -138,7 +138,7 @@ fn public_row<'a>(house: &House, seats: &Seats, session: &'a Session) -> PublicR
 /// The listeners of the mount. `OutOfMemory` where memory was refused.
 fn listeners_shown(
     alloc: Global,
-    house: &House,
+    house: &House<'_>,
     seats: &Seats,
     mount: &MountName,
 ) -> Result<Vec<u8>, OutOfMemory>

@@ -20,7 +20,7 @@ use std::alloc::Global;
 /// memory was refused.
 pub fn page(
     alloc: Global,
-    house: &House,
+    house: &House<'_>,
     seats: &Seats,
     path: WebPath,
     host: &[u8],
@@ -41,7 +41,7 @@ pub fn page(
 /// where memory was refused.
 fn icecast_shown(
     alloc: Global,
-    house: &House,
+    house: &House<'_>,
     seats: &Seats,
     host: &[u8],
 ) -> Result<Bytes, OutOfMemory>
@@ -56,7 +56,7 @@ fn icecast_shown(
 /// `OutOfMemory` where memory was refused.
 fn status_at(
     alloc: Global,
-    house: &House,
+    house: &House<'_>,
     seats: &Seats,
     base: &[u8],
 ) -> Result<Vec<u8>, OutOfMemory>

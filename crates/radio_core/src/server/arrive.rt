@@ -15,7 +15,7 @@ impl State {
     pub(super) fn arrive(&self, peer: Peer) -> Outcome
         ensures { result ≡ arrives self.now peer }
     {
-        let facts = arrive_facts(self.house(), peer);
+        let facts = arrive_facts(&self.house(), peer);
         match judge(&Action::Arrive(facts)) {
             Verdict::Deny(rule) => Outcome {
                 reply: Reply::Deny(rule),

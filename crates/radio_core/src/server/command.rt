@@ -42,7 +42,7 @@ impl State {
             (on_verdict (verdict_in (rows_to_command self.now asked)) (Change.Answer asked.id) (does_asked self.now asked.id asked.asked))) }
     {
         let facts = command_facts(
-            self.house(),
+            &self.house(),
             self.seats(),
             &asked.asked,
             asked.pair.as_ref(),
@@ -65,7 +65,7 @@ impl State {
         let CommandRequest { id, asked, .. } = asked;
         match asked {
             Asked::Listing(listing) => Ok(Outcome {
-                reply: Reply::Text(shown(self.alloc, self.house(), self.seats(), &listing)?),
+                reply: Reply::Text(shown(self.alloc, &self.house(), self.seats(), &listing)?),
                 change: Change::Answer { id },
             }),
             Asked::Command(command) => Ok(Outcome {

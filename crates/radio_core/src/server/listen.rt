@@ -54,10 +54,10 @@ impl State {
             _ => return Err(Outcome::stray()),
         };
         let house = self.house();
-        let Some(home) = mount_named(house, asked.mount.as_slice()) else {
+        let Some(home) = mount_named(&house, asked.mount.as_slice()) else {
             return Err(Outcome::refused(Rule::BadMount, asked.id));
         };
-        let (facts, landing) = listen_facts(house, self.seats(), &home, asked.pair.as_ref());
+        let (facts, landing) = listen_facts(&house, self.seats(), &home, asked.pair.as_ref());
         match judge(&Action::Listen(Some(facts))) {
             Verdict::Deny(rule) => Err(Outcome::refused(rule, asked.id)),
             Verdict::Allow => Ok(Welcome {
@@ -124,7 +124,7 @@ impl State {
         requires { welcome.home ≡ asked.mount }
         ensures { IfOk result (λ o. o ≡ takes_seat self.now.house asked welcome.peer (Some (silence_at self.now.house mount.now))) }
     {
-        match silence(self.alloc, self.house(), *mount) {
+        match silence(self.alloc, &self.house(), *mount) {
             Ok(session) => {
                 let outcome = self.welcome(asked, welcome, &session);
                 drop(session);
@@ -162,7 +162,7 @@ impl State {
     fn head(&self, shown: &Shown) -> Result<Boxed<StreamHead>, OutOfMemory>
         ensures { IfOk result (λ head. head ≡ head_of self.now.house shown.now) }
     {
-        Boxed::new(self.alloc, head_of(self.house(), shown)?)
+        Boxed::new(self.alloc, head_of(&self.house(), shown)?)
     }
 
     /// The seat of a new listener in the session. `OutOfMemory` where memory was refused.
@@ -183,8 +183,8 @@ impl State {
         let house = self.house();
         let home = house.shared_name(self.alloc, asked_for)?;
         let mount = session.mount.get();
-        let burst = burst_of(house, mount);
-        let interval = interval_for(house, &asked_for, asked.wants_metadata);
+        let burst = burst_of(&house, mount);
+        let interval = interval_for(&house, &asked_for, asked.wants_metadata);
         Ok(Seat {
             home,
             mount: *mount,

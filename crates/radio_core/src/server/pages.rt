@@ -38,7 +38,7 @@ impl State {
             Standing::Undecided(_) => Ok(Outcome {
                 reply: Reply::Text(page(
                     self.alloc,
-                    self.house(),
+                    &self.house(),
                     self.seats(),
                     path,
                     asked.host.as_slice(),

@@ -20,7 +20,7 @@ impl State {
             Standing::Finished(rule) => return Outcome::finished(rule),
             _ => return Outcome::stray(),
         };
-        let facts = push_facts(self.house(), &mount, &block);
+        let facts = push_facts(&self.house(), &mount, &block);
         match judge(&Action::Push(facts)) {
             Verdict::Deny(rule) => Outcome::denied(rule),
             Verdict::Allow => Outcome {

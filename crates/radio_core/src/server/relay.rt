@@ -34,10 +34,10 @@ impl State {
             (λ rule. verdict_in (rows_to_raise self.now.house mount.now shown.now) ≡ Verdict.Deny rule) }
     {
         let house = self.house();
-        let Some(name) = mount_named(house, mount) else {
+        let Some(name) = mount_named(&house, mount) else {
             return Err(Rule::BadMount);
         };
-        let facts = relay_facts(house, &name, shown);
+        let facts = relay_facts(&house, &name, shown);
         match judge(&Action::RelayUp(Some(facts))) {
             Verdict::Deny(rule) => Err(rule),
             Verdict::Allow => Ok(name),
@@ -50,7 +50,7 @@ impl State {
         ensures { IfOk result (λ o. o ≡ raises self.now.house mount shown.now) }
     {
         let house = self.house();
-        let shown = shown_for(house, &mount, shown)?;
+        let shown = shown_for(&house, &mount, shown)?;
         let id = house.last_number() + 1;
         Ok(Outcome {
             reply: Reply::Arrived(id),

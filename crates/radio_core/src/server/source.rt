@@ -35,7 +35,7 @@ impl State {
     ) -> Result<Outcome, OutOfMemory>
         ensures { IfOk result (λ o. o ≡ says Feeding (Begin id mount (shown_for self.now.house mount shown.now))) }
     {
-        let shown = shown_for(self.house(), &mount, shown)?;
+        let shown = shown_for(&self.house(), &mount, shown)?;
         Ok(Outcome {
             reply: Reply::Feeding,
             change: Change::Begin { id, mount, shown },
@@ -53,10 +53,10 @@ impl State {
             _ => return Err(Outcome::stray()),
         }
         let house = self.house();
-        let Some(mount) = mount_named(house, asked.mount.as_slice()) else {
+        let Some(mount) = mount_named(&house, asked.mount.as_slice()) else {
             return Err(Outcome::refused(Rule::BadMount, asked.id));
         };
-        let facts = source_facts(house, &mount, asked);
+        let facts = source_facts(&house, &mount, asked);
         match judge(&Action::Source(Some(facts))) {
             Verdict::Deny(rule) => Err(Outcome::refused(rule, asked.id)),
             Verdict::Allow => Ok(mount),

@@ -68,8 +68,8 @@ impl State {
     }
 
     /// The house, which is all of the state but the table of listeners.
-    pub(super) fn house(&self) -> &House
-        ensures { result.now ≡ self.now.house }
+    pub(super) fn house(&self) -> House<'_>
+        ensures { result ≡ self.now.house }
     {
         self.state.house()
     }
@@ -210,7 +210,7 @@ impl State {
     pub(super) fn wanted(&self) -> Result<Vec<MountName>, OutOfMemory>
         ensures { IfOk result (λ mounts. mounts.items ≡ wanted self.now) }
     {
-        wanted(self.alloc, self.house(), self.seats())
+        wanted(self.alloc, &self.house(), self.seats())
     }
 
     /// How the client, or the relay, of this number stands.

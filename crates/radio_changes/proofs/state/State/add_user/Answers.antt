@@ -1,12 +1,13 @@
 use Rattle.std.proofs.Common.{ap, ◌∙◌}
 use Rattle.radio_changes.specs.Changes.{user_added}
 use Rattle.radio_changes.specs.Counts.{counts_out}
-use Rattle.radio_house.specs.House.{House}
-use Rattle.radio_house.specs.World.{World}
+use Rattle.radio_house.specs.Control.{Control, house_of}
+use Rattle.radio_house.specs.World.{World, world}
 use Rattle.radio_changes.proofs.state.State.add_user.Goals as goal
 
 pub returns-clause-counts : goal.returns-clause-counts
 returns-clause-counts c =
     c.end_outsiders.ensures.counts
-    ∙ ap (λ (h : House). counts_out (record { house = h; seats = c.self.inside.seats.seats }) c.args.mount.now) c.in_ok-add_user.ensures.ok
+    ∙ ap (λ (control : Control). counts_out (world (house_of control c.self.inside.board.sessions) c.self.inside.board.seats.seats) c.args.mount.now)
+    c.in_ok-add_user.ensures.ok
     ∙ ap (λ (w : World). counts_out (user_added w c.args.mount.now c.args.user.now c.args.password.now) c.args.mount.now) c.self.view_is

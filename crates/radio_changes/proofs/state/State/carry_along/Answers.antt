@@ -1,17 +1,23 @@
-use Rattle.std.proofs.Common.{arith}
+use Rattle.std.proofs.Common.{◌≡◌, true, subst, arith}
+use Rattle.std.specs.Prelude.{is_some}
 use Rattle.radio_fallback.specs.Carry.{carried}
+use Rattle.radio_house.specs.Control.{house_of}
 use Rattle.radio_house.specs.Facts.{sight_of}
+use Rattle.radio_house.specs.House.{House}
+use Rattle.radio_house.specs.Waiting.{heard_at}
 use Rattle.radio_changes.proofs.PreparedSeats.{as_many_carried, heard_prepared, seats_changed, some_listen}
 use Rattle.radio_changes.proofs.state.State.carry_along.Goals as goal
 
 pub carry-requires : goal.carry-requires
-carry-requires c = λ mount heard. heard_prepared c.self.inside.house c.self.inside.seats mount
-    (some_listen c.self.inside.seats.seats c.len.result c.len.ensures c.if-len-eq0.false) c.self.invariant.0 c.self.invariant.1 heard
+carry-requires c = λ mount heard. heard_prepared (house_of c.self.inside.control c.self.inside.board.sessions) c.self.inside.board.seats mount
+    (some_listen c.self.inside.board.seats.seats c.len.result c.len.ensures c.if-len-eq0.false) c.self.invariant.0 c.self.invariant.1
+    (subst (λ (house : House). is_some (heard_at house mount) ≡ true) c.of-house.ensures heard)
 
 pub invariant_of-self : goal.invariant_of-self
 invariant_of-self c =
-    let house = c.self.inside.house in
-    let board = c.self.inside.seats in
-    let seats = (carried (sight_of house) c.args.moving.now board.seats).seats in
-    let many = as_many_carried (sight_of house) c.args.moving.now board.seats in
-    seats_changed house.settings house.live board c.carry.new.seats seats c.carry.ensures.seats (omega (arith, many)) c.self.invariant
+    let sight = sight_of c.of-house.result in
+    let board = c.self.inside.board.seats in
+    let seats = (carried sight c.args.moving.now board.seats).seats in
+    let many = as_many_carried sight c.args.moving.now board.seats in
+    seats_changed c.self.inside.control.settings c.self.inside.board.sessions board c.carry.new.seats seats c.carry.ensures.seats (omega (arith, many))
+    c.self.invariant

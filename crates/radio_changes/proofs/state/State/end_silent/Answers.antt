@@ -1,25 +1,30 @@
 use Rattle.std.proofs.Common.{ap, ◌∙◌}
 use Rattle.radio_parts.specs.Sessions.{Session}
-use Rattle.radio_house.specs.World.{World}
+use Rattle.radio_house.specs.Control.{Control, house_of}
+use Rattle.radio_house.specs.World.{world}
 use Rattle.radio_changes.proofs.SilentLemmas.{one_fewer, still_to_end, all_have_ended}
 use Rattle.radio_changes.proofs.state.State.end_silent.Goals as goal
 
 pub sessions-smaller : goal.sessions-smaller
 sessions-smaller c =
-    one_fewer c.sessions.self c.self.inside.house (ap (λ (v : World). v.house) c.self.view_is)
-    (record { house = c.self-in-Some.inside.house; seats = c.self-in-Some.inside.seats.seats }) c.finish.new.self c.in-Some.session.now
+    one_fewer c.sessions.self c.house.result c.house.ensures
+    (world (house_of c.self.inside.control c.self.inside.board.sessions) c.self.inside.board.seats.seats)
+    (house_of c.finish.new.self c.self.inside.board.sessions) c.in-Some.session.now
     c.get-mount.result.now c.session.inside.number c.first_silent.ensures.rising c.in-Some.ensures.first
     (c.get-mount.ensures ∙ ap (λ (x : Session). x.mount) c.session.view_is) (ap (λ (x : Session). x.number) c.session.view_is)
-    (c.self-in-Some.view_is ∙ c.end_session-counts.ensures.state) c.finish.ensures
+    (c.self.view_is ∙ c.end_session-counts.ensures.state)
+    (ap (λ (control : Control). house_of control c.self.inside.board.sessions) c.finish.ensures)
 
 pub sessions-preserved : goal.sessions-preserved
 sessions-preserved c =
-    still_to_end c.sessions.self c.self.inside.house (ap (λ (v : World). v.house) c.self.view_is)
-    (record { house = c.self-in-Some.inside.house; seats = c.self-in-Some.inside.seats.seats }) c.finish.new.self c.in-Some.session.now
+    still_to_end c.sessions.self c.house.result c.house.ensures
+    (world (house_of c.self.inside.control c.self.inside.board.sessions) c.self.inside.board.seats.seats)
+    (house_of c.finish.new.self c.self.inside.board.sessions) c.in-Some.session.now
     c.get-mount.result.now c.session.inside.number c.first_silent.ensures.rising c.in-Some.ensures.first
     (c.get-mount.ensures ∙ ap (λ (x : Session). x.mount) c.session.view_is) (ap (λ (x : Session). x.number) c.session.view_is)
-    (c.self-in-Some.view_is ∙ c.end_session-counts.ensures.state) c.finish.ensures ∙ c.sessions.invariant
+    (c.self.view_is ∙ c.end_session-counts.ensures.state)
+    (ap (λ (control : Control). house_of control c.self.inside.board.sessions) c.finish.ensures) ∙ c.sessions.invariant
 
 pub returns : goal.returns
 returns c =
-    all_have_ended c.sessions.self c.self.inside.house (ap (λ (v : World). v.house) c.self.view_is) c.in_default.ensures.first ∙ c.sessions.invariant
+    all_have_ended c.sessions.self c.house.result c.house.ensures c.in_default.ensures.first ∙ c.sessions.invariant

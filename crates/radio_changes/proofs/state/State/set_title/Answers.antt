@@ -1,5 +1,4 @@
-use Rattle.std.proofs.Common.{Some, refl, ap}
-use Rattle.radio_house.specs.House.{House}
+use Rattle.std.proofs.Common.{Some, refl}
 use Rattle.radio_parts.specs.Sessions.{with_title}
 use Rattle.radio_parts.proofs.PreparedLemmas.{changed_prepared}
 use Rattle.radio_changes.proofs.PreparedSeats.{house_changed}
@@ -7,9 +6,10 @@ use Rattle.radio_changes.proofs.state.State.set_title.Goals as goal
 
 pub invariant_of-self : goal.invariant_of-self
 invariant_of-self c =
-    let house = c.self.inside.house in
+    let settings = c.self.inside.control.settings in
+    let live = c.self.inside.board.sessions in
+    let board = c.self.inside.board.seats in
     let later = c.set_title.new.self in
-    house_changed house.settings later.settings house.live later.live c.self.inside.seats (ap (λ (h : House). h.settings) c.set_title.ensures)
-    (changed_prepared house.live later.live c.self.inside.seats.prepared c.args.mount.now (with_title (Some c.args.title))
-    (λ session. refl) (ap (λ (h : House). h.live) c.set_title.ensures) c.self.invariant.0)
+    house_changed settings settings live later board refl
+    (changed_prepared live later board.prepared c.args.mount.now (with_title (Some c.args.title)) (λ session. refl) c.set_title.ensures c.self.invariant.0)
     c.self.invariant

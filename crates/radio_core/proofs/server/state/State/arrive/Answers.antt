@@ -10,5 +10,5 @@ use Rattle.radio_core.proofs.server.state.State.arrive.Goals as goal
 pub admit_client-requires : goal.admit_client-requires
 admit_client-requires c =
     let allows = ap (λ (facts : ArriveFacts). verdict_in (arrive_rows facts)) (sym c.arrive_facts-facts.ensures) ∙ sym c.judge.ensures ∙ c.in-Allow.is in
-    let left = has_number_left c.house.result.now c.args.peer allows in
+    let left = has_number_left c.house.result c.args.peer allows in
     subst (λ (h : House). (h.last_id == largest_number) ≡ false) c.house.ensures left

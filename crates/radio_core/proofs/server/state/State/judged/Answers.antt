@@ -28,7 +28,7 @@ verdict_is w lent asked facts verdict is_same looked_up said =
 pub returns-in-Deny : goal.returns-in-Deny
 returns-in-Deny c =
     let w = c.args.self.now in
-    let house = c.house.result.now in
+    let house = c.house.result in
     let seats = c.seats.result.now.seats in
     c.refused.ensures
     ∙ sym (ap (come_of w c.args.asked) (verdict_is w (world house seats) c.args.asked c.command_facts-facts.result (Denied c.in-Deny.rule)
@@ -38,7 +38,7 @@ returns-in-Deny c =
 pub returns-in-Allow : goal.returns-in-Allow
 returns-in-Allow c =
     let w = c.args.self.now in
-    let house = c.house.result.now in
+    let house = c.house.result in
     let seats = c.seats.result.now.seats in
     subst (λ (verdict : Verdict). IfOk c.allowed.result (λ o. o ≡ come_of w c.args.asked verdict))
     (sym (verdict_is w (world house seats) c.args.asked c.command_facts-facts.result Allow (lent_state w house seats c.house.ensures c.seats.ensures)

@@ -51,7 +51,7 @@ returns-in-Deny c =
     let asked = c.args.asked.now in
     c.refused-in-Deny.ensures
     ∙ sym (comes_to w asked c.in-Undecided.peer (sym c.standing.ensures ∙ c.in-Undecided.is) (Denied c.in-Deny.rule)
-    (judged w c.house-house.result.now c.seats.result.now.seats asked c.in-Some.home c.listen_facts-landing.result.0 (Denied c.in-Deny.rule) c.house-house.ensures
+    (judged w c.house-house.result c.seats.result.now.seats asked c.in-Some.home c.listen_facts-landing.result.0 (Denied c.in-Deny.rule) c.house-house.ensures
     c.seats.ensures (rw (← c.as_slice.ensures) c.in-Some.ensures.0) (c.in-Some.ensures.1 ∙ c.as_slice.ensures)
     (rw (← c.as_ref.ensures.value) c.listen_facts-landing.ensures.facts) (sym c.in-Deny.is ∙ c.judge.ensures)))
 
@@ -65,7 +65,7 @@ returns-in-Allow c =
     landing ∙ ap (λ (m : List ℕ). walks_to w.house w.seats m asked.pair) (c.in-Some.ensures.1 ∙ c.as_slice.ensures) in (
       c.in-Some.ensures.1 ∙ c.as_slice.ensures,
       comes_to w asked c.in-Undecided.peer (sym c.standing.ensures ∙ c.in-Undecided.is) Allow
-          (judged w c.house-house.result.now c.seats.result.now.seats asked c.in-Some.home c.listen_facts-landing.result.0 Allow c.house-house.ensures c.seats.ensures
+          (judged w c.house-house.result c.seats.result.now.seats asked c.in-Some.home c.listen_facts-landing.result.0 Allow c.house-house.ensures c.seats.ensures
           (rw (← c.as_slice.ensures) c.in-Some.ensures.0) (c.in-Some.ensures.1 ∙ c.as_slice.ensures)
           (rw (← c.as_ref.ensures.value) c.listen_facts-landing.ensures.facts) (sym c.in-Allow.is ∙ c.judge.ensures))
           ∙ ap (sits_where w.house asked c.in-Undecided.peer) (sym landed),

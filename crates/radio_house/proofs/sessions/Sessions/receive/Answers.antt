@@ -1,10 +1,10 @@
 use Rattle.std.proofs.Common.{List, ap, ◌∙◌}
 use Rattle.radio_parts.specs.Sessions.{Session, session_of}
 use Rattle.radio_parts.proofs.FurthestLemmas.{end_in, delivered_within}
-use Rattle.radio_house.proofs.house.House.receive.Goals as goal
+use Rattle.radio_house.proofs.sessions.Sessions.receive.Goals as goal
 
 pub invariant_of-self-2 : goal.invariant_of-self-2
 invariant_of-self-2 c =
     rw (c.max-self-inside.ensures, c.in_ok-end.ensures.ok) (delivered_within c.self.inside.furthest c.self.inside.live c.self.invariant
-    c.get-limit.result c.args.mount.now c.args.block.now c.self.inside.time c.in_ok-end.end
+    c.args.limit c.args.mount.now c.args.block.now c.args.moment c.in_ok-end.end
     (c.in_ok-end.ensures.end ∙ ap (λ (live : List Session). end_in (session_of live c.args.mount.now)) c.in_ok-end.ensures.ok))

@@ -1,5 +1,5 @@
 use Rattle.radio_parts.proofs.FurthestLemmas.{titled_within}
-use Rattle.radio_house.proofs.house.House.set_title.Goals as goal
+use Rattle.radio_house.proofs.sessions.Sessions.set_title.Goals as goal
 
 pub invariant_of-self : goal.invariant_of-self
 invariant_of-self c =

@@ -1,0 +1,32 @@
+-- What is kept of all mounts together: all of the house but its sessions.
+use Rattle.std.specs.Prelude.{ℕ, List}
+use Rattle.radio_settings.specs.declared.settings.Settings.{Settings}
+use Rattle.radio_access.specs.Lists.{Lists}
+use Rattle.radio_parts.specs.Sessions.{Session}
+use Rattle.radio_house.specs.Clients.{Client}
+use Rattle.radio_house.specs.Fallbacks.{Fallback}
+use Rattle.radio_house.specs.Relays.{Relay}
+use Rattle.radio_house.specs.House.{House}
+
+-- each field is the house's
+pub record Control : Type 0 where
+  pub time : ℕ
+  pub settings : Settings
+  pub lists : Lists
+  pub fallbacks : List Fallback
+  pub clients : List Client
+  pub relays : List Relay
+  pub last_id : ℕ
+
+-- with these sessions it is a house
+abbrev pub house_of : Control → List Session → House
+house_of control live = record {
+  time = control.time;
+  settings = control.settings;
+  lists = control.lists;
+  live = live;
+  fallbacks = control.fallbacks;
+  clients = control.clients;
+  relays = control.relays;
+  last_id = control.last_id;
+}
