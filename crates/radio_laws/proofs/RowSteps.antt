@@ -55,7 +55,7 @@ module _ (seats : List Listener) (id : ℕ) where
     by_loss : (listener_of (with_ended seats p rule) id ≡ listener_of seats id)
         ⊎ LosesSeat p rule (listener_of seats id) (listener_of (with_ended seats p rule) id) → Steps (with_ended seats p rule)
     by_loss (inl same) = IsSame same
-    by_loss (inr loses) = LosesIt loses.seat rule loses.id loses.had_a_seat loses.finished
+    by_loss (inr lost) = LosesIt lost.seat rule lost.id lost.had_a_seat lost.finished
 
   pub step_carried : (sight : Sight) (move : Move) → AreByNumber seats → Steps (carried sight move seats).seats
   step_carried sight move order = by_fare (fares sight move seats order id) where

@@ -23,11 +23,12 @@ abbrev pub FinishedWhereHeSat : World → Event → Type 0
 FinishedWhereHeSat w event = ((ms : ℕ) → event ≡ Clock ms → ⊥) → (id : ℕ) (seat : Seat) (rule : Rule) → seat_of w.seats id ≡ Some seat
     → standing_of (world_after w event) id ≡ Finished rule → last_mount_of (world_after w event).seats id ≡ Some seat.mount
 
--- at a moment that is no past one the clock ends first whoever has sat as long as the mount allows that he asked for, and then sessions, one after another,
--- whose ends may move a listener before one of them leaves him without a seat
+-- and so did those whom a clock ends that does not go back: it does several things, one after another
 pub record EndedByClockWhereTheySat (w : World) (ms : ℕ) : Type 0 where
+  -- first it ends whoever has sat as long as the mount allows that he asked for
   pub sat_out : nat_lt ms w.house.time ≡ false → (id : ℕ) (seat : Seat) → seat_of w.seats id ≡ Some seat → has_sat_out w.house.settings ms seat ≡ true
       → last_mount_of (world_after w (Clock ms)).seats id ≡ Some seat.mount
+  -- then sessions: whom the end of one leaves without a seat sat last where he had it just before, be it that the end of an earlier one took him there
   pub left_out : nat_lt ms w.house.time ≡ false → (move : Move) (before : World) → Brings w (Clock ms) move before → (id : ℕ) (seat : Seat)
       → seat_of before.seats id ≡ Some seat → seat_of (carried_along before move).seats id ≡ None
       → last_mount_of (world_after w (Clock ms)).seats id ≡ Some seat.mount
