@@ -1,5 +1,5 @@
 -- who was finished is handed nothing any more
-use Rattle.std.proofs.Common.{◌≡◌, ◌++◌, ℕ, ◌≤◌, ◌<◌, Option, Some, None, List, [], ◌∷◌, refl, ap, ◌∙◌, arith}
+use Rattle.std.proofs.Common.{◌≡◌, ◌++◌, ℕ, ◌≤◌, ◌<◌, Option, None, List, [], ◌∷◌, refl, ap, ◌∙◌, arith}
 use Rattle.radio_policy.specs.declared.rule.Rule.{Rule}
 use Rattle.radio_seats.specs.declared.seat.Seat.{Seat}
 use Rattle.radio_seats.specs.Seats.{seat_of}
@@ -17,6 +17,7 @@ use Rattle.radio_core.proofs.ClientSteps.{clients_step}
 use Rattle.radio_core.proofs.SeatSteps.{seats_step}
 use Rattle.radio_core.proofs.SoundRuns.{sound_after}
 use Rattle.radio_laws.proofs.GoneLemmas.{last_rises}
+use Rattle.radio_laws.proofs.LastMountLemmas.{seatless}
 
 -- he was finished, and has perhaps left since
 abbrev pub IsOver : Standing → Type 0
@@ -66,12 +67,8 @@ hears_no_more w s id given over [] = refl
 hears_no_more w s id given over (event ∷ events) =
     ap (λ xs. xs ++ handed (world_after w event) events id)
     (nothing_handed w (Finishes w event id) event id (seat_of w.seats id) (seat_of (world_after w event).seats id) (handed_at w event id) (seats_step w s event id)
-    (none_there (seat_of w.seats id) refl))
+    (seatless w s id (λ sits. not_sitting (standing_of w id) sits over)))
     ∙ hears_no_more (world_after w event) (sound_after w s event) id given_then
     (over_then w (Finishes w event id) event id (standing_of w id) (standing_of (world_after w event) id) (clients_step w s event id) given over) events where
       given_then : id ≤ (world_after w event).house.last_id
       given_then = let more = last_rises w s event in omega (arith, given, more)
-
-      none_there : (found : Option Seat) → seat_of w.seats id ≡ found → seat_of w.seats id ≡ None
-      none_there None e = e
-      none_there (Some seat) e = absurd (not_sitting (standing_of w id) (s.sitting id seat e) over)

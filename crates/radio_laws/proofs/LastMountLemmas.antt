@@ -1,8 +1,8 @@
--- who was finished stays where he sat last
-use Rattle.std.proofs.Common.{◌+◌, ◌≡◌, ◌⊎◌, inl, inr, Bool, true, false, ℕ, ◌==◌, Option, Some, None, List, [], ◌∷◌, refl, ap, sym, subst, ◌∙◌}
-use Rattle.std.specs.Prelude.{if◌then◌else◌, fold, length}
+-- where a listener sat last
+use Rattle.std.proofs.Common.{◌+◌, ◌++◌, ◌≡◌, Bool, true, false, ℕ, ◌==◌, Option, Some, None, List, [], ◌∷◌, refl, ap, sym, subst, ◌∙◌}
+use Rattle.std.specs.Prelude.{if◌then◌else◌, fold, length, nat_lt}
 use Rattle.std.specs.Option.{option_map}
-use Rattle.radio_policy.specs.declared.rule.Rule.{Rule}
+use Rattle.std.proofs.lemmas.List.Sums.{fold-append}
 use Rattle.radio_policy.specs.declared.rule.Rule.TheVariants.{Lagged, TimeOver, Killed, ListenerPassword}
 use Rattle.radio_settings.specs.Options.{options_for}
 use Rattle.radio_tables.proofs.KeyLaws.{by_number}
@@ -10,203 +10,157 @@ use Rattle.radio_seats.specs.declared.seat.Listener.{Listener}
 use Rattle.radio_seats.specs.declared.seat.Seat.{Seat}
 use Rattle.radio_seats.specs.declared.seat.Seating.{Seating}
 use Rattle.radio_seats.specs.declared.seat.Seating.TheVariants.{Sits as HasSeat, Finished as HasLostIt}
-use Rattle.radio_seats.specs.Seats.{is_listener, listener_of, seat_held, seat_in, seat_of, last_mount, AreByNumber}
-use Rattle.radio_seats.specs.Seats.{in_session_at, with_session_at, lost_by, loses, with_end, with_ended}
-use Rattle.radio_seats.proofs.EndLaws.{LosesSeat, same_or_loses}
-use Rattle.radio_seats.proofs.GivenLaws.{listener_hearing}
-use Rattle.radio_seats.proofs.SeatLaws.{beside_left, beside_seated, beside_moved, listener_seated}
+use Rattle.radio_seats.specs.Seats.{listener_of, seat_held, seat_in, seat_of, last_mount, last_mount_of, with_session_at, AreByNumber}
+use Rattle.radio_seats.proofs.EndLaws.{had_seat, kept_seat}
+use Rattle.radio_seats.proofs.SeatLaws.{beside_left, beside_seated, listener_seated}
 use Rattle.radio_fallback.specs.declared.moves.Move.{Move}
 use Rattle.radio_fallback.specs.declared.moves.Move.TheVariants.{Ended, Up, To}
-use Rattle.radio_fallback.specs.Walk.{Sight}
-use Rattle.radio_fallback.specs.Carry.{carried}
-use Rattle.radio_fallback.proofs.FaresLemmas.{found_changed, beside}
-use Rattle.radio_fallback.proofs.Faring.{Faring, HasStayed, HasGone, HasLost, fares}
 use Rattle.radio_parts.specs.Sessions.{Session, session_of}
 use Rattle.radio_parts.proofs.NumberOrder.{order_ended}
 use Rattle.radio_parts.specs.Stream.{data_at}
 use Rattle.radio_parts.specs.Timeouts.{lags_behind, has_sat_out}
+use Rattle.radio_house.specs.House.{House}
 use Rattle.radio_house.specs.Facts.{live_end, sight_of}
-use Rattle.radio_house.specs.HouseChanges.{received, timed_out_by}
+use Rattle.radio_house.specs.HouseChanges.{begun, raised, received}
 use Rattle.radio_house.specs.Outsiders.{is_shut_out}
 use Rattle.radio_house.specs.Streams.{shown_for}
 use Rattle.radio_house.specs.declared.standing.Standing.{Standing}
-use Rattle.radio_house.specs.declared.standing.Standing.TheVariants.{Undecided, Feeds, Sits, Finished}
-use Rattle.radio_house.specs.World.{World, standing_of, has_relay}
+use Rattle.radio_house.specs.declared.standing.Standing.TheVariants.{Unknown, Undecided, Feeds, Sits}
+use Rattle.radio_house.specs.World.{World, world, standing_of, has_relay}
 use Rattle.radio_addr.specs.declared.peer.Peer.{Peer}
 use Rattle.radio_events.specs.declared.command.Command.{Command as TheCommand}
 use Rattle.radio_events.specs.declared.command.Command.TheVariants.{MoveClients, KillClient, KillSource, SetTitle as NewTitle, SetFallback, AddUser, DeleteUser}
 use Rattle.radio_events.specs.declared.event.Event.{Event}
-use Rattle.radio_events.specs.declared.event.Event.TheVariants.{Leave, RelayDown}
+use Rattle.radio_events.specs.declared.event.Event.TheVariants.{Leave, RelayDown, Clock}
 use Rattle.radio_events.specs.declared.reply.Reply.TheVariants.{Noted}
-use Rattle.radio_changes.specs.declared.change.Change.TheVariants.{Obey, Forget}
-use Rattle.radio_changes.specs.Changes.{answered, changed, carried_along, session_over, session_begun, session_raised, called_home}
-use Rattle.radio_changes.specs.Changes.{before_silence, silent_in, session_silenced, session_killed, user_added, user_deleted}
+use Rattle.radio_changes.specs.declared.change.Change.TheVariants.{Nothing, Obey, Forget, Tick}
+use Rattle.radio_changes.specs.Changes.{answered, changed, carried_along, session_over, called_home, before_silence, silent_in, session_silenced, session_killed}
+use Rattle.radio_changes.specs.Changes.{user_added, user_deleted, ticked}
 use Rattle.radio_core.specs.declared.outcome.Outcome.{Outcome}
 use Rattle.radio_core.specs.Listen.{first_seat}
+use Rattle.radio_core.specs.Moves.{Brings, ByItsEnd, ByItsLeaving, BySilence, ByComingUp, ByRelayUp, ByKilling, ByMoving}
 use Rattle.radio_core.specs.Outcomes.{says}
 use Rattle.radio_core.specs.Sound.{IsSound}
 use Rattle.radio_core.specs.Step.{outcome, reply_to, world_after}
 use Rattle.radio_core.specs.Ways.{Way, Misplaced, IsFinished, IsDenied, IsRefused, IsAdmitted, Begins, ComesUp, Receives, SetsTitle, TakesSeat, HandsOut, Ends}
 use Rattle.radio_core.specs.Ways.{EndsAndLeaves, Leaves, GoesDown, Obeys, Shows, HasPassed, Ticks}
 use Rattle.radio_core.proofs.CarriedFates.{order_carried}
+use Rattle.radio_core.proofs.SoundRuns.{sound_after}
+use Rattle.radio_core.proofs.Standings.{turns_forgotten}
 use Rattle.radio_core.proofs.Ways.{way_of}
 use Rattle.radio_laws.specs.Gone.{Leaving, AsClient, AsRelay}
 use Rattle.radio_laws.proofs.HeardLaws.{order_given}
-use Rattle.radio_laws.specs.LastMounts.{IsLastWhereHeSits, FinishedRowsStay}
+use Rattle.radio_laws.proofs.WalkingOnLemmas.{order_silenced, closes_no_clock}
+use Rattle.radio_laws.proofs.RowSteps.{RowStep, IsSame, none_changed, last_at, step_ended, step_carried, step_lost, step_heard, step_given}
+use Rattle.radio_laws.specs.LastMounts.{IsLastWhereHeSits, FinishedWhereHeSat, EndedByClockWhereTheySat, FinishedRowsStay}
 
--- his row is as it was
-abbrev IsSame : ℕ → List Listener → List Listener → Type 0
-IsSame id seats later = listener_of later id ≡ listener_of seats id
+-- who has no seat is left alone by the ends of sessions
+none_silenced : (sessions : List Session) (during : World) → AreByNumber during.seats → (id : ℕ) → seat_of during.seats id ≡ None
+    → listener_of (fold session_silenced during sessions).seats id ≡ listener_of during.seats id
+none_silenced [] during order id none = refl
+none_silenced (session ∷ sessions) during order id none =
+    let over = session_over during session.mount in
+    let same = none_changed _ _ (step_carried during.seats id (sight_of over.house) (Ended session.mount) order) none in
+    none_silenced sessions (session_silenced during session) (order_carried over (Ended session.mount) order) id (ap seat_in same ∙ none) ∙ same
 
--- each change of the table leaves one alone who has no seat
-module _ (seats : List Listener) (id : ℕ) (none : seat_of seats id ≡ None) where
-  no_seat : {A : Type 0} (seat : Seat) → seat_of seats id ≡ Some seat → A
-  no_seat seat has = let nothing : None ≡ Some seat = sym none ∙ has in cc
+-- who does not sit has no seat
+pub seatless : (w : World) → IsSound w → (id : ℕ) → (standing_of w id ≡ Sits → ⊥) → seat_of w.seats id ≡ None
+seatless w s id elsewhere = by_seat (seat_of w.seats id) refl where
+  by_seat : (found : Option Seat) → seat_of w.seats id ≡ found → seat_of w.seats id ≡ None
+  by_seat None none = none
+  by_seat (Some seat) has = absurd (elsewhere (s.sitting id seat has))
 
-  same_ended : (p : Seat → Bool) (rule : Rule) → IsSame id seats (with_ended seats p rule)
-  same_ended p rule = by_loss (same_or_loses p rule seats id) where
-    by_loss : IsSame id seats (with_ended seats p rule) ⊎ LosesSeat p rule (listener_of seats id) (listener_of (with_ended seats p rule) id)
-        → IsSame id seats (with_ended seats p rule)
-    by_loss (inl same) = same
-    by_loss (inr loses) = no_seat loses.seat loses.had_a_seat
+-- what an event makes of the row of one who is a listener already: the clock does several things, one after another
+data EventStep (w : World) (event : Event) (id : ℕ) (later : World) : Type 0 where
+  AtOnce : RowStep (listener_of w.seats id) (listener_of later.seats id) → EventStep w event id later
+  HasLeft : Leaving w id event → standing_of later id ≡ Unknown → EventStep w event id later
+  AtAMoment : (ms : ℕ) → event ≡ Clock ms → later ≡ ticked w ms → EventStep w event id later
 
-  same_carried : (sight : Sight) (move : Move) → AreByNumber seats → IsSame id seats (carried sight move seats).seats
-  same_carried sight move order = by_fare (fares sight move seats order id) where
-    by_fare : Faring sight move seats id → IsSame id seats (carried sight move seats).seats
-    by_fare (HasStayed same stays) = same
-    by_fare (HasGone seat to turn has concerned may now) = no_seat seat has
-    by_fare (HasLost seat rule turn has concerned now) = no_seat seat has
-
-  same_row : (f : Seating → Seating) → ((seating : Seating) → seat_held seating ≡ None → f seating ≡ seating) → (found : Option Listener) → seat_in found ≡ None
-      → option_map (λ (listener : Listener). record listener { seating = f listener.seating }) found ≡ found
-  same_row f same None e = refl
-  same_row f same (Some listener) e = ap (λ (seating : Seating). Some (record listener { seating = seating })) (same listener.seating e)
-
-  same_given : (mount : List ℕ) (session : ℕ) → IsSame id seats (with_session_at seats mount session)
-  same_given mount session = listener_hearing mount session seats id ∙ same_row (in_session_at mount session) lost (listener_of seats id) none where
-    lost : (seating : Seating) → seat_held seating ≡ None → in_session_at mount session seating ≡ seating
-    lost (HasSeat seat) e = cc
-    lost (HasLostIt rule last) e = refl
-
-  same_lost : (him : ℕ) (rule : Rule) → IsSame id seats (with_end seats him rule)
-  same_lost him rule =
-      by_number him id
-      (λ same.
-      ap (λ (n : ℕ). listener_of (with_end seats n rule) id) same ∙ found_changed (is_listener id) (loses rule) (λ x. refl) seats
-      ∙ same_row (lost_by rule) lost (listener_of seats id) none)
-      (λ apart. beside (loses rule) (λ x. refl) seats him id apart) where
-        lost : (seating : Seating) → seat_held seating ≡ None → lost_by rule seating ≡ seating
-        lost (HasSeat seat) e = cc
-        lost (HasLostIt other last) e = refl
-
--- and so does each event, where he was finished, unless he leaves by it
-module _ (w : World) (s : IsSound w) (id : ℕ) (rule : Rule) (over : standing_of w id ≡ Finished rule) where
-  abbrev Same : World → Type 0
-  Same later = IsSame id w.seats later.seats
-
-  seatless : seat_of w.seats id ≡ None
-  seatless = by_seat (seat_of w.seats id) refl where
-    by_seat : (found : Option Seat) → seat_of w.seats id ≡ found → seat_of w.seats id ≡ None
-    by_seat None e = e
-    by_seat (Some seat) e = let both : Finished rule ≡ Sits = sym over ∙ s.sitting id seat e in cc
-
+module _ (w : World) (s : IsSound w) (id : ℕ) (asks : (peer : Peer) → standing_of w id ≡ Undecided peer → ⊥)
+    (feeds : (mount : List ℕ) → standing_of w id ≡ Feeds mount → ⊥) where
   -- who stands otherwise is another
-  another : (him : ℕ) (now : Standing) → standing_of w him ≡ now → (now ≡ Finished rule → ⊥) → (him == id) ≡ false
-  another him now stands other = by_number him id (λ same. absurd (other (sym stands ∙ ap (standing_of w) same ∙ over))) (λ apart. apart)
+  another : (him : ℕ) (now : Standing) → standing_of w him ≡ now → (standing_of w id ≡ now → ⊥) → (him == id) ≡ false
+  another him now stands other = by_number him id (λ same. absurd (other (ap (standing_of w) (sym same) ∙ stands))) (λ apart. apart)
 
-  is_undecided : (peer : Peer) → Undecided peer ≡ Finished rule → ⊥
-  is_undecided peer e = cc
+  abbrev StepsTo : World → Type 0
+  StepsTo later = RowStep (listener_of w.seats id) (listener_of later.seats id)
 
-  is_source : (mount : List ℕ) → Feeds mount ≡ Finished rule → ⊥
-  is_source mount e = cc
+  over : (mount : List ℕ) → StepsTo (carried_along (session_over w mount) (Ended mount))
+  over mount = step_carried w.seats id (sight_of (session_over w mount).house) (Ended mount) s.by_number
 
-  is_sitting : Sits ≡ Finished rule → ⊥
-  is_sitting e = cc
+  home : (house : House) (mount : List ℕ) (session : ℕ) → StepsTo (called_home (world house (with_session_at w.seats mount session)) mount)
+  home house mount session = step_given w.seats id mount session _ (by_setting (options_for house.settings mount).listeners.fallback_override) where
+    given : List Listener
+    given = with_session_at w.seats mount session
 
-  -- a move leaves him alone
-  carried_by : (sight : Sight) (move : Move) → IsSame id w.seats (carried sight move w.seats).seats
-  carried_by sight move = same_carried w.seats id seatless sight move s.by_number
+    by_setting : (calls : Bool)
+        → RowStep (listener_of given id) (listener_of (if calls then carried_along (world house given) (Up mount) else world house given).seats id)
+    by_setting true = step_carried given id (sight_of house) (Up mount) (order_given mount session w.seats s.by_number)
+    by_setting false = IsSame refl
 
-  same_over : (mount : List ℕ) → Same (carried_along (session_over w mount) (Ended mount))
-  same_over mount = carried_by (sight_of (session_over w mount).house) (Ended mount)
+  killed : (him : ℕ) (found : Option Session) → StepsTo (session_killed (answered w him) found)
+  killed him None = IsSame refl
+  killed him (Some session) =
+      step_carried w.seats id (sight_of (session_over (answered w him) session.mount).house) (Ended session.mount) s.by_number
 
-  same_home : (up : World) (mount : List ℕ) → AreByNumber up.seats → Same up → Same (called_home up mount)
-  same_home up mount order same = by_setting (options_for up.house.settings mount).listeners.fallback_override where
-    by_setting : (calls : Bool) → Same (if calls then carried_along up (Up mount) else up)
-    by_setting true = same_carried up.seats id (ap seat_in same ∙ seatless) (sight_of up.house) (Up mount) order ∙ same
-    by_setting false = same
-
-  same_begun : (up : World) (mount : List ℕ) (session : ℕ) → up.seats ≡ with_session_at w.seats mount session → Same (called_home up mount)
-  same_begun up mount session given =
-      same_home up mount (subst AreByNumber (sym given) (order_given mount session w.seats s.by_number))
-      (ap (λ (seats : List Listener). listener_of seats id) given ∙ same_given w.seats id seatless mount session)
-
-  same_silenced : (sessions : List Session) (during : World) → AreByNumber during.seats → Same during → Same (fold session_silenced during sessions)
-  same_silenced [] during order same = same
-  same_silenced (session ∷ sessions) during order same =
-      let over = session_over during session.mount in
-      same_silenced sessions (session_silenced during session) (order_carried over (Ended session.mount) order)
-      (same_carried during.seats id (ap seat_in same ∙ seatless) (sight_of over.house) (Ended session.mount) order ∙ same)
-
-  same_killed : (him : ℕ) (found : Option Session) → Same (session_killed (answered w him) found)
-  same_killed him None = refl
-  same_killed him (Some session) = carried_by (sight_of (session_over (answered w him) session.mount).house) (Ended session.mount)
-
-  by_command : (him : ℕ) (command : TheCommand) → Same (changed w (Obey him command))
-  by_command him (MoveClients mount destination) = carried_by (sight_of (answered w him).house) (To mount destination)
-  by_command him (KillClient mount listener) = same_lost w.seats id seatless listener Killed
-  by_command him (KillSource mount) = same_killed him (session_of w.house.live mount)
-  by_command him (NewTitle mount text) = refl
-  by_command him (SetFallback mount fallback) = refl
+  by_command : (him : ℕ) (command : TheCommand) → StepsTo (changed w (Obey him command))
+  by_command him (MoveClients mount destination) = step_carried w.seats id (sight_of (answered w him).house) (To mount destination) s.by_number
+  by_command him (KillClient mount listener) = step_lost w.seats id listener Killed
+  by_command him (KillSource mount) = killed him (session_of w.house.live mount)
+  by_command him (NewTitle mount text) = IsSame refl
+  by_command him (SetFallback mount fallback) = IsSame refl
   by_command him (AddUser mount user password) =
-      same_ended w.seats id seatless (is_shut_out (user_added (answered w him) mount user password).house.lists mount) ListenerPassword
+      step_ended w.seats id (is_shut_out (user_added (answered w him) mount user password).house.lists mount) ListenerPassword
   by_command him (DeleteUser mount user) =
-      same_ended w.seats id seatless (is_shut_out (user_deleted (answered w him) mount user).house.lists mount) ListenerPassword
+      step_ended w.seats id (is_shut_out (user_deleted (answered w him) mount user).house.lists mount) ListenerPassword
 
   gone_down : (him : ℕ) → him ≡ id → outcome w (RelayDown him) ≡ says Noted (Forget him) → reply_to w (RelayDown id) ≡ Noted
   unfolding reply_to
   gone_down him same is = ap (λ (n : ℕ). (outcome w (RelayDown n)).reply) (sym same) ∙ ap (λ (x : Outcome). x.reply) is
 
-  by_way : (event : Event) (o : Outcome) → Way w event o → outcome w event ≡ o → (Leaving w id event → ⊥) → Same (changed w o.change)
-  by_way event o (Misplaced _) is stays = refl
-  by_way event o (IsFinished _ him by its told) is stays = refl
-  by_way event o (IsDenied _ by verdict nobody) is stays = refl
-  by_way event o (IsRefused _ him by verdict its undecided) is stays = refl
-  by_way event o (IsAdmitted peer allowed) is stays = refl
-  by_way event o (Begins asked undecided none allowed) is stays =
-      same_begun (session_begun w asked.id asked.mount (shown_for w.house asked.mount asked.shown)) asked.mount asked.id refl
-  by_way event o (ComesUp mount shown unfed allowed) is stays =
-      same_begun (session_raised w (w.house.last_id + 1) mount (shown_for w.house mount shown)) mount (w.house.last_id + 1) refl
-  by_way event o (Receives him mount block feeding) is stays =
-      same_ended w.seats id seatless (lags_behind mount (live_end (received w.house mount block) mount) w.house.settings.limits.queue_size) Lagged
-  by_way event o (SetsTitle him mount text feeding) is stays = refl
-  by_way event o (TakesSeat asked peer session undecided lands live allowed) is stays =
-      beside_seated w.seats asked.id id (another asked.id (Undecided peer) undecided (is_undecided peer)) (first_seat w.house asked peer session)
-  by_way event o (HandsOut him room seat session sits has live) is stays =
-      beside_moved w.seats him id (another him Sits sits is_sitting) (seat.place + length (data_at session.stream seat.place room))
-  by_way event o (Ends him mount feeding no_relay) is stays = same_over mount
-  by_way event o (EndsAndLeaves _ him mount closes feeding) is stays =
-      beside_left (carried_along (session_over w mount) (Ended mount)).seats him id (another him (Feeds mount) feeding (is_source mount)) ∙ same_over mount
-  by_way event o (Leaves him no_relay other) is stays =
-      by_number him id
-      (λ same. absurd (stays (subst (λ (n : ℕ). Leaving w id (Leave n)) (sym same) (AsClient (subst (λ (n : ℕ). has_relay w n ≡ false) same no_relay)))))
-      (λ apart. beside_left w.seats him id apart)
-  by_way event o (GoesDown him by relay its) is stays =
-      by_number him id
-      (λ same. absurd (stays (subst (λ (n : ℕ). Leaving w id (RelayDown n)) (sym same) (AsRelay (gone_down him same is)))))
-      (λ apart. beside_left w.seats him id apart)
-  by_way event o (Obeys _ command c) is stays = by_command c.asked.id command
-  by_way event o (Shows _ asker peer text its undecided what) is stays = refl
-  by_way event o (HasPassed ms e) is stays = refl
-  by_way event o (Ticks ms e) is stays =
-      same_silenced (silent_in (before_silence w ms)) (before_silence w ms)
-      (order_ended w.seats s.by_number (has_sat_out w.house.settings (timed_out_by w.house ms).time) TimeOver)
-      (same_ended w.seats id seatless (has_sat_out w.house.settings (timed_out_by w.house ms).time) TimeOver)
+  forgotten : (him : ℕ) → him ≡ id → standing_of (changed w (Forget him)) id ≡ Unknown
+  forgotten him same = ap (standing_of (changed w (Forget him))) (sym same) ∙ (turns_forgotten w him).his
 
-pub rows_stay : (w : World) → IsSound w → (event : Event) → FinishedRowsStay w event
-unfolding world_after
-rows_stay w s event id rule over stays = by_way w s id rule over event (outcome w event) (way_of w event) refl stays
+  by_way : (event : Event) (o : Outcome) → Way w event o → outcome w event ≡ o → EventStep w event id (changed w o.change)
+  by_way event o (Misplaced _) is = AtOnce (IsSame refl)
+  by_way event o (IsFinished _ him by its told) is = AtOnce (IsSame refl)
+  by_way event o (IsDenied _ by verdict nobody) is = AtOnce (IsSame refl)
+  by_way event o (IsRefused _ him by verdict its undecided) is = AtOnce (IsSame refl)
+  by_way event o (IsAdmitted peer allowed) is = AtOnce (IsSame refl)
+  by_way event o (Begins asked undecided none allowed) is =
+      AtOnce (home (begun w.house asked.id asked.mount (shown_for w.house asked.mount asked.shown)) asked.mount asked.id)
+  by_way event o (ComesUp mount shown unfed allowed) is =
+      AtOnce (home (raised w.house (w.house.last_id + 1) mount (shown_for w.house mount shown)) mount (w.house.last_id + 1))
+  by_way event o (Receives him mount block feeding) is =
+      AtOnce (step_ended w.seats id (lags_behind mount (live_end (received w.house mount block) mount) w.house.settings.limits.queue_size) Lagged)
+  by_way event o (SetsTitle him mount text feeding) is = AtOnce (IsSame refl)
+  by_way event o (TakesSeat asked peer session undecided lands live allowed) is =
+      AtOnce (IsSame (beside_seated w.seats asked.id id (another asked.id (Undecided peer) undecided (asks peer)) (first_seat w.house asked peer session)))
+  by_way event o (HandsOut him room seat session sits has live) is =
+      AtOnce (step_heard w.seats id him (seat.place + length (data_at session.stream seat.place room)) seat has)
+  by_way event o (Ends him mount feeding no_relay) is = AtOnce (over mount)
+  by_way event o (EndsAndLeaves _ him mount closes feeding) is =
+      let after = carried_along (session_over w mount) (Ended mount) in
+      AtOnce (rw (beside_left after.seats him id (another him (Feeds mount) feeding (feeds mount))) (over mount))
+  by_way event o (Leaves him no_relay other) is =
+      by_number him id
+      (λ same. HasLeft (subst (λ (n : ℕ). Leaving w id (Leave n)) (sym same) (AsClient (subst (λ (n : ℕ). has_relay w n ≡ false) same no_relay)))
+      (forgotten him same))
+      (λ apart. AtOnce (IsSame (beside_left w.seats him id apart)))
+  by_way event o (GoesDown him by relay its) is =
+      by_number him id
+      (λ same. HasLeft (subst (λ (n : ℕ). Leaving w id (RelayDown n)) (sym same) (AsRelay (gone_down him same is))) (forgotten him same))
+      (λ apart. AtOnce (IsSame (beside_left w.seats him id apart)))
+  by_way event o (Obeys _ command c) is = AtOnce (by_command c.asked.id command)
+  by_way event o (Shows _ asker peer text its undecided what) is = AtOnce (IsSame refl)
+  by_way event o (HasPassed ms e) is = AtOnce (IsSame refl)
+  by_way event o (Ticks ms e) is = AtAMoment ms refl refl
 
+  event_step : (event : Event) → EventStep w event id (world_after w event)
+  unfolding world_after
+  event_step event = by_way event (outcome w event) (way_of w event) refl
+
+-- whoever has a seat is last at its mount
 pub last_where_he_sits : (w : World) → IsLastWhereHeSits w
 last_where_he_sits w id seat has =
     let listener = listener_seated w.seats id seat has in
@@ -214,3 +168,97 @@ last_where_he_sits w id seat has =
       at_seat : (seating : Seating) → seat_held seating ≡ Some seat → Some (last_mount seating) ≡ Some seat.mount
       at_seat (HasSeat held) e = let same : held ≡ seat = cc in ap (λ (x : Seat). Some x.mount) same
       at_seat (HasLostIt rule last) e = cc
+
+-- and so was whoever loses it
+pub finished_where_he_sat : (w : World) → IsSound w → (event : Event) → FinishedWhereHeSat w event
+finished_where_he_sat w s event no_clock id seat rule has over =
+    by_step (event_step w s id (λ peer e. let sat = s.sitting id seat has in cc) (λ mount e. let sat = s.sitting id seat has in cc) event) where
+      by_step : EventStep w event id (world_after w event) → last_mount_of (world_after w event).seats id ≡ Some seat.mount
+      by_step (AtOnce step) = last_at _ _ step seat has (seatless (world_after w event) (sound_after w s event) id (λ sits. cc))
+      by_step (HasLeft leaving unknown) = cc
+      by_step (AtAMoment ms e is) = absurd (no_clock ms e)
+
+-- and by the clock
+module _ (w : World) (s : IsSound w) (ms : ℕ) where
+  abbrev ends_by_time : Seat → Bool
+  ends_by_time = has_sat_out w.house.settings ms
+
+  first_step : (id : ℕ) → RowStep (listener_of w.seats id) (listener_of (before_silence w ms).seats id)
+  first_step id = step_ended w.seats id ends_by_time TimeOver
+
+  order_at_first : AreByNumber (before_silence w ms).seats
+  order_at_first = order_ended w.seats s.by_number ends_by_time TimeOver
+
+  none_ticked : (id : ℕ) → seat_of (before_silence w ms).seats id ≡ None
+      → listener_of (ticked w ms).seats id ≡ listener_of (before_silence w ms).seats id
+  none_ticked id none = none_silenced (silent_in (before_silence w ms)) (before_silence w ms) order_at_first id none
+
+  sits_no_more : (id : ℕ) (seat : Seat) → seat_of w.seats id ≡ Some seat → ends_by_time seat ≡ true → seat_of (before_silence w ms).seats id ≡ None
+  sits_no_more id seat has out = by_seat (seat_of (before_silence w ms).seats id) refl where
+    by_seat : (found : Option Seat) → seat_of (before_silence w ms).seats id ≡ found → seat_of (before_silence w ms).seats id ≡ None
+    by_seat None none = none
+    by_seat (Some now) still =
+        let both : Some seat ≡ Some now = sym has ∙ had_seat ends_by_time TimeOver w.seats id now still in
+        let same : seat ≡ now = cc in
+        let ends : ends_by_time now ≡ true = ap ends_by_time (sym same) ∙ out in
+        let stays : ends_by_time now ≡ false = kept_seat ends_by_time TimeOver w.seats id now still in
+        cc
+
+  sat_out : (id : ℕ) (seat : Seat) → seat_of w.seats id ≡ Some seat → ends_by_time seat ≡ true → last_mount_of (ticked w ms).seats id ≡ Some seat.mount
+  sat_out id seat has out =
+      let none = sits_no_more id seat has out in
+      ap (option_map (λ listener. last_mount listener.seating)) (none_ticked id none) ∙ last_at _ _ (first_step id) seat has none
+
+  -- one session ends, and those after it then
+  module _ (before others : List Session) (session : Session) (are_all : silent_in (before_silence w ms) ≡ before ++ session ∷ others) where
+    abbrev during : World
+    during = fold session_silenced (before_silence w ms) before
+
+    left_out : (id : ℕ) (seat : Seat) → seat_of during.seats id ≡ Some seat → seat_of (session_silenced during session).seats id ≡ None
+        → last_mount_of (ticked w ms).seats id ≡ Some seat.mount
+    left_out id seat has none =
+        let over = session_over during session.mount in
+        let order = order_silenced w s before (before_silence w ms) order_at_first in
+        ap (λ (sessions : List Session). last_mount_of (fold session_silenced (before_silence w ms) sessions).seats id) are_all
+        ∙ ap (λ (later : World). last_mount_of later.seats id) (fold-append session_silenced (before_silence w ms) before (session ∷ others))
+        ∙ ap (option_map (λ listener. last_mount listener.seating))
+        (none_silenced others (session_silenced during session) (order_carried over (Ended session.mount) order) id none)
+        ∙ last_at _ _ (step_carried during.seats id (sight_of over.house) (Ended session.mount) order) seat has none
+
+-- it is no past moment
+ticks : (w : World) (ms : ℕ) → nat_lt ms w.house.time ≡ false → world_after w (Clock ms) ≡ ticked w ms
+unfolding world_after outcome
+ticks w ms e = ap (λ (b : Bool). changed w (if b then Nothing else Tick ms)) e
+
+left_by : (w : World) → IsSound w → (ms : ℕ) (event : Event) (move : Move) (before : World) → event ≡ Clock ms → Brings w event move before
+    → (id : ℕ) (seat : Seat) → seat_of before.seats id ≡ Some seat → seat_of (carried_along before move).seats id ≡ None
+    → last_mount_of (ticked w ms).seats id ≡ Some seat.mount
+left_by w s ms event move before e (BySilence moment silent others session are_all) id seat has none =
+    let now : moment ≡ ms = cc in
+    subst (λ (n : ℕ). last_mount_of (ticked w n).seats id ≡ Some seat.mount) now (left_out w s moment silent others session are_all id seat has none)
+left_by w s ms event move before e (ByItsEnd him mount feeding no_relay) id seat has none = cc
+left_by w s ms event move before e (ByItsLeaving _ him mount closes feeding) id seat has none = absurd (closes_no_clock w ms event him e closes)
+left_by w s ms event move before e (ByComingUp asked peer stood allowed calls) id seat has none = cc
+left_by w s ms event move before e (ByRelayUp mount shown allowed calls) id seat has none = cc
+left_by w s ms event move before e (ByKilling _ mount c) id seat has none = let other = c.is_event in cc
+left_by w s ms event move before e (ByMoving _ mount destination c) id seat has none = let other = c.is_event in cc
+
+pub ended_by_clock : (w : World) → IsSound w → (ms : ℕ) → EndedByClockWhereTheySat w ms
+ended_by_clock w s ms = record {
+  sat_out = λ now id seat has out. ap (λ (later : World). last_mount_of later.seats id) (ticks w ms now) ∙ sat_out w s ms id seat has out;
+  left_out = λ now move before brings id seat has none.
+      ap (λ (later : World). last_mount_of later.seats id) (ticks w ms now) ∙ left_by w s ms (Clock ms) move before refl brings id seat has none;
+}
+
+-- who was finished stays where he sat last
+pub rows_stay : (w : World) → IsSound w → (event : Event) → FinishedRowsStay w event
+rows_stay w s event id rule over stays = by_step (event_step w s id (λ peer e. cc) (λ mount e. cc) event) where
+  none : seat_of w.seats id ≡ None
+  none = seatless w s id (λ sits. cc)
+
+  by_step : EventStep w event id (world_after w event) → listener_of (world_after w event).seats id ≡ listener_of w.seats id
+  by_step (AtOnce step) = none_changed _ _ step none
+  by_step (HasLeft leaving unknown) = absurd (stays leaving)
+  by_step (AtAMoment ms e is) =
+      let same = none_changed _ _ (first_step w s ms id) none in
+      ap (λ (later : World). listener_of later.seats id) is ∙ none_ticked w s ms id (ap seat_in same ∙ none) ∙ same

@@ -27,6 +27,7 @@ mod MountLemmas
 mod ObeyLemmas
 mod OnDemandLemmas
 mod PartLemmas
+mod RowSteps
 mod ServiceLemmas
 mod SightLemmas
 mod SliceLemmas

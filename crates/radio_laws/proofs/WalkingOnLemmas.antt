@@ -149,7 +149,7 @@ let_in_silenced [] w all = all
 let_in_silenced (session ∷ sessions) w all = let_in_silenced sessions (session_silenced w session) (let_in_ended w session.mount all)
 
 module _ (w : World) (s : IsSound w) where
-  order_silenced : (sessions : List Session) (before : World) → AreByNumber before.seats → AreByNumber (fold session_silenced before sessions).seats
+  pub order_silenced : (sessions : List Session) (before : World) → AreByNumber before.seats → AreByNumber (fold session_silenced before sessions).seats
   order_silenced [] before order = order
   order_silenced (session ∷ sessions) before order =
       order_silenced sessions (session_silenced before session) (order_carried (session_over before session.mount) (Ended session.mount) order)
@@ -211,7 +211,7 @@ module _ (w : World) where
   closes_no_rise at sees event him e (OfClient no_relay) = cc
   closes_no_rise at sees event him e (OfRelay relay) = cc
 
-  closes_no_clock : (ms : ℕ) (event : Event) (him : ℕ) → event ≡ Clock ms → Closes w him event → ⊥
+  pub closes_no_clock : (ms : ℕ) (event : Event) (him : ℕ) → event ≡ Clock ms → Closes w him event → ⊥
   closes_no_clock ms event him e (OfClient no_relay) = cc
   closes_no_clock ms event him e (OfRelay relay) = cc
 

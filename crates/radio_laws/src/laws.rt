@@ -12,7 +12,7 @@ ghost use Rattle.radio_events.specs.Events.{client_in};
 ghost use Rattle.radio_laws.specs.Denials.{DenialsAreThePolicys, AddressesAreDenied, OnlySourcesFeed, KnownMountsAreKnown};
 ghost use Rattle.radio_laws.specs.FinishesTold.{FinishedAreTold};
 ghost use Rattle.radio_laws.specs.Access.{AccessIsKept};
-ghost use Rattle.radio_laws.specs.LastMounts.{IsLastWhereHeSits, FinishedRowsStay};
+ghost use Rattle.radio_laws.specs.LastMounts.{IsLastWhereHeSits, FinishedWhereHeSat, EndedByClockWhereTheySat, FinishedRowsStay};
 ghost use Rattle.radio_laws.specs.Limits.{IsWithinLimits, AdmitsByLimits};
 ghost use Rattle.radio_laws.specs.LimitDenials.{DeniesByLimits};
 ghost use Rattle.radio_laws.specs.Admission.{BeginsAtABlock};
@@ -60,6 +60,13 @@ pub fn finished_are_told()
 pub fn last_mounts_stay()
     // whatever has happened, whoever has a seat sits last at its mount
     ensures seated { (settings : Settings) (lists : Lists) (events : List Event) → IsLastWhereHeSits (run_after settings lists events) }
+    // whoever had a seat and has finished by an event that is no clock sat last at that seat's mount
+    ensures finished { (settings : Settings) (lists : Lists) (events : List Event) (event : Event)
+        → FinishedWhereHeSat (run_after settings lists events) event }
+    // by a clock so did whoever has sat as long as he may, and whoever then loses his seat by the end of
+    // a session did where he had it before that end
+    ensures timed_out { (settings : Settings) (lists : Lists) (events : List Event) (ms : ℕ)
+        → EndedByClockWhereTheySat (run_after settings lists events) ms }
     // and whoever was finished keeps the rule, and the mount where he sat last, whatever happens, until he leaves
     ensures stays { (settings : Settings) (lists : Lists) (events : List Event) (event : Event) → FinishedRowsStay (run_after settings lists events) event }
 {}
