@@ -1,8 +1,9 @@
 use Rattle.std.proofs.Common.{◌≡◌, ℕ, ◌+◌, ◌<◌, ◌≤◌, ◌^◌, false, true, Option, Some, None, sym, subst, ◌∙◌, arith}
 use Rattle.std.specs.Prelude.{nat_lt, is_some, SomeIff}
 use Rattle.std.proofs.lemmas.Bool.Decides.{nat_tests}
+use Rattle.radio_parts.specs.Parts.{end_in}
 use Rattle.radio_parts.specs.Sessions.{session_of}
-use Rattle.radio_parts.proofs.FurthestLemmas.{end_in, end_within}
+use Rattle.radio_parts.proofs.FurthestLemmas.{end_within}
 use Rattle.radio_house.specs.Facts.{largest_number, live_end}
 use Rattle.radio_house.specs.House.{House}
 use Rattle.radio_house.proofs.house.House.is_spent_by.Goals as goal
