@@ -25,8 +25,8 @@ use Rattle.radio_parts.specs.Sessions.{Session, session_of}
 use Rattle.radio_parts.proofs.NumberOrder.{order_ended}
 use Rattle.radio_parts.specs.Stream.{data_at}
 use Rattle.radio_parts.specs.Timeouts.{lags_behind, has_sat_out}
-use Rattle.radio_house.specs.Facts.{live_end, sight_of}
-use Rattle.radio_house.specs.HouseChanges.{received, timed_out_by}
+use Rattle.radio_house.specs.Facts.{sight_of}
+use Rattle.radio_house.specs.HouseChanges.{timed_out_by}
 use Rattle.radio_house.specs.Outsiders.{is_shut_out}
 use Rattle.radio_house.specs.Streams.{shown_for}
 use Rattle.radio_house.specs.declared.standing.Standing.{Standing}
@@ -178,7 +178,7 @@ module _ (w : World) (s : IsSound w) (id : ℕ) (rule : Rule) (over : standing_o
   by_way event o (ComesUp mount shown unfed allowed) is stays =
       same_begun (session_raised w (w.house.last_id + 1) mount (shown_for w.house mount shown)) mount (w.house.last_id + 1) refl
   by_way event o (Receives him mount block feeding) is stays =
-      same_ended w.seats id seatless (lags_behind mount (live_end (received w.house mount block) mount) w.house.settings.limits.queue_size) Lagged
+      same_ended w.seats id seatless (lags_behind mount _ w.house.settings.limits.queue_size) Lagged
   by_way event o (SetsTitle him mount text feeding) is stays = refl
   by_way event o (TakesSeat asked peer session undecided lands live allowed) is stays =
       beside_seated w.seats asked.id id (another asked.id (Undecided peer) undecided (is_undecided peer)) (first_seat w.house asked peer session)
