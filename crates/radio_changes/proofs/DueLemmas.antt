@@ -21,7 +21,8 @@ use Rattle.radio_fallback.specs.declared.moves.Move.{Move}
 use Rattle.radio_fallback.specs.declared.moves.Move.TheVariants.{Ended as SessionEnds, Up, To}
 use Rattle.radio_fallback.proofs.Faring.{each_carried}
 use Rattle.radio_changes.specs.Changes.{changed, answered, done, session_ended_by, session_killed, carried_along, session_over, session_ended, called_home, client_gone, before_silence, session_begun, session_raised}
-use Rattle.radio_changes.specs.Changes.{session_silenced, silent_in, ticked}
+use Rattle.radio_changes.specs.Changes.{session_silenced, silent_in, ticked, on_air}
+use Rattle.radio_changes.proofs.PartChanges.{is_on_air}
 use Rattle.radio_house.specs.Clients.{Client, newcomer, is_client, by_number, with_state, in_state}
 use Rattle.radio_parts.specs.Due.{last_moment, due_at, listener_due, session_due, earliest}
 use Rattle.radio_house.specs.Due.{due_in_state, client_due, first_due}
@@ -200,6 +201,13 @@ module _ (moment : ℕ) (last : moment ≤ last_moment) where
   answered_due : (w : World) (id : ℕ) → IsDueFrom moment w → IsDueFrom moment (answered w id)
   answered_due w id due = record { clients = answered_are_due w id due.clients; listeners = due.listeners; sessions = due.sessions }
 
+  on_air_due : (w : World) (mount title : List ℕ) → IsDueFrom moment w → IsDueFrom moment (on_air w mount title)
+  on_air_due w mount title due = subst (λ (later : World). IsDueFrom moment later) (sym (is_on_air w mount title)) (record {
+    clients = due.clients;
+    listeners = due.listeners;
+    sessions = Each_updated _ (is_of mount) (with_title (Some title)) (λ session h. h) w.house.live due.sessions;
+  })
+
   -- a command is done
   done_due : (w : World) (command : Command) → IsDueFrom moment w → IsDueFrom moment (done w command)
   done_due w (MoveClients mount destination) due =
@@ -210,11 +218,7 @@ module _ (moment : ℕ) (last : moment ≤ last_moment) where
     sessions = due.sessions;
   }
   done_due w (KillSource mount) due = killed_due w (session_of w.house.live mount) due
-  done_due w (NewTitle mount text) due = record {
-    clients = due.clients;
-    listeners = due.listeners;
-    sessions = Each_updated _ (is_of mount) (with_title (Some text)) (λ session h. h) w.house.live due.sessions;
-  }
+  done_due w (NewTitle mount title) due = on_air_due w mount title due
   done_due w (SetFallback mount fallback) due = record { clients = due.clients; listeners = due.listeners; sessions = due.sessions }
   done_due w (AddUser mount user password) due = record {
     clients = due.clients;
@@ -273,11 +277,7 @@ module _ (moment : ℕ) (last : moment ≤ last_moment) where
     sessions = Each_placed _ by_mount (opened mount id shown w.house.time) w.house.live h due.sessions;
   })
   stays_due w (Receive mount block) due h = received_due w mount block due h
-  stays_due w (SetTitle mount title) due h = record {
-    clients = due.clients;
-    listeners = due.listeners;
-    sessions = Each_updated _ (is_of mount) (with_title (Some title)) (λ session k. k) w.house.live due.sessions;
-  }
+  stays_due w (SetTitle mount title) due h = on_air_due w mount title due
   stays_due w (TakeSeat id seat) due h = record {
     clients = Each_updated _ (is_client id) (with_state Listens) (λ client k. last) w.house.clients due.clients;
     listeners = Each_placed _ by_listener (seated id seat) w.seats h due.listeners;

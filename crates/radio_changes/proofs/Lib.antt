@@ -1,4 +1,5 @@
 mod DueLemmas
 mod KilledLemmas
+pub mod PartChanges
 mod PreparedSeats
 mod SilentLemmas

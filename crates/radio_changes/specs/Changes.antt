@@ -15,8 +15,9 @@ use Rattle.radio_changes.specs.declared.change.Change.TheVariants.{EndAndLeave, 
 use Rattle.radio_house.specs.Clients.{without_client}
 use Rattle.radio_house.specs.Relays.{without_relay}
 use Rattle.radio_values.specs.declared.field.Shown.{Shown}
-use Rattle.radio_house.specs.HouseChanges.{now_in_state, admitted, begun, raised, finished_in, received, retitled, falling_back, timed_out_by, with_user, without_user}
+use Rattle.radio_house.specs.HouseChanges.{now_in_state, admitted, begun, raised, finished_in, falling_back, timed_out_by, with_user, without_user}
 use Rattle.radio_house.specs.Outsiders.{is_shut_out}
+use Rattle.radio_parts.specs.Parts.{Part, part_received, part_titled, with_its_session}
 use Rattle.radio_parts.specs.Sessions.{Session, session_of, without_session}
 use Rattle.radio_seats.specs.Seats.{with_seat, with_place, with_end, with_ended, with_session_at, without_listener}
 use Rattle.radio_house.specs.Facts.{live_end, sight_of}
@@ -59,9 +60,21 @@ abbrev pub laggards_ended : World → List ℕ → World
 laggards_ended w mount =
     record w { seats = with_ended w.seats (lags_behind mount (live_end w.house mount) w.house.settings.limits.queue_size) Lagged }
 
--- the block has come, and the listeners who are too far behind then have lost their seats
+-- what stands at the mount, with all listeners lent to it
+abbrev pub part_at : World → List ℕ → Part
+part_at w mount = record { mount = mount; session = session_of w.house.live mount; listeners = w.seats }
+
+-- the state with this in the place of what stands at its mount
+abbrev pub with_part : World → Part → World
+with_part w p = record { house = record w.house { live = with_its_session w.house.live p }; seats = p.listeners }
+
+-- the block has come to the mount
 abbrev pub taken_in : World → List ℕ → List ℕ → World
-taken_in w mount block = laggards_ended (record w { house = received w.house mount block }) mount
+taken_in w mount block = with_part w (part_received w.house.settings.limits.queue_size w.house.time block (part_at w mount))
+
+-- this is on the air at the mount
+abbrev pub on_air : World → List ℕ → List ℕ → World
+on_air w mount title = with_part w (part_titled title (part_at w mount))
 
 -- the listeners who have had their time have lost their seats
 abbrev pub durations_over : World → World
@@ -108,7 +121,7 @@ abbrev pub done : World → Command → World
 done w (MoveClients mount destination) = carried_along w (To mount destination)
 done w (KillClient mount listener) = record w { seats = with_end w.seats listener Killed }
 done w (KillSource mount) = session_killed w (session_of w.house.live mount)
-done w (NewTitle mount title) = record w { house = retitled w.house mount title }
+done w (NewTitle mount title) = on_air w mount title
 done w (SetFallback mount fallback) = record w { house = falling_back w.house mount fallback }
 done w (AddUser mount user password) = outsiders_ended (user_added w mount user password) mount
 done w (DeleteUser mount user) = outsiders_ended (user_deleted w mount user) mount
@@ -130,7 +143,7 @@ changed w (Admit id peer) = record w { house = admitted w.house id peer }
 changed w (Begin id mount shown) = called_home (session_begun w id mount shown) mount
 changed w (Raise id mount shown) = called_home (session_raised w id mount shown) mount
 changed w (Receive mount block) = taken_in w mount block
-changed w (SetTitle mount title) = record w { house = retitled w.house mount title }
+changed w (SetTitle mount title) = on_air w mount title
 changed w (TakeSeat id seat) = record { house = now_in_state w.house id Listens; seats = with_seat w.seats id seat }
 changed w (Advance id place) = record w { seats = with_place w.seats id place }
 changed w (End id mount) = let after = session_ended w mount in record after { house = now_in_state after.house id Answered }

@@ -3,6 +3,7 @@ use Rattle.std.proofs.Common.{◌≡◌, Bool, true, false, ℕ, Option, Some, N
 use Rattle.std.specs.Prelude.{if◌then◌else◌}
 use Rattle.std.specs.Option.{option_map_or, option_or}
 use Rattle.radio_settings.specs.declared.settings.Settings.{Settings}
+use Rattle.radio_parts.specs.Parts.{end_in}
 use Rattle.radio_parts.specs.Sessions.{Session, session_of}
 use Rattle.radio_parts.specs.Stream.{end_of}
 use Rattle.radio_parts.proofs.SessionLookups.{found_named}
@@ -32,9 +33,6 @@ module _ (house : House) (mount : List ℕ) where
 
   abbrev number_in : Option Session → ℕ
   number_in found = option_map_or (λ (x : Session). x.number) found 0
-
-  abbrev end_in : Option Session → ℕ
-  end_in found = option_map_or (λ (x : Session). end_of x.stream) found 0
 
   pub heard_number : (session : Session) → heard_at house mount ≡ Some session → live_number house mount ≡ session.number
   heard_number session e =

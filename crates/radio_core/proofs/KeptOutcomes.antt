@@ -1,5 +1,5 @@
 -- what comes of an event is the same where only a queue is kept of each stream
-use Rattle.std.proofs.Common.{◌≡◌, Bool, ℕ, ◌+◌, ◌==◌, ◌||◌, Option, Some, None, is_some, List, length, refl, ap, ◌∙◌, arith, subst}
+use Rattle.std.proofs.Common.{◌≡◌, Bool, ℕ, ◌+◌, ◌==◌, ◌||◌, Option, Some, None, is_some, List, length, refl, ap, sym, ◌∙◌, arith, subst}
 use Rattle.std.proofs.Math.Path.{fun_ext}
 use Rattle.std.specs.Prelude.{nat_lt, if◌then◌else◌}
 use Rattle.std.specs.Option.{option_map}
@@ -46,7 +46,8 @@ use Rattle.radio_fallback.specs.Carry.{carried}
 use Rattle.radio_core.specs.Command.{said_of, does_asked, gives_command}
 use Rattle.radio_facts.specs.CommandFacts.{sits_at, needs_of, facts_for, facts_asked, access_to, needs_to_list, opened_by, rows_to_command}
 use Rattle.radio_changes.specs.Counts.{counts_by}
-use Rattle.radio_core.specs.Draw.{hands_out, hands_out_at}
+use Rattle.radio_core.specs.Draw.{hands_out}
+use Rattle.radio_core.proofs.DrawLemmas.{hands_out_at, draws_so}
 use Rattle.radio_fallback.specs.declared.walking.Landing.{Landing}
 use Rattle.radio_fallback.specs.declared.walking.Landing.TheVariants.{Lands, Stops}
 use Rattle.radio_house.specs.Facts.{largest_number, is_full, is_in_settings, sight_of, walks_to, source_facts, relay_facts, listen_facts, names_mount}
@@ -234,7 +235,8 @@ module _ (w : World) (rise : Each HasRisingStarts w.house.live) (kept : SeatsAre
   outcome_kept (SourceEnd id) = refl
   outcome_kept (Title id text) = refl
   outcome_kept (Listen asked) = paths_alike asked (web_path w.house.settings.web asked.mount)
-  outcome_kept (Draw id room) = ap (if_sitting (standing_of w id)) (draws_alike id room (seat_of w.seats id) refl)
+  outcome_kept (Draw id room) =
+      draws_so (kept_of w) id room ∙ ap (if_sitting (standing_of w id)) (draws_alike id room (seat_of w.seats id) refl) ∙ sym (draws_so w id room)
   outcome_kept (Command asked) = commands_alike asked
   outcome_kept (Leave id) = refl
   outcome_kept (RelayUp mount shown) =

@@ -2,7 +2,7 @@
 use Rattle.std.proofs.Common.{◌≡◌, ◌⊎◌, inl, inr, Bool, true, false, ℕ, ◌+◌, ◌-◌, ◌≤◌, ◌==◌, Option, Some, None, List, [], ◌∷◌, length, refl, ap, sym}
 use Rattle.std.proofs.Common.{subst, ◌∙◌, arith}
 use Rattle.std.specs.Prelude.{◌&&◌, nat_lt, if◌then◌else◌, fold}
-use Rattle.std.specs.Option.{option_map, option_map_or}
+use Rattle.std.specs.Option.{option_map}
 use Rattle.std.specs.Str.{bytes_eq}
 use Rattle.std.proofs.lemmas.Bool.{ltb-false}
 use Rattle.std.proofs.lemmas.Bool.Decides.{nat_tests}
@@ -34,7 +34,8 @@ use Rattle.radio_fallback.proofs.Faring.{Faring, HasStayed, HasGone, HasLost, fa
 use Rattle.radio_house.specs.House.{House}
 use Rattle.radio_access.specs.Lists.{Lists, with_user_at, without_user_at}
 use Rattle.radio_house.specs.Outsiders.{is_shut_out}
-use Rattle.radio_changes.specs.Changes.{answered, outsiders_ended, session_killed, changed, carried_along, session_over, session_ended, called_home, session_begun, session_raised}
+use Rattle.radio_changes.specs.Changes.{answered, outsiders_ended, session_killed, changed, carried_along, session_over, session_ended, called_home, session_begun, session_raised, laggards_ended}
+use Rattle.radio_changes.proofs.PartChanges.{is_on_air, is_taken_in}
 use Rattle.radio_house.specs.HouseChanges.{begun, raised, received}
 use Rattle.radio_changes.specs.Changes.{before_silence, session_silenced, silent_in, ticked}
 use Rattle.radio_house.specs.Facts.{live_end, sight_of}
@@ -53,6 +54,7 @@ use Rattle.radio_core.proofs.CalledHome.{house_called}
 use Rattle.radio_core.proofs.ChangedUsers.{with_lists}
 use Rattle.radio_core.proofs.CommandLemmas.{obeyed_keeps}
 use Rattle.radio_core.proofs.CarriedFates.{order_carried}
+use Rattle.radio_parts.specs.Parts.{end_in}
 use Rattle.radio_parts.proofs.SessionLookups.{beside_fed, beside_titled, beside_begun, is_new_session}
 use Rattle.radio_parts.proofs.NumberOrder.{order_ended, same_order}
 use Rattle.radio_core.proofs.SoundEnds.{was_live}
@@ -95,9 +97,6 @@ fewer_carried w move order = record {
   seats = λ id seat e. by_fare id seat e (fares (sight_of w.house) move w.seats order id);
   sessions = λ mount session e. e;
 } where
-  end_in : Option Session → ℕ
-  end_in found = option_map_or (λ (x : Session). end_of x.stream) found 0
-
   by_fare : (id : ℕ) (seat : Seat) → seat_of (carried_along w move).seats id ≡ Some seat → Faring (sight_of w.house) move w.seats id
       → (seat_of w.seats id ≡ Some seat) ⊎ SitsAtEnd (carried_along w move) seat
   by_fare id seat e (HasStayed same turn) = inl (sym (ap seat_in same) ∙ e)
@@ -285,15 +284,18 @@ module _ (P : WholeStream → ℕ → Type 0) (w : World) (order : AreByNumber w
 
   -- a title is set
   each_titled : (mount text : List ℕ) → EachSeat P (changed w (SetTitle mount text))
-  each_titled mount text id seat session has live =
+  each_titled mount text = subst (EachSeat P) (sym (is_on_air w mount text)) (λ id seat session has live.
       session_updated w.house.live mount (with_title (Some text)) (λ x. refl) seat.mount session
       (λ apart. beside_titled w.house.live mount seat.mount apart text) live
       (λ old same found one. subst (λ (x : Session). P x.stream seat.place) one (all id seat old has found))
-      (all id seat session has)
+      (all id seat session has))
 
   -- a block is delivered, and who is too far behind then has lost his seat
+  abbrev grown : List ℕ → List ℕ → World
+  grown mount block = record w { house = received w.house mount block }
+
   each_received : (mount block : List ℕ) → EachSeat P (changed w (Receive mount block))
-  each_received mount block id seat session has live =
+  each_received mount block = subst (EachSeat P) (sym (is_taken_in w mount block)) (λ id seat session has live.
       session_updated w.house.live mount (longer block w.house.time) (λ x. refl) seat.mount session
       (λ apart. beside_fed w.house.live mount seat.mount apart block w.house.time) live
       (λ old same found one.
@@ -306,14 +308,11 @@ module _ (P : WholeStream → ℕ → Type 0) (w : World) (order : AreByNumber w
       = ap (live_end (received w.house mount block)) same ∙ now ∙ ap (λ (x : Session). end_of x.stream) (sym one) in
       subst (λ (x : Session). P x.stream seat.place) one
       (holds.longer seat.mount block old seat.place found (all id seat old (had id seat has) found) (subst (λ (n : ℕ). n - seat.place ≤ queue) at_end close)))
-      (all id seat session (had id seat has)) where
+      (all id seat session (had id seat has))) where
         queue : ℕ
         queue = w.house.settings.limits.queue_size
 
-        end_in : Option Session → ℕ
-        end_in found = option_map_or (λ (x : Session). end_of x.stream) found 0
-
-        had : (id : ℕ) (seat : Seat) → seat_of (changed w (Receive mount block)).seats id ≡ Some seat → seat_of w.seats id ≡ Some seat
+        had : (id : ℕ) (seat : Seat) → seat_of (laggards_ended (grown mount block) mount).seats id ≡ Some seat → seat_of w.seats id ≡ Some seat
         had id seat e = had_seat (lags_behind mount (live_end (received w.house mount block) mount) w.house.settings.limits.queue_size) Lagged w.seats id seat e
 
   -- a listener sits down

@@ -16,7 +16,8 @@ use Rattle.radio_changes.specs.declared.change.Change.TheVariants.{EndAndLeave, 
 use Rattle.radio_house.specs.House.{House}
 use Rattle.radio_changes.specs.Changes.{answered, done, session_ended_by, session_killed, changed, carried_along, session_over, session_ended, called_home, client_gone, laggards_ended, session_begun, session_raised}
 use Rattle.radio_house.specs.HouseChanges.{finished_in}
-use Rattle.radio_changes.specs.Changes.{before_silence, session_silenced, silent_in, ticked}
+use Rattle.radio_changes.specs.Changes.{before_silence, session_silenced, silent_in, ticked, on_air}
+use Rattle.radio_changes.proofs.PartChanges.{is_on_air, is_taken_in}
 use Rattle.radio_house.specs.Clients.{in_state}
 use Rattle.radio_parts.specs.Kept.{kept_session, kept_live}
 use Rattle.radio_core.specs.Kept.{kept_of}
@@ -62,11 +63,15 @@ rise_killed : (w : World) → Each HasRisingStarts w.house.live → (found : Opt
 rise_killed w rise None = rise
 rise_killed w rise (Some session) = rise_ended w session.mount rise
 
+rise_on_air : (w : World) → Each HasRisingStarts w.house.live → (mount title : List ℕ) → Each HasRisingStarts (on_air w mount title).house.live
+rise_on_air w rise mount title = subst (λ (later : World). Each HasRisingStarts later.house.live) (sym (is_on_air w mount title))
+    (Each_updated HasRisingStarts (is_of mount) (with_title (Some title)) (λ x r. r) w.house.live rise)
+
 rise_done : (w : World) → Each HasRisingStarts w.house.live → (command : Command) → Each HasRisingStarts (done w command).house.live
 rise_done w rise (MoveClients mount destination) = rise
 rise_done w rise (KillClient mount listener) = rise
 rise_done w rise (KillSource mount) = rise_killed w rise (session_of w.house.live mount)
-rise_done w rise (NewTitle mount text) = Each_updated HasRisingStarts (is_of mount) (with_title (Some text)) (λ x r. r) w.house.live rise
+rise_done w rise (NewTitle mount title) = rise_on_air w rise mount title
 rise_done w rise (SetFallback mount fallback) = rise
 rise_done w rise (AddUser mount user password) = rise
 rise_done w rise (DeleteUser mount user) = rise
@@ -81,8 +86,9 @@ rise_changed w rise (Begin id mount shown) =
 rise_changed w rise (Raise id mount shown) =
     subst (λ (h : House). Each HasRisingStarts h.live) (sym (house_called (session_raised w id mount shown) mount))
     (rise_begun w id mount shown rise)
-rise_changed w rise (Receive mount block) = rise_fed w.house.live mount block w.house.time rise
-rise_changed w rise (SetTitle mount title) = Each_updated HasRisingStarts (is_of mount) (with_title (Some title)) (λ x r. r) w.house.live rise
+rise_changed w rise (Receive mount block) =
+    subst (λ (later : World). Each HasRisingStarts later.house.live) (sym (is_taken_in w mount block)) (rise_fed w.house.live mount block w.house.time rise)
+rise_changed w rise (SetTitle mount title) = rise_on_air w rise mount title
 rise_changed w rise (TakeSeat id seat) = rise
 rise_changed w rise (Advance id place) = rise
 rise_changed w rise (End id mount) = rise_ended w mount rise
@@ -116,13 +122,17 @@ module _ (w : World) where
   killed_alike None rise = refl
   killed_alike (Some session) rise = ended_by_alike SourceKilled session rise
 
+  on_air_alike : (mount title : List ℕ) → on_air (kept_of w) mount title ≡ kept_of (on_air w mount title)
+  on_air_alike mount title =
+      is_on_air (kept_of w) mount title ∙ ap (λ (live : List Session). with_live w live) (titled_kept queue w.house.live mount title)
+      ∙ ap kept_of (sym (is_on_air w mount title))
+
   -- a command is done alike
   done_alike : Each HasRisingStarts w.house.live → (command : Command) → done (kept_of w) command ≡ kept_of (done w command)
   done_alike rise (MoveClients mount destination) = carried_alike w rise (To mount destination)
   done_alike rise (KillClient mount listener) = refl
   done_alike rise (KillSource mount) = ap (session_killed (kept_of w)) (kept_found queue w.house.live mount) ∙ killed_alike (session_of w.house.live mount) rise
-  done_alike rise (NewTitle mount text) =
-      ap (λ (live : List Session). with_live w live) (titled_kept queue w.house.live mount text)
+  done_alike rise (NewTitle mount title) = on_air_alike mount title
   done_alike rise (SetFallback mount fallback) = refl
   done_alike rise (AddUser mount user password) = refl
   done_alike rise (DeleteUser mount user) = refl
@@ -141,6 +151,7 @@ module _ (w : World) (rise : Each HasRisingStarts w.house.live) where
       ap (λ (sessions : List Session). laggards_ended (with_live w sessions) mount) (fed_kept (queue w) w.house.live mount block w.house.time rise)
       ∙ ap (λ (end : ℕ). record (with_live w (kept_live (queue w) live)) { seats = with_ended w.seats (lags_behind mount end (queue w)) Lagged })
       (kept_ends (queue w) live mount (rise_fed w.house.live mount block w.house.time rise))
+      ∙ ap kept_of (sym (is_taken_in w mount block))
 
   ticked_alike : (ms : ℕ) → ticked (kept_of w) ms ≡ kept_of (ticked w ms)
   ticked_alike ms =
@@ -162,8 +173,7 @@ module _ (w : World) (rise : Each HasRisingStarts w.house.live) where
       ap (λ (live : List Session). called_home (with_live up live) mount) (begun_kept (queue w) w.house.live (opened mount id shown w.house.time))
       ∙ called_alike up (rise_begun w id mount shown rise) mount
   changed_kept (Receive mount block) = received_alike mount block
-  changed_kept (SetTitle mount title) =
-      ap (λ (live : List Session). with_live (changed w (SetTitle mount title)) live) (titled_kept (queue w) w.house.live mount title)
+  changed_kept (SetTitle mount title) = on_air_alike w mount title
   changed_kept (TakeSeat id seat) = refl
   changed_kept (Advance id place) = refl
   changed_kept (End id mount) = ap (λ (v : World). record v { house = record v.house { clients = in_state v.house.clients id Answered } }) (ended_alike w mount rise)

@@ -11,6 +11,7 @@ pub mod KeptSeats
 mod KeptSights
 mod KeptSteps
 mod LentState
+pub mod DrawLemmas
 pub mod ChangedUsers
 pub mod ListsSteps
 pub mod Obeyed

@@ -20,9 +20,8 @@ use Rattle.radio_fallback.specs.declared.moves.Move.{Move}
 use Rattle.radio_fallback.specs.declared.moves.Move.TheVariants.{Ended as SessionEnds, Up, To}
 use Rattle.radio_fallback.proofs.FaresLemmas.{numbers_kept}
 use Rattle.radio_changes.specs.Changes.{answered, session_killed, changed, carried_along, session_over, session_ended, called_home, taken_in, session_begun}
-use Rattle.radio_house.specs.HouseChanges.{received}
 use Rattle.radio_changes.specs.Changes.{before_silence, session_silenced, silent_in, ticked}
-use Rattle.radio_house.specs.Facts.{live_end, sight_of}
+use Rattle.radio_house.specs.Facts.{sight_of}
 use Rattle.radio_parts.specs.Sessions.{Session, session_of}
 use Rattle.radio_parts.specs.Timeouts.{lags_behind, has_sat_out}
 use Rattle.radio_house.specs.Timeouts.{timed_out}
@@ -159,6 +158,6 @@ pub same_received : (w : World) (mount block : List ℕ) → AreTheSame w (taken
 same_received w mount block = record {
   same_ids = refl;
   same_relays = refl;
-  same_rows = same_ended (lags_behind mount (live_end (received w.house mount block) mount) w.house.settings.limits.queue_size) Lagged w.seats;
+  same_rows = same_ended (lags_behind mount _ w.house.settings.limits.queue_size) Lagged w.seats;
   same_last = refl;
 }

@@ -17,11 +17,12 @@ use Rattle.radio_changes.specs.declared.change.Change.TheVariants.{Receive, SetT
 use Rattle.radio_core.specs.declared.outcome.Outcome.{Outcome}
 use Rattle.radio_house.specs.declared.standing.Standing.TheVariants.{Undecided, Feeds, Sits}
 use Rattle.radio_house.specs.House.{House}
-use Rattle.radio_changes.specs.Changes.{answered, changed, called_home, session_ended, session_killed, ticked}
+use Rattle.radio_changes.specs.Changes.{answered, changed, called_home, session_ended, session_killed, ticked, on_air}
+use Rattle.radio_changes.proofs.PartChanges.{on_air_there, on_air_beside, taken_in_there, taken_in_beside}
 use Rattle.radio_house.specs.HouseChanges.{begun, raised}
 use Rattle.radio_core.specs.Moves.{TakesTo}
 use Rattle.radio_core.specs.Finishes.{Cause, SessionIsOver, IsFarBehind, HasSatOut, HasAskedNothing, HasSentNothing, IsKilled, HisSessionIsKilled, IsNotAccepted}
-use Rattle.radio_parts.specs.Sessions.{Session, session_of, opened, with_session, titled, without_session}
+use Rattle.radio_parts.specs.Sessions.{Session, session_of, opened, with_session, without_session}
 use Rattle.radio_core.specs.SessionSteps.{IsShownAs, OfTheSettings, OfTheSource, HasBegun, SessionStep, Stays, Begins as ItBegins, BeginsForRelay, Grows, IsTitled}
 use Rattle.radio_core.specs.SessionSteps.{Ends as ItEnds, IsRetitled, IsKilled as ItIsKilled, SessionsStep, KeepsSettings}
 use Rattle.radio_events.specs.declared.command.Command.{Command}
@@ -37,7 +38,7 @@ use Rattle.radio_core.proofs.CalledHome.{house_called}
 use Rattle.radio_core.proofs.Fates.{Fate, GoesOn, IsEnded, HasStopped, IsMoved, HasEnded, Nobody}
 use Rattle.radio_core.proofs.KeptSeats.{settings_stay}
 use Rattle.radio_core.proofs.Obeyed.{title_live as command_finds}
-use Rattle.radio_parts.proofs.SessionLookups.{found_named, is_new_session, beside_begun, is_longer, beside_fed, is_titled, beside_titled, is_over, beside_ended}
+use Rattle.radio_parts.proofs.SessionLookups.{found_named, is_new_session, beside_begun, is_over, beside_ended}
 use Rattle.radio_core.proofs.TickLemmas.{asking_at, ticked_fates}
 use Rattle.radio_house.proofs.TimeoutLemmas.{tests_are_in_numbers}
 use Rattle.radio_core.proofs.Ways.{way_of}
@@ -99,10 +100,10 @@ module _ (w : World) (s : IsSound w) (mount : List ℕ) where
       let ours = s.feeds him fed feeding in
       by_name fed mount
       (λ same. turned (Push him block) (sym ours.1 ∙ ap (session_of w.house.live) same)
-      (sym (is_longer w.house.live fed block w.house.time ours.0 ours.1) ∙ ap (session_of (changed w (Receive fed block)).house.live) same)
+      (sym (taken_in_there w fed block ours.0 ours.1) ∙ ap (session_of (changed w (Receive fed block)).house.live) same)
       (Grows ours.0 block (ap (λ (n : ℕ). Push n block) (sym ours.2))))
       (λ apart. stays (Push him block) (session_of (changed w (Receive fed block)).house.live mount)
-      (beside_fed w.house.live fed mount apart block w.house.time))
+      (taken_in_beside w fed block mount apart))
 
   is_told : (him : ℕ) (fed text : List ℕ) → standing_of w him ≡ Feeds fed
       → SessionStep w (Title him text) mount mine (session_of (changed w (SetTitle fed text)).house.live mount)
@@ -110,9 +111,9 @@ module _ (w : World) (s : IsSound w) (mount : List ℕ) where
       let ours = s.feeds him fed feeding in
       by_name fed mount
       (λ same. turned (Title him text) (sym ours.1 ∙ ap (session_of w.house.live) same)
-      (sym (is_titled w.house.live fed text ours.0 ours.1) ∙ ap (session_of (changed w (SetTitle fed text)).house.live) same)
+      (sym (on_air_there w fed text ours.0 ours.1) ∙ ap (session_of (changed w (SetTitle fed text)).house.live) same)
       (IsTitled ours.0 text (ap (λ (n : ℕ). Title n text) (sym ours.2))))
-      (λ apart. stays (Title him text) (session_of (changed w (SetTitle fed text)).house.live mount) (beside_titled w.house.live fed mount apart text))
+      (λ apart. stays (Title him text) (session_of (changed w (SetTitle fed text)).house.live mount) (on_air_beside w fed text mount apart))
 
   is_ended : (event : Event) (him : ℕ) (fed : List ℕ) → standing_of w him ≡ Feeds fed
       → (event ≡ SourceEnd him) ⊎ (event ≡ Leave him) ⊎ (event ≡ RelayDown him)
@@ -143,9 +144,9 @@ module _ (w : World) (s : IsSound w) (mount : List ℕ) where
   is_retitled event named text c session found =
       by_name named mount
       (λ same. turned event (sym found ∙ ap (session_of w.house.live) same)
-      (sym (is_titled w.house.live named text session found) ∙ ap (session_of (titled w.house.live named text)) same)
+      (sym (on_air_there w named text session found) ∙ ap (session_of (on_air w named text).house.live) same)
       (IsRetitled session text (subst (λ (m : List ℕ). IsCommanded w event (SetTitleOf m text)) same c)))
-      (λ apart. stays event (session_of (titled w.house.live named text) mount) (beside_titled w.house.live named mount apart text))
+      (λ apart. stays event (session_of (on_air w named text).house.live mount) (on_air_beside w named text mount apart))
 
   is_killed : (event : Event) (named : List ℕ) (c : IsCommanded w event (KillSource named)) (found : Option Session) → session_of w.house.live named ≡ found
       → SessionStep w event mount mine (session_of (session_killed (answered w c.asked.id) found).house.live mount)

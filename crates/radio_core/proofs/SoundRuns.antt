@@ -1,5 +1,5 @@
 -- every state of a run is sound
-use Rattle.std.proofs.Common.{◌≡◌, ℕ, List, [], ◌∷◌, refl, ap, sym, ◌∙◌}
+use Rattle.std.proofs.Common.{◌≡◌, ℕ, List, [], ◌∷◌, refl, ap, sym, subst, ◌∙◌}
 use Rattle.std.specs.Str.{bytes_eq}
 use Rattle.std.proofs.lemmas.Bool.{and_parts}
 use Rattle.std.proofs.lemmas.Slice.Eq.{bytes_eq-Decides}
@@ -11,7 +11,8 @@ use Rattle.radio_events.specs.declared.event.Event.TheVariants.{Push}
 use Rattle.radio_house.specs.declared.standing.Standing.TheVariants.{Feeds}
 use Rattle.radio_core.specs.declared.outcome.Outcome.{Outcome}
 use Rattle.radio_house.specs.World.{World, opening, standing_of}
-use Rattle.radio_changes.specs.Changes.{changed, taken_in, ticked}
+use Rattle.radio_changes.specs.Changes.{changed, laggards_ended, taken_in, ticked}
+use Rattle.radio_changes.proofs.PartChanges.{is_taken_in}
 use Rattle.radio_house.specs.HouseChanges.{received}
 use Rattle.radio_house.specs.Facts.{live_end}
 use Rattle.radio_core.specs.Finishes.{Cause, IsFarBehind}
@@ -47,12 +48,13 @@ pub lag_fates : (w : World) → IsSound w → (mount block : List ℕ) (him : �
 lag_fates w s mount block him feeding =
     let house = received w.house mount block in
     let queue = w.house.settings.limits.queue_size in
-    seats_fates (Cause w (taken_in w mount block) (Push him block)) NoMove Nobody HasEnded (grown_world w mount block)
+    subst (λ (later : World). Fates (Cause w later (Push him block)) NoMove Nobody HasEnded (grown_world w mount block) later) (sym (is_taken_in w mount block))
+    (seats_fates (Cause w (laggards_ended (grown_world w mount block) mount) (Push him block)) NoMove Nobody HasEnded (grown_world w mount block)
     (sound_grown w s mount block him feeding) (lags_behind mount (live_end house mount) queue) Lagged
     (λ id seat has behind.
     let there : seat.mount ≡ mount = (bytes_eq-Decides seat.mount mount).0 (and_parts (bytes_eq seat.mount mount) _ behind).0 in
     IsFarBehind him block seat refl (feeding ∙ ap (λ (m : List ℕ). Feeds m) (sym there)) has
-    (ap (λ (m : List ℕ). lags_behind m (live_end house m) queue seat) there ∙ behind))
+    (ap (λ (m : List ℕ). lags_behind m (live_end house m) queue seat) there ∙ behind)))
 
 sound_by : (w : World) → IsSound w → (event : Event) (o : Outcome) → Way w event o → IsSound (changed w o.change)
 sound_by w s event o (Misplaced _) = s

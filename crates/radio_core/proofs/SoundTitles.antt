@@ -6,11 +6,11 @@ use Rattle.radio_changes.specs.declared.change.Change.TheVariants.{SetTitle}
 use Rattle.radio_house.specs.declared.standing.Standing.TheVariants.{Feeds}
 use Rattle.radio_house.specs.World.{World, standing_of}
 use Rattle.radio_changes.specs.Changes.{changed}
-use Rattle.radio_parts.specs.Sessions.{Session, is_of, session_of, with_title}
+use Rattle.radio_parts.specs.Sessions.{Session, AreApart, is_of, session_of, with_title}
 use Rattle.radio_parts.specs.Stream.{AreRising, WholeStream, end_of}
 use Rattle.radio_core.specs.Sound.{IsSound}
 use Rattle.radio_parts.proofs.ApartLemmas.{updated_apart}
-use Rattle.radio_parts.proofs.SessionLookups.{beside_titled, is_titled}
+use Rattle.radio_changes.proofs.PartChanges.{is_on_air, on_air_there, on_air_beside}
 use Rattle.radio_core.proofs.Soundness.{IsLiveStill, seated_beside}
 
 -- a session is as it was, but that it may have another title
@@ -27,12 +27,12 @@ module _ (w : World) (s : IsSound w) (mount text : List ℕ) (him : ℕ) (feedin
       → ((session : Session) → mount ≡ other → session_of w.house.live other ≡ Some session → session.number ≡ him → with_title (Some text) session ≡ now → A)
       → (bytes_eq mount other ≡ false → session_of w.house.live other ≡ Some now → A) → A
   titled_cases {A} other now e new old =
-      by_name mount other here (λ apart. old apart (sym (beside_titled w.house.live mount other apart text) ∙ e)) where
+      by_name mount other here (λ apart. old apart (sym (on_air_beside w mount text other apart) ∙ e)) where
         here : mount ≡ other → A
         here same =
             let ours = s.feeds him mount feeding in
             let titled_here : session_of after_title.house.live mount ≡ Some (with_title (Some text) ours.0) =
-            is_titled w.house.live mount text ours.0 ours.1 in
+            on_air_there w mount text ours.0 ours.1 in
             let both : Some (with_title (Some text) ours.0) ≡ Some now = sym titled_here ∙ ap (session_of after_title.house.live) same ∙ e in
             let one : with_title (Some text) ours.0 ≡ now = cc in
             new ours.0 same (ap (session_of w.house.live) (sym same) ∙ ours.1) ours.2 one
@@ -45,11 +45,11 @@ module _ (w : World) (s : IsSound w) (mount text : List ℕ) (him : ℕ) (feedin
       (λ same.
       let here : session_of w.house.live mount ≡ Some session = ap (session_of w.house.live) same ∙ e in (
         with_title (Some text) session,
-        ap (session_of after_title.house.live) (sym same) ∙ is_titled w.house.live mount text session here,
+        ap (session_of after_title.house.live) (sym same) ∙ on_air_there w mount text session here,
         refl,
         omega arith,
       ))
-      (λ apart. (session, beside_titled w.house.live mount other apart text ∙ e, refl, omega arith))
+      (λ apart. (session, on_air_beside w mount text other apart ∙ e, refl, omega arith))
 
   -- and what is live now was
   was_live : (other : List ℕ) (now : Session) → session_of after_title.house.live other ≡ Some now
@@ -70,12 +70,13 @@ module _ (w : World) (s : IsSound w) (mount text : List ℕ) (him : ℕ) (feedin
     fed = λ other now e.
         let old = was_live other now e in
         ap (standing_of w) (sym old.2.number) ∙ s.fed other old.0 old.1;
-    apart = updated_apart (is_of mount) (with_title (Some text)) (λ x. refl) w.house.live s.apart;
+    apart = subst (λ (later : World). AreApart later.house.live) (sym (is_on_air w mount text))
+        (updated_apart (is_of mount) (with_title (Some text)) (λ x. refl) w.house.live s.apart);
     starts = λ other now e.
         let old = was_live other now e in
         subst (λ (x : WholeStream). AreRising x.starts (end_of x)) old.2.stream (s.starts other old.0 old.1);
     by_number = s.by_number;
     sitting = λ id seat e. s.sitting id seat e;
     seated =
-        seated_beside w s after_title.house mount him feeding refl (λ other apart. beside_titled w.house.live mount other apart text) live_still;
+        seated_beside w s after_title.house mount him feeding refl (λ other apart. on_air_beside w mount text other apart) live_still;
   }

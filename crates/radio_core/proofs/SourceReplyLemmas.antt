@@ -15,6 +15,7 @@ use Rattle.radio_house.specs.declared.standing.Standing.{Standing}
 use Rattle.radio_house.specs.declared.standing.Standing.TheVariants.{Unknown, Undecided as IsUndecided, Feeds as IsFeeding, Sits}
 use Rattle.radio_house.specs.declared.standing.Standing.TheVariants.{Answered as IsAnswered, Finished as IsFinished}
 use Rattle.radio_changes.specs.Changes.{changed}
+use Rattle.radio_changes.proofs.PartChanges.{is_taken_in}
 use Rattle.radio_house.specs.HouseChanges.{received}
 use Rattle.radio_house.specs.Clients.{Client, client_of}
 use Rattle.radio_house.specs.Relays.{Relay, relay_of}
@@ -129,7 +130,8 @@ module _ (w : World) (id : ℕ) (block : List ℕ) (valid : IsBlock block) where
       let reply : here.reply ≡ Noted = ap (λ (o : Outcome). o.reply) out in
       let taken : to_session (session_of w.house.live mount) block ≡ Noted = sym (fits (session_of w.house.live mount) block w mount valid refl)
       ∙ ap unless_spent t in
-      let house : next.house ≡ received w.house mount block = ap (λ (o : Outcome). (changed w o.change).house) out in
+      let house : next.house ≡ received w.house mount block = ap (λ (o : Outcome). (changed w o.change).house) out
+      ∙ ap (λ (later : World). later.house) (is_taken_in w mount block) in
       let feeds : standing_of next id ≡ IsFeeding mount = feeds_on w next id mount (ap (λ (h : House). h.clients) house) (ap (λ (h : House). h.relays) house) e in
       record {
         at_block = reply ∙ sym taken ∙ ap (λ (s : Standing). to_data_from s w.house block) (sym e);

@@ -1,5 +1,5 @@
 -- each event ends in one of the ways
-use Rattle.std.proofs.Common.{◌≡◌, true, false, ℕ, Bool, ◌==◌, not, ◌&&◌, Option, Some, None, is_some, List, [], ◌∷◌, length, refl, ap, sym, ◌∙◌}
+use Rattle.std.proofs.Common.{◌≡◌, true, false, ℕ, Bool, ◌==◌, not, ◌&&◌, Option, Some, None, is_some, List, [], ◌∷◌, length, refl, ap, sym, subst, ◌∙◌}
 use Rattle.std.specs.Prelude.{if◌then◌else◌, nat_lt}
 use Rattle.radio_policy.specs.declared.rule.Rule.{Rule}
 use Rattle.radio_policy.specs.declared.rule.Rule.TheVariants.{AddressDenied, AddressNotAllowed, TooManyClients, NumbersSpent}
@@ -42,7 +42,8 @@ use Rattle.radio_core.specs.Listen.{takes_seat, sits_where}
 use Rattle.radio_status.specs.Listings.{shown}
 use Rattle.radio_core.specs.Pages.{IsListing, IsAtPath, asks_by}
 use Rattle.radio_status.specs.Pages.{page_at}
-use Rattle.radio_core.specs.Draw.{hands_out, hands_out_at}
+use Rattle.radio_core.specs.Draw.{hands_out}
+use Rattle.radio_core.proofs.DrawLemmas.{hands_out_at, draws_so}
 use Rattle.radio_core.specs.Closing.{OfClient, OfRelay}
 use Rattle.radio_core.specs.Leave.{leaves_from}
 use Rattle.radio_core.specs.RelayUp.{raises}
@@ -358,7 +359,9 @@ way_of w (Push id block) =
 way_of w (SourceEnd id) = by_feeding w (SourceEnd id) id refl _ (λ mount e. by_ending w id mount e (has_relay w id) refl) (standing_of w id) refl
 way_of w (Title id text) = by_feeding w (Title id text) id refl _ (λ mount e. SetsTitle id mount text e) (standing_of w id) refl
 way_of w (Listen asked) = by_path w asked (web_path w.house.settings.web asked.mount) refl
-way_of w (Draw id room) = by_sitting w (Draw id room) id refl _ (λ e. hands_at w id room e (seat_of w.seats id) refl) (standing_of w id) refl
+way_of w (Draw id room) = subst (λ (o : Outcome). Way w (Draw id room) o) (sym (draws_so w id room))
+    (by_sitting w (Draw id room) id refl (hands_out_at w.house id room (seat_of w.seats id)) (λ e. hands_at w id room e (seat_of w.seats id) refl)
+    (standing_of w id) refl)
 way_of w (Command asked) =
     by_undecided w (Command asked) asked.id refl _
     (λ peer e. by_verdict w (Command asked) (Answer asked.id) (does_asked w asked.id asked.asked) (verdict_in (rows_for w (Command asked)))

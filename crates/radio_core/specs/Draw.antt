@@ -1,17 +1,20 @@
 use Rattle.std.specs.Prelude.{ℕ, ◌+◌, length, Option, Some, None}
+use Rattle.std.specs.Option.{option_map_or, option_or}
 use Rattle.radio_house.specs.House.{House}
 use Rattle.radio_events.specs.declared.reply.Reply.TheVariants.{Drawn, Stray}
 use Rattle.radio_changes.specs.declared.change.Change.{Change}
 use Rattle.radio_changes.specs.declared.change.Change.TheVariants.{Nothing, Advance}
+use Rattle.radio_changes.specs.Changes.{part_at}
 use Rattle.radio_core.specs.declared.outcome.Outcome.{Outcome}
 use Rattle.radio_core.specs.declared.server.draw.Drawing.{Drawing}
 use Rattle.radio_seats.specs.declared.seat.Seat.{Seat}
+use Rattle.radio_parts.specs.Parts.{Part}
 use Rattle.radio_parts.specs.Sessions.{Session}
 use Rattle.radio_parts.specs.Stream.{data_at}
 use Rattle.radio_seats.specs.Seats.{seat_of}
 use Rattle.radio_house.specs.World.{World, standing_of}
 use Rattle.radio_core.specs.Outcomes.{says, if_sitting}
-use Rattle.radio_house.specs.Waiting.{heard_at}
+use Rattle.radio_house.specs.Waiting.{silence_of}
 
 -- the listener is handed what stands at his place, which moves past it, and is told the title of then; at a mount that waits for a session that is nothing
 abbrev pub hands_out : ℕ → Seat → ℕ → Option Session → Outcome
@@ -20,9 +23,17 @@ hands_out id seat room (Some session) =
     let bytes = data_at session.stream seat.place room in
     says (Drawn bytes session.title) (Advance id (seat.place + length bytes))
 
-abbrev pub hands_out_at : House → ℕ → ℕ → Option Seat → Outcome
-hands_out_at house id room None = says Stray Nothing
-hands_out_at house id room (Some seat) = hands_out id seat room (heard_at house seat.mount)
+-- the part as it is heard: where it has no session, but waits for one, nothing is to be heard yet
+abbrev pub as_heard : House → Part → Part
+as_heard house p = record p { session = option_or p.session (silence_of house p.mount) }
+
+-- one of the part's listeners has room for so many bytes
+abbrev pub part_draws : Part → ℕ → ℕ → Outcome
+part_draws p id room = option_map_or (λ seat. hands_out id seat room p.session) (seat_of p.listeners id) (says Stray Nothing)
+
+-- he draws from what is heard at the mount of his seat
+abbrev pub draws_from : World → ℕ → ℕ → Seat → Outcome
+draws_from w id room seat = part_draws (as_heard w.house (part_at w seat.mount)) id room
 
 -- where a draw moves him
 abbrev pub moves_to : ℕ → Option ℕ → Change
@@ -35,4 +46,4 @@ comes_to id drawing = says drawing.reply (moves_to id drawing.place)
 
 -- a listener has room for so many bytes
 abbrev pub draws : World → ℕ → ℕ → Outcome
-draws w id room = if_sitting (standing_of w id) (hands_out_at w.house id room (seat_of w.seats id))
+draws w id room = if_sitting (standing_of w id) (option_map_or (draws_from w id room) (seat_of w.seats id) (says Stray Nothing))

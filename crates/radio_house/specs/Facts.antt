@@ -26,8 +26,8 @@ use Rattle.radio_events.specs.declared.event.SourceRequest.{SourceRequest}
 use Rattle.radio_events.specs.declared.event.ListenRequest.{ListenRequest}
 use Rattle.radio_house.specs.House.{House}
 use Rattle.radio_house.specs.Fallbacks.{set_for}
-use Rattle.radio_parts.specs.Stream.{end_of}
-use Rattle.radio_parts.specs.Sessions.{Session, session_of}
+use Rattle.radio_parts.specs.Parts.{end_in}
+use Rattle.radio_parts.specs.Sessions.{session_of}
 use Rattle.radio_house.specs.Waiting.{heard_at}
 use Rattle.radio_house.specs.World.{World}
 
@@ -52,12 +52,9 @@ is_in_settings settings mount =
 abbrev pub is_known : House → List ℕ → Bool
 is_known house mount = is_in_settings house.settings mount || is_some (session_of house.live mount)
 
--- how far the stream of the mount's session goes, among these
-abbrev pub end_at : List Session → List ℕ → ℕ
-end_at live mount = option_map_or (λ session. end_of session.stream) (session_of live mount) 0
-
+-- how far the stream of the mount's session goes
 abbrev pub live_end : House → List ℕ → ℕ
-live_end house mount = end_at house.live mount
+live_end house mount = end_in (session_of house.live mount)
 
 -- the number of the mount's session
 abbrev pub live_number : House → List ℕ → ℕ

@@ -3,8 +3,9 @@
 ghost use Rattle.std.specs.Prelude.{◌≡◌, ◌+◌, [], nat_lt, IfOk, OnOk, OnErr};
 ghost use Rattle.std.specs.Option.{option_copied};
 ghost use Rattle.radio_parts.specs.Kept.{kept_fed};
+ghost use Rattle.radio_parts.specs.Parts.{end_in};
 ghost use Rattle.radio_parts.specs.Sessions.{opened, session_of, titled, with_session, without_session};
-ghost use Rattle.radio_house.specs.Facts.{end_at, largest_number};
+ghost use Rattle.radio_house.specs.Facts.{largest_number};
 
 use crate::OutOfMemory;
 use radio_blocks::Block;
@@ -66,7 +67,7 @@ impl Sessions {
 
     /// How far the stream of the mount's session goes; 0 where it has none.
     pub(crate) fn end_at(&self, mount: &MountName) -> u64
-        ensures { result ≡ end_at self.now mount.now }
+        ensures { result ≡ end_in (session_of self.now mount.now) }
     {
         match self.session(mount) {
             Some(session) => session.stream.end(),
@@ -76,7 +77,7 @@ impl Sessions {
 
     /// Whether the mount's stream would have more bytes than can be counted with so many more.
     pub(crate) fn is_spent_by(&self, mount: &MountName, more: u64) -> bool
-        ensures { result ≡ nat_lt largest_number (end_at self.now mount.now + more) }
+        ensures { result ≡ nat_lt largest_number (end_in (session_of self.now mount.now) + more) }
     {
         // no stream goes further, so that none is looked up before one has nearly 2^64 bytes
         if self.furthest.checked_add(more).is_some() {
@@ -121,7 +122,7 @@ impl Sessions {
         limit: u64,
     ) -> Result<u64, OutOfMemory>
         ensures ok { OnOk result (self.new ≡ kept_fed limit self.old mount.now block.now moment) }
-        ensures end { IfOk result (λ end. end ≡ end_at (kept_fed limit self.old mount.now block.now moment) mount.now) }
+        ensures end { IfOk result (λ end. end ≡ end_in (session_of (kept_fed limit self.old mount.now block.now moment) mount.now)) }
         ensures err { OnErr result (self.new ≡ self.old) }
     {
         let end = deliver(&mut self.live, mount, block, moment, limit)?;

@@ -33,7 +33,7 @@ use Rattle.radio_house.specs.declared.standing.Standing.TheVariants.{Unknown, Un
 use Rattle.radio_house.specs.Clients.{Client, client_of}
 use Rattle.radio_core.specs.Command.{does_asked}
 use Rattle.radio_facts.specs.CommandFacts.{facts_asked, needs_of, sits_at}
-use Rattle.radio_core.specs.Draw.{hands_out_at}
+use Rattle.radio_core.proofs.DrawLemmas.{hands_out_at, draws_so}
 use Rattle.radio_house.specs.Facts.{rows_to_push, rows_to_listen, walks_to}
 use Rattle.radio_core.specs.Listen.{asks_to_hear, sits_where}
 use Rattle.radio_core.specs.Outcomes.{if_undecided, if_feeding, if_sitting, on_verdict}
@@ -217,7 +217,10 @@ module _ (within : List ℕ → Bool) (w : World) (live : List Session) (seats :
   outcome_alike (Title id text) near = rw (standing_alike id) refl
   outcome_alike (Listen asked) near = listens asked near
   outcome_alike (Draw id room) near =
-      rw (standing_alike id) (ap (if_sitting (standing_of w id)) (draws_by id room near (seat_of seats id) (seat_of w.seats id) (seat_alike within seats w.seats s id) refl))
+      draws_so v id room
+      ∙ rw (standing_alike id)
+      (ap (if_sitting (standing_of w id)) (draws_by id room near (seat_of seats id) (seat_of w.seats id) (seat_alike within seats w.seats s id) refl))
+      ∙ sym (draws_so w id room)
   outcome_alike (Command asked) near =
       rw (standing_alike asked.id, facts_alike asked.asked asked.pair near, does_alike asked.asked asked.id near) refl
   outcome_alike (Leave id) near = rw (standing_alike id) refl

@@ -36,7 +36,8 @@ use Rattle.radio_house.specs.Facts.{sight_of}
 use Rattle.radio_house.specs.Fallbacks.{Fallback, set_for}
 use Rattle.radio_parts.specs.Sessions.{Session, session_of, without_session}
 use Rattle.radio_parts.proofs.ApartLemmas.{bytes_apart}
-use Rattle.radio_parts.proofs.SessionLookups.{is_over, is_titled, beside_titled, beside_ended}
+use Rattle.radio_parts.proofs.SessionLookups.{is_over, beside_ended}
+use Rattle.radio_changes.proofs.PartChanges.{on_air_there, on_air_beside}
 use Rattle.radio_core.proofs.AllowedCommands.{is_opened, may_act, may_add, may_delete, needs_hold}
 use Rattle.radio_core.proofs.ListingLemmas.{shown_long}
 use Rattle.radio_house.proofs.Lookups.{is_set, beside_set}
@@ -214,7 +215,7 @@ module _ (w : World) (s : IsSound w) (event : Event) where
         told_so w event c,
         there.0,
         there.1,
-        after w event c (λ later. session_of later.house.live mount ≡ Some (record there.0 { title = Some text })) (is_titled w.house.live mount text there.0 there.1),
+        after w event c (λ later. session_of later.house.live mount ≡ Some (record there.0 { title = Some text })) (on_air_there w mount text there.0 there.1),
       )
   has_done (SetFallback mount fallback) c = (
     told_so w event c,
@@ -294,7 +295,7 @@ module _ (w : World) (s : IsSound w) (event : Event) where
     is_named : cut.mount ≡ mount
     is_named = named w s event mount c
   stays_beside (SetTitle mount text) c = record {
-    sessions = λ other apart. beside_titled w.house.live mount other apart text;
+    sessions = λ other apart. on_air_beside w mount text other apart;
     seats = λ id seat has away. has;
     fallbacks = λ other apart. refl;
     settings = refl;

@@ -20,8 +20,8 @@ use Rattle.radio_parts.proofs.NumberOrder.{order_ended}
 use Rattle.radio_parts.specs.Stream.{data_at}
 use Rattle.radio_parts.specs.Timeouts.{lags_behind, has_sat_out}
 use Rattle.radio_house.specs.House.{House}
-use Rattle.radio_house.specs.Facts.{live_end, sight_of}
-use Rattle.radio_house.specs.HouseChanges.{begun, raised, received}
+use Rattle.radio_house.specs.Facts.{sight_of}
+use Rattle.radio_house.specs.HouseChanges.{begun, raised}
 use Rattle.radio_house.specs.Outsiders.{is_shut_out}
 use Rattle.radio_house.specs.Streams.{shown_for}
 use Rattle.radio_house.specs.declared.standing.Standing.{Standing}
@@ -132,7 +132,7 @@ module _ (w : World) (s : IsSound w) (id : ℕ) (asks : (peer : Peer) → standi
   by_way event o (ComesUp mount shown unfed allowed) is =
       AtOnce (home (raised w.house (w.house.last_id + 1) mount (shown_for w.house mount shown)) mount (w.house.last_id + 1))
   by_way event o (Receives him mount block feeding) is =
-      AtOnce (step_ended w.seats id (lags_behind mount (live_end (received w.house mount block) mount) w.house.settings.limits.queue_size) Lagged)
+      AtOnce (step_ended w.seats id (lags_behind mount _ w.house.settings.limits.queue_size) Lagged)
   by_way event o (SetsTitle him mount text feeding) is = AtOnce (IsSame refl)
   by_way event o (TakesSeat asked peer session undecided lands live allowed) is =
       AtOnce (IsSame (beside_seated w.seats asked.id id (another asked.id (Undecided peer) undecided (asks peer)) (first_seat w.house asked peer session)))

@@ -32,7 +32,6 @@ use Rattle.radio_events.specs.declared.command.Command.{Command as TheCommand}
 use Rattle.radio_events.specs.declared.command.Command.TheVariants.{MoveClients, KillClient, KillSource, SetTitle as NewTitle, SetFallback, AddUser, DeleteUser}
 use Rattle.radio_changes.specs.Changes.{answered, session_killed, changed, carried_along, session_over, session_ended, called_home}
 use Rattle.radio_changes.specs.Changes.{before_silence, session_silenced, silent_in, session_begun, session_raised}
-use Rattle.radio_house.specs.HouseChanges.{received}
 use Rattle.radio_laws.specs.Limits.{IsWithinLimits, SentUser, SitsThereAs, most_at, allows_duplicates_at}
 use Rattle.radio_core.specs.Listen.{first_seat}
 use Rattle.radio_core.specs.Run.{world_after_all, run_after}
@@ -48,7 +47,7 @@ use Rattle.radio_core.proofs.TickLemmas.{sound_sat_out}
 use Rattle.radio_policy.specs.declared.rule.Rule.TheVariants.{Lagged, TimeOver, Killed}
 use Rattle.radio_laws.proofs.ObeyLemmas.{nobody_came_losing}
 use Rattle.radio_seats.proofs.EndLaws.{nobody_came_ending}
-use Rattle.radio_house.specs.Facts.{live_end, sight_of}
+use Rattle.radio_house.specs.Facts.{sight_of}
 use Rattle.radio_parts.specs.Timeouts.{lags_behind, has_sat_out}
 use Rattle.radio_core.proofs.Soundness.{has_new_seat, beside_new_seat}
 use Rattle.radio_core.proofs.Ways.{way_of}
@@ -251,7 +250,7 @@ module _ (w : World) (s : IsSound w) (l : Within w) where
       (within_kept w up l refl (nobody_came_given mount him w.seats))
   within_by event o (Receives him mount block feeding) =
       within_still (changed w o.change) refl
-      (nobody_came_ending (lags_behind mount (live_end (received w.house mount block) mount) w.house.settings.limits.queue_size) Lagged w.seats)
+      (nobody_came_ending (lags_behind mount _ w.house.settings.limits.queue_size) Lagged w.seats)
   within_by event o (Shows _ asker peer text its undecided what) = within_still (changed w o.change) refl (nobody_came w.seats)
   within_by event o (Obeys _ command c) = within_obeyed c.asked.id command
   within_by event o (HasPassed ms e) = l

@@ -8,7 +8,7 @@ use Rattle.radio_settings.specs.Options.{options_for}
 use Rattle.radio_policy.specs.declared.rule.Rule.TheVariants.{Lagged, Killed}
 use Rattle.radio_seats.specs.declared.seat.Listener.{Listener}
 use Rattle.radio_seats.specs.declared.seat.Seat.{Seat}
-use Rattle.radio_parts.specs.Sessions.{Session, is_of, session_of, opened, with_session, fed}
+use Rattle.radio_parts.specs.Sessions.{Session, is_of, session_of, opened, with_session, fed, titled}
 use Rattle.radio_parts.specs.Timeouts.{lags_behind}
 use Rattle.radio_fallback.specs.declared.moves.Move.TheVariants.{Ended as HasEnded, To}
 use Rattle.radio_events.specs.declared.command.Asked.TheVariants.{Command as Asks}
@@ -21,8 +21,9 @@ use Rattle.radio_changes.specs.declared.change.Change.TheVariants.{Nothing, Begi
 use Rattle.radio_changes.specs.declared.change.Change.TheVariants.{EndAndLeave, Tick, Obey}
 use Rattle.radio_core.specs.declared.outcome.Outcome.{Outcome}
 use Rattle.radio_house.specs.declared.standing.Standing.TheVariants.{Feeds}
-use Rattle.radio_changes.specs.Changes.{changed, session_over, session_ended, session_killed, answered}
-use Rattle.radio_house.specs.HouseChanges.{received}
+use Rattle.radio_changes.specs.Changes.{changed, session_over, session_ended, session_killed, answered, laggards_ended, taken_in, on_air}
+use Rattle.radio_changes.proofs.PartChanges.{is_taken_in, is_on_air}
+use Rattle.radio_house.specs.HouseChanges.{received, retitled}
 use Rattle.radio_core.specs.Closing.{Closes, OfClient, OfRelay}
 use Rattle.radio_core.specs.Allowed.{IsCommanded}
 use Rattle.radio_house.specs.Facts.{live_end}
@@ -64,6 +65,23 @@ asks_within within w event command c near =
     let its : IsWithin w within (Command c.asked) = subst (IsWithin w within) c.is_event near in
     subst (AsksWithin w within) c.is_asked its
 
+-- states agree that come to such as agree
+comes_alike : (within : List ℕ → Bool) (a b x y : World) → a ≡ x → b ≡ y → AgreeWithin within x y → AgreeWithin within a b
+comes_alike within a b x y one two agree =
+    subst (λ (c : World). AgreeWithin within c b) (sym one) (subst (λ (c : World). AgreeWithin within x c) (sym two) agree)
+
+-- and where a title is set in both
+on_air_alike : (within : List ℕ → Bool) (x y : World) (mount title : List ℕ) → AgreeWithin within x y
+    → AgreeWithin within (on_air x mount title) (on_air y mount title)
+on_air_alike within x y mount title agree =
+    comes_alike within (on_air x mount title) (on_air y mount title)
+    (record x { house = retitled x.house mount title }) (record y { house = retitled y.house mount title }) (is_on_air x mount title) (is_on_air y mount title)
+    (record {
+      house = ap (λ (house : House). record house { live = titled x.house.live mount title }) agree.house;
+      sessions = titled_alike within x.house.live y.house.live agree.sessions mount title;
+      listeners = agree.listeners;
+    })
+
 module _ (within : List ℕ → Bool) (w : World) (live : List Session) (seats : List Listener) (r : SessionsDo within live w.house.live) (s : ListenersDo within seats w.seats) where
   abbrev v : World
   v = in_place w live seats
@@ -102,12 +120,13 @@ module _ (within : List ℕ → Bool) (w : World) (live : List Session) (seats :
   receives mount block near =
       let longer = fed_alike within live w.house.live r mount block w.house.time in
       let same = session_alike within (fed live mount block w.house.time) (fed w.house.live mount block w.house.time) longer mount near in
-      record {
+      comes_alike within (taken_in v mount block) (taken_in w mount block) (laggards_ended (record v { house = received v.house mount block }) mount)
+      (laggards_ended (record w { house = received w.house mount block }) mount) (is_taken_in v mount block) (is_taken_in w mount block) (record {
         house = refl;
         sessions = longer;
         listeners = rw same (with_ended_alike within seats w.seats s
             (lags_behind mount (live_end (received w.house mount block) mount) w.house.settings.limits.queue_size) Lagged (none (live_end (received w.house mount block) mount)));
-      } where
+      }) where
         none : (end : ℕ) (seat : Seat) → within seat.mount ≡ false → lags_behind mount end w.house.settings.limits.queue_size seat ≡ false
         none end seat out = rw (beyond within seat.mount mount out near) refl
 
@@ -167,7 +186,8 @@ module _ (within : List ℕ → Bool) (w : World) (live : List Session) (seats :
               sessions = over session.mount;
               listeners = walked session.mount (record { there = ap within named ∙ near.there; onward = near.onward });
             }
-  obeys event id (NewTitle mount title) c near = record { house = refl; sessions = titled_alike within live w.house.live r mount title; listeners = s }
+  obeys event id (NewTitle mount title) c near =
+      on_air_alike within (answered v id) (answered w id) mount title (record { house = refl; sessions = r; listeners = s })
   obeys event id (SetFallback mount fallback) c near = record { house = refl; sessions = r; listeners = s }
   obeys event id (AddUser mount user password) c near = record {
     house = refl;
@@ -197,11 +217,7 @@ module _ (within : List ℕ → Bool) (w : World) (live : List Session) (seats :
   by_way event o (Begins asked undecided none allowed) near = begins asked.id asked.mount (shown_for w.house asked.mount asked.shown) near
   by_way event o (ComesUp mount shown unfed allowed) near = raises (w.house.last_id + 1) mount (shown_for w.house mount shown) near
   by_way event o (Receives him mount block feeding) near = receives mount block (near mount feeding)
-  by_way event o (SetsTitle him mount title feeding) near = record {
-    house = refl;
-    sessions = titled_alike within live w.house.live r mount title;
-    listeners = s;
-  }
+  by_way event o (SetsTitle him mount title feeding) near = on_air_alike within v w mount title unchanged
   by_way event o (TakesSeat asked peer session undecided lands is_live allowed) near = record {
     house = refl;
     sessions = r;

@@ -15,27 +15,28 @@ use Rattle.radio_seats.specs.declared.seat.Seating.TheVariants.{Sits as HasSeat,
 use Rattle.radio_seats.specs.Seats.{seat_in, seat_held, seat_of, listener_of, with_place, with_ended, finished_if, ended_if, lost_by}
 use Rattle.radio_seats.proofs.SeatLaws.{beside_moved, has_heard}
 use Rattle.radio_seats.proofs.EndLaws.{have_ended}
-use Rattle.radio_parts.specs.Sessions.{Session, session_of, longer, fed}
-use Rattle.radio_parts.specs.Stream.{end_of}
+use Rattle.radio_parts.specs.Parts.{Part, end_in, part_received, part_titled}
+use Rattle.radio_parts.specs.Sessions.{Session, session_of, longer, with_title}
 use Rattle.radio_parts.specs.Timeouts.{lags_behind}
-use Rattle.radio_parts.proofs.SessionLookups.{is_longer, is_titled}
+use Rattle.radio_parts.proofs.PartLemmas.{found_changed}
 use Rattle.radio_events.specs.declared.event.Event.TheVariants.{Push, Title, Draw}
-use Rattle.radio_events.specs.declared.reply.Reply.TheVariants.{Noted}
+use Rattle.radio_events.specs.declared.reply.Reply.TheVariants.{Noted, Stray}
 use Rattle.radio_house.specs.declared.standing.Standing.{Standing}
 use Rattle.radio_house.specs.declared.standing.Standing.TheVariants.{Feeds}
 use Rattle.radio_house.specs.Facts.{rows_to_push}
 use Rattle.radio_house.specs.Waiting.{heard_at, silence_of}
 use Rattle.radio_house.specs.World.{World, standing_of}
 use Rattle.radio_changes.specs.declared.change.Change.TheVariants.{Nothing, Receive, SetTitle, Advance}
-use Rattle.radio_core.specs.declared.outcome.Outcome.{Outcome}
 use Rattle.radio_changes.specs.Changes.{changed}
-use Rattle.radio_core.specs.Draw.{hands_out, hands_out_at}
+use Rattle.radio_changes.proofs.PartChanges.{is_taken_in, is_on_air}
+use Rattle.radio_core.specs.declared.outcome.Outcome.{Outcome}
+use Rattle.radio_core.specs.Draw.{hands_out, as_heard, part_draws}
 use Rattle.radio_core.specs.Outcomes.{says, if_sitting, if_feeding, on_verdict}
 use Rattle.radio_core.specs.Push.{takes_in}
 use Rattle.radio_core.specs.Sound.{IsSound}
 use Rattle.radio_core.specs.Step.{outcome, reply_to, world_after}
-use Rattle.radio_laws.specs.Parts.{Part, seat_if, is_at, IsPartOf, part_draws, at_place, part_heard, part_received, part_titled, is_mount_of}
-use Rattle.radio_laws.specs.Parts.{IsPartsStep, DrawsByItsPart}
+use Rattle.radio_core.proofs.DrawLemmas.{hands_out_at, draws_so}
+use Rattle.radio_laws.specs.Parts.{seat_if, is_at, seat_at, IsPartOf, part_heard, is_mount_of, IsPartsStep, DrawsByItsPart}
 use Rattle.radio_laws.proofs.LeftAlone.{leaves_alone}
 
 -- who keeps his seat when those lose theirs of whom this holds
@@ -68,141 +69,146 @@ in_turn p q (Some seat) = picked p (q seat) ∙ swapped (q seat) (p seat) ∙ sy
   swapped false true = refl
   swapped false false = refl
 
+-- who sits there has that seat
+sits_there : (mount : List ℕ) (listeners : List Listener) (id : ℕ) (seat : Seat) → seat_at mount listeners id ≡ Some seat
+    → (seat_of listeners id ≡ Some seat) × (is_at mount seat ≡ true)
+sits_there mount listeners id seat has = by_seat (seat_of listeners id) refl has where
+  by_mount : (other : Seat) → seat_of listeners id ≡ Some other → (b : Bool) → is_at mount other ≡ b → (if b then Some other else None) ≡ Some seat
+      → (seat_of listeners id ≡ Some seat) × (is_at mount seat ≡ true)
+  by_mount other e true at same = let one : other ≡ seat = cc in (e ∙ same, ap (is_at mount) (sym one) ∙ at)
+  by_mount other e false at same = cc
+
+  by_seat : (found : Option Seat) → seat_of listeners id ≡ found → seat_if (is_at mount) found ≡ Some seat
+      → (seat_of listeners id ≡ Some seat) × (is_at mount seat ≡ true)
+  by_seat None e none = cc
+  by_seat (Some other) e some = by_mount other e (is_at mount other) refl some
+
 module _ (w : World) (s : IsSound w) (p : Part) (of : IsPartOf w p) where
-  sits_there : (id : ℕ) (seat : Seat) → p.seat id ≡ Some seat → (seat_of w.seats id ≡ Some seat) × (is_at p.mount seat ≡ true)
-  sits_there id seat has = by_seat (seat_of w.seats id) refl (sym (of.seats id) ∙ has) where
-    by_mount : (other : Seat) → seat_of w.seats id ≡ Some other → (b : Bool) → is_at p.mount other ≡ b → (if b then Some other else None) ≡ Some seat
-        → (seat_of w.seats id ≡ Some seat) × (is_at p.mount seat ≡ true)
-    by_mount other e true at same = let one : other ≡ seat = cc in (e ∙ same, ap (is_at p.mount) (sym one) ∙ at)
-    by_mount other e false at same = cc
-
-    by_seat : (found : Option Seat) → seat_of w.seats id ≡ found → seat_if (is_at p.mount) found ≡ Some seat
-        → (seat_of w.seats id ≡ Some seat) × (is_at p.mount seat ≡ true)
-    by_seat None e none = cc
-    by_seat (Some other) e some = by_mount other e (is_at p.mount other) refl some
-
-  -- its source feeds it
-  feeding : standing_of w p.session.number ≡ Feeds p.mount
-  feeding = s.fed p.mount p.session of.live
-
-  itself : is_mount_of p p.mount ≡ true
-  itself = (bytes_eq-Decides p.mount p.mount).1 refl
-
-  fed_within : (mount : List ℕ) → standing_of w p.session.number ≡ Feeds mount → is_mount_of p mount ≡ true
-  fed_within mount feeds = let both : Feeds p.mount ≡ Feeds mount = sym feeding ∙ feeds in let same : p.mount ≡ mount = cc in ap (is_mount_of p) (sym same) ∙ itself
-
   -- a draw
-  module _ (id room : ℕ) (seat : Seat) (has : p.seat id ≡ Some seat) where
-    sits : (seat_of w.seats id ≡ Some seat) × (is_at p.mount seat ≡ true)
-    sits = sits_there id seat has
+  module _ (id room : ℕ) (seat : Seat) (has : seat_at p.mount p.listeners id ≡ Some seat) where
+    in_part : (seat_of p.listeners id ≡ Some seat) × (is_at p.mount seat ≡ true)
+    in_part = sits_there p.mount p.listeners id seat has
 
-    heard : heard_at w.house seat.mount ≡ Some p.session
-    heard = ap (heard_at w.house) ((bytes_eq-Decides seat.mount p.mount).0 sits.1)
+    in_state : (seat_of w.seats id ≡ Some seat) × (is_at p.mount seat ≡ true)
+    in_state = sits_there p.mount w.seats id seat (sym (of.seats id) ∙ has)
+
+    heard : heard_at w.house seat.mount ≡ (as_heard w.house p).session
+    heard = ap (heard_at w.house) ((bytes_eq-Decides seat.mount p.mount).0 in_state.1)
         ∙ ap (λ (found : Option Session). option_or found (silence_of w.house p.mount)) of.live
 
-    handed : outcome w (Draw id room) ≡ hands_out id seat room (Some p.session)
+    handed : outcome w (Draw id room) ≡ part_draws (as_heard w.house p) id room
     unfolding outcome
-    handed = ap (λ (standing : Standing). if_sitting standing (hands_out_at w.house id room (seat_of w.seats id))) (s.sitting id seat sits.0)
-        ∙ ap (hands_out_at w.house id room) sits.0 ∙ ap (hands_out id seat room) heard
+    handed =
+        let session = (as_heard w.house p).session in
+        draws_so w id room
+        ∙ ap (λ (standing : Standing). if_sitting standing (hands_out_at w.house id room (seat_of w.seats id))) (s.sitting id seat in_state.0)
+        ∙ ap (hands_out_at w.house id room) in_state.0 ∙ ap (hands_out id seat room) heard
+        ∙ sym (ap (λ (found : Option Seat). option_map_or (λ his. hands_out id his room session) found (says Stray Nothing)) in_part.0)
 
-    module _ (place : ℕ) where
-      seat_heard : (other : ℕ) → (part_heard p id place).seat other ≡ seat_if (is_at p.mount) (seat_of (with_place w.seats id place) other)
-      seat_heard other = by_number (id == other) refl where
-        his : seat_of (with_place w.seats id place) id ≡ Some (at_place place seat)
-        his = has_heard w.seats id place seat sits.0
+    seat_heard : (place other : ℕ) → seat_at p.mount (with_place p.listeners id place) other ≡ seat_at p.mount (with_place w.seats id place) other
+    seat_heard place other = by_number (id == other) refl where
+      beside : (listeners : List Listener) → (id == other) ≡ false → seat_at p.mount (with_place listeners id place) other ≡ seat_at p.mount listeners other
+      beside listeners e = ap (λ (found : Option Listener). seat_if (is_at p.mount) (seat_in found)) (beside_moved listeners id other e place)
 
-        by_number : (b : Bool) → (id == other) ≡ b
-            → (if id == other then option_map (at_place place) (p.seat other) else p.seat other) ≡ seat_if (is_at p.mount) (seat_of (with_place w.seats id place) other)
-        by_number true e =
-            let same : id ≡ other = eqb-true id other e in
-            rw e (subst (λ (n : ℕ). option_map (at_place place) (p.seat n) ≡ seat_if (is_at p.mount) (seat_of (with_place w.seats id place) n)) same
-            (ap (option_map (at_place place)) has ∙ sym (ap (λ (b : Bool). if b then Some (at_place place seat) else None) sits.1)
-            ∙ sym (ap (seat_if (is_at p.mount)) his)))
-        by_number false e = rw e (of.seats other ∙ ap (λ (l : Option Listener). seat_if (is_at p.mount) (seat_in l)) (sym (beside_moved w.seats id other e place)))
+      by_number : (b : Bool) → (id == other) ≡ b
+          → seat_at p.mount (with_place p.listeners id place) other ≡ seat_at p.mount (with_place w.seats id place) other
+      by_number true e =
+          subst (λ (n : ℕ). seat_at p.mount (with_place p.listeners id place) n ≡ seat_at p.mount (with_place w.seats id place) n) (eqb-true id other e)
+          (ap (seat_if (is_at p.mount)) (has_heard p.listeners id place seat in_part.0 ∙ sym (has_heard w.seats id place seat in_state.0)))
+      by_number false e = beside p.listeners e ∙ of.seats other ∙ sym (beside w.seats e)
 
-    drawn : (o : Outcome) → hands_out id seat room (Some p.session) ≡ o → DrawsByItsPart w p id room o
+    pub parts_draw : DrawsByItsPart w p id room
     unfolding world_after
-    drawn o e = record {
-      by_part = handed ∙ e;
+    parts_draw = record {
+      by_part = handed;
       step = λ place change.
-          let after : world_after w (Draw id room) ≡ changed w (Advance id place) = ap (changed w) (ap (λ (x : Outcome). x.change) (handed ∙ e) ∙ change) in
+          let after : world_after w (Draw id room) ≡ changed w (Advance id place) = ap (changed w) (ap (λ (o : Outcome). o.change) handed ∙ change) in
           record {
             here = subst (λ (later : World). IsPartOf later (part_heard p id place)) (sym after) (record { live = of.live; seats = seat_heard place });
             there = leaves_alone (is_mount_of p) w s (Draw id room) within;
           };
     } where
       within : (his : Seat) → seat_of w.seats id ≡ Some his → is_mount_of p his.mount ≡ true
-      within his found = let both : Some seat ≡ Some his = sym sits.0 ∙ found in let same : seat ≡ his = cc in ap (is_at p.mount) (sym same) ∙ sits.1
-
-  pub parts_draw : (id room : ℕ) (o : Outcome) → part_draws p id room ≡ Some o → DrawsByItsPart w p id room o
-  parts_draw id room o e = by_seat (p.seat id) refl e where
-    by_seat : (found : Option Seat) → p.seat id ≡ found → option_map (λ seat. hands_out id seat room (Some p.session)) found ≡ Some o → DrawsByItsPart w p id room o
-    by_seat None has none = cc
-    by_seat (Some seat) has some = let same : hands_out id seat room (Some p.session) ≡ o = cc in drawn id room seat has o same
+      within his found = let both : Some seat ≡ Some his = sym in_state.0 ∙ found in let same : seat ≡ his = cc in ap (is_at p.mount) (sym same) ∙ in_state.1
 
   -- a block
   module _ (block : List ℕ) where
     abbrev queue : ℕ
     queue = w.house.settings.limits.queue_size
 
-    abbrev longer_now : Session
-    longer_now = longer block w.house.time p.session
+    abbrev longer_now : Option Session → Option Session
+    longer_now session = option_map (longer block w.house.time) session
 
-    longer_there : session_of (fed w.house.live p.mount block w.house.time) p.mount ≡ Some longer_now
-    longer_there = is_longer w.house.live p.mount block w.house.time p.session of.live
+    abbrev in_state_at : ℕ → ℕ → Option Seat
+    in_state_at end id = seat_at p.mount (with_ended w.seats (lags_behind p.mount end queue) Lagged) id
 
-    lagging : ℕ → Seat → Bool
-    lagging end = lags_behind p.mount end queue
+    kept : (end id : ℕ) → seat_at p.mount (with_ended p.listeners (lags_behind p.mount end queue) Lagged) id ≡ in_state_at end id
+    kept end id = by_those_there p.listeners ∙ ap (seat_if keeps_up) (of.seats id) ∙ sym (by_those_there w.seats) where
+      keeps_up : Seat → Bool
+      keeps_up seat = not (lags_behind p.mount end queue seat)
 
-    end_now : option_map_or (λ session. end_of session.stream) (session_of (fed w.house.live p.mount block w.house.time) p.mount) 0 ≡ end_of longer_now.stream
-    end_now = ap (λ (found : Option Session). option_map_or (λ session. end_of session.stream) found 0) longer_there
+      by_those_there : (listeners : List Listener) → seat_at p.mount (with_ended listeners (lags_behind p.mount end queue) Lagged) id
+          ≡ seat_if keeps_up (seat_at p.mount listeners id)
+      by_those_there listeners =
+          ap (seat_if (is_at p.mount)) (others_keep (lags_behind p.mount end queue) listeners id) ∙ in_turn (is_at p.mount) keeps_up (seat_of listeners id)
 
-    kept : (id : ℕ) (end : ℕ) → seat_if (λ seat. not (lags_behind p.mount end queue seat)) (p.seat id)
-        ≡ seat_if (is_at p.mount) (seat_of (with_ended w.seats (lags_behind p.mount end queue) Lagged) id)
-    kept id end =
-        ap (seat_if (λ seat. not (lags_behind p.mount end queue seat))) (of.seats id)
-        ∙ in_turn (λ seat. not (lags_behind p.mount end queue seat)) (is_at p.mount) (seat_of w.seats id)
-        ∙ sym (ap (seat_if (is_at p.mount)) (others_keep (lags_behind p.mount end queue) w.seats id))
-
-    here : IsPartOf (changed w (Receive p.mount block)) (part_received queue w.house.time block p)
-    here = record {
-      live = longer_there;
-      seats = λ id. kept id (end_of longer_now.stream)
-          ∙ ap (λ (end : ℕ). seat_if (is_at p.mount) (seat_of (with_ended w.seats (lags_behind p.mount end queue) Lagged) id)) (sym end_now);
+    received : IsPartOf (changed w (Receive p.mount block)) (part_received queue w.house.time block p)
+    received = record {
+      live = ap (λ (later : World). session_of later.house.live p.mount) (is_taken_in w p.mount block)
+          ∙ found_changed w.house.live p.mount (longer block w.house.time) (λ x. refl) ∙ ap longer_now of.live;
+      seats = λ id. kept (end_in (longer_now p.session)) id
+          ∙ ap (λ (found : Option Session). in_state_at (end_in (longer_now found)) id) (sym of.live);
     }
 
-    pub parts_receive : reply_to w (Push p.session.number block) ≡ Noted
-        → IsPartsStep w (world_after w (Push p.session.number block)) p (part_received queue w.house.time block p)
+  -- a title
+  on_the_air : (text : List ℕ) → IsPartOf (changed w (SetTitle p.mount text)) (part_titled text p)
+  on_the_air text = record {
+    live = ap (λ (later : World). session_of later.house.live p.mount) (is_on_air w p.mount text)
+        ∙ found_changed w.house.live p.mount (with_title (Some text)) (λ x. refl) ∙ ap (option_map (with_title (Some text))) of.live;
+    seats = of.seats;
+  }
+
+  module _ (session : Session) (has : p.session ≡ Some session) where
+    -- its source feeds it
+    feeding : standing_of w session.number ≡ Feeds p.mount
+    feeding = s.fed p.mount session (of.live ∙ has)
+
+    fed_within : (mount : List ℕ) → standing_of w session.number ≡ Feeds mount → is_mount_of p mount ≡ true
+    fed_within mount feeds =
+        let both : Feeds p.mount ≡ Feeds mount = sym feeding ∙ feeds in
+        let same : p.mount ≡ mount = cc in
+        (bytes_eq-Decides mount p.mount).1 (sym same)
+
+    pub parts_receive : (block : List ℕ) → reply_to w (Push session.number block) ≡ Noted
+        → IsPartsStep w (world_after w (Push session.number block)) p (part_received w.house.settings.limits.queue_size w.house.time block p)
     unfolding outcome reply_to world_after
-    parts_receive noted = by_verdict (verdict_in (rows_to_push w.house p.mount block)) refl where
-      judged : outcome w (Push p.session.number block) ≡ on_verdict (verdict_in (rows_to_push w.house p.mount block)) Nothing (takes_in p.mount block)
+    parts_receive block noted = by_verdict (verdict_in (rows_to_push w.house p.mount block)) refl where
+      judged : outcome w (Push session.number block) ≡ on_verdict (verdict_in (rows_to_push w.house p.mount block)) Nothing (takes_in p.mount block)
       judged = ap (λ (standing : Standing).
           if_feeding standing (λ mount. on_verdict (verdict_in (rows_to_push w.house mount block)) Nothing (takes_in mount block))) feeding
 
       by_verdict : (verdict : Verdict) → verdict_in (rows_to_push w.house p.mount block) ≡ verdict
-          → IsPartsStep w (world_after w (Push p.session.number block)) p (part_received queue w.house.time block p)
+          → IsPartsStep w (world_after w (Push session.number block)) p (part_received w.house.settings.limits.queue_size w.house.time block p)
       by_verdict Allow e =
-          let taken : outcome w (Push p.session.number block) ≡ takes_in p.mount block
+          let taken : outcome w (Push session.number block) ≡ takes_in p.mount block
           = judged ∙ ap (λ (verdict : Verdict). on_verdict verdict Nothing (takes_in p.mount block)) e in
           record {
-            here = subst (λ (later : World). IsPartOf later (part_received queue w.house.time block p))
-                (sym (ap (λ (o : Outcome). changed w o.change) taken)) here;
-            there = leaves_alone (is_mount_of p) w s (Push p.session.number block) fed_within;
+            here = subst (λ (later : World). IsPartOf later (part_received w.house.settings.limits.queue_size w.house.time block p))
+                (sym (ap (λ (o : Outcome). changed w o.change) taken)) (received block);
+            there = leaves_alone (is_mount_of p) w s (Push session.number block) fed_within;
           }
       by_verdict (Denied rule) e =
-          let denied : outcome w (Push p.session.number block) ≡ on_verdict (Denied rule) Nothing (takes_in p.mount block)
+          let denied : outcome w (Push session.number block) ≡ on_verdict (Denied rule) Nothing (takes_in p.mount block)
           = judged ∙ ap (λ (verdict : Verdict). on_verdict verdict Nothing (takes_in p.mount block)) e in
-          let other : reply_to w (Push p.session.number block) ≡ (on_verdict (Denied rule) Nothing (takes_in p.mount block)).reply
+          let other : reply_to w (Push session.number block) ≡ (on_verdict (Denied rule) Nothing (takes_in p.mount block)).reply
           = ap (λ (o : Outcome). o.reply) denied in
           cc
 
-  -- a title
-  pub parts_titled : (text : List ℕ) → IsPartsStep w (world_after w (Title p.session.number text)) p (part_titled text p)
-  unfolding outcome world_after
-  parts_titled text = record {
-    here = subst (λ (later : World). IsPartOf later (part_titled text p)) (sym after)
-        (record { live = is_titled w.house.live p.mount text p.session of.live; seats = of.seats });
-    there = leaves_alone (is_mount_of p) w s (Title p.session.number text) fed_within;
-  } where
-    after : world_after w (Title p.session.number text) ≡ changed w (SetTitle p.mount text)
-    after = ap (λ (standing : Standing). changed w (if_feeding standing (λ mount. says Noted (SetTitle mount text))).change) feeding
+    pub parts_titled : (text : List ℕ) → IsPartsStep w (world_after w (Title session.number text)) p (part_titled text p)
+    unfolding outcome world_after
+    parts_titled text = record {
+      here = subst (λ (later : World). IsPartOf later (part_titled text p)) (sym after) (on_the_air text);
+      there = leaves_alone (is_mount_of p) w s (Title session.number text) fed_within;
+    } where
+      after : world_after w (Title session.number text) ≡ changed w (SetTitle p.mount text)
+      after = ap (λ (standing : Standing). changed w (if_feeding standing (λ mount. says Noted (SetTitle mount text))).change) feeding

@@ -34,7 +34,8 @@ use Rattle.radio_core.specs.Source.{begins}
 use Rattle.radio_core.specs.Push.{takes_in}
 use Rattle.radio_core.specs.Listen.{first_seat, takes_seat, sits_where}
 use Rattle.radio_facts.specs.Streams.{head_of}
-use Rattle.radio_core.specs.Draw.{hands_out, hands_out_at}
+use Rattle.radio_core.specs.Draw.{hands_out}
+use Rattle.radio_core.proofs.DrawLemmas.{hands_out_at, draws_so}
 use Rattle.radio_seats.specs.Seats.{seat_of}
 use Rattle.radio_laws.specs.Service.{IsTakenIn, IsHanded, Serves, ChangesNothing}
 use Rattle.radio_parts.specs.Sessions.{Session, session_of}
@@ -45,7 +46,8 @@ use Rattle.radio_core.specs.Ways.{EndsAndLeaves, Leaves, GoesDown, Obeys, Shows,
 use Rattle.radio_house.specs.Clients.{Client, client_of}
 use Rattle.radio_parts.specs.Stream.{WholeStream, end_of, data_at}
 use Rattle.radio_core.proofs.CalledHome.{turns_up, turns_risen}
-use Rattle.radio_parts.proofs.SessionLookups.{is_longer, is_titled, is_over}
+use Rattle.radio_parts.proofs.SessionLookups.{is_over}
+use Rattle.radio_changes.proofs.PartChanges.{on_air_there, taken_in_there}
 use Rattle.radio_house.proofs.Lookups.{is_new_client}
 use Rattle.radio_core.proofs.SoundEnds.{turns_ended, turns_ended_and_left}
 use Rattle.radio_core.proofs.SoundSessions.{has_advanced}
@@ -135,7 +137,8 @@ module _ (allows : (rows : List Row) → (verdict_in rows ≡ Allow) ↔ Allows 
       → heard_at w.house seat.mount ≡ Some session → outcome w (Draw id room) ≡ hands_out id seat room (Some session)
   unfolding outcome
   outcome_draw id room seat session e has live =
-      goes_sitting (standing_of w id) _ e
+      draws_so w id room
+      ∙ goes_sitting (standing_of w id) _ e
       ∙ ap (hands_out_at w.house id room) has
       ∙ ap (hands_out id seat room) live
 
@@ -228,13 +231,13 @@ module _ (allows : (rows : List Row) → (verdict_in rows ≡ Allow) ↔ Allows 
         let o = outcome_push id mount block e a in (
           reply_is (Push id block) (takes_in mount block) o,
           found_after (λ (x : World). session_of x.house.live mount) (Push id block) (takes_in mount block) o
-              ∙ is_longer w.house.live mount block w.house.time session live,
+              ∙ taken_in_there w mount block session live,
         );
     titles = λ id mount text session e live.
         let o = outcome_title id mount text e in (
           reply_is (Title id text) (says Noted (SetTitle mount text)) o,
           found_after (λ (x : World). session_of x.house.live mount) (Title id text) (says Noted (SetTitle mount text)) o
-              ∙ is_titled w.house.live mount text session live,
+              ∙ on_air_there w mount text session live,
         );
     ends = λ id mount e no_relay.
         let o = outcome_end id mount e no_relay in (

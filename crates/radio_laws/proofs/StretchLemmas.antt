@@ -32,6 +32,7 @@ use Rattle.radio_core.proofs.FinishLemmas.{undecided_before}
 use Rattle.radio_core.proofs.OwnLemmas.{not_of, nothing_of}
 use Rattle.radio_laws.proofs.GoneLemmas.{his_own, with_nothing, last_rises}
 use Rattle.radio_parts.proofs.SessionLookups.{beside_ended, is_over}
+use Rattle.radio_changes.proofs.PartChanges.{is_taken_in}
 use Rattle.radio_core.specs.Moves.{moved_into}
 use Rattle.radio_core.proofs.SeatSteps.{seats_step}
 use Rattle.radio_parts.proofs.RisingLemmas.{burst_within}
@@ -230,7 +231,7 @@ module _ (w : World) (s : IsSound w) (sent : ℕ → List ℕ) (h : Sent w sent)
       → session_of (changed w (Receive mount block)).house.live other ≡ Some now
       → now.stream.bytes ≡ sent now.number ++ of_client (Push him block) now.number block
   grown_whole him mount block feeding other now e =
-      grown_cases w s mount block other now e
+      grown_cases w s mount block other now (ap (λ (later : World). session_of later.house.live other) (sym (is_taken_in w mount block)) ∙ e)
       (λ session same found one. subst (λ (x : Session). x.stream.bytes ≡ sent x.number ++ of_client (Push him block) x.number block) one
       (here session found))
       (λ apart found.

@@ -48,6 +48,7 @@ use Rattle.radio_laws.proofs.GoneLemmas.{his_own, with_nothing, last_rises}
 use Rattle.radio_laws.proofs.ListsLemmas.{lists_run}
 use Rattle.radio_laws.proofs.LimitLemmas.{within_run}
 use Rattle.radio_parts.proofs.SessionLookups.{beside_ended, is_over}
+use Rattle.radio_changes.proofs.PartChanges.{is_taken_in}
 use Rattle.radio_core.proofs.SoundRuns.{sound_after, sound_opening, sound_run}
 use Rattle.radio_core.proofs.SoundSessions.{grown_cases}
 use Rattle.radio_core.proofs.SoundTitles.{titled_cases}
@@ -195,7 +196,7 @@ module _ (w : World) (s : IsSound w) (told : ℕ → List (List ℕ)) (h : Told 
       → session_of (changed w (Receive mount block)).house.live other ≡ Some now
       → now.title ≡ last_or None (told now.number ++ of_client (Push him block) now.number [])
   grown_title him mount block feeding other now e =
-      grown_cases w s mount block other now e
+      grown_cases w s mount block other now (ap (λ (later : World). session_of later.house.live other) (sym (is_taken_in w mount block)) ∙ e)
       (λ session same found one. subst (λ (x : Session). x.title ≡ last_or None (told x.number ++ of_client (Push him block) x.number [])) one
       (as_it_was (Push him block) mount session found))
       (λ apart found. as_it_was (Push him block) other now found)

@@ -8,9 +8,9 @@ use Rattle.radio_tables.specs.Visits.{IsVisited}
 use Rattle.radio_tables.proofs.VisitLaws.{not_visited, was_visited}
 use Rattle.radio_parts.specs.declared.sessions.Delivers.{Delivers}
 use Rattle.radio_parts.specs.Kept.{IsDelivered, longer_kept, kept_fed}
+use Rattle.radio_parts.specs.Parts.{end_in}
 use Rattle.radio_parts.specs.Sessions.{Session, is_of, session_of}
 use Rattle.radio_parts.specs.Stream.{end_of}
-use Rattle.radio_parts.proofs.FurthestLemmas.{end_in}
 
 -- where no element is found, none changes
 module _ {X : Type 0} (p : X → Bool) (f : X → X) where
@@ -19,7 +19,7 @@ module _ {X : Type 0} (p : X → Bool) (f : X → X) where
   none_at x xs true e none later = let here : find p (x ∷ xs) ≡ Some x = find_here p x xs e in cc
   none_at x xs false e none later = ap (λ ys. x ∷ ys) (later (sym (find_later p x xs e) ∙ none))
 
-  none_changes : (xs : List X) → find p xs ≡ None → update_first p f xs ≡ xs
+  pub none_changes : (xs : List X) → find p xs ≡ None → update_first p f xs ≡ xs
   none_changes [] none = refl
   none_changes (x ∷ xs) none = none_at x xs (p x) refl none (none_changes xs)
 

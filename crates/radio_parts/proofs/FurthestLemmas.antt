@@ -1,13 +1,13 @@
 -- how far streams go, after each change
 use Rattle.std.proofs.Common.{◌≡◌, Bool, true, false, ℕ, ◌≤◌, max, Option, Some, None, List, [], ◌∷◌, refl, ap, ◌∙◌, arith}
 use Rattle.std.specs.Prelude.{find, if◌then◌else◌, not}
-use Rattle.std.specs.Option.{option_map_or}
 use Rattle.radio_values.specs.declared.field.Shown.{Shown}
 use Rattle.radio_tables.specs.Lists.{update_first, Each}
 use Rattle.radio_tables.proofs.EachLaws.{Each_each, Each_kept, Each_placed, Each_updated}
 use Rattle.radio_tables.proofs.FindLaws.{find_here, find_later, find_same, found_has}
 use Rattle.radio_parts.specs.Kept.{longer_kept, kept_fed}
 use Rattle.radio_parts.specs.Sessions.{Session, GoNoFurther, is_of, session_of, by_mount, opened, with_session, with_title, titled, without_session}
+use Rattle.radio_parts.specs.Parts.{end_in}
 use Rattle.radio_parts.specs.Stream.{end_of}
 
 -- what holds of each element, and of what becomes of the one that is found, holds of each afterwards
@@ -20,9 +20,6 @@ module _ {X : Type 0} (P : X → Type 0) (p : X → Bool) (f : X → X) where
   Each_changed : (xs : List X) → ((y : X) → find p xs ≡ Some y → P (f y)) → Each P xs → Each P (update_first p f xs)
   Each_changed [] changed all = tt
   Each_changed (x ∷ xs) changed all = found_at x xs (p x) refl changed all.0 all.1 (λ h. Each_changed xs h all.1)
-
-abbrev pub end_in : Option Session → ℕ
-end_in found = option_map_or (λ (session : Session). end_of session.stream) found 0
 
 module _ (furthest : ℕ) (live : List Session) (far : GoNoFurther furthest live) where
   -- what is looked up goes no further either

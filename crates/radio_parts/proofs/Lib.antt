@@ -7,6 +7,7 @@ pub mod KeptLists
 pub mod KeptStreams
 pub mod NumberLists
 pub mod NumberOrder
+pub mod PartLemmas
 pub mod PreparedLemmas
 pub mod RisingLemmas
 pub mod SessionLookups

@@ -4,3 +4,4 @@ pub mod Kept
 pub mod Prepared
 pub mod Timeouts
 pub mod Due
+pub mod Parts

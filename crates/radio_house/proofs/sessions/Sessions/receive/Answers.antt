@@ -1,6 +1,7 @@
 use Rattle.std.proofs.Common.{List, ap, ◌∙◌}
+use Rattle.radio_parts.specs.Parts.{end_in}
 use Rattle.radio_parts.specs.Sessions.{Session, session_of}
-use Rattle.radio_parts.proofs.FurthestLemmas.{end_in, delivered_within}
+use Rattle.radio_parts.proofs.FurthestLemmas.{delivered_within}
 use Rattle.radio_house.proofs.sessions.Sessions.receive.Goals as goal
 
 pub invariant_of-self-2 : goal.invariant_of-self-2

@@ -4,9 +4,10 @@ use Rattle.radio_house.specs.House.{House}
 use Rattle.radio_core.specs.declared.outcome.Outcome.{Outcome}
 use Rattle.radio_house.specs.declared.standing.Standing.{Standing}
 use Rattle.radio_house.specs.declared.standing.Standing.TheVariants.{Unknown, Undecided, Feeds, Sits, Answered, Finished}
-use Rattle.radio_core.specs.Draw.{comes_to, hands_out, hands_out_at}
+use Rattle.radio_core.specs.Draw.{comes_to, hands_out}
 use Rattle.radio_core.specs.Outcomes.{if_sitting, out_of_place}
 use Rattle.radio_house.specs.World.{standing_of}
+use Rattle.radio_core.proofs.DrawLemmas.{hands_out_at, draws_so}
 use Rattle.radio_core.proofs.StepLemmas.{seat_sits}
 use Rattle.radio_core.proofs.server.state.State.draw.Goals as goal
 use Rattle.radio_seats.specs.declared.seat.Seat.{Seat}
@@ -34,7 +35,8 @@ returns-in-Some c =
     let has : seat_of w.seats c.args.id ≡ Some seat
     = ap (λ (seats : List Listener). seat_of seats c.args.id) (sym c.seats.ensures) ∙ sym c.seat.ensures ∙ ap (option_map lent_seat) c.in-Some.is in
     subst (λ (o : Outcome). IfOk c.hand_out.result (λ drawing. comes_to c.args.id drawing ≡ o))
-    (draws_seated (standing_of w c.args.id) (seat_of w.seats c.args.id) w.house c.args.id c.args.room seat (seat_sits w c.requires c.args.id seat has) has)
+    (draws_seated (standing_of w c.args.id) (seat_of w.seats c.args.id) w.house c.args.id c.args.room seat (seat_sits w c.requires c.args.id seat has) has
+    ∙ sym (draws_so w c.args.id c.args.room))
     c.hand_out.ensures
 
 pub returns-in-None : goal.returns-in-None
@@ -44,3 +46,4 @@ returns-in-None c =
     = ap (λ (seats : List Listener). seat_of seats c.args.id) (sym c.seats.ensures) ∙ sym c.seat.ensures ∙ ap (option_map lent_seat) c.in-None.is in
     c.draw_without_seat.ensures ∙ draws_by (standing_of w c.args.id) w.house c.args.id c.args.room
     ∙ ap (λ (x : Option Seat). if_sitting (standing_of w c.args.id) (hands_out_at w.house c.args.id c.args.room x)) (sym none)
+    ∙ sym (draws_so w c.args.id c.args.room)
