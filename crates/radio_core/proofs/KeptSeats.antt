@@ -34,10 +34,10 @@ use Rattle.radio_fallback.proofs.Faring.{Faring, HasStayed, HasGone, HasLost, fa
 use Rattle.radio_house.specs.House.{House}
 use Rattle.radio_access.specs.Lists.{Lists, with_user_at, without_user_at}
 use Rattle.radio_house.specs.Outsiders.{is_shut_out}
-use Rattle.radio_changes.specs.Changes.{answered, outsiders_ended, session_killed, changed, carried_along, session_over, session_ended, called_home, session_begun, session_raised, laggards_ended}
+use Rattle.radio_changes.specs.Changes.{answered, outsiders_ended, session_killed, changed, carried_along, session_over, session_ended, called_home, session_begun, session_raised}
 use Rattle.radio_changes.proofs.PartChanges.{is_on_air, is_taken_in}
 use Rattle.radio_house.specs.HouseChanges.{begun, raised, received}
-use Rattle.radio_changes.specs.Changes.{before_silence, session_silenced, silent_in, ticked}
+use Rattle.radio_changes.specs.Changes.{before_silence, session_silenced, silent_in, ticked, laggards_ended}
 use Rattle.radio_house.specs.Facts.{live_end, sight_of}
 use Rattle.radio_core.specs.Lagging.{EachSeat}
 use Rattle.radio_facts.specs.Streams.{burst_of}

@@ -48,7 +48,8 @@ pub lag_fates : (w : World) → IsSound w → (mount block : List ℕ) (him : �
 lag_fates w s mount block him feeding =
     let house = received w.house mount block in
     let queue = w.house.settings.limits.queue_size in
-    subst (λ (later : World). Fates (Cause w later (Push him block)) NoMove Nobody HasEnded (grown_world w mount block) later) (sym (is_taken_in w mount block))
+    subst (λ (later : World). Fates (Cause w later (Push him block)) NoMove Nobody HasEnded (grown_world w mount block) later)
+    (sym (is_taken_in w mount block))
     (seats_fates (Cause w (laggards_ended (grown_world w mount block) mount) (Push him block)) NoMove Nobody HasEnded (grown_world w mount block)
     (sound_grown w s mount block him feeding) (lags_behind mount (live_end house mount) queue) Lagged
     (λ id seat has behind.
