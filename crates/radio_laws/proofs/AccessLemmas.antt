@@ -21,8 +21,6 @@ use Rattle.radio_parts.specs.Sessions.{Session}
 use Rattle.radio_parts.specs.Stream.{AreRising, WholeStream, end_of, burst_start}
 use Rattle.radio_core.specs.Sound.{IsSound}
 use Rattle.radio_core.specs.Step.{outcome, reply_to, world_after}
-use Rattle.radio_core.specs.Ways.{Way, Misplaced, IsFinished, IsDenied, IsRefused, IsAdmitted, Begins, ComesUp, Receives, SetsTitle, TakesSeat, HandsOut, Ends}
-use Rattle.radio_core.specs.Ways.{EndsAndLeaves, Leaves, GoesDown, Obeys, Shows, HasPassed, Ticks}
 use Rattle.radio_seats.proofs.SeatLaws.{has_sat_down}
 use Rattle.std.proofs.lemmas.Bool.{and_parts}
 use Rattle.radio_access.specs.Lists.{lets_in}
@@ -32,20 +30,20 @@ use Rattle.radio_laws.proofs.WalkLemmas.{lands_on_his_way}
 use Rattle.radio_parts.proofs.RisingLemmas.{burst_within}
 use Rattle.radio_laws.proofs.LimitLemmas.{Within, sits_as, sent_as}
 use Rattle.radio_laws.proofs.ListsLemmas.{KeepsLists}
-use Rattle.radio_core.proofs.Ways.{way_of}
+use Rattle.radio_laws.proofs.GrantedLemmas.{Granted, AdmitsClient, AdmitsSource, AdmitsRelay, AdmitsListener, HandsData, TellsText, GrantsNothing, grants, granted}
 use Rattle.radio_laws.proofs.HeardLaws.{rising_heard}
 use Rattle.radio_laws.proofs.OnDemandLemmas.{awaited_there}
 
 module _ (w : World) (s : IsSound w) (k : KeepsLists w) (l : Within w) where
-  his_by : (event : Event) (o : Outcome) → Way w event o → (bytes : List ℕ) (title : Option (List ℕ)) → o.reply ≡ Drawn bytes title
+  his_by : (event : Event) (o : Outcome) → Granted w event o → (bytes : List ℕ) (title : Option (List ℕ)) → o.reply ≡ Drawn bytes title
       → IsHis w event bytes title
-  his_by event o (HandsOut id room seat session sits has live) bytes title d =
+  his_by event o (HandsData id room seat session change asked sits has live) bytes title d =
       let old = s.seated id seat has in
       let let_in = k.seated id seat has in
       record {
         id = id;
         room = room;
-        asked = refl;
+        asked = asked;
         seat = seat;
         session = session;
         sits = sits;
@@ -68,28 +66,16 @@ module _ (w : World) (s : IsSound w) (k : KeepsLists w) (l : Within w) where
 
         drawn_title : {a b : List ℕ} {t u : Option (List ℕ)} → Drawn a t ≡ Drawn b u → t ≡ u
         drawn_title e = cc
-  his_by event o (Misplaced _) bytes title d = cc
-  his_by event o (IsFinished _ id by his told) bytes title d = cc
-  his_by event o (IsDenied _ by v not) bytes title d = cc
-  his_by event o (IsRefused _ id by v his undecided) bytes title d = cc
-  his_by event o (IsAdmitted peer allowed) bytes title d = cc
-  his_by event o (Begins asked undecided none allowed) bytes title d = cc
-  his_by event o (ComesUp mount shown unfed allowed) bytes title d = cc
-  his_by event o (Receives id mount block feeding) bytes title d = cc
-  his_by event o (SetsTitle id mount text feeding) bytes title d = cc
-  his_by event o (Shows _ asker peer text its undecided what) bytes title d = cc
-  his_by event o (Obeys _ command c) bytes title d = cc
-  his_by event o (HasPassed ms e) bytes title d = cc
-  his_by event o (Ticks ms e) bytes title d = cc
-  his_by event o (TakesSeat asked peer session undecided lands live allowed) bytes title d = cc
-  his_by event o (Ends id mount feeding no_relay) bytes title d = cc
-  his_by event o (EndsAndLeaves _ id mount closes feeding) bytes title d = cc
-  his_by event o (Leaves id no_relay other) bytes title d = cc
-  his_by event o (GoesDown id by_rule relay over) bytes title d = cc
+  his_by event o (AdmitsClient peer change is allowed) bytes title d = cc
+  his_by event o (AdmitsSource asked change is allowed) bytes title d = cc
+  his_by event o (AdmitsRelay mount shown change is allowed) bytes title d = cc
+  his_by event o (AdmitsListener asked peer session is undecided lands live) bytes title d = cc
+  his_by event o (TellsText text change why) bytes title d = cc
+  his_by event o (GrantsNothing _ none idle) bytes title d = let some : grants o.reply ≡ true = ap grants d in cc
 
   pub access_holds : (event : Event) → AccessIsKept w event
   unfolding reply_to
-  access_holds event = his_by event (outcome w event) (way_of w event)
+  access_holds event = his_by event (outcome w event) (granted w event)
 
 -- the first of rising places that is near enough to the end is the least such place
 module _ (last burst : ℕ) where
@@ -192,9 +178,9 @@ no_interval : (house : House) (mount : List ℕ) (wants : Bool) → wants ≡ fa
 no_interval house mount wants e = rw e refl
 
 module _ (w : World) (s : IsSound w) where
-  seated_by : (event : Event) (o : Outcome) → Way w event o → (interval : Option ℕ) (head : StreamHead) → o.reply ≡ Seated interval head
+  seated_by : (event : Event) (o : Outcome) → Granted w event o → (interval : Option ℕ) (head : StreamHead) → o.reply ≡ Seated interval head
       → ((id : ℕ) → seat_of (changed w o.change).seats id ≡ seat_of (world_after w event).seats id) → IsSeated w event interval head
-  seated_by event o (TakesSeat asked peer session undecided lands live allowed) interval head d after =
+  seated_by event o (AdmitsListener asked peer session is undecided lands live) interval head d after =
       let itself : (asked.id == asked.id) ≡ true = grind (arith, nat_tests) in
       let seat = first_seat w.house asked peer session in
       let here : interval ≡ interval_for w.house asked.mount asked.wants_metadata = sym (seated_interval d) in
@@ -202,7 +188,7 @@ module _ (w : World) (s : IsSound w) where
       let fits = lands_where_he_fits (sight_of w.house) w.seats asked.pair asked.mount session.mount lands in
       record {
         asked = asked;
-        listens = refl;
+        listens = is;
         session = session;
         is_heard = live;
         is_awaited = awaited_there w.house session.mount session live;
@@ -231,25 +217,13 @@ module _ (w : World) (s : IsSound w) where
 
         seated_interval : {a b : Option ℕ} {t u : StreamHead} → Seated a t ≡ Seated b u → a ≡ b
         seated_interval e = cc
-  seated_by event o (Misplaced _) interval head d after = cc
-  seated_by event o (IsFinished _ id by his told) interval head d after = cc
-  seated_by event o (IsDenied _ by v not) interval head d after = cc
-  seated_by event o (IsRefused _ id by v his undecided) interval head d after = cc
-  seated_by event o (IsAdmitted peer allowed) interval head d after = cc
-  seated_by event o (Begins asked undecided none allowed) interval head d after = cc
-  seated_by event o (ComesUp mount shown unfed allowed) interval head d after = cc
-  seated_by event o (Receives id mount block feeding) interval head d after = cc
-  seated_by event o (SetsTitle id mount text feeding) interval head d after = cc
-  seated_by event o (Shows _ asker peer text its undecided what) interval head d after = cc
-  seated_by event o (Obeys _ command c) interval head d after = cc
-  seated_by event o (HasPassed ms e) interval head d after = cc
-  seated_by event o (Ticks ms e) interval head d after = cc
-  seated_by event o (HandsOut id room seat session sits has live) interval head d after = cc
-  seated_by event o (Ends id mount feeding no_relay) interval head d after = cc
-  seated_by event o (EndsAndLeaves _ id mount closes feeding) interval head d after = cc
-  seated_by event o (Leaves id no_relay other) interval head d after = cc
-  seated_by event o (GoesDown id by_rule relay over) interval head d after = cc
+  seated_by event o (AdmitsClient peer change is allowed) interval head d after = cc
+  seated_by event o (AdmitsSource asked change is allowed) interval head d after = cc
+  seated_by event o (AdmitsRelay mount shown change is allowed) interval head d after = cc
+  seated_by event o (HandsData id room seat session change is sits has live) interval head d after = cc
+  seated_by event o (TellsText text change why) interval head d after = cc
+  seated_by event o (GrantsNothing _ none idle) interval head d after = let some : grants o.reply ≡ true = ap grants d in cc
 
   pub admission_holds : (event : Event) → BeginsAtABlock w event
   unfolding reply_to world_after
-  admission_holds event interval head d = seated_by event (outcome w event) (way_of w event) interval head d (λ id. refl)
+  admission_holds event interval head d = seated_by event (outcome w event) (granted w event) interval head d (λ id. refl)

@@ -41,7 +41,8 @@ use Rattle.radio_changes.proofs.PartChanges.{on_air_there, on_air_beside}
 use Rattle.radio_core.proofs.AllowedCommands.{is_opened, may_act, may_add, may_delete, needs_hold}
 use Rattle.radio_core.proofs.ListingLemmas.{shown_long}
 use Rattle.radio_house.proofs.Lookups.{is_set, beside_set}
-use Rattle.radio_laws.proofs.ToldTexts.{IsToldFor, ByShowing, ByDoing, told_for}
+use Rattle.radio_laws.proofs.GrantedLemmas.{IsToldFor, ByShowing, ByDoing}
+use Rattle.radio_laws.proofs.ToldTexts.{told_for}
 use Rattle.radio_laws.specs.Walks.{FallsBack, ByTheSettings, ByACommand}
 use Rattle.radio_core.specs.Sound.{IsSound}
 use Rattle.radio_core.specs.Step.{world_after}

@@ -1,6 +1,6 @@
 -- the law of denials
 use Rattle.std.proofs.Common.{◌≡◌, ◌↔◌, ◌⊎◌, inl, inr, Bool, true, false, ℕ, not, ◌&&◌, ◌||◌, Option, Some, None, is_some, List, [], ◌∷◌}
-use Rattle.std.proofs.Common.{refl, ap, sym, ◌∙◌}
+use Rattle.std.proofs.Common.{refl, ap, sym, subst, ◌∙◌}
 use Rattle.std.specs.Prelude.{find, if◌then◌else◌}
 use Rattle.std.specs.Str.{bytes_eq}
 use Rattle.std.proofs.lemmas.Slice.Eq.{bytes_eq-Decides}
@@ -39,13 +39,13 @@ use Rattle.radio_core.specs.Arrive.{admits_client}
 use Rattle.radio_core.specs.Outcomes.{on_verdict}
 use Rattle.radio_parts.specs.Sessions.{session_of}
 use Rattle.radio_core.specs.Step.{outcome, reply_to, world_after}
-use Rattle.radio_core.specs.Ways.{Way, Misplaced, IsFinished, IsDenied, IsRefused, IsAdmitted, Begins, ComesUp, Receives, SetsTitle, TakesSeat, HandsOut, Ends}
-use Rattle.radio_core.specs.Ways.{EndsAndLeaves, Leaves, GoesDown, Obeys, Shows, HasPassed, Ticks, rows_for, IsUndecided}
+use Rattle.radio_core.specs.Ways.{rows_for, IsUndecided}
 use Rattle.radio_house.specs.World.{World, standing_of, standing_in}
 use Rattle.radio_laws.proofs.LimitDenials.{denied_by}
 use Rattle.radio_laws.proofs.ListenerDenials.{why_denied, unknown_where}
 use Rattle.radio_house.proofs.Lookups.{does, beside_state}
-use Rattle.radio_core.proofs.Ways.{way_of, may_feed}
+use Rattle.radio_core.proofs.Ways.{may_feed}
+use Rattle.radio_laws.proofs.GrantedLemmas.{Granted, AdmitsClient, AdmitsSource, AdmitsRelay, AdmitsListener, HandsData, TellsText, GrantsNothing, grants, granted}
 use Rattle.radio_core.proofs.NamedRules.{RuleNamed, DeniesIt, RefusesHim, TellsHisRule, NamesNoRule, rule_in, rule_named}
 
 module _ (denies : (rows : List Row) (rule : Rule) → (verdict_in rows ≡ Denied rule) ↔ Denies rows rule) (w : World) where
@@ -159,30 +159,19 @@ module _ (w : World) where
       let login = is_his_login (options_for w.house.settings asked.mount).source pair its in
       record { asked = asked; wants = refl; pair = pair; sent = e; user = login.0; password = login.1; is_carried = may.is_carried }
 
-  source_by : (event : Event) (o : Outcome) → Way w event o → o.reply ≡ Feeding → FeedsAsItsSource w event
-  source_by event o (Begins asked undecided none allowed) d = feeds_by asked asked.pair refl allowed
-  source_by event o (Misplaced _) d = cc
-  source_by event o (IsFinished _ him by his told) d = cc
-  source_by event o (IsDenied _ by v nobody) d = cc
-  source_by event o (IsRefused _ him by v his undecided) d = cc
-  source_by event o (IsAdmitted peer allowed) d = cc
-  source_by event o (ComesUp mount shown unfed allowed) d = cc
-  source_by event o (Receives him mount block feeding) d = cc
-  source_by event o (SetsTitle him mount text feeding) d = cc
-  source_by event o (Shows _ asker peer text its undecided what) d = cc
-  source_by event o (Obeys _ command c) d = cc
-  source_by event o (HasPassed ms e) d = cc
-  source_by event o (Ticks ms e) d = cc
-  source_by event o (TakesSeat asked peer session undecided lands live allowed) d = cc
-  source_by event o (HandsOut him room seat session sits has live) d = cc
-  source_by event o (Ends him mount feeding no_relay) d = cc
-  source_by event o (EndsAndLeaves _ him mount closes feeding) d = cc
-  source_by event o (Leaves him no_relay other) d = cc
-  source_by event o (GoesDown him by_rule relay over) d = cc
+  source_by : (event : Event) (o : Outcome) → Granted w event o → o.reply ≡ Feeding → FeedsAsItsSource w event
+  source_by event o (AdmitsSource asked change is allowed) d =
+      subst (λ (e : Event). FeedsAsItsSource w e) (sym is) (feeds_by asked asked.pair refl allowed)
+  source_by event o (AdmitsClient peer change is allowed) d = cc
+  source_by event o (AdmitsRelay mount shown change is allowed) d = cc
+  source_by event o (AdmitsListener asked peer session is undecided lands live) d = cc
+  source_by event o (HandsData id room seat session change is sits has live) d = cc
+  source_by event o (TellsText text change why) d = cc
+  source_by event o (GrantsNothing _ none idle) d = let some : grants o.reply ≡ true = ap grants d in cc
 
   pub only_sources_feed : (event : Event) → OnlySourcesFeed w event
   unfolding reply_to
-  only_sources_feed event d = source_by event (outcome w event) (way_of w event) d
+  only_sources_feed event d = source_by event (outcome w event) (granted w event) d
 
 -- a mount that is known is not denied as unknown
 found_one : {X : Type 0} (p : X → Bool) (x : X) (xs : List X) → Has x xs → p x ≡ true → is_some (find p xs) ≡ true

@@ -11,6 +11,7 @@ mod CommandSteps
 mod DenialLemmas
 mod FallbackLemmas
 mod GoneLemmas
+mod GrantedLemmas
 mod HeardLaws
 mod InTime
 mod KilledLemmas

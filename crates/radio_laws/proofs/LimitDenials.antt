@@ -28,10 +28,10 @@ use Rattle.radio_laws.specs.Limits.{IsFullAt, AdmitsByLimits}
 use Rattle.radio_laws.specs.LimitDenials.{HasUserAt, ByAMount, DeniesByLimits}
 use Rattle.radio_laws.specs.Walks.{ComesBy}
 use Rattle.radio_core.specs.Step.{outcome, reply_to}
-use Rattle.radio_core.specs.Ways.{Way, Misplaced, IsFinished, IsDenied, IsRefused, IsAdmitted, Begins, ComesUp, Receives, SetsTitle, TakesSeat, HandsOut, Ends}
-use Rattle.radio_core.specs.Ways.{EndsAndLeaves, Leaves, GoesDown, Obeys, Shows, HasPassed, Ticks, rows_for, rows_from}
+use Rattle.radio_core.specs.Ways.{rows_for, rows_from}
 use Rattle.radio_house.specs.World.{World, standing_of}
-use Rattle.radio_core.proofs.Ways.{way_of, may_feed, may_come_up, has_room_left}
+use Rattle.radio_core.proofs.Ways.{may_feed, may_come_up, has_room_left}
+use Rattle.radio_laws.proofs.GrantedLemmas.{Granted, AdmitsClient, AdmitsSource, AdmitsRelay, AdmitsListener, HandsData, TellsText, GrantsNothing, grants, granted}
 use Rattle.radio_laws.proofs.CommandRows.{of_no_command}
 use Rattle.radio_core.proofs.NamedRules.{RuleNamed, DeniesIt, RefusesHim, TellsHisRule, NamesNoRule, rule_in, rule_named}
 use Rattle.radio_laws.proofs.ListenerDenials.{why_denied, denies_none, full_where, twice_where, deep_where}
@@ -233,42 +233,35 @@ module _ (w : World) where
   }
 
   -- whoever arrives or feeds finds room
-  admits_by : (event : Event) (o : Outcome) → Way w event o → Admits w event o.reply
-  admits_by event o (IsAdmitted peer allowed) =
+  admits_by : (event : Event) (o : Outcome) → Granted w event o → Admits w event o.reply
+  admits_by event o (AdmitsClient peer change is allowed) =
       record {
         clients = λ him id is d. below (length w.house.clients) w.house.settings.limits.clients (has_room_left w.house peer allowed);
         sources = λ d. cc;
-        relays = λ mount shown id is d. cc;
+        relays = λ mount shown id other d. let both : Arrive peer ≡ RelayUp mount shown = sym is ∙ other in cc;
       }
-  admits_by event o (Begins asked undecided none allowed) =
+  admits_by event o (AdmitsSource asked change is allowed) =
       record {
         clients = λ him id is d. cc;
         sources = λ d. below (length w.house.live) w.house.settings.limits.sources (may_feed w.house asked allowed).has_room;
         relays = λ mount shown id is d. cc;
       }
-  admits_by event o (ComesUp mount shown unfed allowed) =
+  admits_by event o (AdmitsRelay mount shown change is allowed) =
       record {
-        clients = λ him id is d. cc;
+        clients = λ him id other d. let both : RelayUp mount shown ≡ Arrive him = sym is ∙ other in cc;
         sources = λ d. cc;
-        relays = λ at sees id is d. below (length w.house.live) w.house.settings.limits.sources (may_come_up w.house mount shown allowed).has_room;
+        relays = λ at sees id other d. below (length w.house.live) w.house.settings.limits.sources (may_come_up w.house mount shown allowed).has_room;
       }
-  admits_by event o (Misplaced _) = record { clients = λ him id is d. cc; sources = λ d. cc; relays = λ mount shown id is d. cc }
-  admits_by event o (IsFinished _ him by his told) = record { clients = λ him id is d. cc; sources = λ d. cc; relays = λ mount shown id is d. cc }
-  admits_by event o (IsDenied _ by v nobody) = record { clients = λ him id is d. cc; sources = λ d. cc; relays = λ mount shown id is d. cc }
-  admits_by event o (IsRefused _ him by v his undecided) = record { clients = λ him id is d. cc; sources = λ d. cc; relays = λ mount shown id is d. cc }
-  admits_by event o (Receives him mount block feeding) = record { clients = λ him id is d. cc; sources = λ d. cc; relays = λ mount shown id is d. cc }
-  admits_by event o (SetsTitle him mount text feeding) = record { clients = λ him id is d. cc; sources = λ d. cc; relays = λ mount shown id is d. cc }
-  admits_by event o (Shows _ asker peer text its undecided what) = record { clients = λ him id is d. cc; sources = λ d. cc; relays = λ mount shown id is d. cc }
-  admits_by event o (Obeys _ command c) = record { clients = λ him id is d. cc; sources = λ d. cc; relays = λ mount shown id is d. cc }
-  admits_by event o (HasPassed ms e) = record { clients = λ him id is d. cc; sources = λ d. cc; relays = λ mount shown id is d. cc }
-  admits_by event o (Ticks ms e) = record { clients = λ him id is d. cc; sources = λ d. cc; relays = λ mount shown id is d. cc }
-  admits_by event o (TakesSeat asked peer session undecided lands live allowed) = record { clients = λ him id is d. cc; sources = λ d. cc; relays = λ mount shown id is d. cc }
-  admits_by event o (HandsOut him room seat session sits has live) = record { clients = λ him id is d. cc; sources = λ d. cc; relays = λ mount shown id is d. cc }
-  admits_by event o (Ends him mount feeding no_relay) = record { clients = λ him id is d. cc; sources = λ d. cc; relays = λ mount shown id is d. cc }
-  admits_by event o (EndsAndLeaves _ him mount closes feeding) = record { clients = λ him id is d. cc; sources = λ d. cc; relays = λ mount shown id is d. cc }
-  admits_by event o (Leaves him no_relay other) = record { clients = λ him id is d. cc; sources = λ d. cc; relays = λ mount shown id is d. cc }
-  admits_by event o (GoesDown him by_rule relay over) = record { clients = λ him id is d. cc; sources = λ d. cc; relays = λ mount shown id is d. cc }
+
+  admits_by event o (AdmitsListener asked peer session is undecided lands live) = record { clients = λ him id is d. cc; sources = λ d. cc; relays = λ mount shown id is d. cc }
+  admits_by event o (HandsData him room seat session change is sits has live) = record { clients = λ him id is d. cc; sources = λ d. cc; relays = λ mount shown id is d. cc }
+  admits_by event o (TellsText text change why) = record { clients = λ him id is d. cc; sources = λ d. cc; relays = λ mount shown id is d. cc }
+  admits_by event o (GrantsNothing _ none idle) = record {
+    clients = λ him id is d. let some : grants o.reply ≡ true = ap grants d in cc;
+    sources = λ d. let some : grants o.reply ≡ true = ap grants d in cc;
+    relays = λ mount shown id is d. let some : grants o.reply ≡ true = ap grants d in cc;
+  }
 
   pub limits_admit : (event : Event) → AdmitsByLimits w event
   unfolding reply_to
-  limits_admit event = let room = admits_by event (outcome w event) (way_of w event) in record { clients = room.clients; sources = room.sources; relays = room.relays }
+  limits_admit event = let room = admits_by event (outcome w event) (granted w event) in record { clients = room.clients; sources = room.sources; relays = room.relays }

@@ -41,7 +41,8 @@ use Rattle.radio_core.specs.Step.{outcome, reply_to, world_after}
 use Rattle.radio_house.specs.World.{World, standing_of}
 use Rattle.radio_core.proofs.Standings.{asks, turns_answered}
 use Rattle.radio_core.proofs.AllowedCommands.{may_act, past_sent}
-use Rattle.radio_laws.proofs.ToldTexts.{IsToldFor, ByShowing, ByDoing, told_for}
+use Rattle.radio_laws.proofs.GrantedLemmas.{IsToldFor, ByShowing, ByDoing}
+use Rattle.radio_laws.proofs.ToldTexts.{told_for}
 use Rattle.radio_laws.specs.Shown.{IsTheRelays, MaySee, AsAnybody, AsARelay, AsTheAdmin, IsThereToSee, IsShownByRight, IsShownAtPath, OnlyWhoMayIsShown, WhoMayIsShown, Tells}
 use Rattle.radio_laws.proofs.CommandLaws.{lives_by, login_sent, one_of}
 use Rattle.radio_laws.proofs.WalkLemmas.{both}

@@ -41,8 +41,6 @@ use Rattle.radio_laws.specs.Service.{IsTakenIn, IsHanded, Serves, ChangesNothing
 use Rattle.radio_parts.specs.Sessions.{Session, session_of}
 use Rattle.radio_core.specs.Sound.{IsSound}
 use Rattle.radio_core.specs.Step.{outcome, reply_to, world_after}
-use Rattle.radio_core.specs.Ways.{Way, Misplaced, IsFinished, IsDenied, IsRefused, IsAdmitted, Begins, ComesUp, Receives, SetsTitle, TakesSeat, HandsOut, Ends}
-use Rattle.radio_core.specs.Ways.{EndsAndLeaves, Leaves, GoesDown, Obeys, Shows, HasPassed, Ticks}
 use Rattle.radio_house.specs.Clients.{Client, client_of}
 use Rattle.radio_parts.specs.Stream.{WholeStream, end_of, data_at}
 use Rattle.radio_core.proofs.CalledHome.{turns_up, turns_risen}
@@ -53,7 +51,8 @@ use Rattle.radio_core.proofs.SoundEnds.{turns_ended, turns_ended_and_left}
 use Rattle.radio_core.proofs.SoundSessions.{has_advanced}
 use Rattle.radio_core.proofs.SeatedLemmas.{seat_of_sitting}
 use Rattle.radio_core.proofs.Standings.{asks, turns_sitting, turns_admitted}
-use Rattle.radio_core.proofs.Ways.{way_of, may_begin, lands_at, may_be_raised, no_path}
+use Rattle.radio_core.proofs.Ways.{may_begin, lands_at, may_be_raised, no_path}
+use Rattle.radio_laws.proofs.GrantedLemmas.{Granted, AdmitsClient, AdmitsSource, AdmitsRelay, AdmitsListener, HandsData, TellsText, GrantsNothing, is_idle, granted}
 use Rattle.radio_core.specs.RelayUp.{raises}
 use Rattle.radio_core.specs.RelayDown.{goes_down_from}
 use Rattle.radio_values.specs.declared.field.Shown.{Shown}
@@ -250,28 +249,16 @@ module _ (allows : (rows : List Row) → (verdict_in rows ≡ Allow) ↔ Allows 
   }
 
 -- what changes nothing
-nothing_by : (w : World) (event : Event) (o : Outcome) → Way w event o
+nothing_by : (w : World) (event : Event) (o : Outcome) → Granted w event o
     → (o.reply ≡ Stray → changed w o.change ≡ w) × ((rule : Rule) → o.reply ≡ Finished rule → changed w o.change ≡ w)
-nothing_by w event o (Misplaced _) = (λ d. refl, λ rule d. refl)
-nothing_by w event o (IsFinished _ him by its known) = (λ d. refl, λ rule d. refl)
-nothing_by w event o (IsDenied _ by v nobody) = (λ d. refl, λ rule d. refl)
-nothing_by w event o (IsRefused _ him by v its undecided) = (λ d. cc, λ rule d. cc)
-nothing_by w event o (IsAdmitted peer allowed) = (λ d. cc, λ rule d. cc)
-nothing_by w event o (Begins asked undecided none allowed) = (λ d. cc, λ rule d. cc)
-nothing_by w event o (ComesUp mount shown unfed allowed) = (λ d. cc, λ rule d. cc)
-nothing_by w event o (Receives him mount block feeding) = (λ d. cc, λ rule d. cc)
-nothing_by w event o (SetsTitle him mount text feeding) = (λ d. cc, λ rule d. cc)
-nothing_by w event o (TakesSeat asked peer session undecided lands live allowed) = (λ d. cc, λ rule d. cc)
-nothing_by w event o (HandsOut him room seat session sits has live) = (λ d. cc, λ rule d. cc)
-nothing_by w event o (Ends him mount feeding no_relay) = (λ d. cc, λ rule d. cc)
-nothing_by w event o (EndsAndLeaves _ him mount closes feeding) = (λ d. cc, λ rule d. cc)
-nothing_by w event o (Leaves him no_relay other) = (λ d. cc, λ rule d. cc)
-nothing_by w event o (GoesDown him by_rule relay over) = (λ d. cc, λ rule d. cc)
-nothing_by w event o (Shows _ asker peer text its undecided what) = (λ d. cc, λ rule d. cc)
-nothing_by w event o (Obeys _ command c) = (λ d. cc, λ rule d. cc)
-nothing_by w event o (HasPassed ms e) = (λ d. refl, λ rule d. refl)
-nothing_by w event o (Ticks ms e) = (λ d. cc, λ rule d. cc)
+nothing_by w event o (GrantsNothing _ none idle) = (λ d. ap (changed w) (idle (ap is_idle d)), λ rule d. ap (changed w) (idle (ap is_idle d)))
+nothing_by w event o (AdmitsClient peer change is allowed) = (λ d. cc, λ rule d. cc)
+nothing_by w event o (AdmitsSource asked change is allowed) = (λ d. cc, λ rule d. cc)
+nothing_by w event o (AdmitsRelay mount shown change is allowed) = (λ d. cc, λ rule d. cc)
+nothing_by w event o (AdmitsListener asked peer session is undecided lands live) = (λ d. cc, λ rule d. cc)
+nothing_by w event o (HandsData id room seat session change is sits has live) = (λ d. cc, λ rule d. cc)
+nothing_by w event o (TellsText text change why) = (λ d. cc, λ rule d. cc)
 
 pub changes_nothing : (w : World) (event : Event) → ChangesNothing w event
 unfolding reply_to world_after
-changes_nothing w event = let nothing = nothing_by w event (outcome w event) (way_of w event) in record { stray = nothing.0; finished = nothing.1 }
+changes_nothing w event = let nothing = nothing_by w event (outcome w event) (granted w event) in record { stray = nothing.0; finished = nothing.1 }

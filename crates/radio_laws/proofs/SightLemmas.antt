@@ -31,7 +31,8 @@ use Rattle.radio_status.specs.Listings.{shown, mount_row, mount_rows, public_row
 use Rattle.radio_parts.specs.Sessions.{Session}
 use Rattle.radio_core.specs.Step.{reply_to}
 use Rattle.radio_house.specs.World.{World}
-use Rattle.radio_laws.proofs.ToldTexts.{IsToldFor, ByShowing, ByDoing, told_for}
+use Rattle.radio_laws.proofs.GrantedLemmas.{IsToldFor, ByShowing, ByDoing}
+use Rattle.radio_laws.proofs.ToldTexts.{told_for}
 use Rattle.radio_laws.specs.Shown.{Seen, seen, is_public, public_live, seen_by_all, LooksAlike, AreAnsweredAlike, AreVisitedAlike, SightIsKept}
 use Rattle.radio_laws.specs.Shown.{HiddenAreLeftOut, HiddenAreNotToldOnTheWeb}
 use Rattle.radio_laws.proofs.WebLaws.{is_on}
