@@ -14,11 +14,12 @@ use radio_changes::Change;
 use radio_events::{Boxed, ListenRequest, Reply, StreamHead};
 use radio_facts::{burst_of, head_of, interval_for, listen_facts, mount_named, silence};
 use radio_fallback::Landing;
-use radio_house::Standing;
+use radio_house::{House, Standing};
 use radio_parts::Session;
 use radio_policy::{Action, Rule, Verdict, judge};
 use radio_seats::Seat;
 use radio_values::{MountName, Shown};
+use std::alloc::Global;
 
 /// One who may hear the mount that he asked for.
 #[derive(Clone, Copy)]
@@ -148,7 +149,7 @@ impl State {
         ensures { IfOk result (λ o. o ≡ takes_seat self.now.house asked welcome.peer (Some session.now)) }
     {
         let id = asked.id;
-        let seat = self.first_seat(asked, welcome, session)?;
+        let seat = first_seat(self.alloc, &self.house(), asked, welcome, session)?;
         match self.head(&session.shown) {
             Ok(head) => Ok(seated(id, head, seat)),
             Err(refused) => {
@@ -164,38 +165,38 @@ impl State {
     {
         Boxed::new(self.alloc, head_of(&self.house(), shown)?)
     }
+}
 
-    /// The seat of a new listener in the session. `OutOfMemory` where memory was refused.
-    fn first_seat(
-        &self,
-        asked: ListenRequest,
-        welcome: Welcome,
-        session: &Session,
-    ) -> Result<Seat, OutOfMemory>
-        requires { welcome.home ≡ asked.mount }
-        ensures { IfOk result (λ seat. seat ≡ first_seat self.now.house asked welcome.peer session.now) }
-    {
-        let Welcome {
-            peer,
-            home: asked_for,
-            ..
-        } = welcome;
-        let house = self.house();
-        let home = house.shared_name(self.alloc, asked_for)?;
-        let mount = session.mount.get();
-        let burst = burst_of(&house, mount);
-        let interval = interval_for(&house, &asked_for, asked.wants_metadata);
-        Ok(Seat {
-            home,
-            mount: *mount,
-            session: session.number,
-            place: session.stream.burst_start(burst),
-            peer,
-            pair: asked.pair,
-            interval,
-            since: house.time(),
-        })
-    }
+/// The seat of a new listener in the session. `OutOfMemory` where memory was refused.
+fn first_seat(
+    alloc: Global,
+    house: &House<'_>,
+    asked: ListenRequest,
+    welcome: Welcome,
+    session: &Session,
+) -> Result<Seat, OutOfMemory>
+    requires { welcome.home ≡ asked.mount }
+    ensures { IfOk result (λ seat. seat ≡ first_seat house.now asked welcome.peer session.now) }
+{
+    let Welcome {
+        peer,
+        home: asked_for,
+        ..
+    } = welcome;
+    let home = house.shared_name(alloc, asked_for)?;
+    let mount = session.mount.get();
+    let burst = burst_of(house, mount);
+    let interval = interval_for(house, &asked_for, asked.wants_metadata);
+    Ok(Seat {
+        home,
+        mount: *mount,
+        session: session.number,
+        place: session.stream.burst_start(burst),
+        peer,
+        pair: asked.pair,
+        interval,
+        since: house.time(),
+    })
 }
 
 /// The client of this number is seated, and is told what the head says.
