@@ -4,6 +4,7 @@ mod AgreeingLists
 mod AgreeingOutcomes
 mod AgreeingWalks
 mod BegunLemmas
+mod BroughtLemmas
 mod CommandLaws
 mod CommandRows
 mod CommandService

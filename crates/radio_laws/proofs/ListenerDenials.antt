@@ -19,13 +19,11 @@ use Rattle.radio_seats.specs.declared.seat.Seating.TheVariants.{Sits as HasSeat,
 use Rattle.radio_seats.specs.Seats.{has_user, is_user_at}
 use Rattle.radio_fallback.specs.declared.walking.Landing.{Landing}
 use Rattle.radio_fallback.specs.Walk.{found_at, stop_of, stop_in, sits_already}
-use Rattle.radio_events.specs.declared.event.Event.TheVariants.{Listen}
 use Rattle.radio_events.specs.declared.event.ListenRequest.{ListenRequest}
-use Rattle.radio_house.specs.Facts.{is_known, names_mount, sight_of, walks_to, walk_stops}
+use Rattle.radio_house.specs.Facts.{is_known, names_mount, rows_to_listen, sight_of, walks_to, walk_stops}
 use Rattle.radio_laws.specs.Limits.{IsFullAt, SentUser, most_at, allows_duplicates_at}
 use Rattle.radio_laws.specs.LimitDenials.{HasUserAt}
 use Rattle.radio_laws.specs.Walks.{ComesBy, AtFirst}
-use Rattle.radio_core.specs.Ways.{rows_for}
 use Rattle.radio_house.specs.World.{World}
 use Rattle.radio_core.proofs.Ways.{found_by}
 use Rattle.radio_laws.proofs.WalkLemmas.{full_at, both, WalkEnds, LandsThere, StopsThere, GoesTooFar, walk_ends}
@@ -139,7 +137,7 @@ module _ (w : World) (asked : ListenRequest) where
   Why rule = IsDeniedBy (is_known w.house asked.mount) found_first.users_accept found_first.user_is_twice
       (walk_stops w.house w.seats asked.mount asked.pair) rule
 
-  pub why_denied : (rule : Rule) → verdict_in (rows_for w (Listen asked)) ≡ Denied rule → Why rule
+  pub why_denied : (rule : Rule) → verdict_in (rows_to_listen w asked) ≡ Denied rule → Why rule
   why_denied rule v =
       denied_listener (names_mount w.house.settings asked.mount) (is_known w.house asked.mount) found_first.users_accept found_first.user_is_twice
       (walk_stops w.house w.seats asked.mount asked.pair) rule v

@@ -9,10 +9,10 @@ use Rattle.std.specs.Str.{bytes_eq}
 use Rattle.radio_addr.specs.declared.peer.Peer.{Peer}
 use Rattle.radio_settings.specs.declared.settings.Settings.{Settings}
 use Rattle.radio_access.specs.Lists.{Lists, passes}
-use Rattle.radio_tables.proofs.KeyLaws.{by_number, by_name}
+use Rattle.radio_tables.proofs.KeyLaws.{by_number}
 use Rattle.radio_events.specs.declared.event.Event.{Event}
 use Rattle.radio_events.specs.declared.event.Event.TheVariants.{Push, Title}
-use Rattle.radio_laws.proofs.BegunLemmas.{source_begins, relay_begins}
+use Rattle.radio_laws.proofs.BroughtLemmas.{IsOldOrEmpty, IsOld, IsEmpty, Brought, BringsBlock, BringsTitle, ByCommand, BringsNothing, brought}
 use Rattle.radio_changes.specs.declared.change.Change.TheVariants.{Receive, SetTitle}
 use Rattle.radio_core.specs.declared.outcome.Outcome.{Outcome}
 use Rattle.radio_seats.specs.declared.seat.Seat.{Seat}
@@ -21,17 +21,14 @@ use Rattle.radio_house.specs.World.{World, opening, standing_of}
 use Rattle.radio_changes.specs.Changes.{changed}
 use Rattle.radio_core.specs.Handing.{block_in, of_client, handed_at, handed, delivered_at, delivered}
 use Rattle.radio_seats.specs.Seats.{seat_of}
-use Rattle.radio_parts.specs.Sessions.{Session, session_of, without_session}
+use Rattle.radio_parts.specs.Sessions.{Session, session_of}
 use Rattle.radio_core.specs.Sound.{IsSound}
 use Rattle.radio_core.specs.Step.{outcome, world_after}
 use Rattle.radio_parts.specs.Stream.{WholeStream, data_at, end_of}
 use Rattle.radio_laws.specs.Stretches.{between, Sitting, sitting_in, begun_sittings, sittings, AreStretches, StretchesAreWhole}
-use Rattle.radio_core.specs.Ways.{Way, Misplaced, IsFinished, IsDenied, IsRefused, IsAdmitted, Begins, ComesUp, Receives, SetsTitle, TakesSeat, HandsOut, Ends}
-use Rattle.radio_core.specs.Ways.{EndsAndLeaves, Leaves, GoesDown, Obeys, Shows, HasPassed, Ticks}
 use Rattle.radio_core.proofs.FinishLemmas.{undecided_before}
 use Rattle.radio_core.proofs.OwnLemmas.{not_of, nothing_of}
 use Rattle.radio_laws.proofs.GoneLemmas.{his_own, with_nothing, last_rises}
-use Rattle.radio_parts.proofs.SessionLookups.{beside_ended, is_over}
 use Rattle.radio_changes.proofs.PartChanges.{is_taken_in}
 use Rattle.radio_core.specs.Moves.{moved_into}
 use Rattle.radio_core.proofs.SeatSteps.{seats_step}
@@ -43,10 +40,8 @@ use Rattle.radio_core.specs.SeatSteps.{SeatStep, Stays, IsHanded, SitsDown, IsMo
 use Rattle.radio_policy.specs.declared.rule.Rule.{Rule}
 use Rattle.radio_core.proofs.SoundSessions.{grown_cases}
 use Rattle.radio_core.proofs.SoundTitles.{titled_cases}
-use Rattle.radio_core.proofs.TickLemmas.{ticked_fates}
 use Rattle.radio_laws.proofs.ObeyLemmas.{was_live_then}
 use Rattle.radio_core.proofs.SoundRuns.{sound_after, sound_opening}
-use Rattle.radio_core.proofs.Ways.{way_of}
 use Rattle.radio_core.proofs.HeardLemmas.{heard_cases}
 use Rattle.radio_laws.proofs.HeardLaws.{rising_heard}
 use Rattle.radio_laws.proofs.SliceLemmas.{between_grown, grown_stretches, same_stretches, one_more, between_more, between_none}
@@ -187,28 +182,13 @@ whole_heard w sent h mount session hears =
 
 module _ (w : World) (s : IsSound w) (sent : ℕ → List ℕ) (h : Sent w sent) where
   -- only a source brings something
-  brings_nothing : (event : Event) (o : Outcome) → Way w event o → (id : ℕ) → ((mount : List ℕ) → standing_of w id ≡ Feeds mount → ⊥)
+  brings_nothing : (event : Event) (o : Outcome) → Brought w event o → (id : ℕ) → ((mount : List ℕ) → standing_of w id ≡ Feeds mount → ⊥)
       → of_client event id (block_in o.change) ≡ []
-  brings_nothing event o (ComesUp mount shown unfed allowed) id not = refl
-  brings_nothing event o (Receives him mount block feeding) id not =
+  brings_nothing event o (BringsBlock him mount block feeding) id not =
       by_number him id (λ same. absurd (not mount (ap (standing_of w) (sym same) ∙ feeding))) (λ other. not_of (Push him block) id block other)
-  brings_nothing event o (Misplaced _) id not = nothing_of event id [] refl
-  brings_nothing event o (IsFinished _ him by its known) id not = nothing_of event id [] refl
-  brings_nothing event o (IsDenied _ by v nobody) id not = nothing_of event id [] refl
-  brings_nothing event o (IsRefused _ him by v its undecided) id not = nothing_of event id [] refl
-  brings_nothing event o (IsAdmitted peer allowed) id not = refl
-  brings_nothing event o (SetsTitle him mount text feeding) id not = nothing_of event id [] refl
-  brings_nothing event o (Shows _ asker peer text its undecided what) id not = nothing_of event id [] refl
-  brings_nothing event o (Obeys _ command c) id not = nothing_of event id [] refl
-  brings_nothing event o (HasPassed ms e) id not = refl
-  brings_nothing event o (Ticks ms e) id not = refl
-  brings_nothing event o (Begins asked undecided none allowed) id not = nothing_of event id [] refl
-  brings_nothing event o (TakesSeat asked peer session undecided lands live allowed) id not = nothing_of event id [] refl
-  brings_nothing event o (HandsOut him room seat session sits has live) id not = nothing_of event id [] refl
-  brings_nothing event o (Ends him mount feeding no_relay) id not = nothing_of event id [] refl
-  brings_nothing event o (EndsAndLeaves _ him mount closes feeding) id not = nothing_of event id [] refl
-  brings_nothing event o (Leaves him no_relay other) id not = nothing_of event id [] refl
-  brings_nothing event o (GoesDown him by_rule relay over) id not = nothing_of event id [] refl
+  brings_nothing event o (BringsTitle him mount text feeding) id not = nothing_of event id [] refl
+  brings_nothing event o (ByCommand _ command c) id not = nothing_of event id [] refl
+  brings_nothing event o (BringsNothing _ _ no_block no_title live) id not = nothing_of event id (block_in o.change) no_block
 
   whole_now : Event → Outcome → Type 0
   whole_now event o = (mount : List ℕ) (session : Session) → session_of (changed w o.change).house.live mount ≡ Some session
@@ -219,13 +199,11 @@ module _ (w : World) (s : IsSound w) (sent : ℕ → List ℕ) (h : Sent w sent)
   as_it_was event mount session live = h.whole mount session live ∙ with_nothing (sent session.number) (of_client event session.number [])
       (nothing_of event session.number [] refl)
 
-  left_over : (event : Event) (ended mount : List ℕ) (session : Session) → session_of (without_session w.house.live ended) mount ≡ Some session
-      → session.stream.bytes ≡ sent session.number ++ of_client event session.number []
-  left_over event ended mount session e =
-      by_name ended mount
-      (λ same. let none : session_of (without_session w.house.live ended) mount ≡ None =
-      ap (session_of (without_session w.house.live ended)) (sym same) ∙ is_over w.house.live ended in cc)
-      (λ apart. as_it_was event mount session (sym (beside_ended w.house.live ended mount apart) ∙ e))
+  -- a session that is empty has a source that has sent nothing
+  whole_so_far : (session : Session) → IsOldOrEmpty w session → session.stream.bytes ≡ sent session.number
+  whole_so_far session (IsOld mount live) = h.whole mount session live
+  whole_so_far session (IsEmpty no_data no_title (inl undecided)) = no_data ∙ sym (h.none_yet session.number undecided.0 undecided.1)
+  whole_so_far session (IsEmpty no_data no_title (inr above)) = no_data ∙ sym (h.none_above session.number above)
 
   grown_whole : (him : ℕ) (mount block : List ℕ) → standing_of w him ≡ Feeds mount → (other : List ℕ) (now : Session)
       → session_of (changed w (Receive mount block)).house.live other ≡ Some now
@@ -261,43 +239,22 @@ module _ (w : World) (s : IsSound w) (sent : ℕ → List ℕ) (h : Sent w sent)
       (as_it_was (Title him text) other session found))
       (λ apart found. as_it_was (Title him text) other now found)
 
-  abbrev is_whole : Event → Session → Type 0
-  is_whole event session = session.stream.bytes ≡ sent session.number ++ of_client event session.number []
-
-  whole_by : (event : Event) (o : Outcome) → Way w event o → whole_now event o
+  whole_by : (event : Event) (o : Outcome) → Brought w event o → whole_now event o
   unfolding whole_now
-  whole_by event o (Receives him mount block feeding) = grown_whole him mount block feeding
-  whole_by event o (SetsTitle him mount text feeding) = titled_whole him mount text feeding
-  whole_by event o (Shows _ asker peer text its undecided what) = as_it_was event
-  whole_by event o (Obeys _ command c) = λ mount session e.
+  whole_by event o (BringsBlock him mount block feeding) = grown_whole him mount block feeding
+  whole_by event o (BringsTitle him mount text feeding) = titled_whole him mount text feeding
+  whole_by event o (ByCommand _ command c) = λ mount session e.
       let was = was_live_then w event command c mount s session e in
       subst (λ (x : WholeStream). x.bytes ≡ sent session.number ++ of_client event session.number []) was.stream
       (subst (λ (n : ℕ). was.old.stream.bytes ≡ sent n ++ of_client event n []) was.number (as_it_was event mount was.old was.was))
-  whole_by event o (HasPassed ms e) = as_it_was event
-  whole_by event o (Ticks ms e) = λ mount session h. as_it_was event mount session ((ticked_fates w s ms).live mount session h)
-  whole_by event o (Begins asked undecided none allowed) =
-      source_begins w s (is_whole event) (as_it_was event) asked undecided none
-      (sym (h.none_yet asked.id undecided.0 undecided.1) ∙ with_nothing (sent asked.id) (of_client event asked.id []) (nothing_of event asked.id [] refl))
-  whole_by event o (ComesUp there shown none allowed) =
-      let him = w.house.last_id + 1 in
-      relay_begins w s (is_whole event) (as_it_was event) there shown none
-      (sym (h.none_above him (omega arith)) ∙ with_nothing (sent him) (of_client event him []) (nothing_of event him [] refl))
-  whole_by event o (Ends him mount feeding no_relay) = left_over event mount
-  whole_by event o (EndsAndLeaves _ him mount closes feeding) = left_over event mount
-  whole_by event o (Misplaced _) = as_it_was event
-  whole_by event o (IsFinished _ him by its known) = as_it_was event
-  whole_by event o (IsDenied _ by v nobody) = as_it_was event
-  whole_by event o (IsRefused _ him by v its undecided) = as_it_was event
-  whole_by event o (IsAdmitted peer allowed) = as_it_was event
-  whole_by event o (TakesSeat asked peer session undecided lands live allowed) = as_it_was event
-  whole_by event o (HandsOut him room seat session sits has live) = as_it_was event
-  whole_by event o (Leaves him no_relay other) = as_it_was event
-  whole_by event o (GoesDown him by_rule relay over) = as_it_was event
+  whole_by event o (BringsNothing _ _ no_block no_title live) = λ mount session e.
+      whole_so_far session (live mount session e)
+      ∙ with_nothing (sent session.number) (of_client event session.number (block_in o.change)) (nothing_of event session.number (block_in o.change) no_block)
 
   sent_step : (event : Event) → Sent (world_after w event) (λ n. sent n ++ delivered_at w event n)
   unfolding world_after whole_now
   sent_step event = record {
-    whole = whole_by event (outcome w event) (way_of w event);
+    whole = whole_by event (outcome w event) (brought w s event);
     by_nobody = nothing 0 h.by_nobody (λ mount f. let unknown : standing_of w 0 ≡ Unknown = s.from_one in cc);
     none_yet = none_yet;
     none_above = λ id high.
@@ -306,7 +263,7 @@ module _ (w : World) (s : IsSound w) (sent : ℕ → List ℕ) (h : Sent w sent)
         nothing id (h.none_above id above) (λ mount f. let unknown : standing_of w id ≡ Unknown = s.numbered id above in cc);
   } where
     nothing : (id : ℕ) → sent id ≡ [] → ((mount : List ℕ) → standing_of w id ≡ Feeds mount → ⊥) → sent id ++ delivered_at w event id ≡ []
-    nothing id none not = ap (λ xs. xs ++ delivered_at w event id) none ∙ brings_nothing event (outcome w event) (way_of w event) id not
+    nothing id none not = ap (λ xs. xs ++ delivered_at w event id) none ∙ brings_nothing event (outcome w event) (brought w s event) id not
 
     by_before : (id : ℕ) (peer : Peer) → (standing_of w id ≡ Undecided peer) ⊎ ((w.house.last_id < id) × (passes w.house.lists peer ≡ true))
         → sent id ++ delivered_at w event id ≡ []

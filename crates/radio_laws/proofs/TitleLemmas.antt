@@ -1,5 +1,6 @@
 -- the law of titles
-use Rattle.std.proofs.Common.{◌+◌, ◌≡◌, ◌⊎◌, inl, inr, Bool, true, false, ℕ, ◌<◌, ◌==◌, Option, Some, None, List, [], ◌∷◌, ◌++◌, refl, ap, sym, subst, ◌∙◌, arith, append_assoc}
+use Rattle.std.proofs.Common.{◌≡◌, ◌⊎◌, inl, inr, Bool, true, false, ℕ, ◌<◌, ◌==◌, Option, Some, None, List, [], ◌∷◌, ◌++◌}
+use Rattle.std.proofs.Common.{refl, ap, sym, subst, ◌∙◌, arith, append_assoc}
 use Rattle.std.specs.Prelude.{if◌then◌else◌}
 use Rattle.std.specs.List.{last_or}
 use Rattle.std.specs.Option.{option_map}
@@ -10,51 +11,40 @@ use Rattle.std.proofs.lemmas.Slice.Eq.{bytes_eq-Decides}
 use Rattle.radio_addr.specs.declared.peer.Peer.{Peer}
 use Rattle.radio_settings.specs.declared.settings.Settings.{Settings}
 use Rattle.radio_access.specs.Lists.{Lists, passes}
-use Rattle.radio_tables.proofs.KeyLaws.{by_number, by_name}
+use Rattle.radio_tables.proofs.KeyLaws.{by_number}
 use Rattle.radio_events.specs.declared.command.Asked.{Asked}
 use Rattle.radio_events.specs.declared.command.Asked.TheVariants.{Command as Asks}
 use Rattle.radio_events.specs.declared.command.Command.{Command as TheCommand}
-use Rattle.radio_events.specs.declared.command.Command.TheVariants.{MoveClients, KillClient, KillSource, SetTitle as CommandsTitle, SetFallback, AddUser, DeleteUser}
+use Rattle.radio_events.specs.declared.command.Command.TheVariants.{MoveClients, KillClient, KillSource, SetTitle as CommandsTitle, SetFallback}
+use Rattle.radio_events.specs.declared.command.Command.TheVariants.{AddUser, DeleteUser}
 use Rattle.radio_events.specs.declared.event.Event.{Event}
 use Rattle.radio_events.specs.declared.event.Event.TheVariants.{Push, Title}
-use Rattle.radio_laws.proofs.BegunLemmas.{source_begins, relay_begins}
-use Rattle.radio_changes.specs.declared.change.Change.TheVariants.{Receive, SetTitle, Answer}
-use Rattle.radio_core.specs.Outcomes.{says}
-use Rattle.radio_events.specs.declared.reply.Reply.TheVariants.{Text as SaysText}
+use Rattle.radio_laws.proofs.BroughtLemmas.{sets, IsOldOrEmpty, IsOld, IsEmpty, Brought, BringsBlock, BringsTitle, ByCommand, BringsNothing, brought}
+use Rattle.radio_changes.specs.declared.change.Change.TheVariants.{Receive, SetTitle}
 use Rattle.radio_core.specs.declared.outcome.Outcome.{Outcome}
 use Rattle.radio_house.specs.declared.standing.Standing.TheVariants.{Unknown, Undecided, Feeds}
 use Rattle.radio_house.specs.World.{World, opening, standing_of}
 use Rattle.radio_changes.specs.Changes.{answered, changed, session_killed}
 use Rattle.radio_core.specs.Command.{obeys as obeys_it}
-use Rattle.radio_events.specs.declared.text.Text.{Text}
-use Rattle.radio_events.specs.declared.text.Text.TheVariants.{Done, Moved, Json, Streams, Public, Page, Ended as ListenersEnded}
-use Rattle.radio_events.specs.Texts.{IsShort}
 use Rattle.radio_core.specs.Allowed.{IsCommanded}
 use Rattle.radio_core.specs.Handing.{is_number, of_client}
 use Rattle.radio_core.specs.Run.{world_after_all, run_after}
-use Rattle.radio_parts.specs.Sessions.{Session, session_of, without_session}
+use Rattle.radio_parts.specs.Sessions.{Session, session_of}
 use Rattle.radio_core.specs.Sound.{IsSound}
 use Rattle.radio_core.specs.Step.{outcome, reply_to, world_after}
-use Rattle.radio_laws.specs.TitlesTold.{title_in, commanded_at, commanded_in, set_by, set_at, titles_set, last_title, TitlesAreTold}
-use Rattle.radio_core.specs.Ways.{Way, Misplaced, IsFinished, IsDenied, IsRefused, IsAdmitted, Begins, ComesUp, Receives, SetsTitle, TakesSeat, HandsOut, Ends}
-use Rattle.radio_core.specs.Ways.{EndsAndLeaves, Leaves, GoesDown, Obeys, Shows, HasPassed, Ticks}
+use Rattle.radio_laws.specs.TitlesTold.{commanded_at, commanded_in, set_at, titles_set, last_title, TitlesAreTold}
 use Rattle.radio_laws.proofs.AccessLemmas.{access_holds}
 use Rattle.radio_core.proofs.FinishLemmas.{undecided_before}
-use Rattle.radio_core.proofs.ListingLemmas.{shown_long}
 use Rattle.radio_core.proofs.Obeyed.{title_live}
-use Rattle.radio_core.specs.Pages.{IsShownBy}
 use Rattle.radio_core.proofs.OwnLemmas.{not_of, nothing_of}
 use Rattle.radio_laws.proofs.GoneLemmas.{his_own, with_nothing, last_rises}
 use Rattle.radio_laws.proofs.ListsLemmas.{lists_run}
 use Rattle.radio_laws.proofs.LimitLemmas.{within_run}
-use Rattle.radio_parts.proofs.SessionLookups.{beside_ended, is_over}
+use Rattle.radio_core.proofs.SoundEnds.{was_live}
 use Rattle.radio_changes.proofs.PartChanges.{is_taken_in}
 use Rattle.radio_core.proofs.SoundRuns.{sound_after, sound_opening, sound_run}
 use Rattle.radio_core.proofs.SoundSessions.{grown_cases}
 use Rattle.radio_core.proofs.SoundTitles.{titled_cases}
-use Rattle.radio_core.proofs.TickLemmas.{ticked_fates}
-use Rattle.radio_core.proofs.Ways.{way_of}
-use Rattle.radio_core.specs.Closing.{Closes, OfClient, OfRelay}
 use Rattle.radio_core.proofs.HeardLemmas.{heard_cases}
 use Rattle.radio_house.specs.Waiting.{heard_at}
 
@@ -85,15 +75,6 @@ told_as w told now same h = record {
   none_yet = λ id peer e. sym (same id) ∙ h.none_yet id peer e;
   none_above = λ id high. sym (same id) ∙ h.none_above id high;
 }
-
--- what an outcome sets for the source of this number
-abbrev sets : World → Event → Outcome → ℕ → List (List ℕ)
-sets w event o id = set_by w event o.reply id
-
--- whose connection is closed sets no title by it
-closes_untitled : (w : World) (him : ℕ) (event : Event) → Closes w him event → title_in event ≡ []
-closes_untitled w him event (OfClient no_relay) = refl
-closes_untitled w him event (OfRelay relay) = refl
 
 module _ (w : World) (s : IsSound w) (told : ℕ → List (List ℕ)) (h : Told w told) where
   -- what a command sets
@@ -136,42 +117,14 @@ module _ (w : World) (s : IsSound w) (told : ℕ → List (List ℕ)) (h : Told 
       (λ same. absurd (not mount (ap (standing_of w) (sym same) ∙ s.fed mount there.0 there.1)))
       (λ apart. apart))
 
-  -- who is shown something of the station sets none
-  long_sets_none : (event : Event) (text : Text) → (IsShort text → ⊥) → (asker id : ℕ) → sets w event (says (SaysText text) (Answer asker)) id ≡ []
-  long_sets_none event Done long asker id = absurd (long tt)
-  long_sets_none event (Moved count) long asker id = nothing_of event id [] refl
-  long_sets_none event (ListenersEnded count) long asker id = nothing_of event id [] refl
-  long_sets_none event (Json bytes) long asker id = nothing_of event id [] refl
-  long_sets_none event (Streams bytes) long asker id = nothing_of event id [] refl
-  long_sets_none event (Public bytes origin) long asker id = nothing_of event id [] refl
-  long_sets_none event (Page origin) long asker id = nothing_of event id [] refl
-
-  shown_sets_none : (event : Event) (text : Text) → IsShownBy w event text → (asker id : ℕ) → sets w event (says (SaysText text) (Answer asker)) id ≡ []
-  shown_sets_none event text what = long_sets_none event text (shown_long w event text what)
-
   -- only a source and a command set a title
-  sets_nothing : (event : Event) (o : Outcome) → Way w event o → (id : ℕ) → ((mount : List ℕ) → standing_of w id ≡ Feeds mount → ⊥)
+  sets_nothing : (event : Event) (o : Outcome) → Brought w event o → (id : ℕ) → ((mount : List ℕ) → standing_of w id ≡ Feeds mount → ⊥)
       → sets w event o id ≡ []
-  sets_nothing event o (SetsTitle him mount text feeding) id not =
+  sets_nothing event o (BringsTitle him mount text feeding) id not =
       by_number him id (λ same. absurd (not mount (ap (standing_of w) (sym same) ∙ feeding))) (λ other. not_of (Title him text) id (text ∷ []) other)
-  sets_nothing event o (Misplaced _) id not = nothing_of event id [] refl
-  sets_nothing event o (IsFinished _ him by its known) id not = nothing_of event id [] refl
-  sets_nothing event o (IsDenied _ by v nobody) id not = nothing_of event id [] refl
-  sets_nothing event o (IsRefused _ him by v its undecided) id not = nothing_of event id [] refl
-  sets_nothing event o (IsAdmitted peer allowed) id not = refl
-  sets_nothing event o (Shows _ asker peer text its undecided what) id not = shown_sets_none event text what asker id
-  sets_nothing event o (Obeys _ command c) id not = commands_nothing event command c id not
-  sets_nothing event o (HasPassed ms e) id not = refl
-  sets_nothing event o (Ticks ms e) id not = refl
-  sets_nothing event o (Begins asked undecided none allowed) id not = nothing_of event id [] refl
-  sets_nothing event o (ComesUp mount shown unfed allowed) id not = refl
-  sets_nothing event o (Receives him mount block feeding) id not = nothing_of event id [] refl
-  sets_nothing event o (TakesSeat asked peer session undecided lands live allowed) id not = nothing_of event id [] refl
-  sets_nothing event o (HandsOut him room seat session sits has live) id not = nothing_of event id [] refl
-  sets_nothing event o (Ends him mount feeding no_relay) id not = nothing_of event id [] refl
-  sets_nothing event o (EndsAndLeaves _ him mount closes feeding) id not = nothing_of event id (title_in event) (closes_untitled w him event closes)
-  sets_nothing event o (Leaves him no_relay other) id not = nothing_of event id [] refl
-  sets_nothing event o (GoesDown him by_rule relay over) id not = nothing_of event id [] refl
+  sets_nothing event o (BringsBlock him mount block feeding) id not = nothing_of event id [] refl
+  sets_nothing event o (ByCommand _ command c) id not = commands_nothing event command c id not
+  sets_nothing event o (BringsNothing _ _ no_block no_title live) id not = no_title id
 
   last_now : Event → Outcome → Type 0
   last_now event o = (mount : List ℕ) (session : Session) → session_of (changed w o.change).house.live mount ≡ Some session
@@ -184,13 +137,12 @@ module _ (w : World) (s : IsSound w) (told : ℕ → List (List ℕ)) (h : Told 
       h.last mount session live
       ∙ ap (λ xs. last_or None xs) (with_nothing (told session.number) (of_client event session.number []) (nothing_of event session.number [] refl))
 
-  left_over : (event : Event) (ended mount : List ℕ) (session : Session) → session_of (without_session w.house.live ended) mount ≡ Some session
-      → session.title ≡ last_or None (told session.number ++ of_client event session.number [])
-  left_over event ended mount session e =
-      by_name ended mount
-      (λ same. let none : session_of (without_session w.house.live ended) mount ≡ None =
-      ap (session_of (without_session w.house.live ended)) (sym same) ∙ is_over w.house.live ended in cc)
-      (λ apart. as_it_was event mount session (sym (beside_ended w.house.live ended mount apart) ∙ e))
+  -- a session that is empty has a source that has set none
+  last_so_far : (session : Session) → IsOldOrEmpty w session → session.title ≡ last_or None (told session.number)
+  last_so_far session (IsOld mount live) = h.last mount session live
+  last_so_far session (IsEmpty no_data no_title (inl undecided)) =
+      no_title ∙ ap (λ xs. last_or None xs) (sym (h.none_yet session.number undecided.0 undecided.1))
+  last_so_far session (IsEmpty no_data no_title (inr above)) = no_title ∙ ap (λ xs. last_or None xs) (sym (h.none_above session.number above))
 
   grown_title : (him : ℕ) (mount block : List ℕ) → standing_of w him ≡ Feeds mount → (other : List ℕ) (now : Session)
       → session_of (changed w (Receive mount block)).house.live other ≡ Some now
@@ -236,11 +188,7 @@ module _ (w : World) (s : IsSound w) (told : ℕ → List (List ℕ)) (h : Told 
   still_live : (found : Option Session) (him : ℕ) (mount : List ℕ) (session : Session)
       → session_of (session_killed (answered w him) found).house.live mount ≡ Some session → session_of w.house.live mount ≡ Some session
   still_live None him mount session e = e
-  still_live (Some killed) him mount session e =
-      by_name killed.mount mount
-      (λ same. let none : session_of (without_session w.house.live killed.mount) mount ≡ None =
-      ap (session_of (without_session w.house.live killed.mount)) (sym same) ∙ is_over w.house.live killed.mount in cc)
-      (λ apart. sym (beside_ended w.house.live killed.mount mount apart) ∙ e)
+  still_live (Some killed) him mount session e = was_live w killed.mount mount session e
 
   -- after one that sets a title, that of the mount is this one
   command_sets : (event : Event) (mount text : List ℕ) (c : IsCommanded w event (CommandsTitle mount text)) (other : List ℕ) (now : Session)
@@ -256,8 +204,10 @@ module _ (w : World) (s : IsSound w) (told : ℕ → List (List ℕ)) (h : Told 
       ∙ ap (λ xs. last_or None xs) (with_nothing (told now.number) (commanded_in w event now.number ++ of_client event now.number [])
       (title_of_command event mount text c there.0 now.number there.1 false
       (by_number there.0.number now.number
-      (λ same. let both : Feeds mount ≡ Feeds other = sym (s.fed mount there.0 there.1) ∙ ap (standing_of w) same ∙ s.fed other now found in let one : mount ≡ other =
-      cc in let at : bytes_eq mount other ≡ true = (bytes_eq-Decides mount other).1 one in cc)
+      (λ same.
+      let both : Feeds mount ≡ Feeds other = sym (s.fed mount there.0 there.1) ∙ ap (standing_of w) same ∙ s.fed other now found in
+      let one : mount ≡ other = cc in
+      let at : bytes_eq mount other ≡ true = (bytes_eq-Decides mount other).1 one in cc)
       (λ away. away))))) where
         there : (session : Session) × (session_of w.house.live mount ≡ Some session)
         there = title_live w s event mount text c
@@ -280,46 +230,19 @@ module _ (w : World) (s : IsSound w) (told : ℕ → List (List ℕ)) (h : Told 
   command_title event (DeleteUser mount user) c = as_it_was event
   command_title event (CommandsTitle mount text) c = command_sets event mount text c
 
-  abbrev has_last : Event → Session → Type 0
-  has_last event session = session.title ≡ last_or None (told session.number ++ of_client event session.number [])
-
-  -- of a number of which nothing was told
-  none_told : (event : Event) (him : ℕ) → told him ≡ [] → None ≡ last_or None (told him ++ of_client event him [])
-  none_told event him nothing = ap (λ xs. last_or None xs) (sym nothing ∙ with_nothing (told him) (of_client event him []) (nothing_of event him [] refl))
-
-  last_by : (event : Event) (o : Outcome) → Way w event o → last_now event o
+  last_by : (event : Event) (o : Outcome) → Brought w event o → last_now event o
   unfolding last_now
-  last_by event o (SetsTitle him mount text feeding) = new_title him mount text feeding
-  last_by event o (Shows _ asker peer text its undecided what) = λ mount session live.
-      h.last mount session live
-      ∙ ap (λ xs. last_or None xs) (with_nothing (told session.number) (sets w event o session.number) (shown_sets_none event text what asker session.number))
-  last_by event o (Obeys _ command c) = command_title event command c
-  last_by event o (HasPassed ms e) = as_it_was event
-  last_by event o (Ticks ms e) = λ mount session h. as_it_was event mount session ((ticked_fates w s ms).live mount session h)
-  last_by event o (Receives him mount block feeding) = grown_title him mount block feeding
-  last_by event o (Begins asked undecided none allowed) =
-      source_begins w s (has_last event) (as_it_was event) asked undecided none (none_told event asked.id (h.none_yet asked.id undecided.0 undecided.1))
-  last_by event o (ComesUp there shown none allowed) =
-      let him = w.house.last_id + 1 in
-      relay_begins w s (has_last event) (as_it_was event) there shown none (none_told event him (h.none_above him (omega arith)))
-  last_by event o (Ends him mount feeding no_relay) = left_over event mount
-  last_by event o (EndsAndLeaves _ him mount closes feeding) = λ other session e.
-      left_over event mount other session e
-      ∙ ap (λ xs. last_or None (told session.number ++ of_client event session.number xs)) (sym (closes_untitled w him event closes))
-  last_by event o (Misplaced _) = as_it_was event
-  last_by event o (IsFinished _ him by its known) = as_it_was event
-  last_by event o (IsDenied _ by v nobody) = as_it_was event
-  last_by event o (IsRefused _ him by v its undecided) = as_it_was event
-  last_by event o (IsAdmitted peer allowed) = as_it_was event
-  last_by event o (TakesSeat asked peer session undecided lands live allowed) = as_it_was event
-  last_by event o (HandsOut him room seat session sits has live) = as_it_was event
-  last_by event o (Leaves him no_relay other) = as_it_was event
-  last_by event o (GoesDown him by_rule relay over) = as_it_was event
+  last_by event o (BringsBlock him mount block feeding) = grown_title him mount block feeding
+  last_by event o (BringsTitle him mount text feeding) = new_title him mount text feeding
+  last_by event o (ByCommand _ command c) = command_title event command c
+  last_by event o (BringsNothing _ _ no_block no_title live) = λ mount session e.
+      last_so_far session (live mount session e)
+      ∙ ap (λ xs. last_or None xs) (with_nothing (told session.number) (sets w event o session.number) (no_title session.number))
 
   told_step : (event : Event) → Told (world_after w event) (λ n. told n ++ set_at w event n)
   unfolding world_after reply_to last_now
   told_step event = record {
-    last = last_by event (outcome w event) (way_of w event);
+    last = last_by event (outcome w event) (brought w s event);
     by_nobody = nothing 0 h.by_nobody (λ mount f. let unknown : standing_of w 0 ≡ Unknown = s.from_one in cc);
     none_yet = λ id peer e. none_yet id (undecided_before w s event id peer e);
     none_above = λ id high.
@@ -328,7 +251,7 @@ module _ (w : World) (s : IsSound w) (told : ℕ → List (List ℕ)) (h : Told 
         nothing id (h.none_above id above) (λ mount f. let unknown : standing_of w id ≡ Unknown = s.numbered id above in cc);
   } where
     nothing : (id : ℕ) → told id ≡ [] → ((mount : List ℕ) → standing_of w id ≡ Feeds mount → ⊥) → told id ++ set_at w event id ≡ []
-    nothing id none not = ap (λ xs. xs ++ set_at w event id) none ∙ sets_nothing event (outcome w event) (way_of w event) id not
+    nothing id none not = ap (λ xs. xs ++ set_at w event id) none ∙ sets_nothing event (outcome w event) (brought w s event) id not
 
     none_yet : {peer : Peer} (id : ℕ) → (standing_of w id ≡ Undecided peer) ⊎ ((w.house.last_id < id) × (passes w.house.lists peer ≡ true))
         → told id ++ set_at w event id ≡ []
