@@ -1,9 +1,12 @@
 -- the law of those who have left
-use Rattle.std.proofs.Common.{◌+◌, ◌≡◌, inl, inr, true, false, ℕ, ◌≤◌, Bool, Some, List, [], ◌∷◌, ◌++◌, refl, ap, sym, subst, ◌∙◌, arith, Option, None}
-use Rattle.std.specs.Prelude.{if◌then◌else◌}
+use Rattle.std.proofs.Common.{◌+◌, ◌≡◌, inl, inr, true, false, ℕ, ◌<◌, ◌≤◌, Bool, Some, List, [], ◌∷◌, ◌++◌, refl, ap, sym, subst, ◌∙◌, arith, Option, None}
+use Rattle.std.specs.Prelude.{if◌then◌else◌, nat_lt}
+use Rattle.std.proofs.lemmas.Bool.Decides.{nat_tests}
 use Rattle.std.proofs.lemmas.List.{append-nil}
 use Rattle.radio_settings.specs.declared.settings.Settings.{Settings}
 use Rattle.radio_access.specs.Lists.{Lists}
+use Rattle.radio_seats.specs.declared.seat.Seat.{Seat}
+use Rattle.radio_seats.specs.Seats.{seat_of}
 use Rattle.radio_events.specs.declared.event.Event.{Event}
 use Rattle.radio_events.specs.declared.event.Event.TheVariants.{Arrive, Source, Push, SourceEnd, Title, Listen, Draw, Command, Leave}
 use Rattle.radio_events.specs.declared.event.Event.TheVariants.{RelayUp, RelayDown, Clock}
@@ -49,6 +52,17 @@ after_joined : (w : World) (events more : List Event) → world_after_all w (eve
 after_joined w [] more = refl
 after_joined w (event ∷ events) more = after_joined (world_after w event) events more
 
+-- who has a seat has a number that was given
+pub given_number : (w : World) → IsSound w → (id : ℕ) (seat : Seat) → seat_of w.seats id ≡ Some seat → id ≤ w.house.last_id
+given_number w s id seat has = by_order (nat_lt w.house.last_id id) refl where
+  by_order : (above : Bool) → nat_lt w.house.last_id id ≡ above → id ≤ w.house.last_id
+  by_order true above =
+      let high : w.house.last_id < id = grind (arith, nat_tests) in
+      let unknown : standing_of w id ≡ Unknown = s.numbered id high in
+      let sat : standing_of w id ≡ Sits = s.sitting id seat has in
+      cc
+  by_order false above = grind (arith, nat_tests)
+
 -- who leaves is gone
 left_by : (w : World) (id : ℕ) → id ≤ w.house.last_id → (s : Standing) → standing_of w id ≡ s → HasLeft (changed w (leaves_from id s).change) id
 left_by w id given Unknown e = (given, e)
@@ -78,7 +92,7 @@ module _ (w : World) (id : ℕ) (given : id ≤ w.house.last_id) where
   relay_at_once true noted = down_by w id given (standing_of w id) refl noted
   relay_at_once false noted = cc
 
-left_at_once : (w : World) (id : ℕ) → id ≤ w.house.last_id → (event : Event) → Leaving w id event → HasLeft (world_after w event) id
+pub left_at_once : (w : World) (id : ℕ) → id ≤ w.house.last_id → (event : Event) → Leaving w id event → HasLeft (world_after w event) id
 unfolding world_after reply_to outcome
 left_at_once w id given event (AsClient no_relay) = client_at_once w id given (has_relay w id) no_relay
 left_at_once w id given event (AsRelay noted) = relay_at_once w id given (has_relay w id) noted

@@ -19,7 +19,7 @@ use Rattle.radio_events.specs.declared.reply.Reply.TheVariants.{Arrived, Feeding
 use Rattle.radio_events.specs.declared.text.Text.{Text}
 use Rattle.radio_events.specs.Events.{client_in}
 use Rattle.radio_house.specs.declared.standing.Standing.TheVariants.{Undecided, Sits}
-use Rattle.radio_house.specs.Facts.{rows_to_arrive, rows_to_feed, rows_to_raise, rows_to_listen, walks_to}
+use Rattle.radio_house.specs.Facts.{rows_to_arrive, rows_to_feed, rows_to_raise, walks_to}
 use Rattle.radio_house.specs.Waiting.{heard_at}
 use Rattle.radio_house.specs.World.{World, standing_of}
 use Rattle.radio_facts.specs.Streams.{interval_for, head_of}

@@ -34,6 +34,7 @@ mod SightLemmas
 mod SliceLemmas
 mod StayingOn
 mod StretchLemmas
+mod TableSteps
 mod TickEnds
 mod TickOrder
 mod TitleLemmas
