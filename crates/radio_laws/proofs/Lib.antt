@@ -13,6 +13,7 @@ mod FallbackLemmas
 mod GoneLemmas
 mod GrantedLemmas
 mod HeardLaws
+mod HouseSteps
 mod InTime
 mod KilledLemmas
 mod LastMountLemmas

@@ -11,7 +11,7 @@ use Rattle.radio_tables.proofs.KeyLaws.{by_number, by_name}
 use Rattle.radio_seats.specs.declared.seat.Listener.{Listener}
 use Rattle.radio_seats.specs.declared.seat.Seat.{Seat}
 use Rattle.radio_seats.specs.Seats.{seats_at, count_at, SitsAs, has_user, sits_there, with_session_at, AreByNumber}
-use Rattle.radio_seats.proofs.CountLaws.{NobodyCame, nobody_came_hearing, nobody_came_leaving}
+use Rattle.radio_seats.proofs.CountLaws.{NobodyCame, nobody_came, nobody_came_hearing, nobody_came_leaving}
 use Rattle.radio_seats.proofs.CountLaws.{one_more_at, no_more_elsewhere, nobody_sits_as}
 use Rattle.radio_fallback.specs.Walk.{MaySit, is_full, is_twice_for, sits_already}
 use Rattle.radio_events.specs.declared.event.Event.{Event}
@@ -211,7 +211,7 @@ module _ (w : World) (s : IsSound w) (l : Within w) where
   within_here seats came = within_still (world w.house seats) refl came
 
   within_by : (event : Event) (seats : List Listener) → TableStep w event seats → Within (world w.house seats)
-  within_by event seats IsUntouched = l
+  within_by event seats IsUntouched = within_here seats (nobody_came w.seats)
   within_by event seats (AreEnded p rule) = within_here seats (nobody_came_ending p rule w.seats)
   within_by event seats (IsEnded him rule) = within_here seats (nobody_came_losing w him rule)
   within_by event seats (AreCarried house move same) =
