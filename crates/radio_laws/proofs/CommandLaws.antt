@@ -1,9 +1,8 @@
 -- the law of commands
-use Rattle.std.proofs.Common.{◌≡◌, ◌↔◌, ◌⊎◌, inl, inr, Bool, true, false, ℕ, ◌≤◌, ◌<◌, Option, Some, None, List, refl, ap, sym, subst, ◌∙◌, arith, is_some, [], ◌∷◌}
-use Rattle.std.specs.Prelude.{nat_lt, ◌||◌, not}
+use Rattle.std.proofs.Common.{◌≡◌, ◌↔◌, ◌⊎◌, inl, inr, Bool, true, false, ℕ, Option, Some, None, List, refl, ap, sym, subst, ◌∙◌, arith, is_some, [], ◌∷◌}
+use Rattle.std.specs.Prelude.{◌||◌, not}
 use Rattle.std.specs.Str.{bytes_eq}
 use Rattle.std.proofs.lemmas.Bool.{and_parts}
-use Rattle.std.proofs.lemmas.Bool.Decides.{nat_tests}
 use Rattle.std.proofs.lemmas.Slice.Eq.{bytes_eq-Decides}
 use Rattle.radio_policy.specs.declared.judgement.Verdict.TheVariants.{Allow}
 use Rattle.radio_policy.specs.Table.{row}
@@ -19,7 +18,7 @@ use Rattle.radio_events.specs.declared.command.Command.{Command as TheCommand}
 use Rattle.radio_events.specs.declared.command.Command.TheVariants.{MoveClients, KillClient, KillSource, SetTitle, SetFallback, AddUser, DeleteUser}
 use Rattle.radio_events.specs.declared.event.Event.{Event}
 use Rattle.radio_changes.specs.declared.change.Change.TheVariants.{Obey}
-use Rattle.radio_house.specs.declared.standing.Standing.TheVariants.{Unknown, Sits, Answered, Finished}
+use Rattle.radio_house.specs.declared.standing.Standing.TheVariants.{Answered, Finished}
 use Rattle.radio_changes.specs.Changes.{answered, carried_along, changed, session_over}
 use Rattle.radio_core.specs.Allowed.{IsCommanded}
 use Rattle.radio_facts.specs.CommandFacts.{opened_by, opens_as_source, is_live, sits_at}
@@ -49,7 +48,7 @@ use Rattle.radio_core.specs.Step.{world_after}
 use Rattle.radio_house.specs.World.{World, standing_of}
 use Rattle.radio_core.proofs.Obeyed.{is_another, his_seat, has_been_killed, sits_no_more, beside_him, live, is_cut, named, turned, title_live, is_answered}
 use Rattle.radio_core.proofs.SoundRuns.{sound_after}
-use Rattle.radio_laws.proofs.GoneLemmas.{last_rises}
+use Rattle.radio_laws.proofs.GoneLemmas.{given_number, last_rises}
 use Rattle.radio_laws.proofs.KilledLemmas.{IsOver, hears_no_more}
 use Rattle.radio_laws.specs.Commanded.{MayGive, IsLive, IsThere, AsTheAdmin, ItsTitle, ItsFallback, IsGivenByRight, OnlyWhoMayCommands, IsSourceKilled, HasDone, mount_of, StaysBeside, CommandsAreKept, KilledHearNothing}
 use Rattle.radio_creds.specs.UserList.{UserList, with_user, without_user}
@@ -323,17 +322,6 @@ commands_are_kept w s event command c = record {
   answered = after w event c (λ later. standing_of later c.asked.id ≡ Answered) (is_answered w s event command c);
   beside = after w event c (λ later. StaysBeside w later (mount_of command)) (stays_beside w s event command c);
 }
-
--- who has a seat has a number that was given
-given_number : (w : World) → IsSound w → (id : ℕ) (seat : Seat) → seat_of w.seats id ≡ Some seat → id ≤ w.house.last_id
-given_number w s id seat has = by_order (nat_lt w.house.last_id id) refl where
-  by_order : (above : Bool) → nat_lt w.house.last_id id ≡ above → id ≤ w.house.last_id
-  by_order true above =
-      let high : w.house.last_id < id = grind (arith, nat_tests) in
-      let unknown : standing_of w id ≡ Unknown = s.numbered id high in
-      let sat : standing_of w id ≡ Sits = s.sitting id seat has in
-      cc
-  by_order false above = grind (arith, nat_tests)
 
 pub killed_hear_nothing : (w : World) → IsSound w → (event : Event) → KilledHearNothing w event
 killed_hear_nothing w s event mount id c more =

@@ -1,9 +1,12 @@
 -- the law of those who have left
-use Rattle.std.proofs.Common.{◌+◌, ◌≡◌, inl, inr, true, false, ℕ, ◌≤◌, Bool, Some, List, [], ◌∷◌, ◌++◌, refl, ap, sym, subst, ◌∙◌, arith, Option, None}
-use Rattle.std.specs.Prelude.{if◌then◌else◌}
+use Rattle.std.proofs.Common.{◌≡◌, inl, inr, true, false, ℕ, ◌<◌, ◌≤◌, Bool, Some, List, [], ◌∷◌, ◌++◌, refl, ap, sym, subst, ◌∙◌, arith, Option, None}
+use Rattle.std.specs.Prelude.{if◌then◌else◌, nat_lt}
+use Rattle.std.proofs.lemmas.Bool.Decides.{nat_tests}
 use Rattle.std.proofs.lemmas.List.{append-nil}
 use Rattle.radio_settings.specs.declared.settings.Settings.{Settings}
 use Rattle.radio_access.specs.Lists.{Lists}
+use Rattle.radio_seats.specs.declared.seat.Seat.{Seat}
+use Rattle.radio_seats.specs.Seats.{seat_of}
 use Rattle.radio_events.specs.declared.event.Event.{Event}
 use Rattle.radio_events.specs.declared.event.Event.TheVariants.{Arrive, Source, Push, SourceEnd, Title, Listen, Draw, Command, Leave}
 use Rattle.radio_events.specs.declared.event.Event.TheVariants.{RelayUp, RelayDown, Clock}
@@ -15,11 +18,8 @@ use Rattle.radio_core.specs.declared.outcome.Outcome.{Outcome}
 use Rattle.radio_house.specs.declared.standing.Standing.{Standing}
 use Rattle.radio_house.specs.declared.standing.Standing.TheVariants.{Unknown, Undecided, Feeds, Sits, Answered, Finished}
 use Rattle.radio_house.specs.World.{World, standing_of, has_relay}
-use Rattle.radio_changes.specs.Changes.{changed, session_ended, session_begun, session_raised}
-use Rattle.radio_house.specs.Streams.{shown_for}
+use Rattle.radio_changes.specs.Changes.{changed, session_ended}
 use Rattle.radio_house.specs.House.{House}
-use Rattle.radio_core.proofs.CommandLemmas.{obeyed_last}
-use Rattle.radio_core.proofs.CalledHome.{house_called}
 use Rattle.radio_laws.specs.Gone.{Leaving, AsClient, AsRelay, HasLeft, IsOutOfPlace, StaysGone}
 use Rattle.radio_core.specs.Handing.{data_in, block_in, handed_at, handed, delivered_at, delivered}
 use Rattle.radio_core.specs.Leave.{leaves_from}
@@ -27,7 +27,6 @@ use Rattle.radio_core.specs.Others.{StandsOn}
 use Rattle.radio_core.specs.Run.{world_after_all, run_after}
 use Rattle.radio_core.specs.Sound.{IsSound}
 use Rattle.radio_core.specs.Step.{outcome, reply_to, world_after}
-use Rattle.radio_core.specs.Ways.{Way, Misplaced, IsFinished, IsDenied, IsRefused, IsAdmitted, Begins, ComesUp, Receives, SetsTitle, TakesSeat, HandsOut, Ends, EndsAndLeaves, Leaves, GoesDown, Obeys, Shows, HasPassed, Ticks}
 use Rattle.radio_settings.specs.Web.{web_path}
 use Rattle.radio_settings.specs.declared.web.WebPath.{WebPath}
 use Rattle.radio_events.specs.declared.event.ListenRequest.{ListenRequest}
@@ -40,14 +39,24 @@ use Rattle.radio_core.proofs.FinishLemmas.{others_hold, known_before}
 use Rattle.radio_core.proofs.ReplyLemmas.{replies_fit}
 use Rattle.radio_core.proofs.SoundRuns.{sound_after}
 use Rattle.radio_core.proofs.Standings.{turns_forgotten}
-use Rattle.radio_core.proofs.TickLemmas.{ticked_fates}
-use Rattle.radio_core.proofs.Ways.{way_of}
 use Rattle.radio_core.proofs.OwnLemmas.{by_own, not_of, nothing_of}
+use Rattle.radio_laws.proofs.HouseSteps.{HouseStep, IsAlike, GivesNumber, SetsFallback, house_step}
 
 -- runs are joined
 after_joined : (w : World) (events more : List Event) → world_after_all w (events ++ more) ≡ world_after_all (world_after_all w events) more
 after_joined w [] more = refl
 after_joined w (event ∷ events) more = after_joined (world_after w event) events more
+
+-- who has a seat has a number that was given
+pub given_number : (w : World) → IsSound w → (id : ℕ) (seat : Seat) → seat_of w.seats id ≡ Some seat → id ≤ w.house.last_id
+given_number w s id seat has = by_order (nat_lt w.house.last_id id) refl where
+  by_order : (above : Bool) → nat_lt w.house.last_id id ≡ above → id ≤ w.house.last_id
+  by_order true above =
+      let high : w.house.last_id < id = grind (arith, nat_tests) in
+      let unknown : standing_of w id ≡ Unknown = s.numbered id high in
+      let sat : standing_of w id ≡ Sits = s.sitting id seat has in
+      cc
+  by_order false above = grind (arith, nat_tests)
 
 -- who leaves is gone
 left_by : (w : World) (id : ℕ) → id ≤ w.house.last_id → (s : Standing) → standing_of w id ≡ s → HasLeft (changed w (leaves_from id s).change) id
@@ -78,7 +87,7 @@ module _ (w : World) (id : ℕ) (given : id ≤ w.house.last_id) where
   relay_at_once true noted = down_by w id given (standing_of w id) refl noted
   relay_at_once false noted = cc
 
-left_at_once : (w : World) (id : ℕ) → id ≤ w.house.last_id → (event : Event) → Leaving w id event → HasLeft (world_after w event) id
+pub left_at_once : (w : World) (id : ℕ) → id ≤ w.house.last_id → (event : Event) → Leaving w id event → HasLeft (world_after w event) id
 unfolding world_after reply_to outcome
 left_at_once w id given event (AsClient no_relay) = client_at_once w id given (has_relay w id) no_relay
 left_at_once w id given event (AsRelay noted) = relay_at_once w id given (has_relay w id) noted
@@ -122,34 +131,13 @@ module _ (w : World) (id : ℕ) (unknown : standing_of w id ≡ Unknown) where
   strays (Clock ms) e = cc
 
 -- numbers are not taken back
-low_by : (w : World) → IsSound w → (event : Event) (o : Outcome) → Way w event o → w.house.last_id ≤ (changed w o.change).house.last_id
-low_by w s event o (IsAdmitted peer allowed) = omega arith
-low_by w s event o (Misplaced _) = omega arith
-low_by w s event o (IsFinished _ him by its known) = omega arith
-low_by w s event o (IsDenied _ by v nobody) = omega arith
-low_by w s event o (IsRefused _ him by v its undecided) = omega arith
-low_by w s event o (Begins asked undecided none allowed) =
-    let up = session_begun w asked.id asked.mount (shown_for w.house asked.mount asked.shown) in
-    let last = ap (λ (h : House). h.last_id) (house_called up asked.mount) in omega (arith, last)
-low_by w s event o (ComesUp mount shown unfed allowed) =
-    let up = session_raised w (w.house.last_id + 1) mount (shown_for w.house mount shown) in
-    let last = ap (λ (h : House). h.last_id) (house_called up mount) in omega (arith, last)
-low_by w s event o (Receives him mount block feeding) = omega arith
-low_by w s event o (SetsTitle him mount text feeding) = omega arith
-low_by w s event o (Shows _ asker peer text its undecided what) = omega arith
-low_by w s event o (Obeys _ command c) = let last = obeyed_last w c.asked.id command in omega (arith, last)
-low_by w s event o (HasPassed ms e) = omega arith
-low_by w s event o (Ticks ms e) = let last = (ticked_fates w s ms).last in omega (arith, last)
-low_by w s event o (TakesSeat asked peer session undecided lands live allowed) = omega arith
-low_by w s event o (HandsOut him room seat session sits has live) = omega arith
-low_by w s event o (Ends him mount feeding no_relay) = omega arith
-low_by w s event o (EndsAndLeaves _ him mount closes feeding) = omega arith
-low_by w s event o (Leaves him no_relay other) = omega arith
-low_by w s event o (GoesDown him by_rule relay over) = omega arith
+low_by : (w : World) (event : Event) (house : House) → HouseStep w event house → w.house.last_id ≤ house.last_id
+low_by w event house (IsAlike sets same) = omega (arith, same)
+low_by w event house (GivesNumber sets next) = omega (arith, next)
+low_by w event house (SetsFallback mount fallback c sets same) = omega (arith, same)
 
 pub last_rises : (w : World) → IsSound w → (event : Event) → w.house.last_id ≤ (world_after w event).house.last_id
-unfolding world_after
-last_rises w s event = low_by w s event (outcome w event) (way_of w event)
+last_rises w s event = low_by w event (world_after w event).house (house_step w event)
 
 -- what is of nobody else, and what brings nothing
 pub his_own : {A : Type 0} (b : Bool) (brought : List A) → b ≡ true → brought ≡ (if b then brought else [])

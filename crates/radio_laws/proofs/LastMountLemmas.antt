@@ -1,57 +1,45 @@
 -- where a listener sat last
-use Rattle.std.proofs.Common.{◌+◌, ◌++◌, ◌≡◌, Bool, true, false, ℕ, ◌==◌, Option, Some, None, List, [], ◌∷◌, refl, ap, sym, subst, ◌∙◌}
-use Rattle.std.specs.Prelude.{if◌then◌else◌, fold, length, nat_lt}
+use Rattle.std.proofs.Common.{◌++◌, ◌≡◌, Bool, true, false, ℕ, ◌==◌, Option, Some, None, List, [], ◌∷◌, refl, ap, sym, subst, ◌∙◌}
+use Rattle.std.specs.Prelude.{if◌then◌else◌, fold, nat_lt}
 use Rattle.std.specs.Option.{option_map}
 use Rattle.std.proofs.lemmas.List.Sums.{fold-append}
-use Rattle.radio_policy.specs.declared.rule.Rule.TheVariants.{Lagged, TimeOver, Killed, ListenerPassword}
+use Rattle.radio_policy.specs.declared.rule.Rule.TheVariants.{TimeOver}
 use Rattle.radio_settings.specs.Options.{options_for}
 use Rattle.radio_tables.proofs.KeyLaws.{by_number}
 use Rattle.radio_seats.specs.declared.seat.Listener.{Listener}
 use Rattle.radio_seats.specs.declared.seat.Seat.{Seat}
 use Rattle.radio_seats.specs.declared.seat.Seating.{Seating}
 use Rattle.radio_seats.specs.declared.seat.Seating.TheVariants.{Sits as HasSeat, Finished as HasLostIt}
-use Rattle.radio_seats.specs.Seats.{listener_of, seat_held, seat_in, seat_of, last_mount, last_mount_of, with_session_at, AreByNumber}
+use Rattle.radio_seats.specs.Seats.{listener_of, seat_held, seat_in, seat_of, last_mount, last_mount_of, with_session_at, without_listener, AreByNumber}
 use Rattle.radio_seats.proofs.EndLaws.{had_seat, kept_seat}
 use Rattle.radio_seats.proofs.SeatLaws.{beside_left, beside_seated, listener_seated}
 use Rattle.radio_fallback.specs.declared.moves.Move.{Move}
-use Rattle.radio_fallback.specs.declared.moves.Move.TheVariants.{Ended, Up, To}
-use Rattle.radio_parts.specs.Sessions.{Session, session_of}
+use Rattle.radio_fallback.specs.declared.moves.Move.TheVariants.{Ended, Up}
+use Rattle.radio_parts.specs.Sessions.{Session}
 use Rattle.radio_parts.proofs.NumberOrder.{order_ended}
-use Rattle.radio_parts.specs.Stream.{data_at}
-use Rattle.radio_parts.specs.Timeouts.{lags_behind, has_sat_out}
+use Rattle.radio_parts.specs.Timeouts.{has_sat_out}
 use Rattle.radio_house.specs.House.{House}
 use Rattle.radio_house.specs.Facts.{sight_of}
-use Rattle.radio_house.specs.HouseChanges.{begun, raised}
-use Rattle.radio_house.specs.Outsiders.{is_shut_out}
-use Rattle.radio_house.specs.Streams.{shown_for}
-use Rattle.radio_house.specs.declared.standing.Standing.{Standing}
-use Rattle.radio_house.specs.declared.standing.Standing.TheVariants.{Unknown, Undecided, Feeds, Sits}
-use Rattle.radio_house.specs.World.{World, world, standing_of, has_relay}
+use Rattle.radio_house.specs.declared.standing.Standing.TheVariants.{Undecided, Sits}
+use Rattle.radio_house.specs.World.{World, world, standing_of}
 use Rattle.radio_addr.specs.declared.peer.Peer.{Peer}
-use Rattle.radio_events.specs.declared.command.Command.{Command as TheCommand}
-use Rattle.radio_events.specs.declared.command.Command.TheVariants.{MoveClients, KillClient, KillSource, SetTitle as NewTitle, SetFallback, AddUser, DeleteUser}
 use Rattle.radio_events.specs.declared.event.Event.{Event}
-use Rattle.radio_events.specs.declared.event.Event.TheVariants.{Leave, RelayDown, Clock}
-use Rattle.radio_events.specs.declared.reply.Reply.TheVariants.{Noted}
-use Rattle.radio_changes.specs.declared.change.Change.TheVariants.{Nothing, Obey, Forget, Tick}
-use Rattle.radio_changes.specs.Changes.{answered, changed, carried_along, session_over, called_home, before_silence, silent_in, session_silenced, session_killed}
-use Rattle.radio_changes.specs.Changes.{user_added, user_deleted, ticked}
-use Rattle.radio_core.specs.declared.outcome.Outcome.{Outcome}
+use Rattle.radio_events.specs.declared.event.Event.TheVariants.{Clock}
+use Rattle.radio_changes.specs.declared.change.Change.TheVariants.{Nothing, Tick}
+use Rattle.radio_changes.specs.Changes.{changed, carried_along, session_over, session_ended, called_home, before_silence, silent_in, session_silenced, ticked}
 use Rattle.radio_core.specs.Listen.{first_seat}
 use Rattle.radio_core.specs.Moves.{Brings, ByItsEnd, ByItsLeaving, BySilence, ByComingUp, ByRelayUp, ByKilling, ByMoving}
-use Rattle.radio_core.specs.Outcomes.{says}
 use Rattle.radio_core.specs.Sound.{IsSound}
-use Rattle.radio_core.specs.Step.{outcome, reply_to, world_after}
-use Rattle.radio_core.specs.Ways.{Way, Misplaced, IsFinished, IsDenied, IsRefused, IsAdmitted, Begins, ComesUp, Receives, SetsTitle, TakesSeat, HandsOut, Ends}
-use Rattle.radio_core.specs.Ways.{EndsAndLeaves, Leaves, GoesDown, Obeys, Shows, HasPassed, Ticks}
+use Rattle.radio_core.specs.Step.{outcome, world_after}
 use Rattle.radio_core.proofs.CarriedFates.{order_carried}
 use Rattle.radio_core.proofs.SoundRuns.{sound_after}
-use Rattle.radio_core.proofs.Standings.{turns_forgotten}
-use Rattle.radio_core.proofs.Ways.{way_of}
-use Rattle.radio_laws.specs.Gone.{Leaving, AsClient, AsRelay}
+use Rattle.radio_laws.specs.Gone.{Leaving}
+use Rattle.radio_laws.proofs.GoneLemmas.{given_number, left_at_once}
 use Rattle.radio_laws.proofs.HeardLaws.{order_given}
 use Rattle.radio_laws.proofs.WalkingOnLemmas.{order_silenced, closes_no_clock}
 use Rattle.radio_laws.proofs.RowSteps.{RowStep, IsSame, none_changed, last_at, step_ended, step_carried, step_lost, step_heard, step_given}
+use Rattle.radio_laws.proofs.TableSteps.{TableStep, IsUntouched, AreEnded, IsEnded, AreCarried, AreGiven, SitsDown, IsHanded}
+use Rattle.radio_laws.proofs.TableSteps.{IsGone, SourceIsGone, HasTicked, table_step}
 use Rattle.radio_laws.specs.LastMounts.{IsLastWhereHeSits, FinishedWhereHeSat, EndedByClockWhereTheySat, FinishedRowsStay}
 
 -- who has no seat is left alone by the ends of sessions
@@ -71,24 +59,20 @@ seatless w s id elsewhere = by_seat (seat_of w.seats id) refl where
   by_seat (Some seat) has = absurd (elsewhere (s.sitting id seat has))
 
 -- what an event makes of the row of one who is a listener already: the clock does several things, one after another
-data EventStep (w : World) (event : Event) (id : ℕ) (later : World) : Type 0 where
-  AtOnce : RowStep (listener_of w.seats id) (listener_of later.seats id) → EventStep w event id later
-  HasLeft : Leaving w id event → standing_of later id ≡ Unknown → EventStep w event id later
-  AtAMoment : (ms : ℕ) → event ≡ Clock ms → later ≡ ticked w ms → EventStep w event id later
+data EventStep (w : World) (event : Event) (id : ℕ) (later : List Listener) : Type 0 where
+  AtOnce : RowStep (listener_of w.seats id) (listener_of later id) → EventStep w event id later
+  Leaves : Leaving w id event → EventStep w event id later
+  AtAMoment : (ms : ℕ) → event ≡ Clock ms → later ≡ (ticked w ms).seats → EventStep w event id later
 
-module _ (w : World) (s : IsSound w) (id : ℕ) (asks : (peer : Peer) → standing_of w id ≡ Undecided peer → ⊥)
-    (feeds : (mount : List ℕ) → standing_of w id ≡ Feeds mount → ⊥) where
-  -- who stands otherwise is another
-  another : (him : ℕ) (now : Standing) → standing_of w him ≡ now → (standing_of w id ≡ now → ⊥) → (him == id) ≡ false
-  another him now stands other = by_number him id (λ same. absurd (other (ap (standing_of w) (sym same) ∙ stands))) (λ apart. apart)
+module _ (w : World) (s : IsSound w) (id : ℕ) (asks : (peer : Peer) → standing_of w id ≡ Undecided peer → ⊥) where
+  abbrev StepsTo : List Listener → Type 0
+  StepsTo later = RowStep (listener_of w.seats id) (listener_of later id)
 
-  abbrev StepsTo : World → Type 0
-  StepsTo later = RowStep (listener_of w.seats id) (listener_of later.seats id)
+  -- whoever sits down is another
+  another : (him : ℕ) (peer : Peer) → standing_of w him ≡ Undecided peer → (him == id) ≡ false
+  another him peer undecided = by_number him id (λ same. absurd (asks peer (ap (standing_of w) (sym same) ∙ undecided))) (λ apart. apart)
 
-  over : (mount : List ℕ) → StepsTo (carried_along (session_over w mount) (Ended mount))
-  over mount = step_carried w.seats id (sight_of (session_over w mount).house) (Ended mount) s.by_number
-
-  home : (house : House) (mount : List ℕ) (session : ℕ) → StepsTo (called_home (world house (with_session_at w.seats mount session)) mount)
+  home : (house : House) (mount : List ℕ) (session : ℕ) → StepsTo (called_home (world house (with_session_at w.seats mount session)) mount).seats
   home house mount session = step_given w.seats id mount session _ (by_setting (options_for house.settings mount).listeners.fallback_override) where
     given : List Listener
     given = with_session_at w.seats mount session
@@ -98,67 +82,29 @@ module _ (w : World) (s : IsSound w) (id : ℕ) (asks : (peer : Peer) → standi
     by_setting true = step_carried given id (sight_of house) (Up mount) (order_given mount session w.seats s.by_number)
     by_setting false = IsSame refl
 
-  killed : (him : ℕ) (found : Option Session) → StepsTo (session_killed (answered w him) found)
-  killed him None = IsSame refl
-  killed him (Some session) =
-      step_carried w.seats id (sight_of (session_over (answered w him) session.mount).house) (Ended session.mount) s.by_number
-
-  by_command : (him : ℕ) (command : TheCommand) → StepsTo (changed w (Obey him command))
-  by_command him (MoveClients mount destination) = step_carried w.seats id (sight_of (answered w him).house) (To mount destination) s.by_number
-  by_command him (KillClient mount listener) = step_lost w.seats id listener Killed
-  by_command him (KillSource mount) = killed him (session_of w.house.live mount)
-  by_command him (NewTitle mount text) = IsSame refl
-  by_command him (SetFallback mount fallback) = IsSame refl
-  by_command him (AddUser mount user password) =
-      step_ended w.seats id (is_shut_out (user_added (answered w him) mount user password).house.lists mount) ListenerPassword
-  by_command him (DeleteUser mount user) =
-      step_ended w.seats id (is_shut_out (user_deleted (answered w him) mount user).house.lists mount) ListenerPassword
-
-  gone_down : (him : ℕ) → him ≡ id → outcome w (RelayDown him) ≡ says Noted (Forget him) → reply_to w (RelayDown id) ≡ Noted
-  unfolding reply_to
-  gone_down him same is = ap (λ (n : ℕ). (outcome w (RelayDown n)).reply) (sym same) ∙ ap (λ (x : Outcome). x.reply) is
-
-  forgotten : (him : ℕ) → him ≡ id → standing_of (changed w (Forget him)) id ≡ Unknown
-  forgotten him same = ap (standing_of (changed w (Forget him))) (sym same) ∙ (turns_forgotten w him).his
-
-  by_way : (event : Event) (o : Outcome) → Way w event o → outcome w event ≡ o → EventStep w event id (changed w o.change)
-  by_way event o (Misplaced _) is = AtOnce (IsSame refl)
-  by_way event o (IsFinished _ him by its told) is = AtOnce (IsSame refl)
-  by_way event o (IsDenied _ by verdict nobody) is = AtOnce (IsSame refl)
-  by_way event o (IsRefused _ him by verdict its undecided) is = AtOnce (IsSame refl)
-  by_way event o (IsAdmitted peer allowed) is = AtOnce (IsSame refl)
-  by_way event o (Begins asked undecided none allowed) is =
-      AtOnce (home (begun w.house asked.id asked.mount (shown_for w.house asked.mount asked.shown)) asked.mount asked.id)
-  by_way event o (ComesUp mount shown unfed allowed) is =
-      AtOnce (home (raised w.house (w.house.last_id + 1) mount (shown_for w.house mount shown)) mount (w.house.last_id + 1))
-  by_way event o (Receives him mount block feeding) is =
-      AtOnce (step_ended w.seats id (lags_behind mount _ w.house.settings.limits.queue_size) Lagged)
-  by_way event o (SetsTitle him mount text feeding) is = AtOnce (IsSame refl)
-  by_way event o (TakesSeat asked peer session undecided lands live allowed) is =
-      AtOnce (IsSame (beside_seated w.seats asked.id id (another asked.id (Undecided peer) undecided (asks peer)) (first_seat w.house asked peer session)))
-  by_way event o (HandsOut him room seat session sits has live) is =
-      AtOnce (step_heard w.seats id him (seat.place + length (data_at session.stream seat.place room)) seat has)
-  by_way event o (Ends him mount feeding no_relay) is = AtOnce (over mount)
-  by_way event o (EndsAndLeaves _ him mount closes feeding) is =
-      let after = carried_along (session_over w mount) (Ended mount) in
-      AtOnce (rw (beside_left after.seats him id (another him (Feeds mount) feeding (feeds mount))) (over mount))
-  by_way event o (Leaves him no_relay other) is =
+  unless_gone : (event : Event) (him : ℕ) (seats : List Listener) → Leaving w him event → StepsTo seats → EventStep w event id (without_listener seats him)
+  unless_gone event him seats leaving step =
       by_number him id
-      (λ same. HasLeft (subst (λ (n : ℕ). Leaving w id (Leave n)) (sym same) (AsClient (subst (λ (n : ℕ). has_relay w n ≡ false) same no_relay)))
-      (forgotten him same))
-      (λ apart. AtOnce (IsSame (beside_left w.seats him id apart)))
-  by_way event o (GoesDown him by relay its) is =
-      by_number him id
-      (λ same. HasLeft (subst (λ (n : ℕ). Leaving w id (RelayDown n)) (sym same) (AsRelay (gone_down him same is))) (forgotten him same))
-      (λ apart. AtOnce (IsSame (beside_left w.seats him id apart)))
-  by_way event o (Obeys _ command c) is = AtOnce (by_command c.asked.id command)
-  by_way event o (Shows _ asker peer text its undecided what) is = AtOnce (IsSame refl)
-  by_way event o (HasPassed ms e) is = AtOnce (IsSame refl)
-  by_way event o (Ticks ms e) is = AtAMoment ms refl refl
+      (λ same. Leaves (subst (λ (n : ℕ). Leaving w n event) same leaving))
+      (λ apart. AtOnce (rw (beside_left seats him id apart) step))
 
-  event_step : (event : Event) → EventStep w event id (world_after w event)
-  unfolding world_after
-  event_step event = by_way event (outcome w event) (way_of w event) refl
+  by_table : (event : Event) (later : List Listener) → TableStep w event later → EventStep w event id later
+  by_table event later IsUntouched = AtOnce (IsSame refl)
+  by_table event later (AreEnded p rule) = AtOnce (step_ended w.seats id p rule)
+  by_table event later (IsEnded him rule) = AtOnce (step_lost w.seats id him rule)
+  by_table event later (AreCarried house move same) = AtOnce (step_carried w.seats id (sight_of house) move s.by_number)
+  by_table event later (AreGiven house mount session same) = AtOnce (home house mount session)
+  by_table event later (SitsDown asked peer session undecided lands live) =
+      AtOnce (IsSame (beside_seated w.seats asked.id id (another asked.id peer undecided) (first_seat w.house asked peer session)))
+  by_table event later (IsHanded him place seat has) = AtOnce (step_heard w.seats id him place seat has)
+  by_table event later (IsGone him leaving) = unless_gone event him w.seats leaving (IsSame refl)
+  by_table event later (SourceIsGone him mount leaving) =
+      unless_gone event him (session_ended w mount).seats leaving
+      (step_carried w.seats id (sight_of (session_over w mount).house) (Ended mount) s.by_number)
+  by_table event later (HasTicked ms e) = AtAMoment ms e refl
+
+  event_step : (event : Event) → EventStep w event id (world_after w event).seats
+  event_step event = by_table event (world_after w event).seats (table_step w event)
 
 -- whoever has a seat is last at its mount
 pub last_where_he_sits : (w : World) → IsLastWhereHeSits w
@@ -172,10 +118,10 @@ last_where_he_sits w id seat has =
 -- and so was whoever loses it
 pub finished_where_he_sat : (w : World) → IsSound w → (event : Event) → FinishedWhereHeSat w event
 finished_where_he_sat w s event no_clock id seat rule has over =
-    by_step (event_step w s id (λ peer e. let sat = s.sitting id seat has in cc) (λ mount e. let sat = s.sitting id seat has in cc) event) where
-      by_step : EventStep w event id (world_after w event) → last_mount_of (world_after w event).seats id ≡ Some seat.mount
+    by_step (event_step w s id (λ peer e. let sat = s.sitting id seat has in cc) event) where
+      by_step : EventStep w event id (world_after w event).seats → last_mount_of (world_after w event).seats id ≡ Some seat.mount
       by_step (AtOnce step) = last_at _ _ step seat has (seatless (world_after w event) (sound_after w s event) id (λ sits. cc))
-      by_step (HasLeft leaving unknown) = cc
+      by_step (Leaves leaving) = let gone = (left_at_once w id (given_number w s id seat has) event leaving).1 in cc
       by_step (AtAMoment ms e is) = absurd (no_clock ms e)
 
 -- and by the clock
@@ -252,13 +198,13 @@ ended_by_clock w s ms = record {
 
 -- who was finished stays where he sat last
 pub rows_stay : (w : World) → IsSound w → (event : Event) → FinishedRowsStay w event
-rows_stay w s event id rule over stays = by_step (event_step w s id (λ peer e. cc) (λ mount e. cc) event) where
+rows_stay w s event id rule over stays = by_step (event_step w s id (λ peer e. cc) event) where
   none : seat_of w.seats id ≡ None
   none = seatless w s id (λ sits. cc)
 
-  by_step : EventStep w event id (world_after w event) → listener_of (world_after w event).seats id ≡ listener_of w.seats id
+  by_step : EventStep w event id (world_after w event).seats → listener_of (world_after w event).seats id ≡ listener_of w.seats id
   by_step (AtOnce step) = none_changed _ _ step none
-  by_step (HasLeft leaving unknown) = absurd (stays leaving)
+  by_step (Leaves leaving) = absurd (stays leaving)
   by_step (AtAMoment ms e is) =
       let same = none_changed _ _ (first_step w s ms id) none in
-      ap (λ (later : World). listener_of later.seats id) is ∙ none_ticked w s ms id (ap seat_in same ∙ none) ∙ same
+      ap (λ (seats : List Listener). listener_of seats id) is ∙ none_ticked w s ms id (ap seat_in same ∙ none) ∙ same

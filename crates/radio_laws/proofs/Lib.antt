@@ -14,6 +14,7 @@ mod FallbackLemmas
 mod GoneLemmas
 mod GrantedLemmas
 mod HeardLaws
+mod HouseSteps
 mod InTime
 mod KilledLemmas
 mod LastMountLemmas
@@ -35,6 +36,7 @@ mod SightLemmas
 mod SliceLemmas
 mod StayingOn
 mod StretchLemmas
+mod TableSteps
 mod TickEnds
 mod TickOrder
 mod TitleLemmas

@@ -1,5 +1,5 @@
 -- in every state of a run, no more sit at a mount than may, and nobody sits twice where each may sit once
-use Rattle.std.proofs.Common.{◌+◌, ◌≡◌, Bool, true, false, ℕ, ◌<◌, ◌≤◌, ◌==◌, ◌&&◌, not, Option, Some, None, List, [], ◌∷◌, length, refl, ap}
+use Rattle.std.proofs.Common.{◌≡◌, Bool, true, false, ℕ, ◌<◌, ◌≤◌, ◌==◌, ◌&&◌, not, Option, Some, None, List, [], ◌∷◌, length, refl, ap}
 use Rattle.std.proofs.Common.{sym, subst, ◌∙◌, arith}
 use Rattle.std.proofs.lemmas.Bool.Decides.{nat_tests}
 use Rattle.std.proofs.lemmas.Slice.Eq.{bytes_eq-Decides}
@@ -10,53 +10,48 @@ use Rattle.radio_access.specs.Lists.{Lists}
 use Rattle.radio_tables.proofs.KeyLaws.{by_number, by_name}
 use Rattle.radio_seats.specs.declared.seat.Listener.{Listener}
 use Rattle.radio_seats.specs.declared.seat.Seat.{Seat}
-use Rattle.radio_seats.specs.Seats.{seats_at, count_at, SitsAs, has_user, sits_there, AreByNumber}
+use Rattle.radio_seats.specs.Seats.{seats_at, count_at, SitsAs, has_user, sits_there, with_session_at, AreByNumber}
 use Rattle.radio_seats.proofs.CountLaws.{NobodyCame, nobody_came, nobody_came_hearing, nobody_came_leaving}
 use Rattle.radio_seats.proofs.CountLaws.{one_more_at, no_more_elsewhere, nobody_sits_as}
 use Rattle.radio_fallback.specs.Walk.{MaySit, is_full, is_twice_for, sits_already}
 use Rattle.radio_events.specs.declared.event.Event.{Event}
 use Rattle.radio_events.specs.declared.event.ListenRequest.{ListenRequest}
-use Rattle.radio_core.specs.declared.outcome.Outcome.{Outcome}
-use Rattle.radio_changes.specs.declared.change.Change.TheVariants.{TakeSeat, Obey}
+use Rattle.radio_changes.specs.declared.change.Change.TheVariants.{TakeSeat}
 use Rattle.radio_house.specs.declared.standing.Standing.TheVariants.{Undecided}
 use Rattle.std.specs.Prelude.{if◌then◌else◌, fold}
 use Rattle.std.proofs.lemmas.Bool.{and_parts}
 use Rattle.radio_access.specs.Lists.{lets_in}
 use Rattle.radio_settings.specs.Options.{options_for}
 use Rattle.radio_fallback.specs.declared.moves.Move.{Move}
-use Rattle.radio_fallback.specs.declared.moves.Move.TheVariants.{Ended as SessionEnds, Up, To}
+use Rattle.radio_fallback.specs.declared.moves.Move.TheVariants.{Ended as SessionEnds, Up}
 use Rattle.radio_fallback.proofs.FaresLemmas.{keeps_limit, sit_once}
 use Rattle.radio_fallback.proofs.TurnLemmas.{lands_where_he_fits}
-use Rattle.radio_house.specs.Streams.{shown_for}
-use Rattle.radio_events.specs.declared.command.Command.{Command as TheCommand}
-use Rattle.radio_events.specs.declared.command.Command.TheVariants.{MoveClients, KillClient, KillSource, SetTitle as NewTitle, SetFallback, AddUser, DeleteUser}
-use Rattle.radio_changes.specs.Changes.{answered, session_killed, changed, carried_along, session_over, session_ended, called_home}
-use Rattle.radio_changes.specs.Changes.{before_silence, session_silenced, silent_in, session_begun, session_raised}
+use Rattle.radio_changes.specs.Changes.{changed, carried_along, session_over, session_ended, called_home}
+use Rattle.radio_changes.specs.Changes.{before_silence, session_silenced, silent_in, ticked}
 use Rattle.radio_laws.specs.Limits.{IsWithinLimits, SentUser, SitsThereAs, most_at, allows_duplicates_at}
 use Rattle.radio_core.specs.Listen.{first_seat}
 use Rattle.radio_core.specs.Run.{world_after_all, run_after}
-use Rattle.radio_parts.specs.Sessions.{Session, session_of}
+use Rattle.radio_parts.specs.Sessions.{Session}
 use Rattle.radio_core.specs.Sound.{IsSound}
-use Rattle.radio_core.specs.Step.{outcome, world_after}
-use Rattle.radio_core.specs.Ways.{Way, Misplaced, IsFinished, IsDenied, IsRefused, IsAdmitted, Begins, ComesUp, Receives, SetsTitle, TakesSeat, HandsOut, Ends}
-use Rattle.radio_core.specs.Ways.{EndsAndLeaves, Leaves, GoesDown, Obeys, Shows, HasPassed, Ticks}
-use Rattle.radio_house.specs.World.{World, opening, standing_of}
+use Rattle.radio_core.specs.Step.{world_after}
+use Rattle.radio_house.specs.House.{House}
+use Rattle.radio_house.specs.World.{World, world, opening, standing_of}
 use Rattle.radio_core.proofs.CarriedFates.{order_carried}
 use Rattle.radio_core.proofs.SoundRuns.{sound_after, sound_opening}
-use Rattle.radio_core.proofs.TickLemmas.{sound_sat_out}
-use Rattle.radio_policy.specs.declared.rule.Rule.TheVariants.{Lagged, TimeOver, Killed}
+use Rattle.radio_core.proofs.TickLemmas.{sound_sat_out, ticked_fates}
+use Rattle.radio_policy.specs.declared.rule.Rule.TheVariants.{TimeOver}
 use Rattle.radio_laws.proofs.ObeyLemmas.{nobody_came_losing}
 use Rattle.radio_seats.proofs.EndLaws.{nobody_came_ending}
 use Rattle.radio_house.specs.Facts.{sight_of}
-use Rattle.radio_parts.specs.Timeouts.{lags_behind, has_sat_out}
+use Rattle.radio_parts.specs.Timeouts.{has_sat_out}
 use Rattle.radio_core.proofs.Soundness.{has_new_seat, beside_new_seat}
-use Rattle.radio_core.proofs.Ways.{way_of}
-use Rattle.radio_access.specs.Lists.{with_user_at, without_user_at}
-use Rattle.radio_policy.specs.declared.rule.Rule.TheVariants.{ListenerPassword}
-use Rattle.radio_house.specs.Outsiders.{is_shut_out}
+use Rattle.radio_core.proofs.CalledHome.{house_called}
+use Rattle.radio_core.proofs.SessionSteps.{keeps_settings}
 use Rattle.radio_core.proofs.GivenSeats.{nobody_came_given}
 use Rattle.radio_house.specs.Waiting.{heard_at}
 use Rattle.radio_laws.proofs.HeardLaws.{order_given}
+use Rattle.radio_laws.proofs.TableSteps.{TableStep, IsUntouched, AreEnded, IsEnded, AreCarried, AreGiven, SitsDown, IsHanded}
+use Rattle.radio_laws.proofs.TableSteps.{IsGone, SourceIsGone, HasTicked, table_step}
 
 -- the limits, with users compared as the table does it
 pub record Within (w : World) : Type 0 where
@@ -211,66 +206,38 @@ module _ (w : World) (s : IsSound w) (l : Within w) where
     within_seated : Within later
     within_seated = record { not_too_many = still_room; none_twice = one_each }
 
-  -- a command is done
-  within_killed : (him : ℕ) (found : Option Session) → Within (session_killed (answered w him) found)
-  within_killed him None = within_still (answered w him) refl (nobody_came w.seats)
-  within_killed him (Some session) =
-      other_house (session_ended w session.mount) (session_killed (answered w him) (Some session)) refl refl (within_ended w session.mount s.by_number l)
+  -- whatever an outcome makes of the table, the limits hold of it, in the house as it was
+  within_here : (seats : List Listener) → NobodyCame w.seats seats → Within (world w.house seats)
+  within_here seats came = within_still (world w.house seats) refl came
 
-  within_obeyed : (him : ℕ) (command : TheCommand) → Within (changed w (Obey him command))
-  within_obeyed him (MoveClients mount destination) =
-      other_house (carried_along w (To mount destination)) (changed w (Obey him (MoveClients mount destination))) refl refl
-      (within_carried w (To mount destination) s.by_number l)
-  within_obeyed him (KillClient mount listener) =
-      within_still (changed w (Obey him (KillClient mount listener))) refl (nobody_came_losing w listener Killed)
-  within_obeyed him (KillSource mount) = within_killed him (session_of w.house.live mount)
-  within_obeyed him (NewTitle mount text) = within_still (changed w (Obey him (NewTitle mount text))) refl (nobody_came w.seats)
-  within_obeyed him (AddUser mount user password) =
-      within_still (changed w (Obey him (AddUser mount user password))) refl
-      (nobody_came_ending (is_shut_out (with_user_at w.house.lists mount user password) mount) ListenerPassword w.seats)
-  within_obeyed him (DeleteUser mount user) =
-      within_still (changed w (Obey him (DeleteUser mount user))) refl
-      (nobody_came_ending (is_shut_out (without_user_at w.house.lists mount user) mount) ListenerPassword w.seats)
-  within_obeyed him (SetFallback mount fallback) = within_still (changed w (Obey him (SetFallback mount fallback))) refl (nobody_came w.seats)
-
-  within_by : (event : Event) (o : Outcome) → Way w event o → Within (changed w o.change)
-  within_by event o (Misplaced _) = l
-  within_by event o (IsFinished _ him rule his finished) = l
-  within_by event o (IsDenied _ rule v nobody) = l
-  within_by event o (IsRefused _ him rule v his undecided) = within_still (changed w o.change) refl (nobody_came w.seats)
-  within_by event o (IsAdmitted peer allowed) = within_still (changed w o.change) refl (nobody_came w.seats)
-  within_by event o (Begins asked undecided none allowed) =
-      let up = session_begun w asked.id asked.mount (shown_for w.house asked.mount asked.shown) in
-      within_called up asked.mount (order_given asked.mount asked.id w.seats s.by_number)
-      (within_kept w up l refl (nobody_came_given asked.mount asked.id w.seats))
-  within_by event o (ComesUp mount shown unfed allowed) =
-      let up = session_raised w (w.house.last_id + 1) mount (shown_for w.house mount shown) in
-      let him = w.house.last_id + 1 in
-      within_called up mount (order_given mount him w.seats s.by_number)
-      (within_kept w up l refl (nobody_came_given mount him w.seats))
-  within_by event o (Receives him mount block feeding) =
-      within_still (changed w o.change) refl
-      (nobody_came_ending (lags_behind mount _ w.house.settings.limits.queue_size) Lagged w.seats)
-  within_by event o (Shows _ asker peer text its undecided what) = within_still (changed w o.change) refl (nobody_came w.seats)
-  within_by event o (Obeys _ command c) = within_obeyed c.asked.id command
-  within_by event o (HasPassed ms e) = l
-  within_by event o (Ticks ms e) =
-      within_silence (silent_in (before_silence w ms)) (before_silence w ms) (sound_sat_out w s ms).by_number (within_sat_out ms)
-  within_by event o (SetsTitle him mount text feeding) = within_still (changed w o.change) refl (nobody_came w.seats)
-  within_by event o (TakesSeat asked peer session undecided lands live allowed) =
-      within_seated asked peer session undecided live (lands_where_he_fits (sight_of w.house) w.seats asked.pair asked.mount session.mount lands)
-  within_by event o (HandsOut him room old session sits has live) = within_still (changed w o.change) refl (nobody_came_hearing w.seats him _ old has)
-  within_by event o (Ends him mount feeding no_relay) =
-      other_house (session_ended w mount) (changed w o.change) refl refl (within_ended w mount s.by_number l)
-  within_by event o (EndsAndLeaves _ him mount closes feeding) =
-      within_kept (session_ended w mount) (changed w o.change) (within_ended w mount s.by_number l) refl
+  within_by : (event : Event) (seats : List Listener) → TableStep w event seats → Within (world w.house seats)
+  within_by event seats IsUntouched = within_here seats (nobody_came w.seats)
+  within_by event seats (AreEnded p rule) = within_here seats (nobody_came_ending p rule w.seats)
+  within_by event seats (IsEnded him rule) = within_here seats (nobody_came_losing w him rule)
+  within_by event seats (AreCarried house move same) =
+      let seen = world house w.seats in
+      other_house (carried_along seen move) (world w.house seats) (sym same) refl (within_carried seen move s.by_number (other_house w seen same refl l))
+  within_by event seats (AreGiven house mount session same) =
+      let given = world house (with_session_at w.seats mount session) in
+      let heard = within_still given same (nobody_came_given mount session w.seats) in
+      other_house (called_home given mount) (world w.house seats) (sym (ap (λ (h : House). h.settings) (house_called given mount) ∙ same)) refl
+      (within_called given mount (order_given mount session w.seats s.by_number) heard)
+  within_by event seats (SitsDown asked peer session undecided lands live) =
+      other_house (changed w (TakeSeat asked.id (first_seat w.house asked peer session))) (world w.house seats) refl refl
+      (within_seated asked peer session undecided live (lands_where_he_fits (sight_of w.house) w.seats asked.pair asked.mount session.mount lands))
+  within_by event seats (IsHanded him place seat has) = within_here seats (nobody_came_hearing w.seats him place seat has)
+  within_by event seats (IsGone him leaving) = within_here seats (nobody_came_leaving w.seats him)
+  within_by event seats (SourceIsGone him mount leaving) =
+      within_kept (session_ended w mount) (world w.house seats) (within_ended w mount s.by_number l) refl
       (nobody_came_leaving (session_ended w mount).seats him)
-  within_by event o (Leaves him no_relay other) = within_still (changed w o.change) refl (nobody_came_leaving w.seats him)
-  within_by event o (GoesDown him by_rule relay over) = within_still (changed w o.change) refl (nobody_came_leaving w.seats him)
+  within_by event seats (HasTicked ms e) =
+      other_house (ticked w ms) (world w.house seats) (sym (ticked_fates w s ms).settings) refl
+      (within_silence (silent_in (before_silence w ms)) (before_silence w ms) (sound_sat_out w s ms).by_number (within_sat_out ms))
 
   pub within_after : (event : Event) → Within (world_after w event)
-  unfolding world_after
-  within_after event = within_by event (outcome w event) (way_of w event)
+  within_after event =
+      other_house (world w.house (world_after w event).seats) (world_after w event) (keeps_settings w s event) refl
+      (within_by event (world_after w event).seats (table_step w event))
 
 within_after_all : (w : World) → IsSound w → Within w → (events : List Event) → Within (world_after_all w events)
 within_after_all w s l [] = l

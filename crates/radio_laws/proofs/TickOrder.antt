@@ -48,13 +48,9 @@ use Rattle.radio_core.proofs.HeardApart.{sits_past_zero}
 use Rattle.radio_core.proofs.HeardLemmas.{heard_cases}
 use Rattle.radio_house.specs.Waiting.{is_on_demand}
 use Rattle.radio_laws.proofs.HeardLaws.{nothing_heard}
+use Rattle.radio_laws.proofs.HouseSteps.{silence_keeps}
 use Rattle.radio_laws.proofs.InTime.{in_time}
 use Rattle.radio_laws.proofs.StayingOn.{walks_from}
-
--- the end of sessions leaves the fallbacks as they were set
-pub silence_sets : (sessions : List Session) (v : World) → (fold session_silenced v sessions).house.fallbacks ≡ v.house.fallbacks
-silence_sets [] v = refl
-silence_sets (session ∷ sessions) v = silence_sets sessions (session_silenced v session)
 
 -- who has finished stays so
 module _ (w : World) (s : IsSound w) (ms : ℕ) (from later : World) (f : ClockFates w s ms from later) (id : ℕ) (rule : Rule)
@@ -283,7 +279,7 @@ module _ (w : World) (s : IsSound w) (ms : ℕ) where
         ∙ out_by_fare during mount way.sound way.so_far.settings set_then has there fare)))
         (λ away. inl (still_there id seat during mount way.sound.by_number has away)) where
           set_then : during.house.fallbacks ≡ w.house.fallbacks
-          set_then = ap (λ (v : World). v.house.fallbacks) way.have_ended ∙ silence_sets way.before (before_silence w ms)
+          set_then = ap (λ (v : World). v.house.fallbacks) way.have_ended ∙ (silence_keeps way.before (before_silence w ms)).0
 
           no_source : session.number ≡ id → ⊥
           no_source his =

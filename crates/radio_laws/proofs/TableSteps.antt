@@ -1,0 +1,118 @@
+-- what an outcome makes of the table of listeners
+use Rattle.std.proofs.Common.{◌+◌, ◌≡◌, Bool, ℕ, Option, Some, None, List, refl, ap}
+use Rattle.std.specs.Prelude.{length}
+use Rattle.radio_addr.specs.declared.peer.Peer.{Peer}
+use Rattle.radio_policy.specs.declared.rule.Rule.{Rule}
+use Rattle.radio_policy.specs.declared.rule.Rule.TheVariants.{Lagged, Killed, ListenerPassword}
+use Rattle.radio_seats.specs.declared.seat.Listener.{Listener}
+use Rattle.radio_seats.specs.declared.seat.Seat.{Seat}
+use Rattle.radio_seats.specs.Seats.{seat_of, with_seat, with_place, with_end, with_ended, with_session_at, without_listener}
+use Rattle.radio_fallback.specs.declared.moves.Move.{Move}
+use Rattle.radio_fallback.specs.declared.moves.Move.TheVariants.{Ended as SessionEnds, To}
+use Rattle.radio_fallback.specs.declared.walking.Landing.TheVariants.{Lands}
+use Rattle.radio_fallback.specs.Carry.{carried}
+use Rattle.radio_parts.specs.Sessions.{Session, session_of}
+use Rattle.radio_parts.specs.Stream.{data_at}
+use Rattle.radio_parts.specs.Timeouts.{lags_behind}
+use Rattle.radio_house.specs.Facts.{sight_of, walks_to}
+use Rattle.radio_house.specs.House.{House}
+use Rattle.radio_house.specs.HouseChanges.{begun, raised}
+use Rattle.radio_house.specs.Outsiders.{is_shut_out}
+use Rattle.radio_house.specs.Streams.{shown_for}
+use Rattle.radio_house.specs.Waiting.{heard_at}
+use Rattle.radio_house.specs.declared.standing.Standing.TheVariants.{Undecided}
+use Rattle.radio_house.specs.World.{World, world, standing_of}
+use Rattle.radio_events.specs.declared.command.Command.{Command as TheCommand}
+use Rattle.radio_events.specs.declared.command.Command.TheVariants.{MoveClients, KillClient, KillSource, SetTitle as NewTitle}
+use Rattle.radio_events.specs.declared.command.Command.TheVariants.{SetFallback, AddUser, DeleteUser}
+use Rattle.radio_events.specs.declared.event.Event.{Event}
+use Rattle.radio_events.specs.declared.event.Event.TheVariants.{Clock}
+use Rattle.radio_events.specs.declared.event.ListenRequest.{ListenRequest}
+use Rattle.radio_events.specs.declared.reply.Reply.TheVariants.{Noted}
+use Rattle.radio_changes.specs.declared.change.Change.{Change}
+use Rattle.radio_changes.specs.declared.change.Change.TheVariants.{Obey}
+use Rattle.radio_changes.specs.Changes.{answered, changed, session_over, session_ended, called_home, session_killed, user_added, user_deleted, ticked}
+use Rattle.radio_core.specs.declared.outcome.Outcome.{Outcome}
+use Rattle.radio_core.specs.Closing.{Closes, OfClient, OfRelay}
+use Rattle.radio_core.specs.Listen.{first_seat}
+use Rattle.radio_core.specs.Outcomes.{says}
+use Rattle.radio_core.specs.Step.{outcome, reply_to, world_after}
+use Rattle.radio_core.specs.Ways.{Way, Misplaced, IsFinished, IsDenied, IsRefused, IsAdmitted, Begins, ComesUp, Receives, SetsTitle, TakesSeat, HandsOut, Ends}
+use Rattle.radio_core.specs.Ways.{EndsAndLeaves, Leaves, GoesDown, Obeys, Shows, HasPassed, Ticks}
+use Rattle.radio_core.proofs.Ways.{way_of}
+use Rattle.radio_laws.specs.Gone.{Leaving, AsClient, AsRelay}
+
+pub data TableStep (w : World) (event : Event) : List Listener → Type 0 where
+  -- it is as it was
+  IsUntouched : TableStep w event w.seats
+  -- those lose their seats of whom the test holds
+  AreEnded : (p : Seat → Bool) (rule : Rule) → TableStep w event (with_ended w.seats p rule)
+  -- one loses his seat
+  IsEnded : (him : ℕ) (rule : Rule) → TableStep w event (with_end w.seats him rule)
+  -- a move carries listeners, in a house of the same settings
+  AreCarried : (house : House) (move : Move) → house.settings ≡ w.house.settings → TableStep w event (carried (sight_of house) move w.seats).seats
+  -- those at the mount are given a session that has begun there, and then others are called home, where it calls them
+  AreGiven : (house : House) (mount : List ℕ) (session : ℕ) → house.settings ≡ w.house.settings
+      → TableStep w event (called_home (world house (with_session_at w.seats mount session)) mount).seats
+  -- one sits down where his walk lands
+  SitsDown : (asked : ListenRequest) (peer : Peer) (session : Session) → standing_of w asked.id ≡ Undecided peer
+      → walks_to w.house w.seats asked.mount asked.pair ≡ Lands session.mount → heard_at w.house session.mount ≡ Some session
+      → TableStep w event (with_seat w.seats asked.id (first_seat w.house asked peer session))
+  -- one is handed data, and his place moves on
+  IsHanded : (him place : ℕ) (seat : Seat) → seat_of w.seats him ≡ Some seat → TableStep w event (with_place w.seats him place)
+  -- one who leaves has no row any more
+  IsGone : (him : ℕ) → Leaving w him event → TableStep w event (without_listener w.seats him)
+  -- the session of a source who leaves has ended, and he has no row either
+  SourceIsGone : (him : ℕ) (mount : List ℕ) → Leaving w him event → TableStep w event (without_listener (session_ended w mount).seats him)
+  -- the clock ends seats, and then sessions, one after another
+  HasTicked : (ms : ℕ) → event ≡ Clock ms → TableStep w event (ticked w ms).seats
+
+module _ (w : World) where
+  -- whoever's connection is closed leaves, where that is noted
+  leaves_by : (event : Event) (him : ℕ) (change : Change) → Closes w him event → outcome w event ≡ says Noted change → Leaving w him event
+  unfolding reply_to
+  leaves_by event him change (OfClient no_relay) is = AsClient no_relay
+  leaves_by event him change (OfRelay relay) is = AsRelay (ap (λ (o : Outcome). o.reply) is)
+
+  killed : (event : Event) (him : ℕ) (found : Option Session) → TableStep w event (session_killed (answered w him) found).seats
+  killed event him None = IsUntouched
+  killed event him (Some session) = AreCarried (session_over (answered w him) session.mount).house (SessionEnds session.mount) refl
+
+  by_command : (event : Event) (him : ℕ) (command : TheCommand) → TableStep w event (changed w (Obey him command)).seats
+  by_command event him (MoveClients mount destination) = AreCarried (answered w him).house (To mount destination) refl
+  by_command event him (KillClient mount listener) = IsEnded listener Killed
+  by_command event him (KillSource mount) = killed event him (session_of w.house.live mount)
+  by_command event him (NewTitle mount text) = IsUntouched
+  by_command event him (SetFallback mount fallback) = IsUntouched
+  by_command event him (AddUser mount user password) =
+      AreEnded (is_shut_out (user_added (answered w him) mount user password).house.lists mount) ListenerPassword
+  by_command event him (DeleteUser mount user) =
+      AreEnded (is_shut_out (user_deleted (answered w him) mount user).house.lists mount) ListenerPassword
+
+  by_way : (event : Event) (o : Outcome) → Way w event o → outcome w event ≡ o → TableStep w event (changed w o.change).seats
+  by_way event o (Misplaced _) is = IsUntouched
+  by_way event o (IsFinished _ him rule its told) is = IsUntouched
+  by_way event o (IsDenied _ rule v nobody) is = IsUntouched
+  by_way event o (IsRefused _ him rule v its undecided) is = IsUntouched
+  by_way event o (IsAdmitted peer allowed) is = IsUntouched
+  by_way event o (Begins asked undecided none allowed) is =
+      AreGiven (begun w.house asked.id asked.mount (shown_for w.house asked.mount asked.shown)) asked.mount asked.id refl
+  by_way event o (ComesUp mount shown unfed allowed) is =
+      AreGiven (raised w.house (w.house.last_id + 1) mount (shown_for w.house mount shown)) mount (w.house.last_id + 1) refl
+  by_way event o (Receives him mount block feeding) is = AreEnded (lags_behind mount _ w.house.settings.limits.queue_size) Lagged
+  by_way event o (SetsTitle him mount text feeding) is = IsUntouched
+  by_way event o (TakesSeat asked peer session undecided lands live allowed) is = SitsDown asked peer session undecided lands live
+  by_way event o (HandsOut him room seat session sits has live) is =
+      IsHanded him (seat.place + length (data_at session.stream seat.place room)) seat has
+  by_way event o (Ends him mount feeding no_relay) is = AreCarried (session_over w mount).house (SessionEnds mount) refl
+  by_way event o (EndsAndLeaves _ him mount closes feeding) is = SourceIsGone him mount (leaves_by event him o.change closes is)
+  by_way event o (Leaves him no_relay other) is = IsGone him (AsClient no_relay)
+  by_way event o (GoesDown him rule relay told) is = IsGone him (leaves_by event him o.change (OfRelay relay) is)
+  by_way event o (Obeys _ command c) is = by_command event c.asked.id command
+  by_way event o (Shows _ asker peer text its undecided what) is = IsUntouched
+  by_way event o (HasPassed ms e) is = IsUntouched
+  by_way event o (Ticks ms e) is = HasTicked ms refl
+
+  pub table_step : (event : Event) → TableStep w event (world_after w event).seats
+  unfolding world_after
+  table_step event = by_way event (outcome w event) (way_of w event) refl
