@@ -252,7 +252,6 @@ module _ (w : World) where
         sources = λ d. cc;
         relays = λ at sees id other d. below (length w.house.live) w.house.settings.limits.sources (may_come_up w.house mount shown allowed).has_room;
       }
-
   admits_by event o (AdmitsListener asked peer session is undecided lands live) = record { clients = λ him id is d. cc; sources = λ d. cc; relays = λ mount shown id is d. cc }
   admits_by event o (HandsData him room seat session change is sits has live) = record { clients = λ him id is d. cc; sources = λ d. cc; relays = λ mount shown id is d. cc }
   admits_by event o (TellsText text change why) = record { clients = λ him id is d. cc; sources = λ d. cc; relays = λ mount shown id is d. cc }
