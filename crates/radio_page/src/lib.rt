@@ -17,7 +17,7 @@ use radio_heads::{FieldValue, WebAnswer};
 /// their texts, and what this server answers to its script and its players. So a text of a stream, whatever it holds, runs
 /// nothing and fetches nothing.
 pub const POLICY: &str =
-    r"default-src 'none'; script-src 'sha256-KH4PKUGXixwFPKIZWngppJlNQej6m9NBgP2Ebq5MsFA='; style-src 'sha256-l2Kn7Nn0Q5JF/0VOKTC+fr55BaNfEwElp+eqWZF/dzM='; connect-src 'self'; media-src 'self'; base-uri 'none'; form-action 'none'; frame-ancestors 'none'";
+    r"default-src 'none'; script-src 'sha256-SLNtU3ZZRJfMJqy+2K63MxGw9j9qhClNTQrBzVWZfxk='; style-src 'sha256-4TH49hqxrAzY4BXihDY3m0PT0PzWZ3CLbHRddZZINYQ='; connect-src 'self'; media-src 'self'; base-uri 'none'; form-action 'none'; frame-ancestors 'none'";
 
 /// The page, in HTML (the HTML Living Standard) and ASCII.
 pub const PAGE: &str = r##"<!DOCTYPE html>
@@ -38,6 +38,7 @@ h2 { font-size: 1.125rem; }
 .more { font-size: .875rem; opacity: .75; }
 .old li { opacity: .6; }
 audio { display: block; box-sizing: border-box; width: 100%; margin-top: .5rem; }
+button { margin-top: .5rem; font: inherit; }
 </style>
 </head>
 <body>
@@ -52,6 +53,11 @@ audio { display: block; box-sizing: border-box; width: 100%; margin-top: .5rem; 
 
 const pause = 5000;
 const patience = 4000;
+// How long a player whose stream has ended waits before it asks again, in milliseconds: this at first, and this at most.
+const shortest = 1000;
+const longest = 30000;
+// After so many seconds of a stream the next wait is the shortest again.
+const steady = 10;
 const state = document.getElementById('state');
 const list = document.getElementById('mounts');
 const entries = new Map();
@@ -80,14 +86,65 @@ function makeEntry(mount) {
     title: append(item, 'p', 'title'),
     more: append(item, 'p', 'more'),
     player: append(item, 'audio', 'player'),
+    stop: append(item, 'button', 'stop'),
+    address: addressOf(mount.split('/').map(encodeURIComponent).join('/')),
+    isListed: true,
+    isWanted: false,
+    isWaiting: false,
+    pause: shortest,
+    timer: 0,
   };
   entry.player.controls = true;
   entry.player.preload = 'none';
-  entry.player.src = addressOf(mount.split('/').map(encodeURIComponent).join('/'));
-  for (const end of ['ended', 'error']) {
-    entry.player.addEventListener(end, () => entry.player.load());
-  }
+  entry.player.src = entry.address;
+  entry.player.addEventListener('play', () => wish(entry));
+  entry.player.addEventListener('pause', () => entry.player.ended || entry.isWaiting || giveUp(entry));
+  entry.player.addEventListener('ended', () => askLater(entry));
+  entry.player.addEventListener('error', () => askLater(entry));
+  entry.stop.type = 'button';
+  entry.stop.textContent = 'Stop asking';
+  entry.stop.hidden = true;
+  entry.stop.addEventListener('click', () => giveUp(entry));
   return entry;
+}
+
+// A player whose source is set again has closed its connection, and opens none before it plays.
+function drop(entry) {
+  clearTimeout(entry.timer);
+  entry.isWaiting = false;
+  entry.stop.hidden = true;
+  entry.player.src = entry.address;
+}
+
+function wish(entry) {
+  clearTimeout(entry.timer);
+  entry.isWanted = true;
+  entry.isWaiting = false;
+  entry.stop.hidden = true;
+}
+
+function giveUp(entry) {
+  entry.isWanted = false;
+  entry.pause = shortest;
+  drop(entry);
+}
+
+// The stream has ended, or there is none. Each further time is later, unless the stream has played for a while.
+function askLater(entry) {
+  if (entry.player.currentTime > steady) entry.pause = shortest;
+  drop(entry);
+  if (!entry.isWanted) return;
+  entry.isWaiting = true;
+  entry.stop.hidden = false;
+  entry.timer = setTimeout(() => askAgain(entry), entry.pause);
+  entry.pause = Math.min(2 * entry.pause, longest);
+}
+
+function askAgain(entry) {
+  if (!entry.isWaiting || document.hidden) return;
+  entry.player.play().catch((fault) => {
+    if (fault.name === 'NotAllowedError') giveUp(entry);
+  });
 }
 
 function fill(entry, row) {
@@ -99,9 +156,10 @@ function fill(entry, row) {
   entry.player.setAttribute('aria-label', name);
 }
 
-// A mount whose source has gone stays while it is played, since its listeners may hear its fallback.
+// A mount whose source has gone stays while somebody wants to hear it, since its listeners may hear its fallback.
 function letGo(mount, entry) {
-  if (!entry.player.paused) {
+  entry.isListed = false;
+  if (entry.isWanted) {
     entry.title.textContent = '';
     entry.more.textContent = 'has no source now';
     return;
@@ -121,6 +179,8 @@ function show(mounts) {
     let entry = entries.get(row.mount);
     if (entry) {
       next = entry.item.nextElementSibling;
+      if (!entry.isListed) askAgain(entry);
+      entry.isListed = true;
     } else {
       entry = makeEntry(row.mount);
       entries.set(row.mount, entry);
@@ -144,16 +204,29 @@ async function read() {
   }
 }
 
+let isReading = false;
+let turn = 0;
+
+// Nothing is asked while the page is hidden.
 async function refresh() {
+  clearTimeout(turn);
+  if (isReading || document.hidden) return;
+  isReading = true;
   try {
     show(await read());
   } catch (fault) {
     list.className = 'old';
+    for (const entry of entries.values()) entry.isListed = false;
     tell('The server does not answer.');
   }
-  setTimeout(refresh, pause);
+  isReading = false;
+  turn = setTimeout(refresh, pause);
 }
 
+document.addEventListener('visibilitychange', () => {
+  for (const entry of entries.values()) askAgain(entry);
+  refresh();
+});
 tell('The server is being asked.');
 refresh();
 </script>
