@@ -31,7 +31,7 @@ FIELDS = {
     "source-gone": "mount peer why seconds bytes",
     "relay-up": "mount master type",
     "relay-gone": "mount master why seconds bytes",
-    "relay-failed": "mount master why",
+    "relay-failed": "mount master why times",
     "mount-up": "mount",
     "mount-gone": "mount why",
     "title": "mount title",

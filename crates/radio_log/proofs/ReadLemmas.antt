@@ -79,7 +79,7 @@ fact_told kind fs =
       seconds = count_in (value 3 fs);
       bytes = count_in (value 4 fs);
     }))
-    (is_kind kind (codes "relay-failed") (RelayFailed (record { mount = value 0 fs; master = value 1 fs; why = value 2 fs }))
+    (is_kind kind (codes "relay-failed") (RelayFailed (record { mount = value 0 fs; master = value 1 fs; why = value 2 fs; times = count_in (value 3 fs) }))
     (is_kind kind (codes "mount-up") (MountUp (value 0 fs))
     (is_kind kind (codes "mount-gone") (MountGone (value 0 fs) (value 1 fs))
     (is_kind kind (codes "title") (Title (record { mount = value 0 fs; title = value 1 fs }))
@@ -110,7 +110,7 @@ fact_read peers (SourceUp s) h = rw (peer_read peers s.peer h.1) refl
 fact_read peers (SourceGone s) h = rw (peer_read peers s.peer h.1, count_read s.seconds h.3, count_read s.bytes h.4) refl
 fact_read peers (RelayUp r) h = refl
 fact_read peers (RelayGone r) h = rw (count_read r.seconds h.3, count_read r.bytes h.4) refl
-fact_read peers (RelayFailed r) h = refl
+fact_read peers (RelayFailed r) h = rw (count_read r.times h.3) refl
 fact_read peers (MountUp mount) h = refl
 fact_read peers (MountGone mount why) h = refl
 fact_read peers (Title t) h = refl

@@ -62,7 +62,8 @@ fields_of (RelayUp r) =
 fields_of (RelayGone r) =
     (codes "mount", r.mount) ∷ (codes "master", r.master) ∷ (codes "why", r.why)
     ∷ (codes "seconds", decimal r.seconds) ∷ (codes "bytes", decimal r.bytes) ∷ []
-fields_of (RelayFailed r) = (codes "mount", r.mount) ∷ (codes "master", r.master) ∷ (codes "why", r.why) ∷ []
+fields_of (RelayFailed r) =
+    (codes "mount", r.mount) ∷ (codes "master", r.master) ∷ (codes "why", r.why) ∷ (codes "times", decimal r.times) ∷ []
 fields_of (MountUp mount) = (codes "mount", mount) ∷ []
 fields_of (MountGone mount why) = (codes "mount", mount) ∷ (codes "why", why) ∷ []
 fields_of (Title t) = (codes "mount", t.mount) ∷ (codes "title", t.title) ∷ []

@@ -138,6 +138,8 @@ pub struct RelayFailed<'a> {
     pub master: Text<'a>,
     /// What failed.
     pub why: Text<'a>,
+    /// How often it has failed so since the line before; 1 in a first line.
+    pub times: u64,
 }
 
 /// A new title of a mount.

@@ -160,7 +160,8 @@ impl RelayFailed<'_> {
         to.put_kind("relay-failed")?;
         to.put_text("mount", &self.mount)?;
         to.put_text("master", &self.master)?;
-        to.put_text("why", &self.why)
+        to.put_text("why", &self.why)?;
+        to.put_count("times", self.times)
     }
 }
 

@@ -1,2 +1,6 @@
 pub mod Pulls
 pub mod ListAnswers
+pub mod Ends
+pub mod Failures
+pub mod Turns
+pub mod Listed

@@ -1,5 +1,5 @@
 -- A relay's connection to its master, turn after turn.
-use Rattle.std.specs.Prelude.{◌≡◌, ℕ, suc, Bool, true, false, List, [], ◌∷◌, ◌++◌, Option}
+use Rattle.std.specs.Prelude.{◌≡◌, ℕ, suc, Bool, true, false, ◌-◌, List, [], ◌∷◌, ◌++◌, length, take, Option, None, Some, Result, Ok, Err}
 use Rattle.std.specs.Option.{option_map}
 use Rattle.radio_events.specs.declared.event.Event.{Event}
 use Rattle.radio_events.specs.declared.event.Event.TheVariants.{Draw}
@@ -7,6 +7,10 @@ use Rattle.radio_events.specs.declared.state.State.{State}
 use Rattle.radio_events.specs.declared.state.State.TheVariants.{Running, Shut}
 use Rattle.radio_events.specs.Servers.{Steps}
 use Rattle.radio_connections.specs.Lines.{Calls}
+use Rattle.radio_heads.specs.declared.outcome.HeadFault.{HeadFault}
+use Rattle.radio_heads.specs.declared.outcome.Progress.{Progress}
+use Rattle.radio_heads.specs.declared.outcome.Progress.TheVariants.{More, Whole}
+use Rattle.radio_heads.specs.Response.{ResponseParts}
 use Rattle.radio_pull.specs.Pulling.{Pulling, Standing}
 use Rattle.radio_pull.specs.Course.{AsksIf, Takes}
 use Rattle.radio_masters.specs.declared.mount_pull.PullTurn.{PullTurn}
@@ -23,13 +27,28 @@ abbrev pub HasBorne : Bool → Calls → Calls → Type 0
 HasBorne true before now = (now.reads ≡ before.reads) × (now.faults ≡ before.faults) × (now.closings ≡ before.closings)
 HasBorne false before now = now.faults ≡ suc before.faults
 
--- a pull over a line: what is still owed of the request, all that the line gave and took, and how often it was called
+-- how far the head of an answer may reach, in bytes
+abbrev pub max_head : ℕ
+max_head = 8192
+
+-- the front of an answer, when these bytes have come behind it: they are added as far as a head may reach
+abbrev pub front_of : List ℕ → List ℕ → List ℕ
+front_of front bytes = front ++ take (max_head - length front) bytes
+
+-- the status of an answer whose front is read so
+abbrev pub status_in : Result (Progress ResponseParts) HeadFault → Option ℕ
+status_in (Ok (Whole head length)) = Some head.status
+status_in (Ok More) = None
+status_in (Err fault) = None
+
+-- a pull over a line: what is still owed of the request, all that the line gave and took, how often it was called, and the front of the answer
 pub record PullOver : Type 0 where
   pub relay : Pulling
   pub owed : List ℕ
   pub given : List ℕ
   pub taken : List ℕ
   pub calls : Calls
+  pub front : List ℕ
 
 -- what a turn comes to where the pull stands so
 abbrev pub turn_of : State → PullTurn
@@ -39,6 +58,11 @@ turn_of (Shut ending) = IsShut ending
 -- a draw without room, where the relay is up
 abbrev pub probe_of : Option ℕ → Option Event
 probe_of number = option_map (λ id. Draw id 0) number
+
+-- the front of the answer is kept, unless memory was refused
+abbrev pub KeepsFront : PullTurn → List ℕ → List ℕ → List ℕ → Type 0
+KeepsFront OutOfMemory front bytes front' = Unit {0}
+KeepsFront turn front bytes front' = front' ≡ front_of front bytes
 
 -- a turn that does not end by its line
 abbrev pub GoesOnHere : PullTurn → Type 0
@@ -80,3 +104,4 @@ module _ {S : Type 0} (steps : Steps S) where
     pub given : pull'.given ≡ pull.given ++ bytes
     pub comes : Comes pull.relay bytes from turn pull'.relay to
     pub called : IsCalled turn pull.calls pull'.calls
+    pub front : KeepsFront turn pull.front bytes pull'.front

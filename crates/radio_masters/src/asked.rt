@@ -3,7 +3,8 @@
 ghost use Rattle.std.specs.Prelude.{◌≡◌, IfOk};
 
 use crate::OutOfMemory;
-use crate::relay_log::{RelayEnd, RelayLog};
+use crate::failing::Failing;
+use crate::relay_log::{PullEnd, RelayLog};
 use radio_events::{Event, Reply};
 use radio_session::Server;
 use radio_settings::RelaySetting;
@@ -45,11 +46,28 @@ impl<S: Server + Drop> Asked<S> {
         &self.log
     }
 
-    /// Tells in the log that the relay has ended, so many seconds after it began, or could not be started.
-    pub fn tell_end(&mut self, why: RelayEnd, seconds: u64)
+    /// Tells in the log that the pull of the relay has ended so, or that the relay did not come up by it.
+    pub fn tell_end(&mut self, end: PullEnd)
         ensures { self.new ≡ self.old }
     {
-        self.log.end(why, seconds);
+        self.log.end(end);
+    }
+
+    /// Whether the relay feeds its mount.
+    pub fn is_up(&self) -> bool {
+        self.log.is_up()
+    }
+
+    /// How the relay has failed, if it has since it was up last.
+    pub fn failing(&self) -> Option<Failing> {
+        self.log.failing()
+    }
+
+    /// Notes that the relay has failed so before, or has not.
+    pub fn set_failing(&mut self, failing: Option<Failing>)
+        ensures { self.new ≡ self.old }
+    {
+        self.log.set_failing(failing);
     }
 
     /// The server, when the relay asks it no more.

@@ -1,14 +1,19 @@
 //! A relay's connection to its master.
 
-ghost use Rattle.std.specs.Prelude.{◌≡◌, ◌<◌, [], length, IfOk, OnOk};
+ghost use Rattle.std.specs.Prelude.{◌≡◌, ◌<◌, ℕ, List, [], length, Option, Result, IfOk, OnOk};
 ghost use Rattle.radio_relay.specs.Request.{request_text};
 ghost use Rattle.radio_pull.specs.Pulling.{begun};
 ghost use Rattle.radio_pull.specs.Course.{GoesDown};
-ghost use Rattle.radio_masters.specs.Pulls.{Comes, GoesOnHere, IsTurn, turn_of};
+ghost use Rattle.radio_heads.specs.declared.outcome.HeadFault.{HeadFault};
+ghost use Rattle.radio_heads.specs.declared.outcome.Progress.{Progress};
+ghost use Rattle.radio_heads.specs.Reading.{IsReading};
+ghost use Rattle.radio_heads.specs.Response.{ResponseParts, ShowsResponse};
+ghost use Rattle.radio_masters.specs.Pulls.{Comes, GoesOnHere, IsTurn, KeepsFront, front_of, status_in, turn_of};
 
 use crate::OutOfMemory;
 use crate::asking::Asking;
 use radio_connections::{Line, Received};
+use radio_heads::{MAX_HEAD, Progress, read_response};
 use radio_pull::{RelayPull, ask, close, take};
 use radio_relay::request_text;
 use radio_session::{Ending, Server, State};
@@ -31,14 +36,17 @@ pub enum PullTurn {
     OutOfMemory,
 }
 
-/// A relay's connection to its master: the line, what it has not taken of the request, and the pull.
+/// A relay's connection to its master: the line, what it has not taken of the request, the pull, and the front of the answer.
 ///
-/// In contracts it is a `PullOver`: the pull, what is owed, what the line gave and took, and how often it was called.
+/// In contracts it is a `PullOver`: the pull, what is owed, what the line gave and took, how often it was called, and the front
+/// of the answer.
 #[derive(Drop)]
 pub struct MountPull<L: Line> {
     relay: RelayPull,
     asking: Asking,
     line: L,
+    /// What has come of the answer, as far as a head may reach.
+    front: Vec<u8>,
 }
 
 impl<L: Line> Model for MountPull<L> {
@@ -46,7 +54,7 @@ impl<L: Line> Model for MountPull<L> {
 
     ghost Value = { PullOver };
 
-    ghost view = { λ p. record { relay = p.relay; owed = p.asking; given = L.given p.line; taken = L.taken p.line; calls = L.calls p.line } };
+    ghost view = { λ p. record { relay = p.relay; owed = p.asking; given = L.given p.line; taken = L.taken p.line; calls = L.calls p.line; front = p.front.items } };
 }
 
 impl<L: Line> MountPull<L> {
@@ -59,6 +67,7 @@ impl<L: Line> MountPull<L> {
           given = L.given line;
           taken = L.taken line;
           calls = L.calls line;
+          front = [];
         }) }
     {
         let text = request_text(alloc, relay)?;
@@ -66,6 +75,7 @@ impl<L: Line> MountPull<L> {
             relay: RelayPull::new(alloc, relay.local_mount),
             asking: Asking::new(text),
             line,
+            front: Vec::new(alloc),
         })
     }
 
@@ -74,6 +84,16 @@ impl<L: Line> MountPull<L> {
         ensures { result ≡ self.now.relay.number }
     {
         self.relay.number()
+    }
+
+    /// The status of the master's answer (RFC 9112, section 4); `None` if no whole head of one has come.
+    pub fn status(&self) -> Option<u16>
+        ensures { (reading : Result (Progress ResponseParts) HeadFault) × IsReading ShowsResponse self.now.front reading × (result ≡ status_in reading) }
+    {
+        match read_response(self.front.as_slice()) {
+            Ok(Progress::Whole(head, _)) => Some(head.status()),
+            Ok(Progress::More) | Err(_) => None,
+        }
     }
 
     /// Writes once what the line takes of the request, and reads once into the buffer. What came is pulled in; where
@@ -85,7 +105,10 @@ impl<L: Line> MountPull<L> {
             return PullTurn::Failed;
         }
         match self.line.read(buffer) {
-            Received::Bytes(count) => hear(server, &mut self.relay, &buffer[..count]),
+            Received::Bytes(count) => {
+                let bytes = &buffer[..count];
+                keep_and_hear(server, &mut self.relay, &mut self.front, bytes)
+            }
             Received::Nothing => probe(server, &mut self.relay),
             Received::Closed => PullTurn::Closed,
             Received::Fault => PullTurn::Failed,
@@ -98,6 +121,32 @@ impl<L: Line> MountPull<L> {
     {
         close(server, &self.relay)
     }
+}
+
+/// The next bytes of the master's answer, which are added to its front.
+#[tactic(auto, using(crate::proofs::Called::kept_on))]
+fn keep_and_hear<S: Server>(
+    server: &mut S,
+    relay: &mut RelayPull,
+    front: &mut Vec<u8>,
+    bytes: &[u8],
+) -> PullTurn
+    ensures comes { Comes S.steps relay.old bytes.now server.old result relay.new server.new }
+    ensures goes { GoesOnHere result }
+    ensures front { KeepsFront result front.old.items bytes.now front.new.items }
+{
+    match keep_front(front, bytes) {
+        Ok(()) => hear(server, relay, bytes),
+        Err(_) => PullTurn::OutOfMemory,
+    }
+}
+
+/// Adds these bytes to the front of an answer, as far as a head may reach.
+fn keep_front(front: &mut Vec<u8>, bytes: &[u8]) -> Result<(), OutOfMemory>
+    ensures { OnOk result (front.new.items ≡ front_of front.old.items bytes.now) }
+{
+    let room = MAX_HEAD.saturating_sub(front.len());
+    front.extend_from_slice(&bytes[..bytes.len().min(room)])
 }
 
 /// The next bytes of the master's answer, if there are some.

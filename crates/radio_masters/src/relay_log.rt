@@ -1,11 +1,10 @@
 //! What the log tells of a relay.
 
-use crate::OutOfMemory;
+use crate::failing::{Failing, note_failure};
+use crate::{OutOfMemory, RelayEnd};
 use radio_events::{Event, Reply};
 use radio_log::{Fact, RelayFailed, RelayGone, RelayUp, Text, Title};
 use radio_notes::Log;
-use radio_policy::Rule;
-use radio_session::Ending;
 use radio_settings::RelaySetting;
 use radio_values::MountName;
 use std::alloc::Global;
@@ -42,6 +41,17 @@ fn copy(alloc: Global, bytes: &[u8]) -> Vec<u8> {
     }
 }
 
+/// How a pull has ended.
+#[derive(Clone, Copy)]
+pub struct PullEnd {
+    /// Why.
+    pub why: RelayEnd,
+    /// How many whole seconds after it began.
+    pub seconds: u64,
+    /// When, in milliseconds.
+    pub ms: u64,
+}
+
 /// What the log tells of a relay: its lines wait here.
 #[derive(Drop)]
 pub struct RelayLog {
@@ -53,6 +63,8 @@ pub struct RelayLog {
     is_up: bool,
     /// How many bytes of sound have come since it is up.
     sound: u64,
+    /// That it has failed, since it was up last.
+    failing: Option<Failing>,
 }
 
 impl RelayLog {
@@ -68,6 +80,7 @@ impl RelayLog {
             master,
             is_up: false,
             sound: 0,
+            failing: None,
         })
     }
 
@@ -94,6 +107,7 @@ impl RelayLog {
         if let Saying::Up(content_type) = saying {
             self.is_up = true;
             self.sound = 0;
+            self.failing = None;
             let mount = self.mount.as_bytes();
             self.log.note(Fact::RelayUp(RelayUp {
                 mount: Text::of(mount),
@@ -117,72 +131,65 @@ impl RelayLog {
         }
     }
 
-    /// Tells that the relay has ended by this word, so many seconds after it began, or that it did not come up.
-    pub(crate) fn end(&mut self, why: RelayEnd, seconds: u64) {
+    /// Whether the relay feeds its mount.
+    pub(crate) fn is_up(&self) -> bool {
+        self.is_up
+    }
+
+    /// How the relay has failed, if it has since it was up last.
+    pub(crate) fn failing(&self) -> Option<Failing> {
+        self.failing
+    }
+
+    /// Notes that the relay has failed so before.
+    pub(crate) fn set_failing(&mut self, failing: Option<Failing>) {
+        self.failing = failing;
+    }
+
+    /// Tells that the relay has ended so, or did not come up. A failure that lasts is told once an hour.
+    pub(crate) fn end(&mut self, end: PullEnd) {
+        let why = self.word_of(end.why);
         if self.is_up {
             self.is_up = false;
-            self.tell_gone(why, seconds);
+            self.tell_gone(&end, why.as_bytes());
         } else {
-            self.log.note(Fact::RelayFailed(RelayFailed {
-                mount: Text::of(self.mount.as_bytes()),
-                master: Text::of(self.master.as_bytes()),
-                why: Text::of(why.word().as_bytes()),
-            }));
+            let (failing, told) = note_failure(self.failing, end.why, end.ms);
+            self.failing = Some(failing);
+            if let Some(times) = told {
+                self.tell_failed(why.as_bytes(), times);
+            }
         }
     }
 
-    fn tell_gone(&self, why: RelayEnd, seconds: u64) {
+    /// The word for this end. One for which memory is refused is told as an empty one.
+    fn word_of(&self, why: RelayEnd) -> String {
+        match format!(in self.alloc; "{why}") {
+            Ok(word) => word,
+            Err(_) => String::new(self.alloc),
+        }
+    }
+
+    fn tell_failed(&self, why: &[u8], times: u64) {
+        self.log.note(Fact::RelayFailed(RelayFailed {
+            mount: Text::of(self.mount.as_bytes()),
+            master: Text::of(self.master.as_bytes()),
+            why: Text::of(why),
+            times,
+        }));
+    }
+
+    fn tell_gone(&self, end: &PullEnd, why: &[u8]) {
         let mount = self.mount.as_bytes();
         self.log.note(Fact::RelayGone(RelayGone {
             mount: Text::of(mount),
             master: Text::of(self.master.as_bytes()),
-            why: Text::of(why.word().as_bytes()),
-            seconds,
+            why: Text::of(why),
+            seconds: end.seconds,
             bytes: self.sound,
         }));
         self.log.note(Fact::MountGone {
             mount: Text::of(mount),
-            why: Text::of(why.word_of_mount().as_bytes()),
+            why: Text::of(end.why.word_of_mount().as_bytes()),
         });
-    }
-}
-
-/// Why a relay has ended, or could not be started.
-#[derive(Clone, Copy, Debug, PartialEq, Eq)]
-pub enum RelayEnd {
-    /// Its master's name is not known.
-    NoAddress,
-    /// Nothing could be connected, or no head of an answer has come in time.
-    NoAnswer,
-    /// The master has closed, or the connection has failed.
-    Left,
-    /// By the server, or by what the master sent.
-    By(Ending),
-    /// It is not wished any more.
-    NotWished,
-    /// Memory was refused.
-    OutOfMemory,
-}
-
-impl RelayEnd {
-    /// The word for it in the log.
-    pub fn word(self) -> &'static str {
-        match self {
-            RelayEnd::NoAddress => "no-address",
-            RelayEnd::NoAnswer => "no-answer",
-            RelayEnd::Left => "left",
-            RelayEnd::By(ending) => ending.word(),
-            RelayEnd::NotWished => "not-wished",
-            RelayEnd::OutOfMemory => "out-of-memory",
-        }
-    }
-
-    /// The word for the end of its mount.
-    fn word_of_mount(self) -> &'static str {
-        match self {
-            RelayEnd::By(Ending::By(Rule::SourceSilent)) => "source-silent",
-            RelayEnd::By(Ending::By(Rule::SourceKilled)) => "source-killed",
-            _ => "source-left",
-        }
     }
 }

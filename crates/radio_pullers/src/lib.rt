@@ -7,6 +7,8 @@
 //! for it.
 #![tactic(auto)]
 
+mod keeper;
+mod list_desk;
 mod list_fetch;
 mod master;
 mod puller;
@@ -14,6 +16,7 @@ mod relays;
 mod roster;
 mod running;
 mod station;
+mod tries;
 
 pub use relays::{has_relays, keep_relays};
 

@@ -1,17 +1,19 @@
-//! The list of streams that a slave is told by its master.
+//! The thread that asks a slave's master for its list of streams.
 
 use crate::master::{MOST_SILENT_MS, addresses_of};
+use crate::station::Station;
 use mio::net::TcpStream;
 use radio_board::Board;
 use radio_lines::{Reach, SocketLine, Sockets, moment};
-use radio_masters::ListPull;
+use radio_masters::{ListLog, ListPull, keep_first};
 use radio_settings::SlaveSetting;
 use radio_values::MountName;
 use std::alloc::Global;
 use std::collections::BTreeSet;
 use std::net::SocketAddr;
 use std::sync::Wait;
-use std::time::Clock;
+use std::thread::sleep;
+use std::time::{Clock, Duration};
 
 /// How many bytes are read at once.
 const READ_ROOM: usize = 4096;
@@ -19,88 +21,101 @@ const READ_ROOM: usize = 4096;
 /// How long it is waited at once, in milliseconds.
 const WAIT_MS: u64 = 500;
 
-/// The list that a slave was told last, and when it asks again.
-#[derive(Drop)]
-pub(crate) struct Listed {
-    alloc: Global,
-    /// The streams that its master listed last.
-    pub(crate) names: BTreeSet<MountName>,
-    /// From that moment on it asks again, in milliseconds.
-    next_ms: u64,
-}
-
-impl Listed {
-    /// Nothing was listed yet. It takes no memory.
-    pub(crate) fn new(alloc: Global) -> Listed {
-        Listed {
-            alloc,
-            names: BTreeSet::new(alloc),
-            next_ms: 0,
+/// Asks the master of this slave for its list, again after each interval, until all are to stop. Each list that comes whole is
+/// put on the station's desk; one that does not leaves the last one in force.
+pub(crate) fn keep_list<R: Clock + Wait, N: Reach, S>(
+    rt: &R,
+    station: &Station<'_, N, S>,
+    slave: &SlaveSetting,
+) {
+    let interval_ms = slave.master_update_interval.get() as u64 * 1000;
+    let mut log = ListLog::new(station.board.alloc());
+    'lists: for _ in rt.forever() {
+        let next_ms = moment(rt).saturating_add(interval_ms);
+        if let Some(names) = fetch(rt, station.net, station.board, slave) {
+            hand_over(rt, station, &mut log, names);
         }
-    }
-
-    /// Asks the master, if it is time. A list that does not come whole leaves the last one in force.
-    pub(crate) fn refresh<R: Clock + Wait, N: Reach>(
-        &mut self,
-        rt: &R,
-        net: &N,
-        board: &Board,
-        slave: &SlaveSetting,
-    ) {
-        let ms = moment(rt);
-        if ms < self.next_ms {
+        if !rests_until(rt, station.board, next_ms) {
             return;
         }
-        let interval_ms = slave.master_update_interval.get() as u64 * 1000;
-        self.next_ms = ms.saturating_add(interval_ms);
-        if let Some(names) = self.fetch(rt, net, board, slave) {
-            self.names = names;
+    }
+}
+
+/// Puts the front of a list on the desk, and tells in the log if there was more of it.
+fn hand_over<R: Clock + Wait, N: Reach, S>(
+    rt: &R,
+    station: &Station<'_, N, S>,
+    log: &mut ListLog,
+    names: BTreeSet<MountName>,
+) {
+    let mut names = names;
+    let has_others = keep_first(&mut names);
+    station.list.put(rt, names);
+    let seconds = match rt.since_1970() {
+        Ok(since) => since.as_secs(),
+        Err(_) => 0,
+    };
+    log.lines().set_moment(seconds);
+    log.note_list(has_others);
+    let lines = log.lines().take();
+    if !lines.is_empty() {
+        station.board.add_lines(rt, lines.as_slice(), seconds);
+    }
+}
+
+/// Waits until this moment, in milliseconds. Whether not all are to stop.
+fn rests_until<R: Clock>(rt: &R, board: &Board, until_ms: u64) -> bool {
+    for _ in 0..u64::MAX {
+        if board.is_over() {
+            return false;
+        }
+        if moment(rt) >= until_ms {
+            return true;
+        }
+        let _ = sleep(rt, Duration::from_millis(WAIT_MS));
+    }
+    false
+}
+
+/// The list of the first address of the master that answers.
+fn fetch<R: Clock + Wait, N: Reach>(
+    rt: &R,
+    net: &N,
+    board: &Board,
+    slave: &SlaveSetting,
+) -> Option<BTreeSet<MountName>> {
+    match Sockets::alone(net, board.alloc()) {
+        Ok(mut sockets) => fetch_by(rt, net, board, slave, &mut sockets),
+        Err(_) => None,
+    }
+}
+
+fn fetch_by<R: Clock + Wait, N: Reach>(
+    rt: &R,
+    net: &N,
+    board: &Board,
+    slave: &SlaveSetting,
+    sockets: &mut Sockets,
+) -> Option<BTreeSet<MountName>> {
+    'addresses: for address in addresses_of(net, board.alloc(), &slave.master) {
+        if let Some(names) = fetch_at(rt, net, board, slave, sockets, address) {
+            return Some(names);
         }
     }
+    None
+}
 
-    /// The list of the first address of the master that answers.
-    fn fetch<R: Clock + Wait, N: Reach>(
-        &self,
-        rt: &R,
-        net: &N,
-        board: &Board,
-        slave: &SlaveSetting,
-    ) -> Option<BTreeSet<MountName>> {
-        match Sockets::alone(net, self.alloc) {
-            Ok(mut sockets) => self.fetch_by(rt, net, board, slave, &mut sockets),
-            Err(_) => None,
-        }
-    }
-
-    fn fetch_by<R: Clock + Wait, N: Reach>(
-        &self,
-        rt: &R,
-        net: &N,
-        board: &Board,
-        slave: &SlaveSetting,
-        sockets: &mut Sockets,
-    ) -> Option<BTreeSet<MountName>> {
-        'addresses: for address in addresses_of(net, self.alloc, &slave.master) {
-            if let Some(names) = self.fetch_at(rt, net, board, slave, sockets, address) {
-                return Some(names);
-            }
-        }
-        None
-    }
-
-    fn fetch_at<R: Clock + Wait, N: Reach>(
-        &self,
-        rt: &R,
-        net: &N,
-        board: &Board,
-        slave: &SlaveSetting,
-        sockets: &mut Sockets,
-        address: SocketAddr,
-    ) -> Option<BTreeSet<MountName>> {
-        let line = sockets.connect(net, address).ok()?;
-        let mut pull = ListPull::new(self.alloc, slave, line).ok()?;
-        list_in(rt, board, sockets, &mut pull)
-    }
+fn fetch_at<R: Clock + Wait, N: Reach>(
+    rt: &R,
+    net: &N,
+    board: &Board,
+    slave: &SlaveSetting,
+    sockets: &mut Sockets,
+    address: SocketAddr,
+) -> Option<BTreeSet<MountName>> {
+    let line = sockets.connect(net, address).ok()?;
+    let mut pull = ListPull::new(board.alloc(), slave, line).ok()?;
+    list_in(rt, board, sockets, &mut pull)
 }
 
 /// The list, if it comes whole and in time.

@@ -1,13 +1,13 @@
 //! A relay's thread: a pull of its master, again and again.
 
 use crate::master::{MOST_SILENT_MS, addresses_of};
-use crate::running::RunningRelay;
+use crate::running::{Outcome, RunningRelay};
 use crate::station::Station;
 use mio::net::TcpStream;
 use radio_board::{Board, NewsFor};
 use radio_events::{Caller, SharedServer};
 use radio_lines::{Reach, SocketLine, Sockets, moment};
-use radio_masters::{Asked, MountPull, PullTurn, RelayEnd};
+use radio_masters::{Asked, MountPull, PullEnd, PullTurn, RelayEnd};
 use radio_serving::{Server, Watched};
 use std::io;
 use std::net::SocketAddr;
@@ -40,30 +40,43 @@ struct Puller<'a, R: Clock + Wait, N: Reach, S: Server + Drop> {
     seconds: u64,
 }
 
-/// Pulls this relay in, with a pass of its own, until it is to stop. A pull that has ended is begun again after five
-/// seconds.
+/// Pulls this relay in, with a pass of its own, until it is to stop, or a try to bring it up has failed. A pull that has ended
+/// of a relay that was up is begun again after five seconds.
 pub(crate) fn pull_relay<R: Clock + Wait, N: Reach, S: SharedServer>(
     rt: &R,
     station: &Station<'_, N, S>,
     relay: &RunningRelay,
 ) {
-    if let Some(pass) = station.server.pass(rt) {
-        let caller = Caller::new(rt, station.server, pass);
-        pull_as(rt, station.net, station.board, relay, caller);
-    }
-    relay.note_end();
+    let outcome = match station.server.pass(rt) {
+        Some(pass) => {
+            let caller = Caller::new(rt, station.server, pass);
+            pull_as(rt, station.net, station.board, relay, caller)
+        }
+        None => not_begun(rt, relay),
+    };
+    relay.note_end(rt, outcome);
 }
 
-/// The same, by asking this server.
+/// The same, by asking this server. How it has ended.
 fn pull_as<R: Clock + Wait, N: Reach, S: Server + Drop>(
     rt: &R,
     net: &N,
     board: &Board,
     relay: &RunningRelay,
     server: S,
-) {
-    if let Ok(mut puller) = Puller::new(rt, net, board, relay, server) {
-        puller.work();
+) -> Outcome {
+    match Puller::new(rt, net, board, relay, server) {
+        Ok(mut puller) => puller.work(),
+        Err(_) => not_begun(rt, relay),
+    }
+}
+
+/// That memory, or a socket, was refused before anything was tried.
+fn not_begun<R: Clock>(rt: &R, relay: &RunningRelay) -> Outcome {
+    Outcome {
+        why: RelayEnd::OutOfMemory,
+        ms: moment(rt),
+        failing: relay.failing(),
     }
 }
 
@@ -78,7 +91,8 @@ impl<'a, R: Clock + Wait, N: Reach, S: Server + Drop> Puller<'a, R, N, S> {
         server: S,
     ) -> io::Result<Puller<'a, R, N, S>> {
         let alloc = board.alloc();
-        let asked = Asked::new(alloc, Watched::new(alloc, server), relay.setting())?;
+        let mut asked = Asked::new(alloc, Watched::new(alloc, server), relay.setting())?;
+        asked.set_failing(relay.failing());
         let sockets = Sockets::alone(net, alloc)?;
         Ok(Puller {
             rt,
@@ -92,14 +106,29 @@ impl<'a, R: Clock + Wait, N: Reach, S: Server + Drop> Puller<'a, R, N, S> {
         })
     }
 
-    /// Pull after pull, until it is to stop.
-    fn work(&mut self) {
+    /// Pull after pull, until it is to stop, or a pull has not brought it up. How it has ended.
+    fn work(&mut self) -> Outcome {
+        let mut why = RelayEnd::NotWished;
         'pulls: for _ in self.rt.forever() {
-            let why = self.pull();
+            why = self.pull();
+            let was_up = self.asked.is_up();
             self.tell_end(why);
-            if !self.rests() {
-                return;
+            if !was_up || !self.rests() {
+                break;
             }
+        }
+        self.outcome(why)
+    }
+
+    fn outcome(&self, why: RelayEnd) -> Outcome {
+        Outcome {
+            why: if self.relay.is_stopped() {
+                RelayEnd::NotWished
+            } else {
+                why
+            },
+            ms: moment(self.rt),
+            failing: self.asked.failing(),
         }
     }
 
@@ -178,7 +207,7 @@ impl<'a, R: Clock + Wait, N: Reach, S: Server + Drop> Puller<'a, R, N, S> {
         let turn = pull.turn(&mut self.asked, buffer);
         self.tell_others();
         let is_late = ms.saturating_sub(self.began_ms) >= MOST_SILENT_MS;
-        end_of(turn, pull.number().is_some(), is_late)
+        end_of(turn, pull, is_late)
     }
 
     /// Hears what there is on the socket, and waits for it. The moment then; `None` where the system tells nothing.
@@ -209,8 +238,12 @@ impl<'a, R: Clock + Wait, N: Reach, S: Server + Drop> Puller<'a, R, N, S> {
 
     /// Tells in the log that the pull has ended.
     fn tell_end(&mut self, why: RelayEnd) {
-        let passed_ms = moment(self.rt).saturating_sub(self.began_ms);
-        self.asked.tell_end(why, passed_ms / 1000);
+        let ms = moment(self.rt);
+        self.asked.tell_end(PullEnd {
+            why,
+            seconds: ms.saturating_sub(self.began_ms) / 1000,
+            ms,
+        });
         self.tell_others();
     }
 
@@ -231,12 +264,17 @@ impl<'a, R: Clock + Wait, N: Reach, S: Server + Drop> Puller<'a, R, N, S> {
     }
 }
 
-/// Why a pull has ended with this turn, if it has: one that is not up has had no answer, and one that is late has none.
-fn end_of(turn: PullTurn, is_up: bool, is_late: bool) -> Option<RelayEnd> {
+/// Why this pull has ended with this turn, if it has: one that is not up has had no answer, and one that is late has none.
+fn end_of(
+    turn: PullTurn,
+    pull: &MountPull<SocketLine<TcpStream>>,
+    is_late: bool,
+) -> Option<RelayEnd> {
+    let is_up = pull.number().is_some();
     match turn {
         PullTurn::Running if is_late && !is_up => Some(RelayEnd::NoAnswer),
         PullTurn::Running => None,
-        PullTurn::Shut(ending) => Some(RelayEnd::By(ending)),
+        PullTurn::Shut(ending) => Some(RelayEnd::of(ending, pull.status())),
         PullTurn::Closed | PullTurn::Failed if is_up => Some(RelayEnd::Left),
         PullTurn::Closed | PullTurn::Failed => Some(RelayEnd::NoAnswer),
         PullTurn::OutOfMemory => Some(RelayEnd::OutOfMemory),

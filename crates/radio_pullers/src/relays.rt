@@ -2,19 +2,16 @@
 
 ghost use Rattle.std.specs.Thread.{IsSync};
 
-use crate::OutOfMemory;
-use crate::list_fetch::Listed;
+use crate::keeper::Keeper;
+use crate::list_desk::ListDesk;
+use crate::list_fetch::keep_list;
 use crate::puller::pull_relay;
-use crate::roster::Roster;
 use crate::running::RunningRelay;
 use crate::station::Station;
 use radio_board::Board;
 use radio_events::SharedServer;
-use radio_lines::Reach;
-use radio_relay::{RelayOrder, plan};
-use radio_settings::{RelaySetting, Settings};
-use radio_values::MountName;
-use std::alloc::Global;
+use radio_lines::{Reach, moment};
+use radio_settings::{Settings, SlaveSetting};
 use std::sync::{Arc, Wait};
 use std::thread;
 use std::thread::{Scope, Threads, sleep};
@@ -28,98 +25,17 @@ pub fn has_relays(settings: &Settings) -> bool {
     !settings.relays.as_slice().is_empty() || settings.slave.is_some()
 }
 
-/// Which relays run, and what the slave was told.
-#[derive(Drop)]
-struct Keeper {
-    roster: Roster,
-    listed: Listed,
-    /// Whether a thread could not be had just now.
-    has_failed: bool,
-}
-
-impl Keeper {
-    /// None runs yet. It takes no memory.
-    fn new(alloc: Global) -> Keeper {
-        Keeper {
-            roster: Roster::new(alloc),
-            listed: Listed::new(alloc),
-            has_failed: false,
-        }
-    }
-
-    /// A relay that is to start now; those are told that are to stop. `None` where none is to start, or memory is refused
-    /// for it.
-    fn next_start<R: Clock + Wait, N: Reach, S: SharedServer>(
-        &mut self,
-        rt: &R,
-        station: &Station<'_, N, S>,
-    ) -> Option<Arc<RunningRelay>> {
-        if self.has_failed {
-            self.has_failed = false;
-            return None;
-        }
-        self.refresh_list(rt, station);
-        match station.server.wanted(rt) {
-            Ok(wanted) => self.start_for(station.board.alloc(), station.settings, wanted),
-            Err(_) => None,
-        }
-    }
-
-    /// Asks the slave's master for its list, if there is one and it is time.
-    fn refresh_list<R: Clock + Wait, N: Reach, S>(&mut self, rt: &R, station: &Station<'_, N, S>) {
-        if let Some(slave) = &station.settings.slave {
-            self.listed.refresh(rt, station.net, station.board, slave);
-        }
-    }
-
-    /// The relay that is to start now, where these mounts are wanted.
-    fn start_for(
-        &mut self,
-        alloc: Global,
-        settings: &Settings,
-        wanted: Vec<MountName>,
-    ) -> Option<Arc<RunningRelay>> {
-        let orders = self.orders(alloc, settings, wanted).ok()?;
-        let relay = self.first_start(orders)?;
-        self.roster.add(relay).ok()
-    }
-
-    /// What is to be done now, where these mounts are wanted.
-    fn orders(
-        &mut self,
-        alloc: Global,
-        settings: &Settings,
-        wanted: Vec<MountName>,
-    ) -> Result<Vec<RelayOrder>, OutOfMemory> {
-        let live = self.roster.live()?;
-        let names = &self.listed.names;
-        plan(alloc, settings, names, live.as_slice(), wanted.as_slice())
-    }
-
-    /// The first relay that is to start; those are told that are to stop before it.
-    fn first_start(&self, orders: Vec<RelayOrder>) -> Option<RelaySetting> {
-        'orders: for order in orders {
-            match order {
-                RelayOrder::Stop(mount) => self.roster.stop(&mount),
-                RelayOrder::Start(relay) => return Some(relay),
-            }
-        }
-        None
-    }
-
-    /// Notes whether a thread was had for the relay that was to start last.
-    fn note_start(&mut self, has_begun: bool) {
-        if !has_begun {
-            self.roster.forget_last();
-            self.has_failed = true;
-        }
-    }
-}
-
 /// Keeps the relays running that the settings and the slave's list wish, those that are on demand while
-/// somebody sits at their mounts, until all are to stop. Where memory is refused for
+/// somebody sits at their mounts, until all are to stop. As many are tried or run at once as there may be sources; of those
+/// that wait, the one whose turn it is begins when a place is free. Where memory is refused for
 /// one, or no thread can be had, it is tried again.
-pub fn keep_relays<R, N, S>(rt: &R, net: &N, server: &S, board: &Board, settings: &Settings)
+pub fn keep_relays<'x, R, N, S>(
+    rt: &'x R,
+    net: &'x N,
+    server: &'x S,
+    board: &'x Board,
+    settings: &'x Settings,
+)
 where
     R: Clock + Threads + Wait + Sync,
     N: Reach + Sync,
@@ -128,11 +44,13 @@ where
 {
     let mut keeper = Keeper::new(board.alloc());
     let kept = &mut keeper;
+    let list = ListDesk::new();
     let station = &Station {
         net,
         server,
         board,
         settings,
+        list: &list,
     };
     thread::scope(
         thread::scope_env(),
@@ -143,7 +61,7 @@ where
     )
 }
 
-/// Starts each relay when it is to start, in a thread of this scope, until all are to stop.
+/// Asks for the slave's list, and starts each relay when it is to start, in threads of this scope, until all are to stop.
 fn start_relays<'s, E, R, N, S>(
     scope: &Scope<'s, E>,
     keeper: &mut Keeper,
@@ -156,19 +74,52 @@ where
     S: SharedServer + Sync,
     S::Pass: Send,
 {
+    let mut slave = station.settings.slave.as_ref();
     'rounds: for _ in rt.forever() {
-        if !goes_on(scope, keeper, rt, station) {
+        if station.board.is_over() {
             return;
         }
+        if let Some(asking) = slave {
+            if begin_list(scope, rt, station, asking) {
+                slave = None;
+            }
+        }
+        start_due(scope, keeper, rt, station);
+        rest(rt);
     }
 }
 
-/// Starts the relay that is to start now, or rests where none is, unless all are to stop. Whether they are not.
-fn goes_on<'s, E, R, N, S>(
+/// Starts each relay that is to start now.
+fn start_due<'s, E, R, N, S>(
     scope: &Scope<'s, E>,
     keeper: &mut Keeper,
     rt: &'s R,
     station: &'s Station<'s, N, S>,
+)
+where
+    R: Clock + Threads + Wait + Sync,
+    N: Reach + Sync,
+    S: SharedServer + Sync,
+    S::Pass: Send,
+{
+    keeper.look(rt, station);
+    for _ in 0..u64::MAX {
+        let Some(relay) = keeper.next_start() else {
+            return;
+        };
+        let mount = *relay.mount();
+        if !begin(scope, rt, station, relay) {
+            keeper.note_no_thread(&mount, moment(rt));
+        }
+    }
+}
+
+/// Asks for this slave's list by a thread of the scope. Whether there is one for it.
+fn begin_list<'s, E, R, N, S>(
+    scope: &Scope<'s, E>,
+    rt: &'s R,
+    station: &'s Station<'s, N, S>,
+    slave: &'s SlaveSetting,
 ) -> bool
 where
     R: Clock + Threads + Wait + Sync,
@@ -176,14 +127,10 @@ where
     S: SharedServer + Sync,
     S::Pass: Send,
 {
-    if station.board.is_over() {
-        return false;
-    }
-    match keeper.next_start(rt, station) {
-        Some(relay) => keeper.note_start(begin(scope, rt, station, relay)),
-        None => rest(rt),
-    }
-    true
+    let thread = scope.spawn(move || keep_list(rt, station, slave));
+    let has_begun = thread.is_ok();
+    drop(thread);
+    has_begun
 }
 
 /// Pulls this relay in by a thread of the scope. Whether there is one for it.

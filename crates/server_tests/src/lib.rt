@@ -61,6 +61,8 @@ mod stations;
 #[cfg(test)]
 mod steps;
 #[cfg(test)]
+mod turns;
+#[cfg(test)]
 mod two_callers;
 #[cfg(test)]
 mod unkept;

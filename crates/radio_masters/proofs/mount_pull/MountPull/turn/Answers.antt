@@ -14,17 +14,20 @@ returns-in-Bytes g c =
       given = g.L.Line.given inside.line;
       taken = g.L.Line.taken inside.line;
       calls = g.L.Line.calls inside.line;
+      front = inside.front.items;
     } in
     let after : PullOver = record {
-      relay = c.hear.new.relay;
+      relay = c.keep_and_hear.new.relay;
       owed = c.write.new.self;
       given = g.L.Line.given c.read.new.self;
       taken = g.L.Line.taken c.read.new.self;
       calls = g.L.Line.calls c.read.new.self;
+      front = c.keep_and_hear.new.front.items;
     } in
     let written = c.write.ensures.written in
-    turn_heard g.S.Server.steps c.args.self.now before after bytes c.args.server.now c.hear.new.server c.hear.result c.self.view_is
+    turn_heard g.S.Server.steps c.args.self.now before after bytes c.args.server.now c.keep_and_hear.new.server c.keep_and_hear.result c.self.view_is
     (record { part = written.part; front = written.front; took = c.read.ensures.taken ∙ written.took })
-    (c.in-Bytes.ensures.given.1 ∙ ap (λ (xs : List ℕ). xs ++ bytes) c.write.ensures.given) c.hear.ensures.comes
-    (called_on c.hear.result before.calls after.calls c.hear.ensures.goes
+    (c.in-Bytes.ensures.given.1 ∙ ap (λ (xs : List ℕ). xs ++ bytes) c.write.ensures.given) c.keep_and_hear.ensures.comes
+    (called_on c.keep_and_hear.result before.calls after.calls c.keep_and_hear.ensures.goes
     (ap (λ (k : Calls). k.reads) c.in-Bytes.ensures.calls ∙ ap (λ (n : ℕ). suc n) c.if-not-write.ensures.borne.0))
+    c.keep_and_hear.ensures.front

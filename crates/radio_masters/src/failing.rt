@@ -1,0 +1,65 @@
+//! How often the log tells that a relay fails.
+
+ghost use Rattle.std.specs.Prelude.{◌≡◌, Some};
+ghost use Rattle.radio_masters.specs.Failures.{IsNoted, told_now};
+
+use crate::RelayEnd;
+
+/// For how long a failure that lasts is not told again, in milliseconds: an hour.
+pub const TOLD_AGAIN_MS: u64 = 3_600_000;
+
+/// A relay that has failed, and may have failed again and again for one reason.
+#[derive(Clone, Copy, Debug, PartialEq, Eq)]
+pub struct Failing {
+    /// Why it has failed last.
+    pub why: RelayEnd,
+    /// When the log has told that last, in milliseconds.
+    pub told_ms: u64,
+    /// How often it has failed so since then; a count that has reached 2^64 - 1 stays.
+    pub untold: u64,
+}
+
+/// Notes that a relay has failed for this reason at this moment, in milliseconds. Returns what is known of it from then on,
+/// and how often the log tells that it has failed; `None` if the log tells nothing.
+///
+/// The log tells a failure if it is the first, if its reason is another than before, or if the last line is an hour old.
+pub fn note_failure(before: Option<Failing>, why: RelayEnd, ms: u64) -> (Failing, Option<u64>)
+    ensures { IsNoted before why ms result.0 result.1 }
+{
+    let Some(failing) = before else {
+        return (first_of(why, ms), Some(1));
+    };
+    if failing.why == why {
+        failed_again(failing, ms)
+    } else {
+        (first_of(why, ms), Some(1))
+    }
+}
+
+/// The same of a relay that has failed for this reason before.
+fn failed_again(failing: Failing, ms: u64) -> (Failing, Option<u64>)
+    ensures { IsNoted (Some failing) failing.why ms result.0 result.1 }
+{
+    let times = failing.untold.saturating_add(1);
+    if ms.saturating_sub(failing.told_ms) < TOLD_AGAIN_MS {
+        (
+            Failing {
+                untold: times,
+                ..failing
+            },
+            None,
+        )
+    } else {
+        (first_of(failing.why, ms), Some(times))
+    }
+}
+
+fn first_of(why: RelayEnd, ms: u64) -> Failing
+    ensures { result ≡ told_now why ms }
+{
+    Failing {
+        why,
+        told_ms: ms,
+        untold: 0,
+    }
+}
