@@ -5,7 +5,7 @@
 //! - `tables`: rows by number; `blocks`: the memory of blocks; `queue`: the blocks that are kept.
 //! - `bodies`: feeds behind an end or a fault; `icy`: sound with titles woven into it and taken out.
 //! - `addresses`: peers as texts; `credentials`: values that no head can hold, and secrets.
-//! - `log_lines`: lines of the log, and the calendar.
+//! - `log_lines`: lines of the log, and the calendar; `outlet`: the thread that writes them.
 //! - `intake`: connections that are put, taken and counted, also by two threads.
 //! - `commands`: paths and queries as commands; `listings`: what is written of rows; `relays`: what masters answer, and which relays run.
 //! - `heads`: queries, faults, and answers with a body.
@@ -32,6 +32,8 @@ mod intake;
 mod listings;
 #[cfg(test)]
 mod log_lines;
+#[cfg(test)]
+mod outlet;
 #[cfg(test)]
 mod queue;
 #[cfg(test)]

@@ -1,2 +1,3 @@
+pub mod Choices
 pub mod News
 pub mod Serving

@@ -1,15 +1,24 @@
 -- The time that was served.
-use Rattle.std.specs.Prelude.{ℕ, ◌+◌, ◌-◌, ◌^◌, min}
+use Rattle.std.specs.Prelude.{ℕ, ◌+◌, ◌-◌, ◌^◌, min, max}
 
 -- by so many milliseconds the served time grows from one turn to the next, at most
 abbrev pub most_step : ℕ
 most_step = 500
+
+-- a worker that makes no turn for longer than so many milliseconds is not served
+abbrev pub most_still : ℕ
+most_still = 2000
 
 -- what the system's clock told last, and the time that was served up to then, in milliseconds
 pub record Served : Type 0 where
   pub clock : ℕ
   pub served : ℕ
 
--- the system's clock tells this moment: what has passed since it told the last counts, but no more than a step; a moment has 64 bits
-abbrev pub served_by : ℕ → Served → Served
-served_by clock s = record { clock = clock; served = min (2 ^ 64 - 1) (s.served + min most_step (clock - s.clock)) }
+-- the later of two moments, neither of which has more than 64 bits
+abbrev pub grown : ℕ → Served → ℕ
+grown clock s = min (2 ^ 64 - 1) (s.served + min most_step (clock - s.clock))
+
+-- the system's clock tells this moment, and all workers have read up to that one: what has passed since the clock told the last
+-- counts, but no more than a step, and only up to a step beyond what all have read
+abbrev pub served_by : ℕ → ℕ → Served → Served
+served_by clock told s = record { clock = clock; served = max s.served (min (grown clock s) (min (2 ^ 64 - 1) (told + most_step))) }

@@ -1,14 +1,16 @@
 //! What the workers and the acceptor tell each other.
 
+use crate::choice::{Chosen, least_loaded};
 use crate::desk::Desk;
-use crate::lines::Lines;
 use crate::news::NewsFor;
 use crate::pace::{much_from, pace_of, slow_from};
+use crate::served::is_served;
 use mio::Waker;
 use radio_lines::Pace;
+use radio_outlet::LogQueue;
 use std::alloc::Global;
 use std::sync::atomic::{AtomicBool, AtomicU64, Ordering};
-use std::sync::{Mutex, Wait};
+use std::sync::{Arc, Wait};
 
 /// How often it is tried to raise the moment; where another raises it at the same time, it is tried again.
 const TRIES: usize = 16;
@@ -48,14 +50,19 @@ pub struct Board {
     slow_from: u64,
     /// How many bytes these may have still to draw, while they are not told of news.
     much_from: u64,
-    /// Whether lines of the log wait.
-    has_lines: AtomicBool,
-    lines: Mutex<Lines>,
+    /// Where the lines of the log go.
+    log: Arc<LogQueue>,
 }
 
 impl Board {
-    /// Of these workers, and the acceptor with this waker. It takes no memory.
-    pub fn new(alloc: Global, desks: Vec<Desk>, acceptor: Waker, limits: Limits) -> Board {
+    /// Of these workers, the acceptor with this waker, and the queue of the log. It takes no memory.
+    pub fn new(
+        alloc: Global,
+        desks: Vec<Desk>,
+        acceptor: Waker,
+        limits: Limits,
+        log: Arc<LogQueue>,
+    ) -> Board {
         Board {
             alloc,
             desks,
@@ -70,8 +77,7 @@ impl Board {
             most_lingering: limits.most_lingering,
             slow_from: slow_from(limits.queue_size),
             much_from: much_from(limits.queue_size),
-            has_lines: AtomicBool::new(false),
-            lines: Mutex::new(Lines::new(alloc)),
+            log,
         }
     }
 
@@ -156,14 +162,27 @@ impl Board {
         self.received.load(Ordering::SeqCst)
     }
 
-    /// How fast sources are read, by what the listeners of each worker have still to draw.
+    /// Returns how fast sources are read, by what the listeners of each worker have still to draw. A worker that is not served
+    /// holds up nobody.
     pub fn pace(&self) -> Pace {
         let received = self.received();
+        let latest_ms = self.latest_ms();
         let mut most = 0u64;
         for desk in &self.desks {
-            most = most.max(desk.behind(received));
+            if is_served(desk.turn_ms(), latest_ms) {
+                most = most.max(desk.behind(received));
+            }
         }
         pace_of(most, self.slow_from)
+    }
+
+    /// Returns when a worker began its turn last, by the system's clock.
+    fn latest_ms(&self) -> u64 {
+        let mut latest_ms = 0u64;
+        for desk in &self.desks {
+            latest_ms = latest_ms.max(desk.turn_ms());
+        }
+        latest_ms
     }
 
     /// How many of this worker's connections may linger, where so many do.
@@ -179,21 +198,39 @@ impl Board {
         most
     }
 
-    /// For which worker the next connection is: of those who have begun one who has the fewest, the first from this number on.
+    /// Returns the worker that takes the next connection: of those that have begun and are served the one with the fewest
+    /// connections, the first of these from the number `from` on. `None` if there is none.
     pub fn next_desk(&self, from: usize) -> Option<usize> {
         let count = self.desks.len();
+        let latest_ms = self.latest_ms();
         let mut best = None;
-        let mut fewest = usize::MAX;
         for step in 0..count {
             let number = (from % count.max(1)).saturating_add(step) % count.max(1);
-            if let Some(load) = self.load_of(number) {
-                if load < fewest {
-                    fewest = load;
-                    best = Some(number);
-                }
+            if let Some(load) = self.load_of(number, latest_ms) {
+                best = Some(least_loaded(best, Chosen { number, load }));
             }
         }
-        best
+        Some(best?.number)
+    }
+
+    /// Hands the newcomers of each worker that is not served to others, if there are any that are.
+    pub fn move_newcomers(&self) {
+        let latest_ms = self.latest_ms();
+        for (number, desk) in self.desks.iter().enumerate() {
+            if desk.comings() > 0 && !is_served(desk.turn_ms(), latest_ms) {
+                self.move_from(number, desk);
+            }
+        }
+    }
+
+    /// Hands the newcomers of this worker, which is not served, to others.
+    fn move_from(&self, number: usize, desk: &Desk) {
+        for _ in 0..desk.take_comings() {
+            match self.next_desk(number).and_then(|other| self.desk(other)) {
+                Some(other) => other.send(),
+                None => desk.send(),
+            }
+        }
     }
 
     /// How many connections were accepted that no worker has taken yet.
@@ -205,10 +242,10 @@ impl Board {
         all
     }
 
-    /// How many connections this worker has, if he has begun.
-    fn load_of(&self, number: usize) -> Option<usize> {
+    /// Returns how many connections this worker has, if it has begun and is served.
+    fn load_of(&self, number: usize, latest_ms: u64) -> Option<usize> {
         let desk = self.desks.get(number)?;
-        if desk.works() {
+        if desk.works() && is_served(desk.turn_ms(), latest_ms) {
             Some(desk.load())
         } else {
             None
@@ -257,13 +294,12 @@ impl Board {
         self.has_acceptor.load(Ordering::SeqCst)
     }
 
-    /// From now on the acceptor waits, unless there is something to do: whether there is. He may want lines of the log.
-    pub fn acceptor_lies_down(&self, wants_lines: bool) -> bool {
+    /// From now on the acceptor waits, unless there is something to do: whether there is.
+    pub fn acceptor_lies_down(&self) -> bool {
         self.acceptor_sleeps.store(true, Ordering::SeqCst);
         let has_closed = self.wants_closing.load(Ordering::SeqCst)
             && self.has_closed.load(Ordering::SeqCst);
-        let has_lines = wants_lines && self.has_lines.load(Ordering::SeqCst);
-        self.is_over() || has_closed || has_lines
+        self.is_over() || has_closed
     }
 
     /// The acceptor does not wait any more.
@@ -278,19 +314,8 @@ impl Board {
         }
     }
 
-    /// These lines of the log, of the moment so many seconds after the beginning of 1970, are to be written.
+    /// Adds lines of the moment so many seconds after the beginning of 1970 to the log.
     pub fn add_lines<W: Wait>(&self, waits: &W, lines: &[u8], seconds: u64) {
-        self.lines.lock(waits).add(lines, seconds);
-        self.has_lines.store(true, Ordering::SeqCst);
-        self.wake_acceptor();
-    }
-
-    /// The lines that wait. None waits then.
-    pub fn take_lines<W: Wait>(&self, waits: &W) -> Vec<u8> {
-        if self.has_lines.swap(false, Ordering::SeqCst) {
-            self.lines.lock(waits).take()
-        } else {
-            Vec::new(self.alloc)
-        }
+        self.log.add(waits, lines, seconds);
     }
 }

@@ -28,6 +28,8 @@ pub struct Desk {
     lingering: AtomicUsize,
     /// Up to which moment he has read all that had come on his sockets.
     read_ms: AtomicU64,
+    /// When he asked his sockets last, by the system's clock.
+    turn_ms: AtomicU64,
     /// Of all bytes that have come from sources, up to which his listeners have drawn.
     drawn: AtomicU64,
 }
@@ -46,12 +48,14 @@ impl Desk {
             connections: AtomicUsize::new(0),
             lingering: AtomicUsize::new(0),
             read_ms: AtomicU64::new(0),
+            turn_ms: AtomicU64::new(0),
             drawn: AtomicU64::new(0),
         }
     }
 
-    /// He begins, and has read all up to this moment.
-    pub fn begin(&self, ms: u64) {
+    /// He begins at this moment of the system's clock, and has read all up to that one.
+    pub fn begin(&self, clock_ms: u64, ms: u64) {
+        self.set_turn(clock_ms);
         self.set_read(ms);
         self.works.store(true, Ordering::SeqCst);
     }
@@ -64,6 +68,16 @@ impl Desk {
     /// He has read all up to this moment.
     pub fn set_read(&self, ms: u64) {
         self.read_ms.store(ms, Ordering::SeqCst);
+    }
+
+    /// He has asked his sockets at this moment of the system's clock.
+    pub fn set_turn(&self, clock_ms: u64) {
+        self.turn_ms.store(clock_ms, Ordering::SeqCst);
+    }
+
+    /// Returns when he asked his sockets last, by the system's clock.
+    pub(crate) fn turn_ms(&self) -> u64 {
+        self.turn_ms.load(Ordering::SeqCst)
     }
 
     /// Up to which moment he has read all.
@@ -130,9 +144,20 @@ impl Desk {
         self.wake();
     }
 
-    /// He has taken one that was put for him.
-    pub fn note_taken(&self) {
-        self.comings.fetch_sub(1, Ordering::SeqCst);
+    /// Notes that so many of those that were put for him are not to be taken any more: he has taken them, or others have.
+    pub fn note_taken(&self, count: usize) {
+        let taken = self
+            .comings
+            .fetch_update(Ordering::SeqCst, Ordering::SeqCst, |comings| {
+                Some(comings.saturating_sub(count))
+            });
+        // The closure always answers a count.
+        let _ = taken;
+    }
+
+    /// Takes the count of those that were put for him, for others.
+    pub(crate) fn take_comings(&self) -> usize {
+        self.comings.swap(0, Ordering::SeqCst)
     }
 
     /// How many were put for him that he has not taken.

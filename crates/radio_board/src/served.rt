@@ -1,15 +1,19 @@
 //! The time that was served.
 
-ghost use Rattle.std.specs.Prelude.{◌≡◌, ◌≤◌, ◌+◌};
-ghost use Rattle.radio_board.specs.Serving.{Served, most_step, served_by};
+ghost use Rattle.std.specs.Prelude.{◌≡◌, ◌≤◌, ◌+◌, max, nat_le};
+ghost use Rattle.radio_board.specs.Serving.{Served, most_step, most_still, served_by};
 
 use std::marker::Model;
 
 /// By how many milliseconds the served time grows from one turn to the next, at most.
 const MOST_STEP_MS: u64 = 500;
 
-/// The time that was served, in milliseconds. Time in which the process stood still is not: of what
-/// the system's clock tells from one turn to the next, half a second counts at most.
+/// For how many milliseconds a worker may stand still at most, until others stop waiting for it.
+const MOST_STILL_MS: u64 = 2000;
+
+/// The time that a worker has served, in milliseconds. Time in which the process or one of its workers stood still does not
+/// count: of what the system's clock tells from one turn to the next, half a second counts at most, and no worker is ahead
+/// of the moment up to which all have read by more than that.
 #[derive(Drop)]
 pub struct ServedTime {
     clock_ms: u64,
@@ -25,35 +29,47 @@ impl Model for ServedTime {
 }
 
 impl ServedTime {
-    /// None was served when the system's clock tells this moment.
-    pub fn new(clock_ms: u64) -> ServedTime
-        ensures { result ≡ record { clock = clock_ms; served = 0 } }
+    /// Returns a clock that begins at this served time, when the system's clock is at `clock_ms`.
+    pub fn new(clock_ms: u64, served_ms: u64) -> ServedTime
+        ensures { result ≡ record { clock = clock_ms; served = served_ms } }
     {
         ServedTime {
             clock_ms,
-            served_ms: 0,
+            served_ms,
         }
     }
 
-    /// The system's clock tells this moment, at which it was heard what has come. The time that was
-    /// served when that was heard the last time: all that had come by then has been read since.
-    pub fn advance(&mut self, clock_ms: u64) -> u64
+    /// Notes that the system's clock is at `clock_ms`, when the sockets were asked again, and that all workers have read up
+    /// to `told_ms`. Returns the served time when they were asked before: all that had come by then has been read since.
+    pub fn advance(&mut self, clock_ms: u64, told_ms: u64) -> u64
         ensures read { result ≡ self.old.served }
-        ensures served { self.new ≡ served_by clock_ms self.old }
-        // it grows by a step at most
-        ensures step { self.new.served ≤ self.old.served + most_step }
+        ensures served { self.new ≡ served_by clock_ms told_ms self.old }
+        // it never goes back, and grows by a step at most
+        ensures step { (self.old.served ≤ self.new.served) × (self.new.served ≤ self.old.served + most_step) }
+        // it gets no further ahead of what all have read than a step
+        ensures together { self.new.served ≤ max self.old.served (told_ms + most_step) }
     {
         let read_ms = self.served_ms;
         let passed_ms = clock_ms.saturating_sub(self.clock_ms);
+        let grown_ms = read_ms.saturating_add(passed_ms.min(MOST_STEP_MS));
+        let most_ms = told_ms.saturating_add(MOST_STEP_MS);
         self.clock_ms = clock_ms;
-        self.served_ms = read_ms.saturating_add(passed_ms.min(MOST_STEP_MS));
+        self.served_ms = read_ms.max(grown_ms.min(most_ms));
         read_ms
     }
 
-    /// The time that was served.
+    /// Returns the served time.
     pub fn served_ms(&self) -> u64
         ensures { result ≡ self.now.served }
     {
         self.served_ms
     }
+}
+
+/// Returns whether a worker that began its last turn at `turn_ms` makes turns, when another has begun one at `latest_ms`, by
+/// the system's clock in milliseconds.
+pub fn is_served(turn_ms: u64, latest_ms: u64) -> bool
+    ensures { result ≡ nat_le latest_ms (turn_ms + most_still) }
+{
+    latest_ms.saturating_sub(turn_ms) <= MOST_STILL_MS
 }

@@ -4,14 +4,12 @@
 //!   says how.
 //! - [`BindFault`], [`ServeFault`]: why nothing was bound, and why a server ends.
 //!
-//! What radiod needs of the crates below to call it is here too: the net as relays reach it ([`Reach`], [`SystemNet`]),
-//! and where the log goes ([`LogOutput`], [`write_at_once`]).
+//! What radiod needs of the crates below to call it is here too: the net as relays reach it ([`Reach`], [`SystemNet`]).
 #![tactic(auto)]
 
 mod listening;
 
 pub use listening::{Listening, Service};
-pub use radio_board::{LogOutput, write_at_once};
 pub use radio_lines::{Reach, SystemNet};
 pub use radio_sockets::{BindFault, ServeFault};
 

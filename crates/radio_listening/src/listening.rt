@@ -5,10 +5,11 @@ ghost use Rattle.radio_intake.specs.Passes.{all_parts};
 
 use crate::{BindFault, ServeFault};
 use mio::net::TcpStream;
-use radio_board::{Board, Limits, LogOutput, Outlet};
+use radio_board::{Board, Limits};
 use radio_events::SharedServer;
 use radio_intake::{Intake, IntakePass};
 use radio_lines::{Reach, SocketLine, Sockets};
+use radio_outlet::LogQueue;
 use radio_pullers::{has_relays, keep_relays};
 use radio_serving::OpenGate;
 use radio_settings::Settings;
@@ -16,9 +17,8 @@ use radio_sockets::{Acceptor, Coming, Doors, SocketPost, open_desks, seats_of};
 use radio_workers::{Seat, Workplace, run_workers};
 use std::alloc::Global;
 use std::io;
-use std::io::Write;
 use std::net::{Net, SocketAddr};
-use std::sync::Wait;
+use std::sync::{Arc, Wait};
 use std::thread::{Threads, join_mut};
 use std::time::Clock;
 
@@ -65,50 +65,48 @@ impl Listening {
     /// Of the settings, which are those of the server, its relays and its slave are read: each relay is pulled over `net`
     /// in a thread of its own.
     ///
-    /// The log is written to standard output, by this stream of it, where that does not wait; what can't be written so is
-    /// lost.
-    pub fn serve<R, N, S, O>(
+    /// The lines of the log are added to this queue.
+    pub fn serve<R, N, S>(
         self,
         rt: &R,
         net: &N,
         server: &S,
         settings: &Settings,
         service: Service,
-        output: LogOutput<O>,
+        log: Arc<LogQueue>,
     ) -> ServeFault
     where
         R: Clock + Threads + Wait + Sync,
         N: Reach + Sync,
         S: SharedServer + Sync,
         S::Pass: Send,
-        O: Write + Drop + Send,
     {
         let Listening { alloc, doors } = self;
-        let mut acceptor = Acceptor::new(alloc, doors, output);
-        let fault = serve_by(rt, net, alloc, server, settings, service, &mut acceptor);
+        let mut acceptor = Acceptor::new(doors);
+        let opened = open_board(net, alloc, &acceptor, service, log);
+        let fault = serve_by(rt, net, opened, server, settings, service, &mut acceptor);
         drop(acceptor);
         fault
     }
 }
 
 /// Serves connections that this acceptor accepts, by this server.
-fn serve_by<R, N, S, O>(
+fn serve_by<R, N, S>(
     rt: &R,
     net: &N,
-    alloc: Global,
+    opened: Result<(Board, Vec<Sockets>), ServeFault>,
     server: &S,
     settings: &Settings,
     service: Service,
-    acceptor: &mut Acceptor<O>,
+    acceptor: &mut Acceptor,
 ) -> ServeFault
 where
     R: Clock + Threads + Wait + Sync,
     N: Reach + Sync,
     S: SharedServer + Sync,
     S::Pass: Send,
-    O: Write + Drop + Send,
 {
-    match open_board(net, alloc, acceptor, service) {
+    match opened {
         Ok((board, mut sockets)) => {
             let fault = {
                 let station = Station {
@@ -130,11 +128,12 @@ where
 }
 
 /// What the workers and the acceptor tell each other by, and the sockets of the workers.
-fn open_board<N: Reach, O: Write + Drop>(
+fn open_board<N: Reach>(
     net: &N,
     alloc: Global,
-    acceptor: &Acceptor<O>,
+    acceptor: &Acceptor,
     service: Service,
+    log: Arc<LogQueue>,
 ) -> Result<(Board, Vec<Sockets>), ServeFault> {
     let (sockets, desks) = open_desks(net, alloc, service.workers)?;
     let limits = Limits {
@@ -142,7 +141,7 @@ fn open_board<N: Reach, O: Write + Drop>(
         queue_size: service.queue_size,
     };
     match acceptor.waker() {
-        Ok(waker) => Ok((Board::new(alloc, desks, waker, limits), sockets)),
+        Ok(waker) => Ok((Board::new(alloc, desks, waker, limits, log), sockets)),
         Err(_) => Err(ServeFault::Accept),
     }
 }
@@ -159,36 +158,32 @@ struct Station<'a, R, N: Reach, S> {
 }
 
 /// Serves connections by workers with these sockets, whom this acceptor hands them, and writes the rest of the log.
-fn serve_at<R, N, S, O>(
+fn serve_at<R, N, S>(
     station: &Station<'_, R, N, S>,
     sockets: &mut Vec<Sockets>,
-    acceptor: &mut Acceptor<O>,
+    acceptor: &mut Acceptor,
 ) -> ServeFault
 where
     R: Clock + Threads + Wait + Sync,
     N: Reach + Sync,
     S: SharedServer + Sync,
     S::Pass: Send,
-    O: Write + Drop + Send,
 {
-    let fault = serve_all(station, sockets, acceptor);
-    acceptor.write_rest(station.rt, station.board);
-    fault
+    serve_all(station, sockets, acceptor)
 }
 
 /// Serves connections through an intake, until all stop. `OutOfMemory` where memory was refused for it, or for the
 /// workers' seats.
-fn serve_all<R, N, S, O>(
+fn serve_all<R, N, S>(
     station: &Station<'_, R, N, S>,
     sockets: &mut Vec<Sockets>,
-    acceptor: &mut Acceptor<O>,
+    acceptor: &mut Acceptor,
 ) -> ServeFault
 where
     R: Clock + Threads + Wait + Sync,
     N: Reach + Sync,
     S: SharedServer + Sync,
     S::Pass: Send,
-    O: Write + Drop + Send,
 {
     match Intake::new(station.board.alloc()) {
         Ok((intake, mut pass)) => {
@@ -203,19 +198,18 @@ where
 
 /// Serves connections through this intake, whose pass the acceptor and the workers share. `OutOfMemory` where memory was
 /// refused for the workers' seats.
-fn serve_through<R, N, S, O>(
+fn serve_through<R, N, S>(
     station: &Station<'_, R, N, S>,
     intake: &Intake<Coming>,
     pass: &mut IntakePass<Coming>,
     sockets: &mut Vec<Sockets>,
-    acceptor: &mut Acceptor<O>,
+    acceptor: &mut Acceptor,
 ) -> ServeFault
 where
     R: Clock + Threads + Wait + Sync,
     N: Reach + Sync,
     S: SharedServer + Sync,
     S::Pass: Send,
-    O: Write + Drop + Send,
     requires own { pass.old.intake ≡ intake.now }
     requires parts { all_parts ≤ pass.old.parts }
 {
@@ -231,20 +225,19 @@ where
 
 /// The acceptor puts connections into this intake by his hand, and workers with these sockets take them out by their pass,
 /// until all stop. His fault, and whether there was memory for the workers' seats.
-fn work_together<R, N, S, O>(
+fn work_together<R, N, S>(
     station: &Station<'_, R, N, S>,
     intake: &Intake<Coming>,
     hand: &mut IntakePass<Coming>,
     pass: &mut IntakePass<Coming>,
     sockets: &mut Vec<Sockets>,
-    acceptor: &mut Acceptor<O>,
+    acceptor: &mut Acceptor,
 ) -> (ServeFault, bool)
 where
     R: Clock + Threads + Wait + Sync,
     N: Reach + Sync,
     S: SharedServer + Sync,
     S::Pass: Send,
-    O: Write + Drop + Send,
     requires hand { hand.old.intake ≡ intake.now }
     requires own { pass.old.intake ≡ intake.now }
     requires parts { all_parts ≤ pass.old.parts + 1 }
@@ -261,16 +254,15 @@ where
 }
 
 /// The acceptor puts connections into this intake by his hand, until all stop. His fault.
-fn accept<R, N, S, O>(
+fn accept<R, N, S>(
     station: &Station<'_, R, N, S>,
     intake: &Intake<Coming>,
     hand: &mut IntakePass<Coming>,
-    acceptor: &mut Acceptor<O>,
+    acceptor: &mut Acceptor,
 ) -> ServeFault
 where
     R: Clock + Wait,
     N: Reach,
-    O: Write + Drop,
     requires { hand.old.intake ≡ intake.now }
 {
     acceptor.work(station.rt, station.board, intake, hand)

@@ -3,9 +3,8 @@
 use crate::address::{address_of, peer_at};
 use crate::{BindFault, OutOfMemory, ServeFault};
 use mio::net::{TcpListener, TcpStream};
-use mio::{Events, Interest, Poll, Registry, Token, Waker};
+use mio::{Events, Interest, Poll, Token, Waker};
 use radio_addr::Peer;
-use radio_board::OUTLET;
 use radio_lines::{Accepted, Entrance};
 use std::alloc::Global;
 use std::io;
@@ -19,7 +18,7 @@ const LISTENER: Token = Token(usize::MAX);
 /// The name of the acceptor's waker.
 const WAKER: Token = Token(usize::MAX - 2);
 
-/// Of how many things the system tells at once: the bound socket, the waker and standard output.
+/// Of how many things the system tells at once: the bound socket and the waker.
 const EVENTS: usize = 8;
 
 /// What the system answers where there is no descriptor left, for the process or at all.
@@ -42,8 +41,6 @@ pub struct Doors {
     listener: TcpListener,
     /// Whether a connection may wait to be accepted.
     is_asked: bool,
-    /// Whether standard output has room.
-    has_room: bool,
 }
 
 impl Doors {
@@ -92,7 +89,6 @@ impl Doors {
             events,
             listener,
             is_asked: true,
-            has_room: false,
         }))
     }
 
@@ -104,18 +100,6 @@ impl Doors {
     /// What ends a wait here from another thread.
     pub(crate) fn waker(&self) -> io::Result<Waker> {
         Waker::new(self.poll.registry(), WAKER)
-    }
-
-    /// Whom the system tells of.
-    pub(crate) fn registry(&self) -> &Registry {
-        self.poll.registry()
-    }
-
-    /// Whether the system has told that standard output has room since this was asked the last time.
-    pub(crate) fn take_room(&mut self) -> bool {
-        let has_room = self.has_room;
-        self.has_room = false;
-        has_room
     }
 
     /// Whether a connection may wait to be accepted.
@@ -132,8 +116,6 @@ impl Doors {
         for event in &self.events {
             if event.token() == LISTENER {
                 self.is_asked = true;
-            } else if event.token() == OUTLET {
-                self.has_room = true;
             }
         }
         Ok(())

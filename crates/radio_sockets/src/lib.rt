@@ -1,6 +1,6 @@
 //! What accepts connections, and what serves them: the two loops between which connections are handed on.
 //!
-//! - [`Doors`]: a bound socket; [`Acceptor`]: who accepts connections there, and writes the log.
+//! - [`Doors`]: a bound socket; [`Acceptor`]: who accepts connections there.
 //! - [`Coming`]: a connection that waits for a worker; [`SocketPost`]: where his turns come from. [`open_desks`] and
 //!   [`seats_of`] make what the workers begin with.
 //! - [`BindFault`], [`ServeFault`]: why nothing was bound, and why a server ends.

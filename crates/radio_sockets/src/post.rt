@@ -51,12 +51,12 @@ pub struct SocketPost<'a, R: Clock + Wait> {
     may_tell: bool,
     /// The moment that the clock told last.
     clock_ms: u64,
-    /// The moment at which he began.
-    since_ms: u64,
     /// The moment of the last turn.
     turn_ms: u64,
     /// Whether those who come wait for the next turn, so that the server is told the moment before.
     puts_off: bool,
+    /// How many of those that he was called to take he has not taken.
+    called: usize,
     /// When the log was last told the moment, by the clock.
     told_ms: u64,
     has_begun: bool,
@@ -83,13 +83,13 @@ impl<'a, R: Clock + Wait> SocketPost<'a, R> {
             desk,
             number,
             sockets,
-            time: ServedTime::new(0),
+            time: ServedTime::new(0, 0),
             pause: NewsPause::new(),
             may_tell: false,
             clock_ms: 0,
-            since_ms: 0,
             turn_ms: 0,
             puts_off: false,
+            called: 0,
             told_ms: 0,
             has_begun: false,
             has_more: false,
@@ -101,9 +101,9 @@ impl<'a, R: Clock + Wait> SocketPost<'a, R> {
     /// He begins, at the moment up to which the others have read.
     fn begin(&mut self) {
         self.has_begun = true;
-        self.since_ms = self.board.told_ms();
-        self.time = ServedTime::new(moment(self.rt));
-        self.desk.begin(self.since_ms);
+        let (clock_ms, since_ms) = (moment(self.rt), self.board.told_ms());
+        self.time = ServedTime::new(clock_ms, since_ms);
+        self.desk.begin(clock_ms, since_ms);
         self.board.wake_acceptor();
     }
 
@@ -202,15 +202,16 @@ impl<'a, R: Clock + Wait> SocketPost<'a, R> {
         if self.has_more { 0 } else { wait_ms }
     }
 
-    /// It is this moment by the clock. All that had come when it was heard before was read.
+    /// It is this moment by the clock. All that had come when it was heard before was read, so the moment may grow up to
+    /// then, and his own time goes on from it.
     fn advance(&mut self, clock_ms: u64) {
         self.clock_ms = clock_ms;
-        let read_ms = self.time.advance(clock_ms);
-        self.desk.set_read(self.since_ms.saturating_add(read_ms));
-        let now_ms = self.since_ms.saturating_add(self.time.served_ms());
+        self.desk.set_turn(clock_ms);
+        self.desk.set_read(self.time.served_ms());
+        self.time.advance(clock_ms, self.board.moment());
         self.sockets
             .activity()
-            .begin_turn(now_ms, self.board.pace());
+            .begin_turn(self.time.served_ms(), self.board.pace());
     }
 
     /// How many are taken in before a turn at this moment: none where the last turn was long ago, and this one tells the
@@ -219,7 +220,14 @@ impl<'a, R: Clock + Wait> SocketPost<'a, R> {
         let waiting = self.desk.comings().min(MOST_AT_ONCE);
         let is_late = ms.saturating_sub(self.turn_ms) > WAIT_MS;
         self.puts_off = waiting > 0 && is_late && !self.puts_off;
-        if self.puts_off { 0 } else { waiting }
+        self.called = if self.puts_off { 0 } else { waiting };
+        self.called
+    }
+
+    /// So many of those that he was called to take are taken, by him or others.
+    fn note_taken(&mut self, count: usize) {
+        self.called = self.called.saturating_sub(count);
+        self.desk.note_taken(count);
     }
 
     /// Tells the log the moment, if the clock tells it, and some time has passed.
@@ -268,7 +276,7 @@ impl<'a, R: Clock + Wait> Post<Coming, SocketLine<TcpStream>> for SocketPost<'a,
     }
 
     fn open(&mut self, coming: Coming) -> Option<(SocketLine<TcpStream>, Peer)> {
-        self.desk.note_taken();
+        self.note_taken(1);
         let Coming { stream, peer } = coming;
         match self.sockets.line_of(stream) {
             Ok(line) => Some((line, peer)),
@@ -294,6 +302,8 @@ impl<'a, R: Clock + Wait> Post<Coming, SocketLine<TcpStream>> for SocketPost<'a,
     }
 
     fn note(&mut self, seen: Seen, log: &Log) {
+        // Where the intake was empty before, others have taken them.
+        self.note_taken(self.called);
         self.has_more = seen.more;
         self.desk.set_connections(weight(seen), seen.has_listeners);
         self.desk.note_drawn(self.received, seen.more);

@@ -2,10 +2,9 @@
 //!
 //! - [`read_station`], [`read_station_twice`]: the settings of a file, and what the files hold that they name.
 //! - [`FileFault`]: why such a file is not taken; its text is a line on standard error.
-//! - [`tell`], [`tell_start`], [`warn`]: lines of the log, written to standard output.
+//! - [`tell_start`], [`warn`]: lines of the log, for [`Notices`].
 //!
-//! All of it is generic over the runtime, so that no crate needs more of it than files, a clock, an allocator or
-//! standard output.
+//! All of it is generic over the runtime, so that no crate needs more of it than files, a clock or an allocator.
 #![tactic(auto)]
 
 mod fault;
@@ -18,5 +17,5 @@ mod warnings;
 pub use fault::FileFault;
 pub use files::{Station, read_station, read_station_twice};
 pub use misreading::Misreading;
-pub use notices::{line_now, tell, tell_start, words_of};
+pub use notices::{Dated, Notices, line_now, tell_start, words_of};
 pub use warnings::warn;

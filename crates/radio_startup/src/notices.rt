@@ -3,32 +3,40 @@
 use radio_log::{Fact, Moment, Note, Text, line};
 use std::alloc::{AllocGlobal, Global};
 use std::fmt::Display;
-use std::io::Print;
 use std::time::Clock;
 
 /// Which program this is, in the line of its start.
 const VERSION: &str = "radiod";
 
-/// Writes the line of a fact on standard output. Where that takes nothing, or memory is refused, there is none.
-pub fn tell<R: Clock + Print + AllocGlobal>(rt: &R, fact: Fact<'_>) {
-    if let Some(bytes) = line_now(rt, fact) {
-        let _ = rt.write_all(bytes.as_slice());
-    }
+/// Where the lines of the log go that the program itself writes.
+pub trait Notices {
+    /// Adds the line of a fact to the log. If memory is refused, there is none.
+    fn tell(&self, fact: Fact<'_>);
 }
 
-/// The line of a fact, of this moment; `None` where memory is refused.
-pub fn line_now<R: Clock + AllocGlobal>(rt: &R, fact: Fact<'_>) -> Option<Vec<u8>> {
+/// A line of the log and its moment.
+#[derive(Drop)]
+pub struct Dated {
+    /// The line, with its LF.
+    pub line: Vec<u8>,
+    /// The moment, in seconds after the beginning of 1970.
+    pub seconds: u64,
+}
+
+/// Returns the line of a fact, of this moment; `None` if memory is refused.
+pub fn line_now<R: Clock + AllocGlobal>(rt: &R, fact: Fact<'_>) -> Option<Dated> {
+    let seconds = seconds_now(rt);
     let note = Note {
-        moment: Moment::at(seconds_now(rt)),
+        moment: Moment::at(seconds),
         fact,
     };
     match line(rt.alloc(), &note) {
-        Ok(bytes) => Some(bytes),
+        Ok(line) => Some(Dated { line, seconds }),
         Err(_) => None,
     }
 }
 
-/// How many seconds have passed since 1970; none where the clock tells none.
+/// Returns how many seconds have passed since 1970; 0 if the clock does not know.
 fn seconds_now<R: Clock>(rt: &R) -> u64 {
     match rt.since_1970() {
         Ok(since) => since.as_secs(),
@@ -37,14 +45,11 @@ fn seconds_now<R: Clock>(rt: &R) -> u64 {
 }
 
 /// Tells that the program listens at this address.
-pub fn tell_start<R: Clock + Print + AllocGlobal>(rt: &R, address: &str) {
-    tell(
-        rt,
-        Fact::Started {
-            version: Text::of(VERSION.as_bytes()),
-            address: Text::of(address.as_bytes()),
-        },
-    );
+pub fn tell_start<N: Notices>(notices: &N, address: &str) {
+    notices.tell(Fact::Started {
+        version: Text::of(VERSION.as_bytes()),
+        address: Text::of(address.as_bytes()),
+    });
 }
 
 /// What is said of this; `None` where memory is refused.

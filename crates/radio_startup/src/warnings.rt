@@ -1,13 +1,11 @@
 //! What an operator should know of his settings.
 
-use crate::notices::tell;
+use crate::notices::Notices;
 use radio_log::{Fact, Text, Warning};
 use radio_settings::{MountSetting, Settings};
 use std::alloc::AllocGlobal;
 use std::fs;
 use std::fs::Files;
-use std::io::Print;
-use std::time::Clock;
 
 /// The passwords of the example, which everybody knows.
 const EXAMPLE_PASSWORDS: [&str; 2] = ["hackme", "letmein"];
@@ -21,44 +19,35 @@ const LIMITS: &str = "/proc/self/limits";
 
 const LINE_OF_DESCRIPTORS: &str = "Max open files";
 
-/// Writes a line of the log for each thing that an operator should know of these settings.
-pub fn warn<R: Files + Clock + Print + AllocGlobal>(rt: &R, settings: &Settings) {
-    warn_of_descriptors(rt, settings.limits.clients.get());
+/// Adds a line to the log for each thing that an operator should know of these settings.
+pub fn warn<R: Files + AllocGlobal, N: Notices>(rt: &R, notices: &N, settings: &Settings) {
+    warn_of_descriptors(rt, notices, settings.limits.clients.get());
     let source = settings.access.source_password.as_str();
-    warn_of_password(rt, "source-password", "", source);
+    warn_of_password(notices, "source-password", "", source);
     let admin = settings.access.admin.password.as_str();
-    warn_of_password(rt, "admin-password", "", admin);
+    warn_of_password(notices, "admin-password", "", admin);
     if let Some(password) = &settings.access.relays.password {
-        warn_of_password(rt, "relay-password", "", password.as_str());
+        warn_of_password(notices, "relay-password", "", password.as_str());
     }
     for mount in settings.mounts.as_slice() {
-        warn_of_mount(rt, mount, source);
+        warn_of_mount(notices, mount, source);
     }
 }
 
 /// Warns of the password of a mount's own source, unless it is the one of all mounts.
-fn warn_of_mount<R: Clock + Print + AllocGlobal>(
-    rt: &R,
-    mount: &MountSetting,
-    source_password: &str,
-) {
+fn warn_of_mount<N: Notices>(notices: &N, mount: &MountSetting, source_password: &str) {
     let password = mount.options.source.password.as_str();
     if password != source_password {
-        warn_of_password(rt, "password", mount.name.as_str(), password);
+        warn_of_password(notices, "password", mount.name.as_str(), password);
     }
 }
 
 /// Warns of a password that is empty or known to everybody.
-fn warn_of_password<R: Clock + Print + AllocGlobal>(
-    rt: &R,
-    key: &str,
-    mount: &str,
-    password: &str,
-) {
+fn warn_of_password<N: Notices>(notices: &N, key: &str, mount: &str, password: &str) {
     if password.is_empty() {
-        tell_warning(rt, "empty-password", key, mount, 0);
+        tell_warning(notices, "empty-password", key, mount, 0);
     } else if is_example(password) {
-        tell_warning(rt, "example-password", key, mount, 0);
+        tell_warning(notices, "example-password", key, mount, 0);
     }
 }
 
@@ -71,30 +60,21 @@ fn is_example(password: &str) -> bool {
 }
 
 /// Warns where the system allows fewer descriptors than so many clients want.
-fn warn_of_descriptors<R: Files + Clock + Print + AllocGlobal>(rt: &R, clients: u32) {
+fn warn_of_descriptors<R: Files + AllocGlobal, N: Notices>(rt: &R, notices: &N, clients: u32) {
     if let Some(limit) = descriptors(rt) {
         if u64::from(clients) + OTHER_DESCRIPTORS > limit {
-            tell_warning(rt, "few-descriptors", "clients", "", limit);
+            tell_warning(notices, "few-descriptors", "clients", "", limit);
         }
     }
 }
 
-fn tell_warning<R: Clock + Print + AllocGlobal>(
-    rt: &R,
-    why: &str,
-    key: &str,
-    mount: &str,
-    limit: u64,
-) {
-    tell(
-        rt,
-        Fact::Warning(Warning {
-            why: Text::of(why.as_bytes()),
-            key: Text::of(key.as_bytes()),
-            mount: Text::of(mount.as_bytes()),
-            limit,
-        }),
-    );
+fn tell_warning<N: Notices>(notices: &N, why: &str, key: &str, mount: &str, limit: u64) {
+    notices.tell(Fact::Warning(Warning {
+        why: Text::of(why.as_bytes()),
+        key: Text::of(key.as_bytes()),
+        mount: Text::of(mount.as_bytes()),
+        limit,
+    }));
 }
 
 /// How many descriptors the system allows the process; `None` where it does not tell, or where there is no limit.

@@ -1,68 +1,111 @@
-//! Lines of the log that the program itself writes, before and behind the time in which it serves.
+//! The log of the program, and its faults.
 
 use crate::fault::{Fault, NotBound};
-use crate::output::terminal;
-use radio_listening::{LogOutput, write_at_once};
+use crate::output::LimitedFile;
 use radio_log::{Fact, Text};
-use radio_startup::{line_now, tell, words_of};
+use radio_outlet::{LogQueue, start_log};
+use radio_startup::{Dated, Notices, line_now, words_of};
+use std::sync::{Arc, Wait};
+use std::thread::Threads;
+use std::time::Clock;
+
+/// For how many milliseconds the program waits at its end until what it says is written.
+const LAST_WAIT_MS: u64 = 1000;
+
+/// The log of the program, to which a thread of its own writes.
+#[derive(Drop)]
+pub struct ProgramLog<'a, W: Wait> {
+    rt: &'a HostRuntime,
+    waits: &'a W,
+    queue: Arc<LogQueue>,
+}
+
+impl<'a, W: Clock + Threads + Wait + Copy + Drop + Send + 'static> ProgramLog<'a, W> {
+    /// Starts the thread that writes the log to standard output. The fault `OutOfMemory` if memory or the thread is refused.
+    pub fn start(rt: &'a HostRuntime, waits: &'a W) -> Result<ProgramLog<'a, W>, Fault> {
+        let alloc = rt.alloc();
+        let queue = match LimitedFile::standard_output(rt) {
+            Some(file) => start_log(waits, alloc, file, rt.stderr()),
+            None => start_log(waits, alloc, rt.stdout(), rt.stderr()),
+        };
+        match queue {
+            Some(queue) => Ok(ProgramLog { rt, waits, queue }),
+            None => Err(Fault::OutOfMemory),
+        }
+    }
+
+    /// Returns the queue, for a thread that adds lines to it.
+    pub fn queue(&self) -> Result<Arc<LogQueue>, Fault> {
+        match self.queue.clone() {
+            Ok(queue) => Ok(queue),
+            Err(_) => Err(Fault::OutOfMemory),
+        }
+    }
+
+    /// Adds the line that names the address at which the program listens.
+    pub fn tell_address(&self, line: &[u8]) {
+        self.queue.add(self.waits, line, 0);
+    }
+
+    /// Says the fault by which the program that served ends, and adds its line. It waits for a second at most until all is
+    /// written: neither who reads the log nor who reads standard error keeps the program from its end.
+    pub fn tell_end(&self, fault: &Fault) {
+        self.say_soon(fault);
+        if let Some(why) = words_of(self.rt.alloc(), fault) {
+            self.tell(Fact::Ended {
+                why: Text::of(why.as_bytes()),
+            });
+        }
+        self.queue.wait_written(self.waits, LAST_WAIT_MS);
+    }
+
+    /// Says a fault on standard error, and waits for that for a second at most, if a thread can be had.
+    fn say_soon(&self, fault: &Fault) {
+        let alloc = self.rt.alloc();
+        let started = start_log(self.waits, alloc, self.rt.stderr(), self.rt.stderr());
+        match (started, format!(in alloc; "radiod: {fault}\n")) {
+            (Some(queue), Ok(line)) => {
+                queue.add(self.waits, line.as_bytes(), 0);
+                queue.wait_written(self.waits, LAST_WAIT_MS);
+            }
+            _ => say(self.rt, fault),
+        }
+    }
+
+    /// The program does not serve, by this fault: it is said, and then a line has what is known of it in addition to its words.
+    /// `path` is that of the settings.
+    pub fn tell_fault(&self, path: &str, fault: &Fault) {
+        say(self.rt, fault);
+        let (Some(why), Some(reason)) = (
+            words_of(self.rt.alloc(), fault),
+            reason_of(self.rt, fault),
+        ) else {
+            return;
+        };
+        let (line, column) = place_of(fault);
+        self.tell(Fact::Fault(radio_log::Fault {
+            why: Text::of(why.as_bytes()),
+            file: Text::of(file_of(path, fault).as_bytes()),
+            line,
+            column,
+            address: Text::of(address_of(fault).as_bytes()),
+            reason: Text::of(reason.as_bytes()),
+        }));
+        self.queue.wait_written(self.waits, LAST_WAIT_MS);
+    }
+}
+
+impl<'a, W: Wait> Notices for ProgramLog<'a, W> {
+    fn tell(&self, fact: Fact<'_>) {
+        if let Some(Dated { line, seconds }) = line_now(self.rt, fact) {
+            self.queue.add(self.waits, line.as_slice(), seconds);
+        }
+    }
+}
 
 /// Says a fault on standard error. Where that takes nothing, the status of the program alone tells.
 pub fn say(rt: &HostRuntime, fault: &Fault) {
     let _ = eprintln!(rt; "radiod: {fault}");
-}
-
-/// The program that served ends by this fault: it is said, and then its line is written where that does not wait, so
-/// that nobody who reads neither keeps the program from its end.
-pub fn tell_end(rt: &HostRuntime, fault: &Fault) {
-    say(rt, fault);
-    let Some(why) = words_of(rt.alloc(), fault) else {
-        return;
-    };
-    let ended = Fact::Ended {
-        why: Text::of(why.as_bytes()),
-    };
-    if let Some(bytes) = line_now(rt, ended) {
-        write_last(rt, bytes);
-    }
-}
-
-/// Writes these bytes where that does not wait.
-fn write_last(rt: &HostRuntime, bytes: Vec<u8>) {
-    match terminal(rt) {
-        Some(stream) => {
-            let output = LogOutput {
-                stream,
-                may_wait: false,
-            };
-            write_at_once(rt, rt.alloc(), output, bytes);
-        }
-        None => {
-            let output = LogOutput {
-                stream: rt.stdout(),
-                may_wait: true,
-            };
-            write_at_once(rt, rt.alloc(), output, bytes);
-        }
-    }
-}
-
-/// The program does not serve, by this fault: it is said, and then a line has what is known of it beside its words. `path`
-/// is that of the settings.
-pub fn tell_fault(rt: &HostRuntime, path: &str, fault: &Fault) {
-    say(rt, fault);
-    let (Some(why), Some(reason)) = (words_of(rt.alloc(), fault), reason_of(rt, fault)) else {
-        return;
-    };
-    let (line, column) = place_of(fault);
-    let told = radio_log::Fault {
-        why: Text::of(why.as_bytes()),
-        file: Text::of(file_of(path, fault).as_bytes()),
-        line,
-        column,
-        address: Text::of(address_of(fault).as_bytes()),
-        reason: Text::of(reason.as_bytes()),
-    };
-    tell(rt, Fact::Fault(told));
 }
 
 /// The file that a fault is in.

@@ -12,7 +12,7 @@ mod serving;
 mod words;
 
 use crate::fault::Fault;
-use crate::log::{say, tell_fault};
+use crate::log::{ProgramLog, say};
 use crate::serving::serve_station;
 use crate::words::{Call, read_words};
 use radio_floor::{Tally, play};
@@ -31,7 +31,10 @@ fn main(rt: HostRuntime) -> ExitCode {
 }
 
 /// Does what the words ask for. A fault was said on standard error.
-fn run<W: Clock + Threads + Wait + Sync>(rt: &HostRuntime, waits: &W) -> Result<(), Fault> {
+fn run<W: Clock + Threads + Wait + Sync + Copy + Drop + Send + 'static>(
+    rt: &HostRuntime,
+    waits: &W,
+) -> Result<(), Fault> {
     match read_words(rt) {
         Ok(Call::Play(path)) => said(rt, play_script(rt, path.as_str())),
         Ok(Call::Serve(path)) => serve_file(rt, waits, path.as_str()),
@@ -48,20 +51,33 @@ fn said(rt: &HostRuntime, done: Result<(), Fault>) -> Result<(), Fault> {
 }
 
 /// Serves connections, with the settings of this file, until a fault.
-fn serve_file<W: Clock + Threads + Wait + Sync>(
+fn serve_file<W: Clock + Threads + Wait + Sync + Copy + Drop + Send + 'static>(
     rt: &HostRuntime,
     waits: &W,
     path: &str,
 ) -> Result<(), Fault> {
+    match ProgramLog::start(rt, waits) {
+        Ok(log) => serve_logged(rt, waits, &log, path),
+        Err(fault) => said(rt, Err(fault)),
+    }
+}
+
+/// Serves connections, with the settings of this file and this log, until a fault.
+fn serve_logged<W: Clock + Threads + Wait + Sync + Copy + Drop + Send + 'static>(
+    rt: &HostRuntime,
+    waits: &W,
+    log: &ProgramLog<'_, W>,
+    path: &str,
+) -> Result<(), Fault> {
     match read_station_twice(rt, path) {
         Ok((station, again)) => {
-            let fault = serve_station(rt, waits, path, station, &again);
+            let fault = serve_station(rt, waits, log, path, station, &again);
             drop(again);
             Err(fault)
         }
         Err(fault) => {
             let fault = Fault::File(fault);
-            tell_fault(rt, path, &fault);
+            log.tell_fault(path, &fault);
             Err(fault)
         }
     }

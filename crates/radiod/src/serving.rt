@@ -4,66 +4,79 @@ ghost use Rattle.std.specs.Prelude.{◌≡◌, ◌^◌};
 ghost use Rattle.radio_house.specs.World.{opening};
 
 use crate::fault::{Fault, NotBound};
-use crate::log::{tell_end, tell_fault};
-use crate::output::terminal;
+use crate::log::ProgramLog;
 use radio_book::{House, PASSES, Unkept};
 use radio_hall::Hall;
-use radio_listening::{BindFault, Listening, LogOutput, ServeFault, Service, SystemNet};
+use radio_listening::{BindFault, Listening, ServeFault, Service, SystemNet};
+use radio_outlet::LogQueue;
 use radio_settings::Settings;
 use radio_startup::{Station, tell_start, warn};
 use std::marker::Brand;
-use std::sync::Wait;
 use std::sync::ledger::Blank;
+use std::sync::{Arc, Wait};
 use std::thread::Threads;
 use std::time::Clock;
 
-/// Binds the address and the port of the settings, says so on standard output, and serves
-/// connections by so many workers as they say, until a fault. `path` is that of the settings, and `again` a
-/// second copy of them, by which relays are pulled in.
-pub fn serve_station<W: Clock + Threads + Wait + Sync>(
+/// Binds the address and the port of the settings, says so in the log, and serves connections by so many workers as they say,
+/// until a fault. `path` is that of the settings, and `again` a second copy of them, by which relays are pulled in.
+pub fn serve_station<W: Clock + Threads + Wait + Sync + Copy + Drop + Send + 'static>(
     rt: &HostRuntime,
     waits: &W,
+    log: &ProgramLog<'_, W>,
     path: &str,
     station: Station,
     again: &Settings,
 ) -> Fault {
-    match bind(rt, &station.settings) {
-        Ok(listening) => {
-            warn(rt, &station.settings);
+    match bind(rt, log, &station.settings) {
+        Ok((listening, queue)) => {
+            warn(rt, log, &station.settings);
             let fault = Fault::Serve(serve_in::<W, Brand>(
                 rt,
                 waits,
                 station,
                 again,
                 listening,
+                queue,
                 Blank::new(PASSES),
             ));
-            tell_end(rt, &fault);
+            log.tell_end(&fault);
             fault
         }
         Err(fault) => {
             drop(station);
-            tell_fault(rt, path, &fault);
+            log.tell_fault(path, &fault);
             fault
         }
     }
 }
 
-/// The bound socket, of which standard output was told.
-fn bind(rt: &HostRuntime, settings: &Settings) -> Result<Listening, Fault> {
+/// Returns the bound socket, of which the log was told, and the queue of the log.
+fn bind<W: Clock + Threads + Wait + Copy + Drop + Send + 'static>(
+    rt: &HostRuntime,
+    log: &ProgramLog<'_, W>,
+    settings: &Settings,
+) -> Result<(Listening, Arc<LogQueue>), Fault> {
+    let listening = bind_socket(rt, settings)?;
+    if let Ok(address) = listening.address() {
+        if let Ok(line) = format!(in rt.alloc(); "listening on {address}\n") {
+            log.tell_address(line.as_bytes());
+        }
+        if let Ok(address) = format!(in rt.alloc(); "{address}") {
+            tell_start(log, address.as_str());
+        }
+    }
+    match log.queue() {
+        Ok(queue) => Ok((listening, queue)),
+        Err(fault) => Err(fault),
+    }
+}
+
+/// Returns the bound socket.
+fn bind_socket(rt: &HostRuntime, settings: &Settings) -> Result<Listening, Fault> {
     let listen = &settings.listen;
     let port = listen.port.get() as u16;
     match Listening::bind(rt, rt.alloc(), listen.address.as_str(), port) {
-        Ok(listening) => {
-            if let Ok(address) = listening.address() {
-                // Where standard output takes nothing, the station is on the air all the same.
-                let _ = println!(rt; "listening on {address}");
-                if let Ok(address) = format!(in rt.alloc(); "{address}") {
-                    tell_start(rt, address.as_str());
-                }
-            }
-            Ok(listening)
-        }
+        Ok(listening) => Ok(listening),
         Err(BindFault::NoAddress) => Err(cannot_bind(rt, settings, NotBound::NoAddress)),
         Err(BindFault::Refused(error)) => {
             Err(cannot_bind(rt, settings, NotBound::Refused(error)))
@@ -89,6 +102,7 @@ fn serve_in<W: Clock + Threads + Wait + Sync, H: House + Send + Sync>(
     station: Station,
     again: &Settings,
     listening: Listening,
+    log: Arc<LogQueue>,
     blank: Blank,
 ) -> ServeFault
     requires opening { H.opening ≡ opening station.settings station.lists }
@@ -96,38 +110,23 @@ fn serve_in<W: Clock + Threads + Wait + Sync, H: House + Send + Sync>(
 {
     let Station { settings, lists } = station;
     let hall: Hall<Unkept, H> = Hall::new(rt.alloc(), settings, lists, blank);
-    let fault = serve_through(rt, waits, &hall, again, listening);
+    let fault = serve_through(rt, waits, &hall, again, listening, log);
     drop(hall);
     fault
 }
 
-/// Serves connections in this hall, and writes the log to standard output.
+/// Serves connections in this hall, with this queue of the log.
 fn serve_through<W: Clock + Threads + Wait + Sync, H: House + Send + Sync>(
     rt: &HostRuntime,
     waits: &W,
     hall: &Hall<Unkept, H>,
     settings: &Settings,
     listening: Listening,
+    log: Arc<LogQueue>,
 ) -> ServeFault {
     let service = service_of(settings);
     let net = SystemNet::new(rt);
-    match terminal(rt) {
-        Some(stream) => {
-            let output = LogOutput {
-                stream,
-                may_wait: false,
-            };
-            listening.serve(waits, &net, hall, settings, service, output)
-        }
-        None => {
-            let stream = rt.stdout();
-            let output = LogOutput {
-                stream,
-                may_wait: true,
-            };
-            listening.serve(waits, &net, hall, settings, service, output)
-        }
-    }
+    listening.serve(waits, &net, hall, settings, service, log)
 }
 
 /// What the settings say of the service: as many may linger as may be clients.

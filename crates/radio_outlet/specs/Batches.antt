@@ -1,0 +1,56 @@
+-- The lines that are being written.
+use Rattle.std.specs.Prelude.{ℕ, List, [], ◌∷◌, ◌+◌, ◌-◌, ◌==◌, Bool, if◌then◌else◌, drop, Option, Some, None, slice_index, position}
+use Rattle.radio_outlet.specs.declared.batch.Place.{Place}
+use Rattle.radio_outlet.specs.declared.batch.Place.TheVariants.{LineStart, WithinLine, TornLine}
+
+-- where the last byte that was written stands, and the bytes that are left
+pub record InHand : Type 0 where
+  pub place : Place
+  pub rest : List ℕ
+
+-- what is written next
+abbrev pub next_bytes : InHand → List ℕ
+next_bytes b = next b.place b.rest where
+  next : Place → List ℕ → List ℕ
+  next LineStart rest = rest
+  next WithinLine rest = rest
+  next TornLine rest = 10 ∷ []
+
+-- the place behind a byte
+abbrev pub place_behind : ℕ → Place
+place_behind byte = if byte == 10 then LineStart else WithinLine
+
+-- some of the next bytes were written, so many
+abbrev pub some_written : ℕ → Place → List ℕ → InHand
+some_written count TornLine rest = record { place = LineStart; rest = rest }
+some_written count LineStart rest = record { place = place_behind (slice_index rest (count - 1)); rest = drop count rest }
+some_written count WithinLine rest = record { place = place_behind (slice_index rest (count - 1)); rest = drop count rest }
+
+-- so many of the next bytes were written
+abbrev pub written : ℕ → InHand → InHand
+written count b = if count == 0 then b else some_written count b.place b.rest
+
+-- whether a byte ends a line
+abbrev pub is_line_end : ℕ → Bool
+is_line_end byte = byte == 10
+
+-- what stands behind the first line end
+abbrev pub behind_line : List ℕ → List ℕ
+behind_line bytes = behind bytes (position is_line_end bytes) where
+  behind : List ℕ → Option ℕ → List ℕ
+  behind bytes None = []
+  behind bytes (Some at) = drop (at + 1) bytes
+
+-- a write has failed: the rest of a line that was begun is lost
+abbrev pub cut_off : InHand → InHand
+cut_off b = cut b.place b.rest where
+  cut : Place → List ℕ → InHand
+  cut WithinLine rest = record { place = TornLine; rest = behind_line rest }
+  cut LineStart rest = record { place = LineStart; rest = rest }
+  cut TornLine rest = record { place = TornLine; rest = rest }
+
+-- how many lines are lost by it
+abbrev pub lost_by_cut : Place → ℕ
+lost_by_cut WithinLine = 1
+lost_by_cut LineStart = 0
+lost_by_cut TornLine = 0

@@ -1,0 +1,4 @@
+pub mod Queues
+pub mod Batches
+pub mod Failures
+pub mod Outages
