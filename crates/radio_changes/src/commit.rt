@@ -8,6 +8,7 @@ ghost use Rattle.radio_changes.specs.KeptChanges.{kept_changed, kept_taken_in};
 use crate::OutOfMemory;
 use crate::change::Change;
 use crate::state::State;
+use crate::unattached::Unattached;
 use radio_blocks::{Block, Place};
 use radio_fallback::{Carried, Move, carry};
 use radio_house::{ClientState, House};
@@ -217,7 +218,7 @@ impl State {
             return NOBODY;
         }
         let house = House::of(&self.control, &self.board.sessions);
-        carry(&house, &mut self.board.seats, moving)
+        carry(&house, &mut Unattached, &mut self.board.seats, moving)
     }
 
     /// Where the mount calls its listeners home, those come who had asked for it and sit elsewhere.

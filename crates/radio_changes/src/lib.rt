@@ -16,6 +16,7 @@ mod obey;
 mod state;
 mod tick;
 mod timed_state;
+mod unattached;
 mod users;
 
 pub use change::Change;

@@ -5,3 +5,5 @@ pub mod FaresLemmas
 pub mod HisTurn
 pub mod Faring
 pub mod MovedCounts
+pub mod HeardLemmas
+pub mod FitsLemmas

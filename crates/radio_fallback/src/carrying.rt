@@ -1,52 +1,75 @@
 //! How a move carries listeners along.
 
-ghost use Rattle.std.specs.Prelude.{◌≡◌, ◌+◌, ◌<◌, ◌^◌, true};
+ghost use Rattle.std.specs.Prelude.{◌≡◌, ◌+◌, ◌<◌, ◌^◌, true, IsSome, Some};
 ghost use Rattle.radio_seats.specs.Board.{is_prepared};
+ghost use Rattle.radio_seats.specs.Seats.{AreByNumber, listener_of, last_mount_of};
 ghost use Rattle.radio_fallback.specs.Carry.{turn_of, after_turn, carried};
+ghost use Rattle.radio_fallback.specs.Heard.{heard, OthersStay, IsAt, Fits, GoesOver, GoesOff};
 
 use crate::moves::Turn;
 use crate::walker::Walker;
-use crate::{Carried, Move, View};
+use crate::{Attachments, Carried, Move, View};
+use radio_blocks::Place;
 use radio_listeners::{LentSeat, Seats};
+use radio_values::MountName;
 
 /// Carries the listeners along whom the move concerns, one after the other in the order of their
 /// numbers: each by what stands at his turn, as the earlier ones left things, and his own seat does
 /// not count against him. Who goes to a mount goes on at the end of its stream. It takes no memory.
 /// It looks at each listener of the house once.
-pub fn carry<V: View>(view: &V, seats: &mut Seats, moving: &Move) -> Carried
-    // live mounts are prepared
-    requires { (mount : _) → (V.sight view.now).is_live mount ≡ true → is_prepared seats.old.prepared mount ≡ true }
+pub fn carry<V: View, A: Attachments>(
+    view: &V,
+    attached: &mut A,
+    seats: &mut Seats,
+    moving: &Move,
+) -> Carried
+    // live mounts are prepared, and have parts
+    requires prepared { (mount : _) → (V.sight view.now).is_live mount ≡ true → is_prepared seats.old.prepared mount ≡ true }
+    requires parts { (mount : _) → (V.sight view.now).is_live mount ≡ true → A.has_part attached.old mount ≡ true }
     ensures seats { seats.new ≡ record seats.old { seats = (carried (V.sight view.now) moving.now seats.old.seats).seats } }
     ensures counts { result ≡ (carried (V.sight view.now) moving.now seats.old.seats).counts }
+    // with the places that the attachments have, they are the definition's too
+    ensures heard { heard (A.places attached.new) seats.new.seats ≡ (carried (V.sight view.now) moving.now (heard (A.places attached.old) seats.old.seats)).seats }
+    ensures heard_counts { result ≡ (carried (V.sight view.now) moving.now (heard (A.places attached.old) seats.old.seats)).counts }
+    // if attached to each mount is who sits there, and nobody else, that holds afterwards
+    ensures fits { Fits (A.places attached.old) seats.old.seats → Fits (A.places attached.new) seats.new.seats }
+    ensures parts { (mount : _) → A.has_part attached.new mount ≡ A.has_part attached.old mount }
 {
     // so many fit
     let _ = seats.len();
     let mut counts = Carried { moved: 0, ended: 0 };
     let mut last = None;
     'listeners: while let Some(id) = seats.next(last) {
-        counts = take_turn(view, seats, moving, id, counts);
+        counts = take_turn(view, attached, seats, moving, id, counts);
         last = Some(id);
     }
     counts
 }
 
 /// One listener has his turn, and is counted.
-fn take_turn<V: View>(
+fn take_turn<V: View, A: Attachments>(
     view: &V,
+    attached: &mut A,
     seats: &mut Seats,
     moving: &Move,
     id: u64,
     counts: Carried,
 ) -> Carried
     requires prepared { (mount : _) → (V.sight view.now).is_live mount ≡ true → is_prepared seats.old.prepared mount ≡ true }
+    requires parts { (mount : _) → (V.sight view.now).is_live mount ≡ true → A.has_part attached.old mount ≡ true }
     requires room { counts.moved + counts.ended + 1 < 2 ^ 64 }
+    requires rising { AreByNumber seats.old.seats }
     ensures seats { seats.new ≡ record seats.old { seats = (after_turn (V.sight view.now) id (record { seats = seats.old.seats; counts = counts }) (turn_of (V.sight view.now) moving.now seats.old.seats id)).seats } }
     ensures counts { result ≡ (after_turn (V.sight view.now) id (record { seats = seats.old.seats; counts = counts }) (turn_of (V.sight view.now) moving.now seats.old.seats id)).counts }
+    ensures heard { heard (A.places attached.new) seats.new.seats ≡ (after_turn (V.sight view.now) id (record { seats = heard (A.places attached.old) seats.old.seats; counts = counts }) (turn_of (V.sight view.now) moving.now (heard (A.places attached.old) seats.old.seats) id)).seats }
+    ensures fits { Fits (A.places attached.old) seats.old.seats → Fits (A.places attached.new) seats.new.seats }
+    ensures parts { (mount : _) → A.has_part attached.new mount ≡ A.has_part attached.old mount }
 {
     match turn_of(view, seats, moving, id) {
         Turn::Stays => counts,
         Turn::GoesTo(mount) => {
             let end = view.stream_end(&mount);
+            attach_elsewhere(attached, seats, id, &mount, end.place);
             seats.shift(id, &mount, end.session, end.place);
             Carried {
                 moved: counts.moved + 1,
@@ -54,6 +77,7 @@ fn take_turn<V: View>(
             }
         }
         Turn::IsOut(rule) => {
+            detach(attached, seats, id);
             seats.end(id, rule);
             Carried {
                 moved: counts.moved,
@@ -81,4 +105,35 @@ fn turn_of<V: View>(view: &V, seats: &Seats, moving: &Move, id: u64) -> Turn
         own: Some(id),
     };
     moving.turn(&walker, pair)
+}
+
+/// Moves the listener's attachment from where it sits to this mount and place. Nothing changes if
+/// there is no such listener.
+fn attach_elsewhere<A: Attachments>(
+    attached: &mut A,
+    seats: &Seats,
+    id: u64,
+    to: &MountName,
+    place: Place,
+)
+    ensures others { OthersStay (A.places attached.old) (A.places attached.new) id }
+    ensures there { IsSome (listener_of seats.now.seats id) → IsAt (A.places attached.new to.now id) place }
+    ensures over { (from : _) → last_mount_of seats.now.seats id ≡ Some from → A.has_part attached.old to.now ≡ true
+        → GoesOver (A.places attached.old) (A.places attached.new) id from to.now }
+    ensures parts { (mount : _) → A.has_part attached.new mount ≡ A.has_part attached.old mount }
+{
+    if let Some(from) = seats.last_mount(id) {
+        attached.shift(id, from, to, place);
+    }
+}
+
+/// Detaches the listener from where it sits, or sat last.
+fn detach<A: Attachments>(attached: &mut A, seats: &Seats, id: u64)
+    ensures others { OthersStay (A.places attached.old) (A.places attached.new) id }
+    ensures off { (from : _) → last_mount_of seats.now.seats id ≡ Some from → GoesOff (A.places attached.old) (A.places attached.new) id from }
+    ensures parts { (mount : _) → A.has_part attached.new mount ≡ A.has_part attached.old mount }
+{
+    if let Some(from) = seats.last_mount(id) {
+        attached.detach(id, from);
+    }
 }

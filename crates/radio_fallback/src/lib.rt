@@ -3,9 +3,11 @@
 //! - [`View`]: what a walk asks of the server; [`walk_from`] goes over it, and over the table of those who sit.
 //! - [`Walk`]: what it [`Found`] at the mount from which it began, and its [`Landing`].
 //! - [`carry`]: a [`Move`] carries listeners along, and answers how many ([`Carried`]); contracts and laws speak of the [`Turn`] of each.
+//!   It moves the [`Attachments`] of listeners along with their seats.
 //! - Laws of a carry, which run no code: `laws`.
 #![tactic(auto)]
 
+mod attachments;
 mod carrying;
 mod laws;
 mod moves;
@@ -13,6 +15,7 @@ mod view;
 mod walker;
 mod walking;
 
+pub use attachments::Attachments;
 pub use carrying::carry;
 pub use laws::{
     a_carry_asks_the_users, a_carry_keeps_limits, a_carry_keeps_numbers, a_carry_seats_users_once,

@@ -8,8 +8,8 @@ use Rattle.radio_house.specs.Waiting.{heard_at}
 use Rattle.radio_changes.proofs.PreparedSeats.{as_many_carried, heard_prepared, seats_changed, some_listen}
 use Rattle.radio_changes.proofs.state.State.carry_along.Goals as goal
 
-pub carry-requires : goal.carry-requires
-carry-requires c = λ mount heard. heard_prepared (house_of c.self.inside.control c.self.inside.board.sessions) c.self.inside.board.seats mount
+pub carry-requires-clause-prepared : goal.carry-requires-clause-prepared
+carry-requires-clause-prepared c = λ mount heard. heard_prepared (house_of c.self.inside.control c.self.inside.board.sessions) c.self.inside.board.seats mount
     (some_listen c.self.inside.board.seats.seats c.len.result c.len.ensures c.if-len-eq0.false) c.self.invariant.0 c.self.invariant.1
     (subst (λ (house : House). is_some (heard_at house mount) ≡ true) c.of-house.ensures heard)
 

@@ -1,0 +1,5 @@
+pub mod Sides
+pub mod Order
+pub mod Forks
+mod AtFork
+pub mod Bounds
