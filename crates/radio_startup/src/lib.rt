@@ -3,6 +3,7 @@
 //! - [`read_station`], [`read_station_twice`]: the settings of a file, and what the files hold that they name.
 //! - [`FileFault`]: why such a file is not taken; its text is a line on standard error.
 //! - [`tell_start`], [`warn`]: lines of the log, for [`Notices`].
+//! - [`VERSION`]: the version of the program.
 //!
 //! All of it is generic over the runtime, so that no crate needs more of it than files, a clock or an allocator.
 #![tactic(auto)]
@@ -17,5 +18,5 @@ mod warnings;
 pub use fault::FileFault;
 pub use files::{Station, read_station, read_station_twice};
 pub use misreading::Misreading;
-pub use notices::{Dated, Notices, line_now, tell_start, words_of};
+pub use notices::{Dated, Notices, VERSION, line_now, tell_start, words_of};
 pub use warnings::warn;

@@ -5,8 +5,9 @@ use std::alloc::{AllocGlobal, Global};
 use std::fmt::Display;
 use std::time::Clock;
 
-/// Which program this is, in the line of its start.
-const VERSION: &str = "radiod";
+/// The version of the program (Semantic Versioning 2.0.0). It stands here alone: `--version`, the log's first line and the
+/// packages that scripts make read it.
+pub const VERSION: &str = "0.9.0";
 
 /// Where the lines of the log go that the program itself writes.
 pub trait Notices {

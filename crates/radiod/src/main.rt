@@ -1,17 +1,20 @@
 //! `radiod`: an Internet radio server.
 //!
 //! `radiod play SETTINGS` reads a script on standard input, and writes its transcript on standard
-//! output. `radiod serve SETTINGS` serves connections over TCP. A fault is one line on standard error, with status 2 for the words of the call, 3 for the
-//! settings and the files that they name, and else 1.
+//! output. `radiod serve SETTINGS` serves connections over TCP. `radiod --version` and `radiod --help` write what they
+//! name. A fault is one line on standard error, with status 2 for the words of the call, 3 for the settings and the files
+//! that they name, and else 1.
 #![tactic(auto)]
 
 mod fault;
+mod help;
 mod log;
 mod output;
 mod serving;
 mod words;
 
 use crate::fault::Fault;
+use crate::help::{write_help, write_version};
 use crate::log::{ProgramLog, say};
 use crate::serving::serve_station;
 use crate::words::{Call, read_words};
@@ -38,6 +41,8 @@ fn run<W: Clock + Threads + Wait + Sync + Copy + Drop + Send + 'static>(
     match read_words(rt) {
         Ok(Call::Play(path)) => said(rt, play_script(rt, path.as_str())),
         Ok(Call::Serve(path)) => serve_file(rt, waits, path.as_str()),
+        Ok(Call::Version) => said(rt, write_version(rt)),
+        Ok(Call::Help) => said(rt, write_help(rt)),
         Err(fault) => said(rt, Err(fault)),
     }
 }

@@ -4,17 +4,21 @@ use std::env;
 use std::env::Args;
 use std::io::ErrorKind;
 
-/// What the program is to do, with the settings of the file of this path.
+/// What the program is to do.
 #[derive(Drop)]
 pub enum Call {
-    /// To play a script.
+    /// To play a script, with the settings of the file of this path.
     Play(String),
-    /// To serve connections.
+    /// To serve connections, with the settings of the file of this path.
     Serve(String),
+    /// To write its name and version.
+    Version,
+    /// To write its usage.
+    Help,
 }
 
-/// What the words `play SETTINGS` or `serve SETTINGS` ask for. Any other words, and words that are
-/// not UTF-8, are the fault `Usage`; memory that was refused for them is `OutOfMemory`.
+/// Returns what the words `play SETTINGS`, `serve SETTINGS`, `--version` or `--help` ask for. Any other words, and words
+/// that are not UTF-8, are the fault `Usage`; memory that was refused for them is `OutOfMemory`.
 pub fn read_words(rt: &HostRuntime) -> Result<Call, Fault> {
     match env::args(rt) {
         Ok(words) => read_call(words),
@@ -24,22 +28,24 @@ pub fn read_words(rt: &HostRuntime) -> Result<Call, Fault> {
 }
 
 fn read_call(mut words: Args<Global>) -> Result<Call, Fault> {
-    let asked = verb_and_path(&mut words);
+    let _program = words.next();
+    let verb = words.next();
+    let path = words.next();
+    let more = words.next();
     drop(words);
-    match asked {
-        Some((verb, path)) => call_of(verb.as_str(), path),
-        None => Err(Fault::Usage),
+    match (verb, path, more) {
+        (Some(verb), None, _) => call_alone(verb.as_str()),
+        (Some(verb), Some(path), None) => call_of(verb.as_str(), path),
+        (None, _, _) | (Some(_), Some(_), Some(_)) => Err(Fault::Usage),
     }
 }
 
-/// The two words behind the program's name, if they are two.
-fn verb_and_path(words: &mut Args<Global>) -> Option<(String, String)> {
-    let _program = words.next()?;
-    let verb = words.next()?;
-    let path = words.next()?;
-    match words.next() {
-        Some(_) => None,
-        None => Some((verb, path)),
+/// Returns what a single word asks for.
+fn call_alone(word: &str) -> Result<Call, Fault> {
+    match word {
+        "--version" => Ok(Call::Version),
+        "--help" => Ok(Call::Help),
+        _ => Err(Fault::Usage),
     }
 }
 
