@@ -1,8 +1,8 @@
 //! The page of what is on air, which a browser opens at `/`.
 //!
 //! [`page`] is the answer. The page needs nothing from elsewhere: its script asks `/status.json` each five seconds, and shows
-//! for each mount its name, its title, its genre, how many listen, and a player. It says so where nothing is on air, or the
-//! server does not answer.
+//! the name of the first mount at its top, and for each mount its name, its title, its genre, how many listen, and a player.
+//! It says so if nothing is on air, or the server does not answer. Its icon is a part of its text.
 //!
 //! `scripts/try_page` opens it in a browser.
 #![tactic(auto)]
@@ -14,10 +14,10 @@ ghost use Rattle.radio_page.specs.Page.{page_answer};
 use radio_heads::{FieldValue, WebAnswer};
 
 /// What a browser allows the page (Content Security Policy Level 3): its one script and its one style, by the SHA-256 of
-/// their texts, and what this server answers to its script and its players. So a text of a stream, whatever it holds, runs
+/// their texts, the icon in its text, and what this server answers to its script and its players. So a text of a stream, whatever it holds, runs
 /// nothing and fetches nothing.
 pub const POLICY: &str =
-    r"default-src 'none'; script-src 'sha256-SLNtU3ZZRJfMJqy+2K63MxGw9j9qhClNTQrBzVWZfxk='; style-src 'sha256-4TH49hqxrAzY4BXihDY3m0PT0PzWZ3CLbHRddZZINYQ='; connect-src 'self'; media-src 'self'; base-uri 'none'; form-action 'none'; frame-ancestors 'none'";
+    r"default-src 'none'; script-src 'sha256-jzT/HkmIlWhA180bcabzXLk9iBI31SJctbC+ZLxbpIk='; style-src 'sha256-p8r0kjk/CTmiIuOmXXviRO1xt050aEmIax5R+aVXv0A='; img-src data:; connect-src 'self'; media-src 'self'; base-uri 'none'; form-action 'none'; frame-ancestors 'none'";
 
 /// The page, in HTML (the HTML Living Standard) and ASCII.
 pub const PAGE: &str = r##"<!DOCTYPE html>
@@ -26,10 +26,11 @@ pub const PAGE: &str = r##"<!DOCTYPE html>
 <meta charset="utf-8">
 <meta name="viewport" content="width=device-width, initial-scale=1">
 <title>On air</title>
+<link rel="icon" href="data:image/svg+xml,%3Csvg xmlns='http://www.w3.org/2000/svg' viewBox='0 0 16 16'%3E%3Cg fill='none' stroke='%23c33' stroke-width='2'%3E%3Ccircle cx='8' cy='8' r='1'/%3E%3Cpath d='M5 5a4 4 0 0 0 0 6M11 5a4 4 0 0 1 0 6M2 3a7 7 0 0 0 0 10M14 3a7 7 0 0 1 0 10'/%3E%3C/g%3E%3C/svg%3E">
 <style>
 :root { color-scheme: light dark; }
 body { margin: 0 auto; max-width: 44rem; padding: 1rem; font: 1rem/1.5 system-ui, sans-serif; }
-h1 { margin: 0 0 1rem; font-size: 1.5rem; }
+h1 { margin: 0 0 1rem; font-size: 1.5rem; overflow-wrap: anywhere; }
 ul { margin: 0; padding: 0; list-style: none; }
 li { margin: 0 0 1rem; padding: 1rem; border: 1px solid #8888; border-radius: .5rem; }
 li > * { margin: 0; overflow-wrap: anywhere; }
@@ -60,6 +61,7 @@ const longest = 30000;
 const steady = 10;
 const state = document.getElementById('state');
 const list = document.getElementById('mounts');
+const heading = document.querySelector('h1');
 const entries = new Map();
 
 // Beside this page, which a proxy may have put under a path of its own.
@@ -168,6 +170,14 @@ function letGo(mount, entry) {
   entries.delete(mount);
 }
 
+// The station has the name of its first mount, and keeps it while nothing is on air.
+function nameStation(mounts) {
+  const name = mounts.length > 0 ? mounts[0].name : '';
+  if (!name || heading.textContent === name) return;
+  heading.textContent = name;
+  document.title = name;
+}
+
 // Who stands in the list already is not moved, since a player that is moved stops.
 function show(mounts) {
   const named = new Set(mounts.map((row) => row.mount));
@@ -188,6 +198,7 @@ function show(mounts) {
     }
     fill(entry, row);
   }
+  nameStation(mounts);
   list.className = '';
   tell(mounts.length === 0 ? 'Nothing is on air.' : '');
 }
