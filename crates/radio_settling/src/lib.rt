@@ -2,18 +2,15 @@
 //!
 //! - [`settle`]: those of a hall, once the threads have been joined.
 //! - [`settle_book`]: those of a book; what is wrong with them is a [`SettleFault`].
-//! - [`is_same_event`], [`is_same_reply`]: whether two are equal.
 //!
 //! Only a server that stores what happened can be settled, so the program has no need of it: tests have, and whoever
 //! wants to see the history.
 #![tactic(auto)]
 
 mod hall;
-mod same;
 mod settling;
 
 pub use hall::settle;
-pub use same::{is_same_event, is_same_reply};
 pub use settling::{SettleFault, settle_book};
 
 /// What a call answers where memory was refused.

@@ -10,8 +10,8 @@ ghost use Rattle.radio_settling.specs.Words.{count_text, order_text};
 ghost use Rattle.radio_settling.specs.Settling.{Falls, IsStrange, Rises, Shows, ShowsBySerials, all_serials, serials, times, HasNoTwins};
 
 use crate::OutOfMemory;
-use crate::same::{is_same_event, is_same_reply};
 use radio_book::{Book, Entry, House, Kept, Pass, Receipt};
+use radio_merge::{is_same_event, is_same_reply};
 use std::alloc::Global;
 use std::error::Error;
 use std::fmt;

@@ -12,6 +12,7 @@
 //! - `halls`: a hall, what is done there, and all passes settled then.
 //! - `two_callers`: two threads, with a pass each, over one hall; and what settles no history.
 //! - `workers`: workers in threads of their own, who take lines from an intake.
+//! - `merged`: lists of two mounts and of the control, made by hand, and merged.
 //! - `unkept`: the same calls over a hall that stores nothing, beside a core.
 //!
 //! Of a worker's turn:
@@ -48,6 +49,8 @@ mod kept_rows;
 mod masters;
 #[cfg(test)]
 mod memory_line;
+#[cfg(test)]
+mod merged;
 #[cfg(test)]
 mod moments;
 #[cfg(test)]

@@ -1,13 +1,11 @@
 //! Two threads over one hall, with a pass and a mount each, and then all passes settled.
 
-use crate::calls::{CALLS, DRAWS, serve, step_copy};
+use crate::calls::{CALLS, DRAWS, serve};
 use crate::halls::{PassCaller, Visit, is_well_visited, takes_pass};
-use crate::stations::core;
+use crate::merged::merged_alone;
 use radio_book::{Entry, House, Kept, Pass};
-use radio_core::Core;
 use radio_events::{Reply, Text};
 use radio_hall::Hall;
-use radio_settling::is_same_reply;
 use std::alloc::Global;
 use std::sync::Wait;
 use std::thread::{Threads, join};
@@ -66,36 +64,11 @@ pub fn is_of_two(alloc: Global, history: &[Entry]) -> bool {
         && replays(alloc, history)
 }
 
-/// Whether a core replies all of it again, from the opening state.
+/// Whether a core replies all of it again, from the opening state: it is merged, as one list.
 fn replays(alloc: Global, history: &[Entry]) -> bool {
-    match core(alloc, "") {
-        Ok(mut core) => {
-            let again = reply_again(&mut core, history);
-            drop(core);
-            again
-        }
-        Err(_) => false,
-    }
-}
-
-fn reply_again(core: &mut Core, history: &[Entry]) -> bool {
-    for entry in history {
-        if !replies_again(core, entry) {
-            return false;
-        }
-    }
-    true
-}
-
-/// Whether a core replies again what the entry says.
-fn replies_again(core: &mut Core, entry: &Entry) -> bool {
-    match step_copy(core, &entry.event) {
-        Ok(reply) => {
-            let is_same = is_same_reply(&reply, &entry.reply);
-            drop(reply);
-            is_same
-        }
-        Err(_) => false,
+    match merged_alone(alloc, history) {
+        Ok(Ok(again)) => again.len() == history.len(),
+        Ok(Err(_)) | Err(_) => false,
     }
 }
 

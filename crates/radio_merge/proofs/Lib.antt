@@ -1,0 +1,3 @@
+mod Covering
+mod Steppings
+mod Wholes

@@ -1,0 +1,4 @@
+pub mod Family
+pub mod Merged
+pub mod Replays
+pub mod Covered
