@@ -4,6 +4,7 @@
 use radio_creds::{Pair, Users, basic};
 use std::alloc::Global;
 use std::fmt;
+use std::time::{Clock, Instant};
 
 /// Values without a pair: blanks at their ends, which a head's values lose, and a line break.
 const NO_PAIRS: &[&[u8]] = &[
@@ -70,4 +71,63 @@ fn are_users_read(alloc: Global) -> bool {
 fn no_secret_is_shown(rt: HostRuntime) {
     assert!(rt; is_pair_read(rt.alloc()));
     assert!(rt; are_users_read(rt.alloc()));
+}
+
+/// A list of the user `ann`.
+const ANN: &[u8] = b"ann:900150983cd24fb0d6963f7d28e17f72\n";
+
+/// The pair whose value begins so, with a password of some 600,000 letters.
+fn long_pair(alloc: Global, start: &[u8]) -> Option<Pair> {
+    let Ok(mut value) = Vec::from_slice(alloc, start) else {
+        return None;
+    };
+    for _ in 0..200_000 {
+        if value.extend_from_slice(b"YWFh").is_err() {
+            return None;
+        }
+    }
+    match basic(alloc, value.as_slice()) {
+        Ok(pair) => pair,
+        Err(_) => None,
+    }
+}
+
+/// In how many nanoseconds users turn a pair away, the least of some tries; 0 where they accept it.
+fn least_time<C: Clock>(clock: &C, users: &Users, pair: &Pair) -> u128 {
+    let mut least = u128::MAX;
+    for _ in 0..5 {
+        let Ok(begins) = Instant::now(clock) else {
+            return 0;
+        };
+        if users.accepts(pair) {
+            return 0;
+        }
+        if let Ok(passed) = begins.elapsed(clock) {
+            least = least.min(passed.as_nanos());
+        }
+    }
+    least
+}
+
+/// Whether who is listed cannot be told from who is not by the time in which a wrong password is turned away.
+fn is_time_alike<C: Clock>(clock: &C, alloc: Global) -> bool {
+    let (Some(listed), Some(other)) = (
+        long_pair(alloc, b"Basic YW5uOmFh"),
+        long_pair(alloc, b"Basic Ym9iOmFh"),
+    ) else {
+        return false;
+    };
+    let Ok(users) = Users::read(alloc, ANN) else {
+        return false;
+    };
+    let (listed, other) = (
+        least_time(clock, &users, &listed),
+        least_time(clock, &users, &other),
+    );
+    0 < listed && listed < other.saturating_mul(2) && other < listed.saturating_mul(2)
+}
+
+#[test]
+fn unknown_users_take_as_long(rt: HostRuntime) {
+    assert!(rt; is_time_alike(&rt, rt.alloc()));
 }

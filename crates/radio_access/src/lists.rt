@@ -218,7 +218,7 @@ impl Lists {
 
     /// Whether the mount is open to one who sends this pair, or none: it has no user list, or the list accepts his pair.
     ///
-    /// At most one digest is made.
+    /// One digest is made if the mount has users and a pair was sent, whether its user is listed or not.
     pub fn lets_in(&self, mount: &MountName, pair: Option<&Pair>) -> bool
         ensures { result ≡ lets_in self.now mount.now (option_copied pair.entry) }
     {

@@ -68,17 +68,16 @@ impl Users {
         Ok(users)
     }
 
-    /// Whether the first well-formed line of the pair's user has the digest of the pair's password.
+    /// Returns true if the first well-formed line of the pair's user has the digest of the pair's password.
     ///
-    /// It takes no memory. The two digests are compared in the same number of steps wherever they differ.
+    /// It takes no memory. One digest is made whether the user is listed or not, and two digests are compared in the same
+    /// number of steps wherever they differ: so the time of the answer does not tell who is listed.
     pub fn accepts(&self, pair: &Pair) -> bool
         ensures { IsTrue result ↔ Accepts self.now pair.now }
     {
+        let sent = Md5::digest(pair.password());
         match self.digest_of(pair.user()) {
-            Some(digest) => {
-                let sent = Md5::digest(pair.password());
-                is_same_secret(digest.as_slice(), sent.as_slice())
-            }
+            Some(digest) => is_same_secret(digest.as_slice(), sent.as_slice()),
             None => false,
         }
     }
