@@ -20,17 +20,22 @@ where
     O: Write + Drop + Send + 'static,
     E: Write + Drop + Send + 'static,
 {
+    let (queue, theirs) = shared_queue(alloc)?;
+    let rt_of_thread = *rt;
+    let writer = LogWriter::new(alloc, stream, warnings);
+    match thread::spawn(rt, move || work(rt_of_thread, theirs, writer)) {
+        Ok(_) => Some(queue),
+        Err(_) => None,
+    }
+}
+
+/// Returns an empty queue, for two who share it. `None` if memory is refused.
+fn shared_queue(alloc: Global) -> Option<(Arc<LogQueue>, Arc<LogQueue>)> {
     let Ok(queue) = Arc::new(alloc, LogQueue::new(alloc)) else {
         return None;
     };
-    let Ok(theirs) = queue.clone() else {
-        return None;
-    };
-    let rt_of_thread = *rt;
-    let writer = LogWriter::new(alloc, stream, warnings);
-    let started = thread::spawn(rt, move || work(rt_of_thread, theirs, writer));
-    match started {
-        Ok(_) => Some(queue),
+    match queue.clone() {
+        Ok(other) => Some((queue, other)),
         Err(_) => None,
     }
 }
