@@ -107,14 +107,26 @@ impl Keeper {
 
     /// Stops the relays that are not wished any more, and notes those that are.
     fn make_plan(&mut self, settings: &Settings) -> Result<(), OutOfMemory> {
+        let orders = self.orders(settings)?;
+        let mut wished = self.carry_out(settings, orders)?;
+        self.roster.add_settings(&mut wished)?;
+        self.wished = wished;
+        Ok(())
+    }
+
+    /// What is to be done with relays.
+    fn orders(&self, settings: &Settings) -> Result<Vec<RelayOrder>, OutOfMemory> {
         let live = self.roster.live()?;
-        let orders = plan(
-            self.alloc,
-            settings,
-            &self.names,
-            live.as_slice(),
-            self.wanted.as_slice(),
-        )?;
+        let wanted = self.wanted.as_slice();
+        plan(self.alloc, settings, &self.names, live.as_slice(), wanted)
+    }
+
+    /// Stops the relays that are to stop. Those that are to start, of the settings and then of the list.
+    fn carry_out(
+        &self,
+        settings: &Settings,
+        orders: Vec<RelayOrder>,
+    ) -> Result<Vec<Arc<RelaySetting>>, OutOfMemory> {
         let mut own = Vec::new(self.alloc);
         let mut listed = Vec::new(self.alloc);
         for order in orders {
@@ -123,14 +135,12 @@ impl Keeper {
                 RelayOrder::Start(relay) => {
                     let is_own = settings.relays.get(&relay.local_mount).is_some();
                     let relays = if is_own { &mut own } else { &mut listed };
-                    relays.push(Arc::new(self.alloc, relay)?)?;
+                    add(self.alloc, relays, relay)?;
                 }
             }
         }
         own.append(&mut listed)?;
-        self.roster.add_settings(&mut own)?;
-        self.wished = own;
-        Ok(())
+        Ok(own)
     }
 
     /// How many more relays may run at this moment: as many as there may be sources run at once.
@@ -180,4 +190,14 @@ impl Keeper {
         self.tries.note_no_thread(mount, ms);
         self.chosen.clear();
     }
+}
+
+/// Adds a relay behind others.
+fn add(
+    alloc: Global,
+    relays: &mut Vec<Arc<RelaySetting>>,
+    relay: RelaySetting,
+) -> Result<(), OutOfMemory> {
+    relays.push(Arc::new(alloc, relay)?)?;
+    Ok(())
 }

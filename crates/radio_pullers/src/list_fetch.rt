@@ -32,12 +32,22 @@ pub(crate) fn keep_list<R: Clock + Wait, N: Reach, S>(
     let mut log = ListLog::new(station.board.alloc());
     'lists: for _ in rt.forever() {
         let next_ms = moment(rt).saturating_add(interval_ms);
-        if let Some(names) = fetch(rt, station.net, station.board, slave) {
-            hand_over(rt, station, &mut log, names);
-        }
+        ask(rt, station, slave, &mut log);
         if !rests_until(rt, station.board, next_ms) {
             return;
         }
+    }
+}
+
+/// Asks for the list once.
+fn ask<R: Clock + Wait, N: Reach, S>(
+    rt: &R,
+    station: &Station<'_, N, S>,
+    slave: &SlaveSetting,
+    log: &mut ListLog,
+) {
+    if let Some(names) = fetch(rt, station.net, station.board, slave) {
+        hand_over(rt, station, log, names);
     }
 }
 

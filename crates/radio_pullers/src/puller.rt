@@ -1,5 +1,6 @@
 //! A relay's thread: a pull of its master, again and again.
 
+use crate::OutOfMemory;
 use crate::master::{MOST_SILENT_MS, addresses_of};
 use crate::running::{Outcome, RunningRelay};
 use crate::station::Station;
@@ -9,6 +10,7 @@ use radio_events::{Caller, SharedServer};
 use radio_lines::{Reach, SocketLine, Sockets, moment};
 use radio_masters::{Asked, MountPull, PullEnd, PullTurn, RelayEnd};
 use radio_serving::{Server, Watched};
+use std::alloc::Global;
 use std::io;
 use std::net::SocketAddr;
 use std::sync::Wait;
@@ -71,6 +73,17 @@ fn pull_as<R: Clock + Wait, N: Reach, S: Server + Drop>(
     }
 }
 
+/// This server, as this relay asks it.
+fn asked_for<S: Server + Drop>(
+    alloc: Global,
+    relay: &RunningRelay,
+    server: S,
+) -> Result<Asked<Watched<S>>, OutOfMemory> {
+    let mut asked = Asked::new(alloc, Watched::new(alloc, server), relay.setting())?;
+    asked.set_failing(relay.failing());
+    Ok(asked)
+}
+
 /// That memory, or a socket, was refused before anything was tried.
 fn not_begun<R: Clock>(rt: &R, relay: &RunningRelay) -> Outcome {
     Outcome {
@@ -91,8 +104,7 @@ impl<'a, R: Clock + Wait, N: Reach, S: Server + Drop> Puller<'a, R, N, S> {
         server: S,
     ) -> io::Result<Puller<'a, R, N, S>> {
         let alloc = board.alloc();
-        let mut asked = Asked::new(alloc, Watched::new(alloc, server), relay.setting())?;
-        asked.set_failing(relay.failing());
+        let asked = asked_for(alloc, relay, server)?;
         let sockets = Sockets::alone(net, alloc)?;
         Ok(Puller {
             rt,
@@ -111,13 +123,18 @@ impl<'a, R: Clock + Wait, N: Reach, S: Server + Drop> Puller<'a, R, N, S> {
         let mut why = RelayEnd::NotWished;
         'pulls: for _ in self.rt.forever() {
             why = self.pull();
-            let was_up = self.asked.is_up();
-            self.tell_end(why);
-            if !was_up || !self.rests() {
+            if !self.goes_on(why) {
                 break;
             }
         }
         self.outcome(why)
+    }
+
+    /// Tells that a pull has ended so, and rests. Whether another is to follow: the relay was up, and is not to stop.
+    fn goes_on(&mut self, why: RelayEnd) -> bool {
+        let was_up = self.asked.is_up();
+        self.tell_end(why);
+        was_up && self.rests()
     }
 
     fn outcome(&self, why: RelayEnd) -> Outcome {
