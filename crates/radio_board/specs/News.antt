@@ -1,14 +1,45 @@
--- When listeners are told of news.
-use Rattle.std.specs.Prelude.{ℕ, Bool, if◌then◌else◌, ◌+◌, ◌-◌, ◌^◌, min}
+-- When a worker begins a round of draws for news. Moments and times are in microseconds.
+use Rattle.std.specs.Prelude.{ℕ, Bool, false, List, ◌∷◌, if◌then◌else◌, ◌+◌, ◌-◌, ◌*◌, ◌^◌, min, fold, take, replicate, nat_lt}
 
--- for so many milliseconds they are told of no more, unless much has come
-abbrev pub most_pause : ℕ
-most_pause = 90
+-- a round begins at the earliest so many times the shortest of the last rounds after the last one began
+abbrev pub spacing : ℕ
+spacing = 20
 
--- the moment from which on they are told again, who are told at this one; a moment has 64 bits
-abbrev pub told_again : ℕ → ℕ
-told_again ms = min (2 ^ 64 - 1) (ms + most_pause)
+-- news waits so long at most
+abbrev pub most_wait : ℕ
+most_wait = 250000
 
--- how long that is at this moment, if it is told again at that one, and much has come or not
-abbrev pub pause_left : ℕ → Bool → ℕ → ℕ
-pause_left ms is_much again = (if is_much then 0 else again - ms)
+-- when the last round began; how long the last eight took, the latest first; and whether the news of the last one came before its
+-- pause had ended
+pub record Rounds : Type 0 where
+  pub began : ℕ
+  pub took : List ℕ
+  pub was_early : Bool
+
+-- there was no round yet: a worker that has made fewer than eight has no pause
+abbrev pub no_rounds : Rounds
+no_rounds = record { began = 0; took = replicate 8 0; was_early = false }
+
+-- the shortest of some times
+abbrev pub shortest : List ℕ → ℕ
+shortest times = fold min (2 ^ 64 - 1) times
+
+-- a moment has 64 bits
+abbrev pub as_moment : ℕ → ℕ
+as_moment us = min (2 ^ 64 - 1) us
+
+-- when the pause ends
+abbrev pub pause_end : Rounds → ℕ
+pause_end rounds = as_moment (rounds.began + as_moment (shortest rounds.took * spacing))
+
+-- for how long news that came at that moment waits still at this one: not at all if much has come
+abbrev pub wait_left : ℕ → ℕ → Bool → Rounds → ℕ
+wait_left now came is_much rounds = if is_much then 0 else min (pause_end rounds - now) (as_moment (came + most_wait) - now)
+
+-- a round begins at this moment, for news that came at that one
+abbrev pub begun : ℕ → ℕ → Rounds → Rounds
+begun now came rounds = record rounds { began = now; was_early = nat_lt came (pause_end rounds) }
+
+-- it ends at this moment
+abbrev pub ended : ℕ → Rounds → Rounds
+ended now rounds = record rounds { took = (now - rounds.began) ∷ take 7 rounds.took }

@@ -1,5 +1,6 @@
 -- The time that was served.
 use Rattle.std.specs.Prelude.{ℕ, ◌+◌, ◌-◌, ◌^◌, min, max}
+use Rattle.radio_board.specs.Rests.{most_rest}
 
 -- by so many milliseconds the served time grows from one turn to the next, at most
 abbrev pub most_step : ℕ
@@ -22,3 +23,7 @@ grown clock s = min (2 ^ 64 - 1) (s.served + min most_step (clock - s.clock))
 -- counts, but no more than a step, and only up to a step beyond what all have read
 abbrev pub served_by : ℕ → ℕ → Served → Served
 served_by clock told s = record { clock = clock; served = max s.served (min (grown clock s) (min (2 ^ 64 - 1) (told + most_step))) }
+
+-- up to which moment all may be told: it is as long ago as a worker waits at most
+abbrev pub settled : Served → ℕ
+settled s = s.served - most_rest

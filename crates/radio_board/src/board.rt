@@ -6,7 +6,7 @@ use crate::news::NewsFor;
 use crate::pace::{much_from, pace_of, slow_from};
 use crate::served::is_served;
 use mio::Waker;
-use radio_lines::Pace;
+use radio_lines::{NewsCount, Pace};
 use radio_outlet::LogQueue;
 use std::alloc::Global;
 use std::sync::atomic::{AtomicBool, AtomicU64, Ordering};
@@ -38,6 +38,8 @@ pub struct Board {
     moment_ms: AtomicU64,
     /// How many bytes have come from sources.
     received: AtomicU64,
+    /// How often workers were told of news.
+    told: AtomicU64,
     /// Whether all are to stop.
     is_over: AtomicBool,
     /// Whether a connection was closed.
@@ -71,6 +73,7 @@ impl Board {
             acceptor_sleeps: AtomicBool::new(false),
             moment_ms: AtomicU64::new(0),
             received: AtomicU64::new(0),
+            told: AtomicU64::new(0),
             is_over: AtomicBool::new(false),
             has_closed: AtomicBool::new(false),
             wants_closing: AtomicBool::new(false),
@@ -91,19 +94,16 @@ impl Board {
         self.desks.get(number)
     }
 
-    /// Up to which moment each of those who have begun has read his sockets. It never goes back.
-    pub fn moment(&self) -> u64 {
-        let mut least = u64::MAX;
+    /// Returns up to which moment each worker that has begun has read its sockets, and no later one than `settled_ms`. It never
+    /// goes back.
+    pub fn moment(&self, settled_ms: u64) -> u64 {
+        let mut least = settled_ms;
         for desk in &self.desks {
             if desk.works() {
                 least = least.min(desk.read_ms());
             }
         }
-        if least == u64::MAX {
-            self.told_ms()
-        } else {
-            self.raise(least)
-        }
+        self.raise(least)
     }
 
     /// The latest moment that was told.
@@ -128,27 +128,41 @@ impl Board {
         self.told_ms()
     }
 
-    /// So many bytes have come from sources, and these listeners may have news. Whoever sees that the bytes have come has been
-    /// told of news.
-    pub fn note_received(&self, count: u64, news: NewsFor) {
-        for (number, desk) in self.desks.iter().enumerate() {
-            if news.is_for(number) {
-                desk.set_news();
-            }
-        }
+    /// Notes at `now_us`, in microseconds, that so many bytes have come from sources, and that these listeners may have news.
+    /// What has come was pushed before.
+    pub fn note_received(&self, count: u64, news: NewsFor, now_us: u64) {
         if count > 0 {
             self.received.fetch_add(count, Ordering::SeqCst);
         }
-        self.wake_for(news);
-    }
-
-    /// Wakes whose listeners may have news.
-    fn wake_for(&self, news: NewsFor) {
+        if let NewsFor::Nobody = news {
+            return;
+        }
         for (number, desk) in self.desks.iter().enumerate() {
-            if news.is_for(number) {
-                desk.wake_for_news(self.is_much(desk));
+            if news.is_for(number) && desk.has_listeners() {
+                desk.tell_news(self.is_much(desk), now_us);
             }
         }
+        // Whoever sees that it was told sees it at each desk.
+        self.told.fetch_add(1, Ordering::SeqCst);
+    }
+
+    /// Returns how often workers were told of news.
+    pub fn told(&self) -> u64 {
+        self.told.load(Ordering::SeqCst)
+    }
+
+    /// Returns how often workers were told of news, and up to which of these times the listeners of each have drawn. A worker
+    /// that is not served holds up nobody.
+    pub fn news_count(&self) -> NewsCount {
+        let told = self.told();
+        let latest_ms = self.latest_ms();
+        let mut drawn = told;
+        for desk in &self.desks {
+            if !desk.state().has_drawn() && is_served(desk.turn_ms(), latest_ms) {
+                drawn = drawn.min(desk.drawn_news());
+            }
+        }
+        NewsCount { told, drawn }
     }
 
     /// Whether so much has come from sources which this worker's listeners have still to draw that they are told of it at

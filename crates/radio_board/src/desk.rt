@@ -1,23 +1,22 @@
-//! What one worker tells the others, and what they tell him.
+//! What one worker tells the others, and what they tell it.
 
+use crate::state::{State, Step};
 use mio::Waker;
 use std::sync::atomic::{AtomicBool, AtomicU64, AtomicUsize, Ordering};
 
 /// How many bytes a draw brings at most.
 const DRAW_ROOM: u64 = 65_536;
 
-/// What one worker tells the others, and what they tell him. Moments are in milliseconds.
+/// What one worker tells the others, and what they tell it. Moments are in milliseconds, if nothing else is said.
 #[derive(Drop)]
 pub struct Desk {
     waker: Waker,
     /// Whether he has begun.
     works: AtomicBool,
-    /// Whether he waits, or is about to.
-    sleeps: AtomicBool,
-    /// Whether he waits with the news that there is.
-    is_paused: AtomicBool,
-    /// Whether his listeners may have news.
-    has_news: AtomicBool,
+    /// The number of its state.
+    state: AtomicU64,
+    /// When the news came that waits for it, or waited last, in microseconds.
+    came_us: AtomicU64,
     /// Whether he has listeners.
     has_listeners: AtomicBool,
     /// How many connections were put for him that he has not taken.
@@ -32,6 +31,8 @@ pub struct Desk {
     turn_ms: AtomicU64,
     /// Of all bytes that have come from sources, up to which his listeners have drawn.
     drawn: AtomicU64,
+    /// Of all times that workers were told of news, up to which its listeners have drawn.
+    drawn_news: AtomicU64,
 }
 
 impl Desk {
@@ -40,9 +41,8 @@ impl Desk {
         Desk {
             waker,
             works: AtomicBool::new(false),
-            sleeps: AtomicBool::new(false),
-            is_paused: AtomicBool::new(false),
-            has_news: AtomicBool::new(false),
+            state: AtomicU64::new(State::Awake { has_news: false }.number()),
+            came_us: AtomicU64::new(0),
             has_listeners: AtomicBool::new(false),
             comings: AtomicUsize::new(0),
             connections: AtomicUsize::new(0),
@@ -50,6 +50,7 @@ impl Desk {
             read_ms: AtomicU64::new(0),
             turn_ms: AtomicU64::new(0),
             drawn: AtomicU64::new(0),
+            drawn_news: AtomicU64::new(0),
         }
     }
 
@@ -85,57 +86,87 @@ impl Desk {
         self.read_ms.load(Ordering::SeqCst)
     }
 
-    /// From now on he waits, unless there is something to do: whether there is. With news he waits too, where it is paused.
-    pub fn lies_down(&self, is_paused: bool) -> bool {
-        if is_paused != self.is_paused() {
-            self.is_paused.store(is_paused, Ordering::SeqCst);
+    /// Returns its state.
+    pub fn state(&self) -> State {
+        State::of(self.state.load(Ordering::SeqCst))
+    }
+
+    /// Takes a step. Returns the state before.
+    fn take(&self, step: Step) -> State {
+        let taken = self
+            .state
+            .fetch_update(Ordering::SeqCst, Ordering::SeqCst, |number| {
+                let before = State::of(number);
+                let after = before.after(step);
+                if after == before {
+                    None
+                } else {
+                    Some(after.number())
+                }
+            });
+        match taken {
+            Ok(number) | Err(number) => State::of(number),
         }
-        self.sleeps.store(true, Ordering::SeqCst);
-        self.has_to_do(is_paused)
     }
 
-    /// He does not wait any more.
-    pub fn gets_up(&self) {
-        self.sleeps.store(false, Ordering::SeqCst);
-    }
-
-    /// Whether there is something to do, beside his lines; with news there is not, where it is paused.
-    pub fn has_to_do(&self, is_paused: bool) -> bool {
-        self.comings() > 0 || (!is_paused && self.has_news() && self.has_listeners())
-    }
-
-    fn is_paused(&self) -> bool {
-        self.is_paused.load(Ordering::SeqCst)
-    }
-
-    /// Ends his wait, if he waits.
-    pub(crate) fn wake(&self) {
-        if self.sleeps.swap(false, Ordering::SeqCst) {
-            // Where it can't be told, his wait ends by itself.
+    /// Takes a step, and ends its wait if it waits no more after it.
+    fn take_and_wake(&self, step: Step) {
+        let before = self.take(step);
+        if before.waits() && !before.after(step).waits() {
+            // Where it can't be told, its wait ends by itself.
             let _ = self.waker.wake();
         }
     }
 
-    /// His listeners may have news.
-    pub(crate) fn set_news(&self) {
-        self.has_news.store(true, Ordering::SeqCst);
+    /// Marks it as waiting, with news or only without it. Returns whether there is something to do all the same. The order
+    /// matters: who puts a connection for it looks at the mark afterwards.
+    pub fn lies_down(&self, is_paused: bool) -> bool {
+        let step = if is_paused {
+            Step::Pause
+        } else {
+            Step::LieDown
+        };
+        let before = self.take(step);
+        !before.after(step).waits() || self.comings() > 0
     }
 
-    /// He is woken for news, if he has listeners and does not wait with it, or much has come.
-    pub(crate) fn wake_for_news(&self, is_much: bool) {
-        if self.has_listeners() && (is_much || !self.is_paused()) {
-            self.wake();
+    /// Marks it as awake.
+    pub fn gets_up(&self) {
+        let _ = self.take(Step::Wake);
+    }
+
+    /// Ends its wait, if it waits.
+    pub(crate) fn wake(&self) {
+        self.take_and_wake(Step::Wake);
+    }
+
+    /// Tells it at `now_us`, in microseconds, that its listeners may have news, and whether much has come for them.
+    pub fn tell_news(&self, is_much: bool, now_us: u64) {
+        if !self.state().has_news() {
+            self.came_us.store(now_us, Ordering::SeqCst);
         }
+        self.take_and_wake(if is_much { Step::MuchNews } else { Step::News });
     }
 
-    /// Whether his listeners may have news since it was taken the last time.
-    pub fn has_news(&self) -> bool {
-        self.has_news.load(Ordering::SeqCst)
+    /// Returns when the news came that waits for it, in microseconds.
+    pub fn came_us(&self) -> u64 {
+        self.came_us.load(Ordering::SeqCst)
     }
 
-    /// The same; and from now on they have none.
-    pub fn take_news(&self) -> bool {
-        self.has_news() && self.has_news.swap(false, Ordering::SeqCst)
+    /// A round begins, in which its listeners draw all news that it was told of.
+    pub fn begin_round(&self) {
+        let _ = self.take(Step::BeginRound);
+    }
+
+    /// The round is over, if there is one. When it began workers had been told of news so often.
+    pub fn end_round(&self, told: u64) {
+        self.drawn_news.store(told, Ordering::SeqCst);
+        let _ = self.take(Step::EndRound);
+    }
+
+    /// Up to which of the times that workers were told of news its listeners have drawn.
+    pub(crate) fn drawn_news(&self) -> u64 {
+        self.drawn_news.load(Ordering::SeqCst)
     }
 
     /// A connection was put for him.
@@ -168,8 +199,13 @@ impl Desk {
     /// So many connections he has, a source counted as several, and whether one of them is a listener's.
     pub fn set_connections(&self, connections: usize, has_listeners: bool) {
         self.connections.store(connections, Ordering::SeqCst);
-        if has_listeners != self.has_listeners() {
+        let had_listeners = self.has_listeners();
+        if has_listeners != had_listeners {
             self.has_listeners.store(has_listeners, Ordering::SeqCst);
+        }
+        if has_listeners && !had_listeners {
+            // What has come since the first of them drew was told to nobody.
+            let _ = self.take(Step::News);
         }
     }
 
@@ -180,7 +216,8 @@ impl Desk {
             .saturating_add(self.comings())
     }
 
-    fn has_listeners(&self) -> bool {
+    /// Returns whether it has listeners. One that has none is told of no news.
+    pub fn has_listeners(&self) -> bool {
         self.has_listeners.load(Ordering::SeqCst)
     }
 

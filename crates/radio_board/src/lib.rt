@@ -2,8 +2,11 @@
 //!
 //! - [`Board`]: each worker's [`Desk`], the moment up to which all have read, how fast sources are read, whether all stop,
 //!   and the queue of the log. [`Limits`] bounds it.
-//! - [`ServedTime`]: a clock that counts what was served. [`NewsPause`]: when listeners are told of news;
-//!   [`NewsFor`]: whose. [`is_served`]: whether a worker makes turns. [`least_loaded`]: which worker takes a newcomer.
+//! - [`State`]: what a worker does, as others see it; [`Step`]: what changes it. [`no_news_is_lost`], [`rounds_are_spaced`]: laws,
+//!   which run no code.
+//! - [`NewsPause`]: when a worker draws for its listeners; [`NewsFor`]: for whose. [`rest_for`]: how a worker waits ([`Rest`]).
+//! - [`ServedTime`]: a clock that counts what was served. [`is_served`]: whether a worker makes turns. [`least_loaded`]: which
+//!   worker takes a newcomer.
 //!
 //! What is shared is shared by reference, in atomics and under the log's lock: no clause says what another thread has told.
 #![tactic(auto)]
@@ -11,15 +14,21 @@
 mod board;
 mod choice;
 mod desk;
+mod laws;
 mod news;
 mod pace;
+mod rest;
 mod served;
+mod state;
 
 pub use board::{Board, Limits};
 pub use choice::{Chosen, least_loaded};
 pub use desk::Desk;
+pub use laws::{no_news_is_lost, rounds_are_spaced};
 pub use news::{NewsFor, NewsPause};
+pub use rest::{MOST_REST_MS, Rest, rest_for};
 pub use served::{ServedTime, is_served};
+pub use state::{State, Step};
 
 /// What a call answers where memory was refused.
 pub type OutOfMemory = std::alloc::AllocError;

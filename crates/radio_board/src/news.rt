@@ -1,14 +1,18 @@
-//! When listeners are told of news.
+//! Whose listeners have news, and when a worker draws for them.
 
 ghost use Rattle.std.specs.Prelude.{◌≡◌};
-ghost use Rattle.radio_board.specs.News.{told_again, pause_left};
+ghost use Rattle.radio_board.specs.News.{no_rounds, shortest, pause_end, wait_left, begun, ended};
 
 use std::marker::Model;
 
-/// For how many milliseconds listeners are told of no more news, unless much has come: a little less than a tenth of a
-/// second, so that blocks that come each tenth are handed on as they come, and smaller ones, which come more often,
-/// several at once.
-const PAUSE_MS: u64 = 90;
+/// How many rounds are compared.
+const ROUNDS: usize = 8;
+
+/// How many times the shortest round passes from the beginning of a round to that of the next.
+const SPACING: u64 = 20;
+
+/// How long news waits at most, in microseconds.
+const MOST_WAIT_US: u64 = 250_000;
 
 /// Whose listeners may have news.
 #[derive(Clone, Copy)]
@@ -43,44 +47,86 @@ impl From<bool> for NewsFor {
     }
 }
 
-/// When a worker's listeners are told of news: each send to each of them costs the same, however many bytes it has. In
-/// contracts it is the moment from which on they are told.
+/// When a worker begins its rounds of draws. A send costs the same for each listener, however many bytes it has. So the rounds
+/// of a worker with many listeners are far apart, and bring several blocks at once. Moments are in microseconds.
+///
+/// In contracts it is a `Rounds`.
 #[derive(Drop)]
 pub struct NewsPause {
-    ends_ms: u64,
+    began_us: u64,
+    took_us: [u64; ROUNDS],
+    was_early: bool,
 }
 
 impl Model for NewsPause {
-    ghost use Rattle.std.specs.Prelude.{ℕ};
+    ghost use Rattle.radio_board.specs.News.{Rounds};
 
-    ghost Value = { ℕ };
+    ghost Value = { Rounds };
 
-    ghost view = { λ p. p.ends_ms };
+    ghost view = { λ p. record { began = p.began_us; took = p.took_us; was_early = p.was_early } };
 }
 
 impl NewsPause {
-    /// They were told of none yet.
+    /// Returns the pause of a worker that has made no round.
     pub fn new() -> NewsPause
-        ensures { result ≡ 0 }
+        ensures { result ≡ no_rounds }
     {
-        NewsPause { ends_ms: 0 }
-    }
-
-    /// For how many milliseconds from this moment on they are told of none: of none that wait, where much has come.
-    pub fn left_ms(&self, ms: u64, is_much: bool) -> u64
-        ensures { result ≡ pause_left ms is_much self.now }
-    {
-        if is_much {
-            0
-        } else {
-            self.ends_ms.saturating_sub(ms)
+        NewsPause {
+            began_us: 0,
+            took_us: [0; ROUNDS],
+            was_early: false,
         }
     }
 
-    /// They are told at this moment.
-    pub fn note(&mut self, ms: u64)
-        ensures { self.new ≡ told_again ms }
+    /// Returns for how long news that came at `came_us` waits still at `now_us`, in microseconds. It does not wait if much has
+    /// come.
+    pub fn left_us(&self, now_us: u64, came_us: u64, is_much: bool) -> u64
+        ensures { result ≡ wait_left now_us came_us is_much self.now }
     {
-        self.ends_ms = ms.saturating_add(PAUSE_MS);
+        if is_much {
+            return 0;
+        }
+        let pause_us = self.end_us().saturating_sub(now_us);
+        let most_us = came_us.saturating_add(MOST_WAIT_US).saturating_sub(now_us);
+        pause_us.min(most_us)
     }
+
+    /// Returns whether the news of the last round came before the pause ended.
+    pub fn was_early(&self) -> bool
+        ensures { result ≡ self.now.was_early }
+    {
+        self.was_early
+    }
+
+    /// Notes that a round begins at `now_us`, for news that came at `came_us`.
+    pub fn begin(&mut self, now_us: u64, came_us: u64)
+        ensures { self.new ≡ begun now_us came_us self.old }
+    {
+        self.was_early = came_us < self.end_us();
+        self.began_us = now_us;
+    }
+
+    /// Notes that the round ends at `now_us`.
+    pub fn end(&mut self, now_us: u64)
+        ensures { self.new ≡ ended now_us self.old }
+    {
+        let took_us = now_us.saturating_sub(self.began_us);
+        let [a, b, c, d, e, f, g, _] = self.took_us;
+        self.took_us = [took_us, a, b, c, d, e, f, g];
+    }
+
+    /// Returns when the pause ends.
+    fn end_us(&self) -> u64
+        ensures { result ≡ pause_end self.now }
+    {
+        let spaced_us = shortest_of(&self.took_us).saturating_mul(SPACING);
+        self.began_us.saturating_add(spaced_us)
+    }
+}
+
+/// Returns the shortest of these times.
+fn shortest_of(times: &[u64; ROUNDS]) -> u64
+    ensures { result ≡ shortest times.now }
+{
+    times.iter().fold(u64::MAX, |least, time| least.min(*time))
 }

@@ -1,8 +1,9 @@
 //! The time that was served.
 
 ghost use Rattle.std.specs.Prelude.{◌≡◌, ◌≤◌, ◌+◌, max, nat_le};
-ghost use Rattle.radio_board.specs.Serving.{Served, most_step, most_still, served_by};
+ghost use Rattle.radio_board.specs.Serving.{Served, most_step, most_still, served_by, settled};
 
+use crate::rest::MOST_REST_MS;
 use std::marker::Model;
 
 /// By how many milliseconds the served time grows from one turn to the next, at most.
@@ -63,6 +64,14 @@ impl ServedTime {
         ensures { result ≡ self.now.served }
     {
         self.served_ms
+    }
+
+    /// Returns the latest moment that this worker lets all be told. The others have read up to then, unless one stands still. So
+    /// each moment is told as late as every other, however long workers wait.
+    pub fn settled_ms(&self) -> u64
+        ensures { result ≡ settled self.now }
+    {
+        self.served_ms.saturating_sub(MOST_REST_MS)
     }
 }
 

@@ -1,14 +1,19 @@
 //! What all lines of a thread share with its loop.
 
+use crate::closing::NewsCount;
 use crate::pace::{Pace, SharedPace};
 use std::sync::atomic::{AtomicBool, AtomicU64, Ordering};
 
-/// The moment of a turn in milliseconds, how fast sources are read in it, whether a line has something to do in the next
-/// one, and how many bytes of sources came in it.
+/// What all lines of a thread share: the moment of a turn in milliseconds, how fast sources are read in it, and what listeners
+/// had drawn before it. The lines note whether one has something to do in the next turn, and how many bytes of sources came.
 #[derive(Drop)]
 pub struct Activity {
     now_ms: AtomicU64,
     pace: SharedPace,
+    /// How often listeners had been told of news when the turn began.
+    told: AtomicU64,
+    /// Up to which of these times all had drawn.
+    drawn: AtomicU64,
     has_more: AtomicBool,
     /// Whether a line was held back, which is to be asked in a millisecond.
     was_held: AtomicBool,
@@ -21,16 +26,20 @@ impl Activity {
         Activity {
             now_ms: AtomicU64::new(0),
             pace: SharedPace::new(),
+            told: AtomicU64::new(0),
+            drawn: AtomicU64::new(0),
             has_more: AtomicBool::new(false),
             was_held: AtomicBool::new(false),
             received: AtomicU64::new(0),
         }
     }
 
-    /// It is this moment, in milliseconds, and sources are read at this pace.
-    pub fn begin_turn(&self, ms: u64, pace: Pace) {
+    /// It is this moment, in milliseconds, sources are read at this pace, and listeners were told of news, and have drawn, so often.
+    pub fn begin_turn(&self, ms: u64, pace: Pace, news: NewsCount) {
         self.now_ms.store(ms, Ordering::SeqCst);
         self.pace.set(pace);
+        self.told.store(news.told, Ordering::SeqCst);
+        self.drawn.store(news.drawn, Ordering::SeqCst);
     }
 
     /// For how many milliseconds the next turn waits at most: not at all where a line has had something to do since this
@@ -62,6 +71,16 @@ impl Activity {
     /// How fast sources are read.
     pub(crate) fn pace(&self) -> Pace {
         self.pace.get()
+    }
+
+    /// How often listeners had been told of news when the turn began.
+    pub(crate) fn told(&self) -> u64 {
+        self.told.load(Ordering::SeqCst)
+    }
+
+    /// Up to which of these times all had drawn.
+    pub(crate) fn drawn(&self) -> u64 {
+        self.drawn.load(Ordering::SeqCst)
     }
 
     /// A line has something to do in the next turn.

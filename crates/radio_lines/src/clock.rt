@@ -2,10 +2,15 @@
 
 use std::time::Clock;
 
-/// The clock's moment, in milliseconds; 0 where it tells none.
+/// Returns the clock's moment, in milliseconds; 0 where it tells none.
 pub fn moment<C: Clock>(clock: &C) -> u64 {
+    moment_us(clock) / 1000
+}
+
+/// Returns the clock's moment, in microseconds; 0 where it tells none.
+pub fn moment_us<C: Clock>(clock: &C) -> u64 {
     match clock.monotonic() {
-        Ok(since) => u64::try_from(since.as_millis()).unwrap_or(u64::MAX),
+        Ok(since) => u64::try_from(since.as_micros()).unwrap_or(u64::MAX),
         Err(_) => 0,
     }
 }

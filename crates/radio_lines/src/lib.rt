@@ -3,8 +3,9 @@
 //! - [`Sockets`]: the sockets of one thread, as the system tells of them; it makes a line of each, and waits until one
 //!   has something to do ([`Heard`]).
 //! - [`SocketLine`]: the line of a socket, or of any stream that never waits and can [`Shut`].
-//! - [`Activity`]: what the lines of a thread share with its loop; [`Pace`]: how fast they give what sources send.
-//! - [`Reach`], [`SystemNet`]: the net; [`moment`]: the clock.
+//! - [`Activity`]: what the lines of a thread share with its loop; [`Pace`]: how fast they give what sources send;
+//!   [`NewsCount`]: what listeners have drawn, by which a source's end is held back.
+//! - [`Reach`], [`SystemNet`]: the net; [`moment`], [`moment_us`]: the clock.
 //! - [`accept_next`]: the next connection of an [`Entrance`]; [`Accepts`]: when one is accepted, and how many in a row
 //!   could not be.
 //!
@@ -15,6 +16,7 @@
 mod accepts;
 mod activity;
 mod clock;
+mod closing;
 mod entrance;
 mod line;
 mod pace;
@@ -25,7 +27,8 @@ mod stream;
 
 pub use accepts::{Accepts, Tried};
 pub use activity::Activity;
-pub use clock::moment;
+pub use clock::{moment, moment_us};
+pub use closing::NewsCount;
 pub use entrance::{AcceptFault, Accepted, Entrance, accept_next};
 pub use line::SocketLine;
 pub use pace::Pace;

@@ -5,6 +5,7 @@ ghost use Rattle.radio_connections.specs.Lines.{HasGiven, HasTaken};
 ghost use Rattle.radio_lines.specs.Streams.{IsGivenBy, IsTakenBy};
 
 use crate::activity::Activity;
+use crate::closing::{Closing, tells_closing};
 use crate::pace::Pace;
 use crate::readiness::Readiness;
 use crate::stream::{Shut, read_once, write_once};
@@ -19,8 +20,9 @@ const MOST_OF_OTHERS: u64 = 16_384;
 /// A connection's socket. It is asked only where the system has told that it is ready: `Nothing`
 /// takes no call of the system then. Where nothing is wanted of what comes, it is read from at most
 /// each tenth of a second, and where it took nothing it is asked again after a second. Where sources are
-/// read slowly, it gives something once in a millisecond at most if it has given as much as only sources do. It may go from
-/// thread to thread.
+/// read slowly, it gives something once in a millisecond at most if it has given as much as only sources do. If anything was
+/// wanted of what it gave, it holds back that its peer has closed until all have drawn that, for half a second at most. It may
+/// go from thread to thread.
 #[derive(Drop)]
 pub struct SocketLine<S: Read + Write + Shut + Drop> {
     stream: S,
@@ -30,6 +32,8 @@ pub struct SocketLine<S: Read + Write + Shut + Drop> {
     gave_ms: u64,
     /// How many bytes it gave.
     gave: u64,
+    /// That the peer has closed, once it was found.
+    closing: Option<Closing>,
     given: History,
     taken: History,
     calls: CallCount,
@@ -48,6 +52,7 @@ impl<S: Read + Write + Shut + Drop> SocketLine<S> {
             activity,
             gave_ms: 0,
             gave: 0,
+            closing: None,
             given: History::new(),
             taken: History::new(),
             calls: CallCount::new(),
@@ -69,12 +74,37 @@ impl<S: Read + Write + Shut + Drop> SocketLine<S> {
             return Received::Nothing;
         }
         let received = read_once(&mut self.stream, buffer, &self.readiness);
+        if let Received::Closed = received {
+            if self.holds_closing(ms) {
+                return Received::Nothing;
+            }
+        }
         if let Received::Bytes(count) = received {
             self.count_given(count, ms);
             self.note_received(count == buffer.len(), ms);
             self.given.note(&buffer[..count]);
         }
         received
+    }
+
+    /// Returns whether it is not answered yet at this moment that the peer has closed.
+    fn holds_closing(&mut self, ms: u64) -> bool
+        ensures stream { self.new.stream ≡ self.old.stream }
+        ensures given { self.new.given ≡ self.old.given }
+        ensures taken { self.new.taken ≡ self.old.taken }
+        ensures calls { self.new.calls ≡ self.old.calls }
+    {
+        if self.gave == 0 || self.readiness.is_passed_over() {
+            return false;
+        }
+        let told = self.activity.told();
+        let found = self.closing.unwrap_or(Closing { ms, told });
+        self.closing = Some(found);
+        if tells_closing(found, self.activity.drawn(), ms) {
+            return false;
+        }
+        self.activity.note_held();
+        true
     }
 
     /// Writes to the socket, where it may be asked: what it took by that one call.

@@ -1,7 +1,7 @@
 //! A thread's sockets, as the system tells of them.
 
 use crate::activity::Activity;
-use crate::clock::moment;
+use crate::clock::moment_us;
 use crate::reach::Reach;
 use crate::readiness::Readiness;
 use crate::{OutOfMemory, SocketLine};
@@ -27,6 +27,8 @@ const FEW_EVENTS: usize = 8;
 pub struct Heard {
     /// The clock's moment then, in milliseconds.
     pub ms: u64,
+    /// The same moment, in microseconds.
+    pub us: u64,
     /// Whether a line has something to do.
     pub is_ready: bool,
     /// Whether the thread's waker was called.
@@ -41,10 +43,11 @@ struct Told {
 }
 
 impl Told {
-    /// What was heard, at this moment.
-    fn at(self, ms: u64) -> Heard {
+    /// What was heard, at this moment in microseconds.
+    fn at(self, us: u64) -> Heard {
         Heard {
-            ms,
+            ms: us / 1000,
+            us,
             is_ready: self.is_ready,
             is_called: self.is_called,
         }
@@ -118,20 +121,20 @@ impl Sockets {
     /// Hears from the system what is ready, and waits until a line has something to do or the waker is called, so many
     /// milliseconds at most. The system's fault where it tells nothing any more.
     pub fn hear<C: Clock>(&mut self, clock: &C, wait_ms: u64) -> io::Result<Heard> {
-        let mut ms = moment(clock);
-        let ends_ms = ms.saturating_add(wait_ms);
+        let mut us = moment_us(clock);
+        let ends_ms = (us / 1000).saturating_add(wait_ms);
         for _ in 0..EVENTS {
-            let told = self.poll(ends_ms.saturating_sub(ms))?;
-            ms = moment(clock);
-            if told.is_ready || told.is_called || ms >= ends_ms {
-                return Ok(told.at(ms));
+            let told = self.poll(ends_ms.saturating_sub(us / 1000))?;
+            us = moment_us(clock);
+            if told.is_ready || told.is_called || us / 1000 >= ends_ms {
+                return Ok(told.at(us));
             }
         }
         let nothing = Told {
             is_ready: false,
             is_called: false,
         };
-        Ok(nothing.at(ms))
+        Ok(nothing.at(us))
     }
 
     /// Notes what the system tells within so many milliseconds.

@@ -7,7 +7,7 @@ use crate::station::Station;
 use mio::net::TcpStream;
 use radio_board::{Board, NewsFor};
 use radio_events::{Caller, SharedServer};
-use radio_lines::{Reach, SocketLine, Sockets, moment};
+use radio_lines::{Reach, SocketLine, Sockets, moment, moment_us};
 use radio_masters::{Asked, MountPull, PullEnd, PullTurn, RelayEnd};
 use radio_serving::{Server, Watched};
 use std::alloc::Global;
@@ -233,7 +233,7 @@ impl<'a, R: Clock + Wait, N: Reach, S: Server + Drop> Puller<'a, R, N, S> {
         let heard = self.sockets.hear(self.rt, wait_ms).ok()?;
         self.sockets
             .activity()
-            .begin_turn(heard.ms, self.board.pace());
+            .begin_turn(heard.ms, self.board.pace(), self.board.news_count());
         if let Ok(since) = self.rt.since_1970() {
             self.seconds = since.as_secs();
             self.asked.log().lines().set_moment(self.seconds);
@@ -245,7 +245,7 @@ impl<'a, R: Clock + Wait, N: Reach, S: Server + Drop> Puller<'a, R, N, S> {
     fn tell_others(&self) {
         let news = NewsFor::from(self.asked.server().take_news());
         let received = self.sockets.activity().take_received();
-        self.board.note_received(received, news);
+        self.board.note_received(received, news, moment_us(self.rt));
         let lines = self.asked.log().lines().take();
         if !lines.is_empty() {
             self.board

@@ -3,24 +3,23 @@
 use crate::doors::Coming;
 use mio::net::TcpStream;
 use radio_addr::Peer;
-use radio_board::{Board, Desk, NewsFor, NewsPause, ServedTime};
-use radio_lines::{Heard, SocketLine, Sockets, moment};
+use radio_board::{Board, Desk, MOST_REST_MS, NewsFor, NewsPause, Rest, ServedTime, rest_for};
+use radio_lines::{Heard, SocketLine, Sockets, moment, moment_us};
 use radio_notes::Log;
 use radio_serving::Turn;
 use radio_workers::{Call, Post, Seen};
 use std::sync::Wait;
 use std::time::Clock;
 
-/// How long a worker waits at once until there is something to do, at most, in milliseconds. What comes after
-/// such a wait is noted at the moment before it.
-const WAIT_MS: u64 = 50;
+/// How long after a turn those who come wait for the next one, so that the server is told the moment first, in milliseconds.
+const LATE_MS: u64 = 50;
 
 /// After how many milliseconds a turn is made, whether there is something to do or not: as often clients are asked for
 /// who have nothing to do.
 const TURN_AFTER_MS: u64 = 500;
 
 /// After how many such waits a turn is made, even where the moment has stood still.
-const MOST_WAITS: usize = 16;
+const MOST_WAITS: usize = 8;
 
 /// After how long the log is told the moment again, in milliseconds.
 const TELL_AFTER_MS: u64 = 100;
@@ -49,8 +48,10 @@ pub struct SocketPost<'a, R: Clock + Wait> {
     pause: NewsPause,
     /// Whether they may be told in this turn.
     may_tell: bool,
-    /// The moment that the clock told last.
-    clock_ms: u64,
+    /// Whether a round of draws has begun in this turn.
+    is_drawing: bool,
+    /// The moment that the clock told last, in microseconds.
+    clock_us: u64,
     /// The moment of the last turn.
     turn_ms: u64,
     /// Whether those who come wait for the next turn, so that the server is told the moment before.
@@ -62,8 +63,10 @@ pub struct SocketPost<'a, R: Clock + Wait> {
     has_begun: bool,
     /// Whether somebody has drawn all that he had room for.
     has_more: bool,
-    /// How many bytes had come from sources when the last turn began before which no news was waited with.
+    /// How many bytes had come from sources when the last round of draws began.
     received: u64,
+    /// How often workers had been told of news then.
+    told: u64,
     /// The moment that the log was told, in seconds since 1970.
     seconds: u64,
 }
@@ -86,7 +89,8 @@ impl<'a, R: Clock + Wait> SocketPost<'a, R> {
             time: ServedTime::new(0, 0),
             pause: NewsPause::new(),
             may_tell: false,
-            clock_ms: 0,
+            is_drawing: false,
+            clock_us: 0,
             turn_ms: 0,
             puts_off: false,
             called: 0,
@@ -94,6 +98,7 @@ impl<'a, R: Clock + Wait> SocketPost<'a, R> {
             has_begun: false,
             has_more: false,
             received: 0,
+            told: 0,
             seconds: 0,
         }
     }
@@ -122,21 +127,23 @@ impl<'a, R: Clock + Wait> SocketPost<'a, R> {
     /// Hears what the system has to tell, and waits for it, if there is nothing to do. `None` where the system tells
     /// nothing any more.
     fn hear(&mut self) -> Option<Heard> {
-        let wait_ms = self.wait_ms();
-        let is_busy = wait_ms < WAIT_MS;
-        let pause_ms = self.pause_ms();
-        let is_called = !is_busy && self.is_called(pause_ms > 0);
-        let most_ms = if is_called { 0 } else { wait_ms };
-        let told = self.sockets.hear(self.rt, until_told(most_ms, pause_ms));
-        if !is_busy {
+        // What was heard before was read since.
+        self.desk.set_read(self.time.served_ms());
+        let rest = self.rest();
+        let wait_ms = if self.lies_down(rest) {
+            0
+        } else {
+            rest.most_ms()
+        };
+        let told = self.sockets.hear(self.rt, wait_ms);
+        if !rest.is_turn() {
             self.desk.gets_up();
         }
         match told {
             Ok(heard) => {
-                self.advance(heard.ms);
-                let has_to_do = is_busy || is_called || heard.is_called && self.has_to_do();
+                self.advance(heard);
                 Some(Heard {
-                    is_ready: heard.is_ready || has_to_do,
+                    is_ready: heard.is_ready || rest.is_turn() || self.has_to_do(),
                     ..heard
                 })
             }
@@ -147,48 +154,70 @@ impl<'a, R: Clock + Wait> SocketPost<'a, R> {
         }
     }
 
-    /// From now on he waits, unless there is something to do: whether there is.
-    fn is_called(&self, is_paused: bool) -> bool {
-        self.desk.lies_down(is_paused) || self.board.is_over() || is_paused && self.is_much()
+    /// How it waits for the next turn.
+    fn rest(&self) -> Rest {
+        let lines_ms = self.sockets.activity().wait_ms(MOST_REST_MS);
+        let lines_ms = if self.has_more { 0 } else { lines_ms };
+        let is_expected = self.desk.state().has_news() || self.pause.was_early();
+        rest_for(lines_ms, self.left_us(), is_expected)
+    }
+
+    /// Marks the worker as waiting so, then looks once more. Whether there is something to do.
+    fn lies_down(&self, rest: Rest) -> bool {
+        match rest {
+            Rest::Turn(_) => false,
+            Rest::Asleep(_) => self.desk.lies_down(false) || self.board.is_over(),
+            Rest::Paused(_) => self.desk.lies_down(true) || self.has_to_do(),
+        }
     }
 
     /// Whether there is something to do, beside what his sockets tell.
     fn has_to_do(&self) -> bool {
-        self.desk.has_to_do(self.pause_ms() > 0) || self.board.is_over()
+        let has_news = self.desk.state().has_news() && self.left_us() == 0;
+        has_news || self.desk.comings() > 0 || self.board.is_over()
     }
 
-    /// For how many milliseconds his listeners are not told of the news that there is; 0 where there is none.
-    fn pause_ms(&self) -> u64 {
-        if self.desk.has_news() {
-            self.pause.left_ms(self.clock_ms, self.is_much())
+    /// When the news came that waits, in microseconds; this moment if there is none.
+    fn came_us(&self) -> u64 {
+        if self.desk.state().has_news() {
+            self.desk.came_us()
         } else {
-            0
+            self.clock_us
         }
     }
 
-    /// Whether so much has come that his listeners are told at once.
-    fn is_much(&self) -> bool {
-        self.board.is_much(self.desk)
+    /// For how many microseconds more news waits.
+    fn left_us(&self) -> u64 {
+        let is_much = self.board.is_much(self.desk);
+        self.pause.left_us(self.clock_us, self.came_us(), is_much)
     }
 
-    /// Whether his listeners are told in the next turn that they may have news. What had come of sources by then they have
-    /// drawn after it, unless it is waited with news.
-    fn take_news(&mut self) -> bool {
-        let received = self.board.received();
-        self.may_tell = self.pause.left_ms(self.clock_ms, self.is_much()) == 0;
-        let news = self.may_tell && self.desk.take_news();
-        if news {
-            self.pause.note(self.clock_ms);
+    /// A round of draws begins: his listeners are told of all news that there is.
+    fn begin_round(&mut self) {
+        let came_us = self.came_us();
+        self.desk.begin_round();
+        self.received = self.board.received();
+        self.told = self.board.told();
+        self.clock_us = moment_us(self.rt);
+        self.pause.begin(self.clock_us, came_us);
+        self.is_drawing = true;
+    }
+
+    /// The turn is over, and with it the round, if one has begun: unless somebody has drawn all that he had room for.
+    fn end_round(&mut self, has_more: bool) {
+        if self.is_drawing {
+            self.is_drawing = false;
+            self.clock_us = moment_us(self.rt);
+            self.pause.end(self.clock_us);
         }
-        if news || !self.desk.has_news() {
-            self.received = received;
+        if !has_more {
+            self.desk.end_round(self.told);
         }
-        news
     }
 
     /// Whether the last turn was so long ago that another is due.
     fn is_due(&self) -> bool {
-        self.board.moment().saturating_sub(self.turn_ms) >= TURN_AFTER_MS
+        self.moment().saturating_sub(self.turn_ms) >= TURN_AFTER_MS
     }
 
     /// Whether the acceptor has not begun for so long that he can't.
@@ -196,29 +225,29 @@ impl<'a, R: Clock + Wait> SocketPost<'a, R> {
         self.time.served_ms() > MOST_ALONE_MS && !self.board.has_acceptor()
     }
 
-    /// How long the next turn waits at most: not at all where there is something to do.
-    fn wait_ms(&self) -> u64 {
-        let wait_ms = self.sockets.activity().wait_ms(WAIT_MS);
-        if self.has_more { 0 } else { wait_ms }
+    /// It is the moment at which this was heard. His own time goes on from it.
+    fn advance(&mut self, heard: Heard) {
+        self.clock_us = heard.us;
+        self.desk.set_turn(heard.ms);
+        let told_ms = self.moment();
+        self.time.advance(heard.ms, told_ms);
+        self.sockets.activity().begin_turn(
+            self.time.served_ms(),
+            self.board.pace(),
+            self.board.news_count(),
+        );
     }
 
-    /// It is this moment by the clock. All that had come when it was heard before was read, so the moment may grow up to
-    /// then, and his own time goes on from it.
-    fn advance(&mut self, clock_ms: u64) {
-        self.clock_ms = clock_ms;
-        self.desk.set_turn(clock_ms);
-        self.desk.set_read(self.time.served_ms());
-        self.time.advance(clock_ms, self.board.moment());
-        self.sockets
-            .activity()
-            .begin_turn(self.time.served_ms(), self.board.pace());
+    /// The moment that all are told.
+    fn moment(&self) -> u64 {
+        self.board.moment(self.time.settled_ms())
     }
 
     /// How many are taken in before a turn at this moment: none where the last turn was long ago, and this one tells the
     /// server the moment first.
     fn comings(&mut self, ms: u64) -> usize {
         let waiting = self.desk.comings().min(MOST_AT_ONCE);
-        let is_late = ms.saturating_sub(self.turn_ms) > WAIT_MS;
+        let is_late = ms.saturating_sub(self.turn_ms) > LATE_MS;
         self.puts_off = waiting > 0 && is_late && !self.puts_off;
         self.called = if self.puts_off { 0 } else { waiting };
         self.called
@@ -240,6 +269,21 @@ impl<'a, R: Clock + Wait> SocketPost<'a, R> {
             self.seconds = since.as_secs();
             log.set_moment(self.seconds);
         }
+    }
+
+    /// Notes what his listeners have drawn, and whether there are any: the first of them have drawn all that has come.
+    fn note_listeners(&mut self, seen: Seen) {
+        if !self.desk.has_listeners() {
+            self.received = self.board.received();
+        }
+        self.desk.note_drawn(self.received, seen.more);
+        self.desk.set_connections(weight(seen), seen.has_listeners);
+    }
+
+    /// Tells how many bytes his sources have brought, and that these listeners may have news.
+    fn tell(&self, whose: NewsFor) {
+        let count = self.sockets.activity().take_received();
+        self.board.note_received(count, whose, self.clock_us);
     }
 
     /// Hands the lines of the log on.
@@ -265,10 +309,11 @@ impl<'a, R: Clock + Wait> Post<Coming, SocketLine<TcpStream>> for SocketPost<'a,
             return None;
         }
         self.tell_moment(log, heard.ms);
-        let ms = self.board.moment();
+        let ms = self.moment();
         let comings = self.comings(ms);
         self.turn_ms = ms;
-        let news = self.take_news();
+        self.may_tell = self.left_us() == 0;
+        let news = self.may_tell && self.desk.state().has_news();
         Some(Call {
             turn: Turn { ms, news },
             comings,
@@ -288,40 +333,33 @@ impl<'a, R: Clock + Wait> Post<Coming, SocketLine<TcpStream>> for SocketPost<'a,
         self.board.most_lingering(self.desk, lingering)
     }
 
-    fn tells_at_once(&mut self) -> bool {
-        let count = self.sockets.activity().take_received();
-        if !self.may_tell {
-            self.board.note_received(count, NewsFor::All);
-            return false;
+    fn begins_round(&mut self, is_told: bool, brings: bool) -> bool {
+        if brings {
+            let whose = if self.may_tell {
+                NewsFor::AllBut(self.number)
+            } else {
+                NewsFor::All
+            };
+            self.tell(whose);
         }
-        self.board
-            .note_received(count, NewsFor::AllBut(self.number));
-        self.received = self.received.saturating_add(count);
-        self.pause.note(self.clock_ms);
-        true
+        let begins = is_told || brings && self.may_tell;
+        if begins {
+            self.begin_round();
+        }
+        begins
     }
 
     fn note(&mut self, seen: Seen, log: &Log) {
         // Where the intake was empty before, others have taken them.
         self.note_taken(self.called);
         self.has_more = seen.more;
-        self.desk.set_connections(weight(seen), seen.has_listeners);
-        self.desk.note_drawn(self.received, seen.more);
-        let received = self.sockets.activity().take_received();
-        self.board.note_received(received, NewsFor::from(seen.news));
+        self.end_round(seen.more);
+        self.note_listeners(seen);
+        self.tell(NewsFor::from(seen.news));
         if seen.has_closed {
             self.board.note_closed();
         }
         self.hand_lines(log);
-    }
-}
-
-/// For how long he waits at most, who would wait so long, and where listeners are to be told of news then.
-fn until_told(wait_ms: u64, pause_ms: u64) -> u64 {
-    if pause_ms > 0 {
-        wait_ms.min(pause_ms)
-    } else {
-        wait_ms
     }
 }
 

@@ -43,9 +43,10 @@ pub trait Post<T, L: Line>: Drop {
     /// How many connections may linger, where so many do: of more, the oldest are closed.
     fn most_lingering(&mut self, lingering: usize) -> usize;
 
-    /// What his sources have brought in this turn is news to listeners, whichever worker serves them. Whether his own are
-    /// told of it in this turn.
-    fn tells_at_once(&mut self) -> bool;
+    /// The connections of sources were served in this turn. If it `brings` news, that is news to listeners, whichever worker
+    /// serves them. Whether a round of draws begins, in which his own are told of what there is: it does if the turn `is_told`
+    /// of news.
+    fn begins_round(&mut self, is_told: bool, brings: bool) -> bool;
 
     /// A turn is over, and this came of it. The lines of the log that wait are to be taken.
     fn note(&mut self, seen: Seen, log: &Log);

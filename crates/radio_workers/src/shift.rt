@@ -194,9 +194,9 @@ impl<S: Server + Drop, L: Line> Shift<S, L> {
     /// Serves sources first, so that the others draw in the same turn what these bring.
     fn serve_all<T, P: Post<T, L>, G: Gate>(&mut self, gate: &G, post: &mut P, turn: Turn) {
         self.worker.serve_turn(&mut self.sources, gate, turn);
-        let brings = self.worker.server().take_news() && post.tells_at_once();
+        let brings = self.worker.server().take_news();
         let Turn { ms, news } = turn;
-        let news = news || brings;
+        let news = post.begins_round(news, brings);
         self.worker
             .serve_turn(&mut self.conns, gate, Turn { ms, news });
     }

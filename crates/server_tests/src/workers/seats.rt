@@ -44,8 +44,8 @@ impl Post<Manners, MemoryLine> for MemoryPost {
         usize::MAX
     }
 
-    fn tells_at_once(&mut self) -> bool {
-        true
+    fn begins_round(&mut self, is_told: bool, brings: bool) -> bool {
+        is_told || brings
     }
 
     fn note(&mut self, _seen: Seen, log: &Log) {

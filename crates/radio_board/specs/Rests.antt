@@ -1,0 +1,28 @@
+-- How a worker waits until its next turn. Times are in milliseconds, if nothing else is said.
+use Rattle.std.specs.Prelude.{ℕ, Bool, true, false, ◌+◌, ◌/◌, ◌&&◌, min, nat_lt, if◌then◌else◌}
+use Rattle.radio_board.specs.declared.rest.Rest.{Rest}
+use Rattle.radio_board.specs.declared.rest.Rest.TheVariants.{Turn, Asleep, Paused}
+
+-- it waits at once for no longer than that
+abbrev pub most_rest : ℕ
+most_rest = 100
+
+-- how it waits: its lines let it wait for so many milliseconds, news waits for so many microseconds more, and is there or expected
+-- it makes a turn as soon as a line wants one, and no news wakes it that would have to wait
+abbrev pub rest_of : ℕ → ℕ → Bool → Rest
+rest_of lines left expected =
+    if nat_lt lines most_rest then Turn lines
+    else if nat_lt 0 left && expected then Paused (min most_rest (left / 1000 + 1))
+    else Asleep most_rest
+
+-- how long it waits at most
+abbrev pub longest : Rest → ℕ
+longest (Turn ms) = ms
+longest (Asleep ms) = ms
+longest (Paused ms) = ms
+
+-- whether a turn follows, whatever comes
+abbrev pub is_turn : Rest → Bool
+is_turn (Turn ms) = true
+is_turn (Asleep ms) = false
+is_turn (Paused ms) = false

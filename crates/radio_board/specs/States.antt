@@ -1,0 +1,71 @@
+-- What a worker does, as those see it who tell it of news, and wake it.
+use Rattle.std.specs.Prelude.{ℕ, Bool, true, false}
+use Rattle.radio_board.specs.declared.state.State.{State}
+use Rattle.radio_board.specs.declared.state.State.TheVariants.{Awake, Drawing, Asleep, Paused}
+use Rattle.radio_board.specs.declared.state.Step.{Step}
+use Rattle.radio_board.specs.declared.state.Step.TheVariants.{News, MuchNews, Wake, LieDown, Pause, BeginRound, EndRound}
+
+-- whether news waits for it
+abbrev pub has_news : State → Bool
+has_news (Awake news) = news
+has_news (Drawing news) = news
+has_news Asleep = false
+has_news (Paused news) = news
+
+-- whether it waits until it is woken, or for some time
+abbrev pub waits : State → Bool
+waits (Awake news) = false
+waits (Drawing news) = false
+waits Asleep = true
+waits (Paused news) = true
+
+-- whether its listeners have drawn all the news that it was told of
+abbrev pub has_drawn : State → Bool
+has_drawn (Awake true) = false
+has_drawn (Awake false) = true
+has_drawn (Drawing news) = false
+has_drawn Asleep = true
+has_drawn (Paused true) = false
+has_drawn (Paused false) = true
+
+-- its state after a step
+abbrev pub after : Step → State → State
+after News (Awake news) = Awake true
+after News (Drawing news) = Drawing true
+after News Asleep = Awake true
+after News (Paused news) = Paused true
+after MuchNews (Awake news) = Awake true
+after MuchNews (Drawing news) = Drawing true
+after MuchNews Asleep = Awake true
+after MuchNews (Paused news) = Awake true
+after Wake (Awake news) = Awake news
+after Wake (Drawing news) = Drawing news
+after Wake Asleep = Awake false
+after Wake (Paused news) = Awake news
+after LieDown (Awake true) = Awake true
+after LieDown (Awake false) = Asleep
+after LieDown (Drawing news) = Drawing news
+after LieDown Asleep = Asleep
+after LieDown (Paused news) = Paused news
+after Pause (Awake news) = Paused news
+after Pause (Drawing news) = Drawing news
+after Pause Asleep = Asleep
+after Pause (Paused news) = Paused news
+after BeginRound (Awake news) = Drawing false
+after BeginRound (Drawing news) = Drawing false
+after BeginRound Asleep = Drawing false
+after BeginRound (Paused news) = Drawing false
+after EndRound (Awake news) = Awake news
+after EndRound (Drawing news) = Awake news
+after EndRound Asleep = Asleep
+after EndRound (Paused news) = Paused news
+
+-- the number of a state where it is shared
+abbrev pub number_of : State → ℕ
+number_of (Awake false) = 0
+number_of (Awake true) = 1
+number_of (Drawing false) = 2
+number_of (Drawing true) = 3
+number_of Asleep = 4
+number_of (Paused false) = 5
+number_of (Paused true) = 6

@@ -1,0 +1,27 @@
+//! Laws of news and of a worker's states. Each is a function that does nothing, and its contract is the law.
+
+ghost use Rattle.radio_board.specs.NewsLaws.{WaitsEnd, RoundsAreSpaced};
+ghost use Rattle.radio_board.specs.StateLaws.{NewsIsThere, NewsStays, NewsIsTaken, RoundsDraw, NewsKeepsAwake, NewsWakes};
+
+/// No news is lost, whatever a worker does when it comes.
+pub fn no_news_is_lost()
+    // what it is told of is there
+    ensures there { NewsIsThere }
+    // and stays until a round begins
+    ensures stays { NewsStays }
+    ensures taken { NewsIsTaken }
+    // at whose end, and not before, listeners have drawn it
+    ensures drawn { RoundsDraw }
+    // a worker does not lie down with news, unless it pauses
+    ensures awake { NewsKeepsAwake }
+    // and news that comes later wakes it
+    ensures wakes { NewsWakes }
+{}
+
+/// Rounds are as far apart as they cost, and news waits for no longer than a quarter of a second.
+pub fn rounds_are_spaced()
+    // news that came so long ago waits no more
+    ensures ends { WaitsEnd }
+    // what does not wait came so long ago, or follows the last round after 20 times the shortest
+    ensures spaced { RoundsAreSpaced }
+{}

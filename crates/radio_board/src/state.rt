@@ -1,0 +1,195 @@
+//! What a worker does, as those see it who tell it of news, and wake it.
+
+ghost use Rattle.std.specs.Prelude.{◌≡◌, if◌then◌else◌};
+ghost use Rattle.radio_board.specs.States.{has_news, waits, has_drawn, after, number_of};
+ghost use Rattle.radio_board.specs.declared.state.Step.TheVariants.{News, MuchNews, Wake, LieDown, Pause, EndRound};
+
+/// What a worker does, in one word that all threads share. Each step of it is one change of that word:
+///
+/// | Step | Awake | Drawing | Asleep | Paused |
+/// |---|---|---|---|---|
+/// | `News` | has news | has news | Awake, has news: woken | has news |
+/// | `MuchNews` | has news | has news | Awake, has news: woken | Awake, has news: woken |
+/// | `Wake` | | | Awake: woken | Awake: woken |
+/// | `LieDown` | Asleep, unless it has news | | | |
+/// | `Pause` | Paused | | | |
+/// | `BeginRound` | Drawing, no news | no news | Drawing | Drawing, no news |
+/// | `EndRound` | | Awake | | |
+///
+/// An empty field changes nothing, and news stays where nothing is said of it. Others take the first three steps, the worker
+/// itself `Wake` and the rest. So news that comes while a worker lies down is not lost. Before that step it keeps the worker
+/// awake. After that step it wakes the worker, unless the worker pauses: then it waits for the end of the pause.
+#[derive(Clone, Copy, Debug, PartialEq, Eq)]
+pub enum State {
+    /// It makes turns.
+    Awake {
+        /// Whether news waits for it.
+        has_news: bool,
+    },
+    /// A round of draws has begun, and has not ended.
+    Drawing {
+        /// Whether news has come since it began.
+        has_news: bool,
+    },
+    /// It waits, and is woken by news.
+    Asleep,
+    /// It waits, and is not woken by news.
+    Paused {
+        /// Whether news waits for it.
+        has_news: bool,
+    },
+}
+
+/// What changes a worker's state.
+#[derive(Clone, Copy, Debug, PartialEq, Eq)]
+pub enum Step {
+    /// Its listeners may have news.
+    News,
+    /// They may have news, and much of it.
+    MuchNews,
+    /// It waits no more.
+    Wake,
+    /// It waits, unless it has news.
+    LieDown,
+    /// It waits, whether it has news or not.
+    Pause,
+    /// Its listeners begin to draw.
+    BeginRound,
+    /// Each of them has drawn all that there was.
+    EndRound,
+}
+
+impl State {
+    /// Returns the state after a step.
+    pub fn after(self, step: Step) -> State
+        ensures { result ≡ after step self }
+    {
+        match step {
+            Step::News => self.told(false),
+            Step::MuchNews => self.told(true),
+            Step::Wake => self.woken(),
+            Step::LieDown => self.laid_down(),
+            Step::Pause => self.paused(),
+            Step::BeginRound => State::Drawing { has_news: false },
+            Step::EndRound => self.drawn(),
+        }
+    }
+
+    /// Returns the state once it is told of news.
+    fn told(self, is_much: bool) -> State
+        ensures { result ≡ (if is_much then after MuchNews self else after News self) }
+    {
+        match self {
+            State::Awake { .. } | State::Asleep => State::Awake { has_news: true },
+            State::Drawing { .. } => State::Drawing { has_news: true },
+            State::Paused { .. } if is_much => State::Awake { has_news: true },
+            State::Paused { .. } => State::Paused { has_news: true },
+        }
+    }
+
+    /// Returns the state once it waits no more.
+    fn woken(self) -> State
+        ensures { result ≡ after Wake self }
+    {
+        match self {
+            State::Awake { .. } | State::Drawing { .. } => self,
+            State::Asleep => State::Awake { has_news: false },
+            State::Paused { has_news } => State::Awake { has_news },
+        }
+    }
+
+    /// Returns the state once it has lain down, unless it has news.
+    fn laid_down(self) -> State
+        ensures { result ≡ after LieDown self }
+    {
+        match self {
+            State::Awake { has_news: false } => State::Asleep,
+            State::Awake { has_news: true } => self,
+            State::Drawing { .. } | State::Asleep | State::Paused { .. } => self,
+        }
+    }
+
+    /// Returns the state once it has lain down, with news or without.
+    fn paused(self) -> State
+        ensures { result ≡ after Pause self }
+    {
+        match self {
+            State::Awake { has_news } => State::Paused { has_news },
+            State::Drawing { .. } | State::Asleep | State::Paused { .. } => self,
+        }
+    }
+
+    /// Returns the state once a round is over.
+    fn drawn(self) -> State
+        ensures { result ≡ after EndRound self }
+    {
+        match self {
+            State::Drawing { has_news } => State::Awake { has_news },
+            State::Awake { .. } | State::Asleep | State::Paused { .. } => self,
+        }
+    }
+
+    /// Returns whether news waits for it.
+    pub fn has_news(self) -> bool
+        ensures { result ≡ has_news self }
+    {
+        match self {
+            State::Awake { has_news } | State::Drawing { has_news } => has_news,
+            State::Asleep => false,
+            State::Paused { has_news } => has_news,
+        }
+    }
+
+    /// Returns whether it waits until it is woken, or for some time.
+    pub fn waits(self) -> bool
+        ensures { result ≡ waits self }
+    {
+        match self {
+            State::Awake { .. } | State::Drawing { .. } => false,
+            State::Asleep | State::Paused { .. } => true,
+        }
+    }
+
+    /// Returns whether its listeners have drawn all the news that it was told of.
+    pub fn has_drawn(self) -> bool
+        ensures { result ≡ has_drawn self }
+    {
+        match self {
+            State::Awake { has_news } => !has_news,
+            State::Drawing { .. } => false,
+            State::Asleep => true,
+            State::Paused { has_news } => !has_news,
+        }
+    }
+
+    /// Returns the number of the state, by which it is shared.
+    pub(crate) fn number(self) -> u64
+        ensures { result ≡ number_of self }
+    {
+        match self {
+            State::Awake { has_news: false } => 0,
+            State::Awake { has_news: true } => 1,
+            State::Drawing { has_news: false } => 2,
+            State::Drawing { has_news: true } => 3,
+            State::Asleep => 4,
+            State::Paused { has_news: false } => 5,
+            State::Paused { has_news: true } => 6,
+        }
+    }
+
+    /// Returns the state of this number: one that has news, if there is none.
+    pub(crate) fn of(number: u64) -> State
+        ensures { (state : State) → number ≡ number_of state → result ≡ state }
+    {
+        match number {
+            0 => State::Awake { has_news: false },
+            1 => State::Awake { has_news: true },
+            2 => State::Drawing { has_news: false },
+            3 => State::Drawing { has_news: true },
+            4 => State::Asleep,
+            5 => State::Paused { has_news: false },
+            6 => State::Paused { has_news: true },
+            _ => State::Awake { has_news: true },
+        }
+    }
+}
