@@ -281,8 +281,9 @@ impl Seats {
     ghost use Rattle.radio_seats.specs.Guests.{passes_in, passes_at};
     ghost use Rattle.radio_seats.specs.Rests.{how_many};
 
-    /// The mount of the first listener who has a seat of which the test holds.
-    fn first_mount_where<T: SeatTest>(&self, test: &T) -> Option<MountName>
+    /// The mount of the first listener who has a seat of which the test holds. The time grows as the
+    /// number of listeners.
+    pub fn first_mount_where<T: SeatTest>(&self, test: &T) -> Option<MountName>
         ensures { MatchOption result (how_many (passes_in (T.passes test.now)) self.now.seats ≡ 0)
             (λ mount. 0 < how_many (passes_at mount (T.passes test.now)) self.now.seats) }
     {

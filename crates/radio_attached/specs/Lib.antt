@@ -1,0 +1,3 @@
+pub mod ByMount
+pub mod Attached
+pub mod Losses

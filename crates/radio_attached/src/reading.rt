@@ -1,0 +1,115 @@
+//! What the listeners are asked.
+
+ghost use Rattle.std.specs.Prelude.{◌≡◌, length, map, unwrap_or, IfOk};
+ghost use Rattle.std.specs.Option.{option_copied, option_map};
+ghost use Rattle.radio_seats.specs.Guests.{first_moment};
+ghost use Rattle.radio_seats.specs.Seats.{listener_of, seat_of, last_mount_of, count_at, AreByNumber};
+ghost use Rattle.radio_listeners.specs.Lent.{lent_seat, standing_in};
+ghost use Rattle.radio_listeners.specs.Listed.{lent_guest, guests_at};
+ghost use Rattle.radio_fallback.specs.Walk.{found_at, landing};
+ghost use Rattle.radio_attached.specs.ByMount.{places_in};
+
+use crate::by_mount::AttachmentsByMount;
+use crate::{Listeners, OutOfMemory};
+use radio_blocks::Place;
+use radio_creds::Pair;
+use radio_fallback::{View, Walk, walk_from};
+use radio_listeners::{LentListener, LentSeat, ListenerStanding};
+use radio_seats::GuestMoment;
+use radio_values::MountName;
+use std::alloc::Global;
+
+impl Listeners {
+    /// Returns how many listeners there are, with those who have finished.
+    pub fn len(&self) -> usize
+        ensures { result ≡ length self.now.seats }
+    {
+        self.seats.len()
+    }
+
+    /// Returns the listener's seat, if it has one.
+    pub fn seat(&self, id: u64) -> Option<LentSeat<'_>>
+        ensures { option_map lent_seat result ≡ seat_of self.now.seats id }
+    {
+        let Some(seat) = self.seats.seat(id) else {
+            return None;
+        };
+        let LentSeat {
+            place,
+            mount,
+            session,
+            guest,
+        } = seat;
+        let place = place_or(&self.attached, mount, id, place);
+        Some(LentSeat {
+            place,
+            mount,
+            session,
+            guest,
+        })
+    }
+
+    /// Returns how the listener stands, if there is one of this number.
+    pub fn standing(&self, id: u64) -> Option<ListenerStanding>
+        ensures { result ≡ standing_in (listener_of self.now.seats id) }
+    {
+        self.seats.standing(id)
+    }
+
+    /// Returns the mount where the listener sits, or sat last if it has finished; `None` if there is
+    /// no such listener.
+    pub fn last_mount(&self, id: u64) -> Option<&MountName>
+        ensures { option_copied result ≡ last_mount_of self.now.seats id }
+    {
+        self.seats.last_mount(id)
+    }
+
+    /// Returns how many sit at the mount.
+    pub fn count(&self, mount: &MountName) -> u64
+        ensures count { result ≡ count_at self.now.seats mount.now }
+        // the listeners stand in the order of their numbers, so that each is counted once
+        ensures rising { AreByNumber self.now.seats }
+    {
+        self.seats.count(mount)
+    }
+
+    /// Returns the first of these moments of those who have seats; the last one if nobody has. The
+    /// time grows as the number of listeners.
+    pub fn first_moment<M: GuestMoment>(&self, moment: &M, last: u64) -> u64
+        ensures { result ≡ first_moment (M.gives moment.now) last self.now.seats }
+    {
+        self.seats.first_moment(moment, last)
+    }
+
+    /// Returns who sits at the mount, in the order of their numbers. The time grows as the number of
+    /// listeners. `OutOfMemory` if memory was refused.
+    pub fn guests_at(
+        &self,
+        alloc: Global,
+        mount: &MountName,
+    ) -> Result<Vec<LentListener<'_>>, OutOfMemory>
+        ensures { IfOk result (λ found. map lent_guest found.items ≡ guests_at self.now.seats mount.now) }
+    {
+        self.seats.guests_at(alloc, mount)
+    }
+
+    /// Walks from the mount, for one who sends this pair, or none, and does not sit yet, as
+    /// [`walk_from`] does.
+    pub fn walk_from<V: View>(&self, view: &V, mount: &MountName, pair: Option<&Pair>) -> Walk
+        ensures first { result.first ≡ found_at (V.sight view.now) self.now.seats mount.now (option_copied pair.entry) }
+        ensures landing { result.landing ≡ landing (V.sight view.now) self.now.seats (option_copied pair.entry) mount.now }
+    {
+        walk_from(view, &self.seats, mount, pair)
+    }
+}
+
+/// Returns the place up to which the listener has heard the mount's stream, if it is attached there;
+/// else the other place.
+fn place_or(attached: &AttachmentsByMount, mount: &MountName, id: u64, other: Place) -> Place
+    ensures { result ≡ unwrap_or (places_in attached.now mount.now id) other }
+{
+    match attached.place(mount, id) {
+        Some(place) => Place::new(place),
+        None => other,
+    }
+}
