@@ -1,5 +1,5 @@
 -- Who is there after a call.
-use Rattle.std.proofs.Common.{◌≡◌, ◌==◌, ◌≤◌, ◌<◌, ◌+◌, ℕ, Bool, true, false, List, [], ◌∷◌, ◌++◌, Option, None, Some, length, refl, sym, ap, ◌∙◌}
+use Rattle.std.proofs.Common.{◌≡◌, ◌≤◌, ◌<◌, ◌+◌, ℕ, Bool, true, List, [], ◌∷◌, ◌++◌, Option, None, Some, length, refl, sym, ap, ◌∙◌}
 use Rattle.std.proofs.Common.{arith, length-append}
 use Rattle.std.specs.List.{remove}
 use Rattle.std.proofs.lemmas.Bool.{false≢true}
@@ -9,18 +9,18 @@ use Rattle.radio_events.specs.declared.event.Event.{Event}
 use Rattle.radio_events.specs.declared.event.Event.TheVariants.{Arrive, RelayUp}
 use Rattle.radio_events.specs.declared.reply.Reply.{Reply}
 use Rattle.radio_events.specs.declared.reply.Reply.TheVariants.{Arrived}
-use Rattle.radio_book.specs.Stamp.{Stamp}
+use Rattle.radio_book.specs.Receipts.{ReceiptOf}
 use Rattle.radio_book.specs.declared.newcomer.Newcomer.{Newcomer}
 use Rattle.radio_book.specs.declared.newcomer.Newcomer.TheVariants.{Client, Relay}
 use Rattle.radio_book.specs.Newcomers.{present_after, present_from, present_of, present_by, is_arrival, is_same, leaver_of, newcomer_by, with_newcomer}
 use Rattle.radio_book.specs.Newcomers.{without_at, place_of, room_by, room_for}
 
-present_from_more : (ids : List Newcomer) (stamps : List Stamp) (s : Stamp)
+present_from_more : (ids : List Newcomer) (stamps : List ReceiptOf) (s : ReceiptOf)
     → present_from ids (stamps ++ s ∷ []) ≡ present_after (present_from ids stamps) s.event s.reply
 present_from_more ids [] s = refl
 present_from_more ids (x ∷ stamps) s = present_from_more (present_after ids x.event x.reply) stamps s
 
-pub present_of_more : (stamps : List Stamp) (s : Stamp) → present_of (stamps ++ s ∷ []) ≡ present_after (present_of stamps) s.event s.reply
+pub present_of_more : (stamps : List ReceiptOf) (s : ReceiptOf) → present_of (stamps ++ s ∷ []) ≡ present_after (present_of stamps) s.event s.reply
 present_of_more stamps s = present_from_more [] stamps s
 
 pub length-remove : (ids : List Newcomer) (i : ℕ) → i < length ids → length (remove ids i) + 1 ≡ length ids
@@ -47,7 +47,7 @@ enough None event reply ids = enough_for_newcomer event reply ids
 enough (Some gone) event reply ids = enough_for_leaver gone (is_arrival event) ids (place_of gone ids) refl
 
 -- who is there after a call whose receipt is added
-pub noted : (stamps stamps' : List Stamp) (s : Stamp) (ids ids' : List Newcomer) (leaver newcomer : Option Newcomer)
+pub noted : (stamps stamps' : List ReceiptOf) (s : ReceiptOf) (ids ids' : List Newcomer) (leaver newcomer : Option Newcomer)
     → ids ≡ present_of stamps → stamps' ≡ stamps ++ s ∷ []
     → leaver ≡ leaver_of s.event → newcomer ≡ newcomer_by s.event s.reply → ids' ≡ present_by leaver newcomer ids → ids' ≡ present_of stamps'
 noted stamps stamps' s ids ids' leaver newcomer here more leaves comes are =
@@ -55,7 +55,7 @@ noted stamps stamps' s ids ids' leaver newcomer here more leaves comes are =
     ∙ ap (λ (x : List Newcomer). present_by (leaver_of s.event) (newcomer_by s.event s.reply) x) here
     ∙ sym (ap present_of more ∙ present_of_more stamps s)
 
-pub enough_noted : (s : Stamp) (ids ids' : List Newcomer) (leaver newcomer : Option Newcomer)
+pub enough_noted : (s : ReceiptOf) (ids ids' : List Newcomer) (leaver newcomer : Option Newcomer)
     → leaver ≡ leaver_of s.event → newcomer ≡ newcomer_by s.event s.reply → ids' ≡ present_by leaver newcomer ids
     → length ids' + 1 ≤ length ids + room_for ids s.event
 enough_noted s ids ids' leaver newcomer leaves comes are = rw (are, leaves, comes) (enough (leaver_of s.event) s.event s.reply ids)

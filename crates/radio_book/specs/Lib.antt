@@ -1,4 +1,4 @@
-pub mod Stamp
+pub mod Receipts
 pub mod History
 pub mod Newcomers
 pub mod Books

@@ -8,7 +8,7 @@ use Rattle.radio_events.specs.declared.reply.Reply.{Reply}
 use Rattle.radio_events.specs.declared.reply.Reply.TheVariants.{Arrived}
 use Rattle.radio_book.specs.declared.newcomer.Newcomer.{Newcomer}
 use Rattle.radio_book.specs.declared.newcomer.Newcomer.TheVariants.{Client, Relay}
-use Rattle.radio_book.specs.Stamp.{Stamp}
+use Rattle.radio_book.specs.Receipts.{ReceiptOf}
 
 abbrev pub is_same : Newcomer → Newcomer → Bool
 is_same (Client a) (Client b) = b == a
@@ -53,16 +53,16 @@ present_by (Some gone) newcomer present = without_at (place_of gone present) pre
 abbrev pub present_after : List Newcomer → Event → Reply → List Newcomer
 present_after present event reply = present_by (leaver_of event) (newcomer_by event reply) present
 
-abbrev pub present_from : List Newcomer → List Stamp → List Newcomer
+abbrev pub present_from : List Newcomer → List ReceiptOf → List Newcomer
 present_from present [] = present
 present_from present (s ∷ stamps) = present_from (present_after present s.event s.reply) stamps
 
 -- who was let in by these calls, and has not gone by them
-abbrev pub present_of : List Stamp → List Newcomer
+abbrev pub present_of : List ReceiptOf → List Newcomer
 present_of stamps = present_from [] stamps
 
 -- it was let in by these calls, and has not gone by them
-abbrev pub is_here : Newcomer → List Stamp → Bool
+abbrev pub is_here : Newcomer → List ReceiptOf → Bool
 is_here one stamps = is_some (place_of one (present_of stamps))
 
 -- for how many entries room must be found before an event: its own, and that of the end of who may be let in; the end of who is here has its room

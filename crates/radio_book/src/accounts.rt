@@ -4,16 +4,20 @@ ghost use Rattle.std.specs.Prelude.{◌≡◌, ◌+◌, ◌≤◌, ◌<◌, ◌^
 ghost use Rattle.radio_house.specs.World.{World};
 ghost use Rattle.radio_core.specs.Step.{Represents, reply_to, world_after};
 ghost use Rattle.radio_events.specs.Events.{TakesNoMemory};
+ghost use Rattle.radio_chronicle.specs.Stamps.{stamp};
 ghost use Rattle.radio_book.specs.History.{entry_of};
 ghost use Rattle.radio_book.specs.Newcomers.{is_arrival, room_for};
 
 use crate::debt::Debt;
 use crate::holdings::Holdings;
-use crate::{Chronicle, House, OutOfMemory, Receipt};
+use crate::{Chronicle, House, OutOfMemory, Receipt, Stamp};
 use radio_chronicle::Story;
 use radio_events::Event;
 use std::alloc::{AllocError, Global};
 use std::sync::ledger::Share;
+
+/// The place of an entry that is not stored.
+const NOWHERE: Stamp = Stamp { list: 0, serial: 0 };
 
 /// What happened, and what is owed: there is room for each entry that is owed. What no caller has of
 /// the ledger yet is cut into as many parts as there are passes left.
@@ -23,7 +27,7 @@ pub(crate) struct Accounts<C: Chronicle, H: House> {
     debt: Debt<H>,
     spare: Share<H>,
     passes_left: u64,
-    ghost room: { debt.owed ≤ C.room story.chronicle },
+    ghost room: { debt.owed ≤ story.entries.room },
     ghost left: { spare.parts ≡ passes_left },
     ghost none: { spare.amount ≡ 0 },
 }
@@ -74,8 +78,8 @@ impl<C: Chronicle, H: House> Accounts<C, H> {
         requires { C.KEEPS ≡ false }
         ensures step { (w : World) → Represents self.old.story.core w
             → IfOk result (λ receipt. (receipt.reply ≡ reply_to w event) × Represents self.new.story.core (world_after w event)) }
-        ensures event { IfOk result (λ receipt. (receipt.serial ≡ 0) × (receipt.event ≡ event)) }
-        ensures chronicle { self.new.story.chronicle ≡ self.old.story.chronicle }
+        ensures event { IfOk result (λ receipt. (receipt.stamp ≡ stamp 0 0) × (receipt.event ≡ event)) }
+        ensures entries { self.new.story.entries ≡ self.old.story.entries }
         ensures err { OnErr result (self.new.story.core ≡ self.old.story.core) }
         ensures frees { TakesNoMemory event → IsOk result }
     {
@@ -91,13 +95,13 @@ impl<C: Chronicle, H: House> Accounts<C, H> {
         requires { C.KEEPS ≡ false }
         ensures step { (w : World) → Represents self.old.story.core w
             → IfOk result (λ receipt. (receipt.reply ≡ reply_to w (Event.Draw id room)) × Represents self.new.story.core (world_after w (Event.Draw id room))) }
-        ensures event { IfOk result (λ receipt. (receipt.serial ≡ 0) × (receipt.event ≡ (Event.Draw id room))) }
-        ensures chronicle { self.new.story.chronicle ≡ self.old.story.chronicle }
+        ensures event { IfOk result (λ receipt. (receipt.stamp ≡ stamp 0 0) × (receipt.event ≡ (Event.Draw id room))) }
+        ensures entries { self.new.story.entries ≡ self.old.story.entries }
         ensures err { OnErr result (self.new.story.core ≡ self.old.story.core) }
     {
         let reply = self.story.answer(Event::Draw { id, room })?;
         Ok(Receipt {
-            serial: 0,
+            stamp: NOWHERE,
             event: Event::Draw { id, room },
             reply,
         })
@@ -108,15 +112,15 @@ impl<C: Chronicle, H: House> Accounts<C, H> {
         requires { C.KEEPS ≡ false }
         ensures step { (w : World) → Represents self.old.story.core w
             → IfOk result (λ receipt. (receipt.reply ≡ reply_to w event) × Represents self.new.story.core (world_after w event)) }
-        ensures event { IfOk result (λ receipt. (receipt.serial ≡ 0) × (receipt.event ≡ event)) }
-        ensures chronicle { self.new.story.chronicle ≡ self.old.story.chronicle }
+        ensures event { IfOk result (λ receipt. (receipt.stamp ≡ stamp 0 0) × (receipt.event ≡ event)) }
+        ensures entries { self.new.story.entries ≡ self.old.story.entries }
         ensures err { OnErr result (self.new.story.core ≡ self.old.story.core) }
         ensures frees { TakesNoMemory event → IsOk result }
     {
         match event.again() {
             Ok(told) => match self.story.answer(event) {
                 Ok(reply) => Ok(Receipt {
-                    serial: 0,
+                    stamp: NOWHERE,
                     event: told,
                     reply,
                 }),
@@ -142,10 +146,10 @@ impl<C: Chronicle, H: House> Accounts<C, H> {
         ensures step { (w : World) → Represents self.old.story.core w
             → IfOk result (λ receipt. (receipt.reply ≡ reply_to w event) × Represents self.new.story.core (world_after w event)) }
         ensures event { IfOk result (λ receipt. receipt.event ≡ event) }
-        ensures serial { IfOk result (λ receipt. receipt.serial ≡ length (C.entries self.new.story.chronicle)) }
-        ensures history { IfOk result (λ receipt. C.entries self.new.story.chronicle ≡ C.entries self.old.story.chronicle ++ entry_of receipt ∷ []) }
+        ensures place { IfOk result (λ receipt. receipt.stamp ≡ stamp 0 (length self.new.story.entries.items)) }
+        ensures history { IfOk result (λ receipt. self.new.story.entries.items ≡ self.old.story.entries.items ++ entry_of receipt ∷ []) }
         ensures receipts { IfOk result (λ receipt. holdings.new.receipts.items ≡ holdings.old.receipts.items ++ receipt ∷ []) }
-        ensures err { OnErr result ((self.new.story.core ≡ self.old.story.core) × (C.entries self.new.story.chronicle ≡ C.entries self.old.story.chronicle)
+        ensures err { OnErr result ((self.new.story.core ≡ self.old.story.core) × (self.new.story.entries.items ≡ self.old.story.entries.items)
             × (holdings.new.receipts.items ≡ holdings.old.receipts.items)) }
         ensures frees { TakesNoMemory event → room_for holdings.old.present.items event ≡ 0 → IsOk result }
     {
@@ -162,15 +166,15 @@ impl<C: Chronicle, H: House> Accounts<C, H> {
     /// `OutOfMemory` where memory was refused.
     fn prepare(&mut self, holdings: &mut Holdings<H>, event: &Event) -> Result<Copies, OutOfMemory>
         ensures copies { IfOk result (λ copies. (copies.noted ≡ event.now) × (copies.held ≡ event.now) × (copies.told ≡ event.now)) }
-        ensures chronicle { OnOk result ((0 < C.room self.new.story.chronicle)
-            × (self.new.debt.owed + room_for holdings.new.present.items event.now ≤ C.room self.new.story.chronicle)) }
-        ensures most { OnOk result (C.room self.new.story.chronicle < 2 ^ 64) }
+        ensures entries { OnOk result ((0 < self.new.story.entries.room)
+            × (self.new.debt.owed + room_for holdings.new.present.items event.now ≤ self.new.story.entries.room)) }
+        ensures most { OnOk result (self.new.story.entries.room < 2 ^ 64) }
         ensures receipts { OnOk result
             (vec_len holdings.new.receipts + vec_len holdings.new.present + room_for holdings.new.present.items event.now
             ≤ vec_capacity holdings.new.receipts) }
         ensures present { OnOk result (is_arrival event.now ≡ true → vec_len holdings.new.present < vec_capacity holdings.new.present) }
         ensures frees { TakesNoMemory event.now → room_for holdings.old.present.items event.now ≡ 0 → IsOk result }
-        ensures same { (self.new.story.core ≡ self.old.story.core) × (C.entries self.new.story.chronicle ≡ C.entries self.old.story.chronicle) }
+        ensures same { (self.new.story.core ≡ self.old.story.core) × (self.new.story.entries.items ≡ self.old.story.entries.items) }
         ensures held { (holdings.new.receipts.items ≡ holdings.old.receipts.items) × (holdings.new.present.items ≡ holdings.old.present.items) }
     {
         self.make_room(holdings, event)?;
@@ -180,15 +184,15 @@ impl<C: Chronicle, H: House> Accounts<C, H> {
     /// Makes room for an event and for the ends that are owed then. `OutOfMemory` where memory was
     /// refused.
     fn make_room(&mut self, holdings: &mut Holdings<H>, event: &Event) -> Result<(), OutOfMemory>
-        ensures chronicle { OnOk result ((0 < C.room self.new.story.chronicle)
-            × (self.new.debt.owed + room_for holdings.new.present.items event.now ≤ C.room self.new.story.chronicle)) }
-        ensures most { OnOk result (C.room self.new.story.chronicle < 2 ^ 64) }
+        ensures entries { OnOk result ((0 < self.new.story.entries.room)
+            × (self.new.debt.owed + room_for holdings.new.present.items event.now ≤ self.new.story.entries.room)) }
+        ensures most { OnOk result (self.new.story.entries.room < 2 ^ 64) }
         ensures receipts { OnOk result
             (vec_len holdings.new.receipts + vec_len holdings.new.present + room_for holdings.new.present.items event.now
             ≤ vec_capacity holdings.new.receipts) }
         ensures present { OnOk result (is_arrival event.now ≡ true → vec_len holdings.new.present < vec_capacity holdings.new.present) }
         ensures frees { room_for holdings.old.present.items event.now ≡ 0 → IsOk result }
-        ensures same { (self.new.story.core ≡ self.old.story.core) × (C.entries self.new.story.chronicle ≡ C.entries self.old.story.chronicle) }
+        ensures same { (self.new.story.core ≡ self.old.story.core) × (self.new.story.entries.items ≡ self.old.story.entries.items) }
         ensures held { (holdings.new.receipts.items ≡ holdings.old.receipts.items) × (holdings.new.present.items ≡ holdings.old.present.items) }
     {
         let more = holdings.room_for(event);
@@ -196,7 +200,7 @@ impl<C: Chronicle, H: House> Accounts<C, H> {
         let Some(entries) = self.debt.owed.checked_add(more) else {
             return Err(AllocError);
         };
-        self.story.chronicle.reserve(entries)?;
+        self.story.entries.reserve(entries)?;
         holdings.reserve(more)
     }
 
@@ -210,28 +214,31 @@ impl<C: Chronicle, H: House> Accounts<C, H> {
     ) -> Result<Receipt, OutOfMemory>
         requires keeps { C.KEEPS ≡ true }
         requires copies { (copies.noted ≡ event) × (copies.held ≡ event) × (copies.told ≡ event) }
-        requires chronicle { (0 < C.room self.old.story.chronicle)
-            × (self.old.debt.owed + room_for holdings.old.present.items event ≤ C.room self.old.story.chronicle) }
-        requires most { C.room self.old.story.chronicle < 2 ^ 64 }
+        requires entries { (0 < self.old.story.entries.room)
+            × (self.old.debt.owed + room_for holdings.old.present.items event ≤ self.old.story.entries.room) }
+        requires most { self.old.story.entries.room < 2 ^ 64 }
         requires receipts { vec_len holdings.old.receipts + vec_len holdings.old.present + room_for holdings.old.present.items event
             ≤ vec_capacity holdings.old.receipts }
         requires present { is_arrival event ≡ true → vec_len holdings.old.present < vec_capacity holdings.old.present }
         ensures step { (w : World) → Represents self.old.story.core w
             → IfOk result (λ receipt. (receipt.reply ≡ reply_to w event) × Represents self.new.story.core (world_after w event)) }
         ensures event { IfOk result (λ receipt. receipt.event ≡ event) }
-        ensures serial { IfOk result (λ receipt. receipt.serial ≡ length (C.entries self.new.story.chronicle)) }
-        ensures history { IfOk result (λ receipt. C.entries self.new.story.chronicle ≡ C.entries self.old.story.chronicle ++ entry_of receipt ∷ []) }
+        ensures place { IfOk result (λ receipt. receipt.stamp ≡ stamp 0 (length self.new.story.entries.items)) }
+        ensures history { IfOk result (λ receipt. self.new.story.entries.items ≡ self.old.story.entries.items ++ entry_of receipt ∷ []) }
         ensures receipts { IfOk result (λ receipt. holdings.new.receipts.items ≡ holdings.old.receipts.items ++ receipt ∷ []) }
-        ensures err { OnErr result ((self.new.story.core ≡ self.old.story.core) × (self.new.story.chronicle ≡ self.old.story.chronicle)
+        ensures err { OnErr result ((self.new.story.core ≡ self.old.story.core) × (self.new.story.entries ≡ self.old.story.entries)
             × (holdings.new.receipts.items ≡ holdings.old.receipts.items)) }
         ensures frees { TakesNoMemory event → IsOk result }
     {
         let Copies { noted, held, told } = copies;
         match self.story.record(event, noted) {
             Ok((held_reply, reply)) => {
-                let serial = self.story.chronicle.len() as u64;
-                holdings.note(&mut self.debt, Receipt::new(serial, held, held_reply));
-                Ok(Receipt::new(serial, told, reply))
+                let stamp = Stamp {
+                    list: 0,
+                    serial: self.story.entries.len() as u64,
+                };
+                holdings.note(&mut self.debt, Receipt::new(stamp, held, held_reply));
+                Ok(Receipt::new(stamp, told, reply))
             }
             Err(refused) => {
                 drop(held);

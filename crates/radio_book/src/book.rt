@@ -5,6 +5,7 @@ ghost use Rattle.radio_house.specs.World.{World, opening};
 ghost use Rattle.radio_core.specs.Step.{Represents, reply_to, world_after};
 ghost use Rattle.radio_events.specs.Events.{TakesNoMemory};
 ghost use Rattle.radio_chronicle.specs.History.{IsRun, IsTold};
+ghost use Rattle.radio_chronicle.specs.Stamps.{stamp};
 ghost use Rattle.radio_book.specs.History.{IsLegal, entry_of};
 ghost use Rattle.radio_book.specs.Wanted.{AreWanted};
 ghost use Rattle.radio_book.specs.LastMounts.{WasAt};
@@ -29,8 +30,7 @@ use std::sync::ledger::Blank;
 /// How many passes a book gives.
 pub const PASSES: u64 = 1 << 32;
 
-/// A core, and a chronicle of what happened to it. In contracts it is the core, and the entries
-/// that are stored.
+/// A core, and the entries of what happened to it. Contracts see the core and the entries that are stored.
 pub struct Book<C: Chronicle, H: House> {
     alloc: Global,
     accounts: Accounts<C, H>,
@@ -52,7 +52,7 @@ impl<C: Chronicle, H: House> Model for Book<C, H> {
 
     ghost coded = { Prim.hlevel (codes, the_core.the_row.coded) };
 
-    ghost view = { λ b. record { core = b.accounts.story.core; history = C.entries b.accounts.story.chronicle } };
+    ghost view = { λ b. record { core = b.accounts.story.core; history = b.accounts.story.entries.items } };
 }
 
 impl<C: Chronicle, H: House> Book<C, H> {
@@ -65,7 +65,7 @@ impl<C: Chronicle, H: House> Book<C, H> {
         ensures history { result.history ≡ [] }
     {
         let (book, spare) = blank.open::<H>();
-        let story = Story::new(Core::new(alloc, settings, lists), C::new(alloc));
+        let story = Story::new(alloc, Core::new(alloc, settings, lists));
         Book {
             alloc,
             accounts: Accounts::new(story, Debt::new(book), spare, PASSES),
@@ -96,13 +96,13 @@ impl<C: Chronicle, H: House> Book<C, H> {
         // the reply is that of a step after it; where entries are stored, the receipt's place is
         // the one behind it
         ensures legal { IfOk result (λ receipt. ∥ IsLegal C.KEEPS H.opening receipt ∥₁) }
-        // where entries are stored, the history grows by this event with this reply, at the receipt's serial
+        // where entries are stored, the history grows by this event with this reply, at the receipt's place in the control's list
         ensures history { C.KEEPS ≡ true → IfOk result (λ receipt. self.new.history ≡ self.old.history ++ entry_of receipt ∷ []) }
-        ensures serial { C.KEEPS ≡ true → IfOk result (λ receipt. receipt.serial ≡ length self.new.history) }
+        ensures place { C.KEEPS ≡ true → IfOk result (λ receipt. receipt.stamp ≡ stamp 0 (length self.new.history)) }
         // and the pass by the receipt
         ensures pass { C.KEEPS ≡ true → IfOk result (λ receipt. pass.new ≡ pass.old ++ receipt ∷ []) }
         // where they are not, nothing is noted
-        ensures unkept { C.KEEPS ≡ false → (self.new.history ≡ self.old.history) × (pass.new ≡ pass.old) × IfOk result (λ receipt. receipt.serial ≡ 0) }
+        ensures unkept { C.KEEPS ≡ false → (self.new.history ≡ self.old.history) × (pass.new ≡ pass.old) × IfOk result (λ receipt. receipt.stamp ≡ stamp 0 0) }
         ensures err { OnErr result ((self.new ≡ self.old) × (pass.new ≡ pass.old)) }
         // the end of who was let in by the receipts of this pass, and has not gone by them, is never refused
         ensures leave { (one : Newcomer) → leaver_of event ≡ Some one → is_here one pass.old ≡ true → IsOk result }
@@ -162,14 +162,10 @@ impl<H: House> Book<Kept, H> {
 
 /// The entries of a story that is over, which are a run from the opening state.
 fn entries_of<H: House>(story: Story<Kept, H>) -> Vec<Entry>
-    ensures history { result.items ≡ ⟦<Kept as Chronicle>⟧.entries story.chronicle }
+    ensures history { result.items ≡ story.entries.items }
     ensures run { ∥ IsRun H.opening result.items ∥₁ }
 {
-    let Story {
-        core,
-        chronicle,
-        ..
-    } = story;
+    let Story { core, entries, .. } = story;
     drop(core);
-    chronicle.into_entries()
+    entries.into_items()
 }

@@ -22,9 +22,9 @@ impl<C: Chronicle, H: House> Drop for Pass<C, H> {
 
 impl<C: Chronicle, H: House> Model for Pass<C, H> {
     ghost use Rattle.std.specs.Prelude.{List};
-    ghost use Rattle.radio_book.specs.Stamp.{Stamp};
+    ghost use Rattle.radio_book.specs.Receipts.{ReceiptOf};
 
-    ghost Value = { List Stamp };
+    ghost Value = { List ReceiptOf };
 
     ghost view = { λ p. p.holdings.receipts.items };
 }

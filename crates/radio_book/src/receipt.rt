@@ -1,13 +1,14 @@
 //! Receipts.
 
+use crate::Stamp;
 use radio_events::{Event, Reply};
 use std::marker::Model;
 
-/// The receipt of a call of a book: at this place of the house's history stands this entry.
+/// The receipt of a call of a book: this entry is at this place of a list of the server.
 ///
 /// [`Book::apply`](crate::Book::apply) alone makes one.
 pub struct Receipt {
-    pub(crate) serial: u64,
+    pub(crate) stamp: Stamp,
     pub(crate) event: Event,
     pub(crate) reply: Reply,
 }
@@ -15,7 +16,7 @@ pub struct Receipt {
 impl Drop for Receipt {
     fn drop(self) {
         let Receipt {
-            serial: _,
+            stamp: _,
             event,
             reply,
         } = self;
@@ -25,32 +26,32 @@ impl Drop for Receipt {
 }
 
 impl Model for Receipt {
-    ghost use Rattle.radio_book.specs.Stamp.{Stamp};
+    ghost use Rattle.radio_book.specs.Receipts.{ReceiptOf};
 
-    ghost Value = { Stamp };
+    ghost Value = { ReceiptOf };
 
-    ghost view = { λ r. record { serial = r.serial; event = r.event; reply = r.reply } };
+    ghost view = { λ r. record { stamp = r.stamp; event = r.event; reply = r.reply } };
 }
 
 impl Receipt {
     ghost use Rattle.std.specs.Prelude.{◌≡◌};
-    ghost use Rattle.radio_book.specs.Stamp.{stamped};
+    ghost use Rattle.radio_book.specs.Receipts.{receipt_of};
 
-    pub(crate) fn new(serial: u64, event: Event, reply: Reply) -> Receipt
-        ensures { result ≡ stamped serial event reply }
+    pub(crate) fn new(stamp: Stamp, event: Event, reply: Reply) -> Receipt
+        ensures { result ≡ receipt_of stamp event reply }
     {
         Receipt {
-            serial,
+            stamp,
             event,
             reply,
         }
     }
 
-    /// The place of its entry, counted from 1; 0 where nothing is stored.
-    pub fn serial(&self) -> u64
-        ensures { result ≡ self.now.serial }
+    /// Returns the place of its entry; list 0, serial 0, if nothing is stored.
+    pub fn stamp(&self) -> Stamp
+        ensures { result ≡ self.now.stamp }
     {
-        self.serial
+        self.stamp
     }
 
     /// What happened.
@@ -72,7 +73,7 @@ impl Receipt {
         ensures { result ≡ self.reply }
     {
         let Receipt {
-            serial: _,
+            stamp: _,
             event,
             reply,
         } = self;

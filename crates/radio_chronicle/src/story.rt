@@ -6,34 +6,35 @@ ghost use Rattle.radio_core.specs.Step.{Represents, reply_to, world_after};
 ghost use Rattle.radio_events.specs.Events.{TakesNoMemory, entry};
 ghost use Rattle.radio_chronicle.specs.History.{IsTold};
 
-use crate::{Chronicle, Entry, House, OutOfMemory};
+use crate::{Chronicle, Entry, House, Notes, OutOfMemory};
 use radio_core::Core;
 use radio_events::{Event, Reply};
+use std::alloc::Global;
 use std::marker::PhantomData;
 
-/// A core and its chronicle: the core stands for the state after a history that is a run, and where
-/// entries are stored, they are that history. Whoever changes one of the two has to prove that this is
-/// so still.
+/// A core and its entries. The core stands for the state after a history that is a run; if entries are stored, they are
+/// that history. Whoever changes one of the two has to prove that this is so still.
 #[derive(Drop)]
 pub struct Story<C: Chronicle, H: House> {
     /// What answers events.
     pub core: Core,
-    /// Where its entries go.
-    pub chronicle: C,
-    of: PhantomData<H>,
-    pub ghost told: { ∥ IsTold C.KEEPS H.opening (C.entries chronicle) core ∥₁ },
+    /// Its entries, if they are stored.
+    pub entries: Notes<Entry>,
+    of: PhantomData<(C, H)>,
+    pub ghost keeps: { entries.keeps ≡ C.KEEPS },
+    pub ghost told: { ∥ IsTold C.KEEPS H.opening entries.items core ∥₁ },
 }
 
 impl<C: Chronicle, H: House> Story<C, H> {
-    /// Nothing has happened yet.
-    pub fn new(core: Core, chronicle: C) -> Story<C, H>
+    /// Returns a story in which nothing has happened yet. It takes no memory.
+    pub fn new(alloc: Global, core: Core) -> Story<C, H>
         requires opening { Represents core H.opening }
-        requires empty { C.entries chronicle ≡ [] }
-        ensures { (result.core ≡ core) × (result.chronicle ≡ chronicle) }
+        ensures core { result.core ≡ core }
+        ensures empty { result.entries.items ≡ [] }
     {
         Story {
             core,
-            chronicle,
+            entries: Notes::new(alloc, C::KEEPS),
             of: PhantomData,
         }
     }
@@ -44,7 +45,7 @@ impl<C: Chronicle, H: House> Story<C, H> {
         requires { C.KEEPS ≡ false }
         ensures step { (w : World) → Represents self.old.core w
             → IfOk result (λ reply. (reply ≡ reply_to w event) × Represents self.new.core (world_after w event)) }
-        ensures chronicle { self.new.chronicle ≡ self.old.chronicle }
+        ensures entries { self.new.entries ≡ self.old.entries }
         ensures err { OnErr result (self.new.core ≡ self.old.core) }
         ensures frees { TakesNoMemory event → IsOk result }
     {
@@ -56,19 +57,19 @@ impl<C: Chronicle, H: House> Story<C, H> {
     pub fn record(&mut self, event: Event, copy: Event) -> Result<(Reply, Reply), OutOfMemory>
         requires keeps { C.KEEPS ≡ true }
         requires copy { copy ≡ event }
-        requires room { 0 < C.room self.old.chronicle }
+        requires room { 0 < self.old.entries.room }
         ensures step { (w : World) → Represents self.old.core w
             → IfOk result (λ replies. (replies.0 ≡ reply_to w event) × Represents self.new.core (world_after w event)) }
         ensures alike { IfOk result (λ replies. replies.1 ≡ replies.0) }
-        ensures noted { IfOk result (λ replies. C.entries self.new.chronicle ≡ C.entries self.old.chronicle ++ entry event replies.0 ∷ []) }
-        ensures room { C.room self.old.chronicle ≤ C.room self.new.chronicle + 1 }
-        ensures err { OnErr result ((self.new.core ≡ self.old.core) × (self.new.chronicle ≡ self.old.chronicle)) }
+        ensures noted { IfOk result (λ replies. self.new.entries.items ≡ self.old.entries.items ++ entry event replies.0 ∷ []) }
+        ensures room { self.old.entries.room ≤ self.new.entries.room + 1 }
+        ensures err { OnErr result ((self.new.core ≡ self.old.core) × (self.new.entries ≡ self.old.entries)) }
         ensures frees { TakesNoMemory event → IsOk result }
     {
         match self.core.step3(event) {
             Ok(replies) => {
                 let (noted, held, told) = apart(replies);
-                self.chronicle.note(Entry {
+                self.entries.note(Entry {
                     event: copy,
                     reply: noted,
                 });

@@ -3,6 +3,7 @@
 ghost use Rattle.std.specs.Prelude.{◌≡◌, ◌^◌, ◌∷◌, [], ◌++◌, true, false, IsOk, IfOk, IfSome, OnErr};
 ghost use Rattle.radio_events.specs.Events.{TakesNoMemory};
 ghost use Rattle.radio_house.specs.World.{opening};
+ghost use Rattle.radio_chronicle.specs.Stamps.{stamp};
 ghost use Rattle.radio_book.specs.declared.newcomer.Newcomer.{Newcomer};
 ghost use Rattle.radio_book.specs.Newcomers.{is_here, leaver_of};
 ghost use Rattle.radio_book.specs.History.{IsLegal};
@@ -77,7 +78,7 @@ impl<C: Chronicle, H: House> Hall<C, H> {
         ensures legal { IfOk result (λ receipt. ∥ IsLegal C.KEEPS H.opening receipt ∥₁) }
         // where entries are stored, the pass gains the receipt; where they are not, nothing is noted
         ensures pass { C.KEEPS ≡ true → IfOk result (λ receipt. pass.new ≡ pass.old ++ receipt ∷ []) }
-        ensures unkept { C.KEEPS ≡ false → (pass.new ≡ pass.old) × IfOk result (λ receipt. receipt.serial ≡ 0) }
+        ensures unkept { C.KEEPS ≡ false → (pass.new ≡ pass.old) × IfOk result (λ receipt. receipt.stamp ≡ stamp 0 0) }
         ensures err { OnErr result (pass.new ≡ pass.old) }
         // the end of who was let in by the receipts of this pass, and has not gone by them, is never refused
         ensures leave { (one : Newcomer) → leaver_of event ≡ Some one → is_here one pass.old ≡ true → IsOk result }

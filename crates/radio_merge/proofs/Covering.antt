@@ -1,6 +1,6 @@
 -- What is no entry of a merge lies in the range of a cut.
-use Rattle.std.proofs.Common.{◌≡◌, ◌⊎◌, inl, inr, ℕ, zero, suc, ◌+◌, ◌-◌, ◌<◌, ◌≤◌, Bool, true, false, List, [], ◌∷◌, ◌++◌, Option, Some, None, length, replicate, refl, sym, ap, subst, ◌∙◌, arith, append_assoc}
-use Rattle.std.specs.Prelude.{map, slice_get, slice_set, unwrap_or}
+use Rattle.std.proofs.Common.{◌≡◌, ◌⊎◌, inl, inr, ℕ, zero, suc, ◌+◌, ◌-◌, ◌<◌, ◌≤◌, List, [], ◌∷◌, ◌++◌, Option, Some, None, length, replicate, refl, sym, ap, subst, ◌∙◌, arith, append_assoc}
+use Rattle.std.specs.Prelude.{slice_get, slice_set, unwrap_or}
 use Rattle.std.specs.Option.{option_map}
 use Rattle.std.proofs.lemmas.Bool.{false≢true}
 use Rattle.std.proofs.lemmas.Option.{slice_get_within, slice_get-map}
@@ -8,9 +8,8 @@ use Rattle.radio_events.specs.declared.entry.Entry.{Entry}
 use Rattle.radio_merge.specs.declared.family.ControlLine.{ControlLine}
 use Rattle.radio_merge.specs.declared.family.ControlLine.TheVariants.{Cut, Made}
 use Rattle.radio_merge.specs.declared.family.MountItem.{MountItem}
-use Rattle.radio_merge.specs.declared.stamp.Stamp.{Stamp}
-use Rattle.radio_merge.specs.Family.{is_left_out, own_entry}
-use Rattle.radio_merge.specs.Merged.{Positions, PastCuts, IsNext, Merged, Begins, LeavesOut, TakesOwn, TakesControl, IsMerge}
+use Rattle.radio_chronicle.specs.declared.stamp.Stamp.{Stamp}
+use Rattle.radio_merge.specs.Merged.{Positions, PastCuts, Merged, Begins, LeavesOut, TakesOwn, TakesControl}
 use Rattle.radio_merge.specs.Covered.{IsMade, InCut, TheControlMakesTheRest}
 
 some_same : (a b : ℕ) → Some a ≡ Some b → a ≡ b

@@ -1,3 +1,3 @@
 mod Covering
 mod Steppings
-mod Wholes
+pub mod Wholes

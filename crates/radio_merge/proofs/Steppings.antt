@@ -1,18 +1,17 @@
 -- A core steps through one entry more.
-use Rattle.std.proofs.Common.{◌≡◌, ℕ, ◌+◌, ◌<◌, take, get_or, length, List, [], ◌∷◌, ◌++◌, Result, Ok, Err, IfOk, refl, sym, ap, subst, ◌∙◌}
+use Rattle.std.proofs.Common.{◌≡◌, ℕ, ◌+◌, ◌<◌, take, get_or, length, List, [], ◌∷◌, ◌++◌, Result, Ok, IfOk, refl, sym, ap, subst, ◌∙◌}
 use Rattle.std.proofs.lemmas.List.{take_more}
 use Rattle.std.proofs.lemmas.Result.{IfOk-at_ok}
-use Rattle.radio_events.specs.declared.event.Event.{Event}
 use Rattle.radio_events.specs.declared.reply.Reply.{Reply}
 use Rattle.radio_events.specs.declared.entry.Entry.{Entry}
 use Rattle.radio_house.specs.World.{World}
 use Rattle.radio_core.specs.Step.{Step, reply_to, world_after, Represents}
 use Rattle.radio_merge.specs.declared.family.ControlLine.{ControlLine}
 use Rattle.radio_merge.specs.declared.family.MountItem.{MountItem}
-use Rattle.radio_merge.specs.declared.stamp.Stamp.{Stamp}
+use Rattle.radio_chronicle.specs.declared.stamp.Stamp.{Stamp}
 use Rattle.radio_chronicle.specs.History.{world_of, IsRun}
 use Rattle.radio_merge.specs.declared.family.Family.{Family}
-use Rattle.radio_merge.specs.Merged.{Positions, Merged, Begins, AtEnd, IsMerge, beginning}
+use Rattle.radio_merge.specs.Merged.{Positions, Merged, Begins, beginning}
 use Rattle.radio_merge.specs.Replays.{IsSoFar}
 
 world_of_more : (w : World) (history : List Entry) (e : Entry) → world_of w (history ++ e ∷ []) ≡ world_after (world_of w history) e.event

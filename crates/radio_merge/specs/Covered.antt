@@ -4,7 +4,7 @@ use Rattle.radio_events.specs.declared.entry.Entry.{Entry}
 use Rattle.radio_merge.specs.declared.family.ControlLine.{ControlLine}
 use Rattle.radio_merge.specs.declared.family.ControlLine.TheVariants.{Cut}
 use Rattle.radio_merge.specs.declared.family.MountItem.{MountItem}
-use Rattle.radio_merge.specs.declared.stamp.Stamp.{Stamp}
+use Rattle.radio_chronicle.specs.declared.stamp.Stamp.{Stamp}
 use Rattle.radio_merge.specs.Family.{is_left_out, own_entry}
 use Rattle.radio_merge.specs.Merged.{IsMerge}
 

@@ -1,11 +1,12 @@
 -- What a merge of lists is.
-use Rattle.std.specs.Prelude.{◌≡◌, ◌⊎◌, ℕ, ◌+◌, ◌-◌, ◌<◌, true, List, [], ◌∷◌, ◌++◌, Option, Some, length, map, replicate, slice_get, slice_set}
+use Rattle.std.specs.Prelude.{◌≡◌, ◌⊎◌, ℕ, ◌+◌, ◌-◌, ◌<◌, true, List, [], ◌∷◌, ◌++◌, Some, length, map, replicate, slice_get, slice_set}
 use Rattle.radio_events.specs.declared.entry.Entry.{Entry}
 use Rattle.radio_merge.specs.declared.family.ControlLine.{ControlLine}
 use Rattle.radio_merge.specs.declared.family.ControlLine.TheVariants.{Cut, Made}
 use Rattle.radio_merge.specs.declared.family.MountItem.{MountItem}
-use Rattle.radio_merge.specs.declared.stamp.Stamp.{Stamp}
-use Rattle.radio_merge.specs.Family.{is_left_out, own_entry, stamp}
+use Rattle.radio_chronicle.specs.declared.stamp.Stamp.{Stamp}
+use Rattle.radio_merge.specs.Family.{is_left_out, own_entry}
+use Rattle.radio_chronicle.specs.Stamps.{stamp}
 
 -- how far each list was taken: what is left of the control's, and how many items of each mount's
 pub record Positions : Type 0 where

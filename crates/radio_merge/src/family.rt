@@ -78,6 +78,13 @@ impl MountList {
         MountList { items }
     }
 
+    /// Returns its items.
+    pub fn as_slice(&self) -> &[MountItem]
+        ensures { result.now ≡ self.now }
+    {
+        self.items.as_slice()
+    }
+
     /// How many items it has.
     pub(crate) fn len(&self) -> usize
         ensures { result ≡ length self.now }
@@ -106,8 +113,8 @@ impl MountItem {
         }
     }
 
-    /// The entry, if it is an own one.
-    pub(crate) fn own_entry(&self) -> Option<&Entry>
+    /// Returns the entry, if it is an own one.
+    pub fn own_entry(&self) -> Option<&Entry>
         ensures { option_copied result ≡ own_entry self.now }
     {
         match self {
@@ -131,6 +138,20 @@ pub enum ControlLine {
     },
     /// The event of the entry and its reply.
     Made(Entry),
+}
+
+impl ControlLine {
+    ghost use Rattle.radio_merge.specs.Family.{line_entry};
+
+    /// Returns the entry, if it is no cut.
+    pub fn entry(&self) -> Option<&Entry>
+        ensures { option_copied result ≡ line_entry self.now }
+    {
+        match self {
+            ControlLine::Made(entry) => Some(entry),
+            ControlLine::Cut { .. } => None,
+        }
+    }
 }
 
 /// All lists of a server, once nobody calls it any more.

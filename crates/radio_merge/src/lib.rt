@@ -19,15 +19,14 @@ mod positions;
 mod replaying;
 mod same;
 mod searching;
-mod stamp;
 
 pub use family::{Attaching, ControlLine, Family, MountItem, MountList};
 pub use fault::MergeFault;
 pub use laws::the_control_makes_the_rest;
 pub use merging::merge;
+pub use radio_chronicle::Stamp;
 pub use radio_events::Entry;
 pub use same::{is_same_event, is_same_reply};
-pub use stamp::Stamp;
 
 /// The error of a call if memory was refused.
 pub type OutOfMemory = std::alloc::AllocError;

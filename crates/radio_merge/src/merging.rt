@@ -4,7 +4,7 @@ ghost use Rattle.std.specs.Prelude.{All, IfOk, List};
 ghost use Rattle.radio_house.specs.World.{opening};
 ghost use Rattle.radio_chronicle.specs.History.{IsRun};
 ghost use Rattle.radio_merge.specs.Merged.{IsMerge, IsSubsequence};
-ghost use Rattle.radio_merge.specs.declared.stamp.Stamp.{Stamp as StampOf};
+ghost use Rattle.radio_chronicle.specs.declared.stamp.Stamp.{Stamp as StampOf};
 
 use crate::passes::are_in_order;
 use crate::replaying::replay;

@@ -1,7 +1,7 @@
 //! Whether an order keeps that of each pass.
 
 ghost use Rattle.std.specs.Prelude.{◌≡◌, ◌∷◌, List, All, IsTrue};
-ghost use Rattle.radio_merge.specs.declared.stamp.Stamp.{Stamp as StampOf};
+ghost use Rattle.radio_chronicle.specs.declared.stamp.Stamp.{Stamp as StampOf};
 ghost use Rattle.radio_merge.specs.Merged.{IsSubsequence};
 
 use crate::Stamp;

@@ -4,7 +4,7 @@
 
 ghost use Rattle.std.specs.Prelude.{◌≡◌, ◌+◌, ◌-◌, ◌<◌, ◌^◌, [], ◌∷◌, ◌++◌, List, Some, true, IfOk, IfSome, IsTrue, length, map, slice_get, slice_set};
 ghost use Rattle.radio_events.specs.declared.entry.Entry.{Entry as EntryOf};
-ghost use Rattle.radio_merge.specs.declared.stamp.Stamp.{Stamp as StampOf};
+ghost use Rattle.radio_chronicle.specs.declared.stamp.Stamp.{Stamp as StampOf};
 ghost use Rattle.radio_merge.specs.Merged.{AtEnd, IsNext, Merged, PastCuts, beginning, one_further};
 
 use crate::{ControlLine, Family, MountItem, OutOfMemory, Stamp};

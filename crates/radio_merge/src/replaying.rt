@@ -8,7 +8,7 @@ ghost use Rattle.radio_core.specs.Step.{Represents, reply_to, world_after};
 ghost use Rattle.radio_chronicle.specs.History.{IsRun};
 ghost use Rattle.radio_merge.specs.Merged.{IsMerge};
 ghost use Rattle.radio_merge.specs.Replays.{IsSoFar};
-ghost use Rattle.radio_merge.specs.declared.stamp.Stamp.{Stamp as StampOf};
+ghost use Rattle.radio_chronicle.specs.declared.stamp.Stamp.{Stamp as StampOf};
 
 use crate::positions::Positions;
 use crate::same::is_same_reply;

@@ -1,2 +1,3 @@
-pub mod Settled
-pub mod HallSettled
+mod Settled
+mod ControlAlone
+mod Books

@@ -1,86 +1,79 @@
--- Loops over passes and their receipts.
-use Rattle.std.proofs.Common.{◌≡◌, Bool, true, ℕ, ◌+◌, ◌<◌, ◌≤◌, ◌-◌, ◌==◌, List, [], ◌∷◌, ◌++◌, All, Result, Ok, Err, IfErr, OnOk, cond, length}
-use Rattle.std.proofs.Common.{get_or, take, sum_by, refl, sym, ap, subst, ◌∙◌, arith, append-nil}
-use Rattle.std.specs.List.{range_with_len}
-use Rattle.std.specs.List.Sorted.{IsPermutation}
+-- Passes, their receipts and their places.
+use Rattle.std.proofs.Common.{◌≡◌, Bool, true, ℕ, ◌+◌, ◌<◌, ◌≤◌, ◌-◌, ◌==◌, ◌&&◌, List, [], ◌∷◌, ◌++◌, All, cond, length}
+use Rattle.std.proofs.Common.{inl, inr, get_or, take, map, sum_by, Vec, Global, refl, sym, ap, subst, ◌∙◌, arith, append-nil}
 use Rattle.std.proofs.lemmas.List.{length-map}
-use Rattle.std.proofs.lemmas.List.FromFn.{length-range_with_len}
-use Rattle.std.proofs.lemmas.List.Sorted.{IsPermutation-sym, length_permutation}
 use Rattle.std.proofs.lemmas.Bool.Decides.{nat_tests}
-use Rattle.std.proofs.lemmas.List.{take_all, take_more}
-use Rattle.std.proofs.lemmas.Result.{IfErr-weaker}
+use Rattle.std.proofs.lemmas.List.{map-append, take_more}
+use Rattle.std.proofs.lemmas.List.Elements.{All-cons, All-head, All-map, All-nil, All-tail}
 use Rattle.std.proofs.lemmas.List.Sums.{sum_by_more, sum_by-take-le}
 use Rattle.std.proofs.lemmas.List.Concat.{flat_map-append, length-flat_map}
 use Rattle.std.proofs.Math.Path.{fun_ext}
-use Rattle.radio_events.specs.declared.entry.Entry.{Entry}
-use Rattle.radio_settling.specs.declared.settling.SettleFault.{SettleFault}
-use Rattle.radio_settling.specs.declared.settling.SettleFault.TheVariants.{Strange, Twice, OutOfOrder, Count, OutOfMemory}
-use Rattle.radio_book.specs.Stamp.{Stamp}
-use Rattle.radio_settling.specs.Settling.{AllRise, AllStand, Shows, ShowsBySerials, all_serials, serials, times}
+use Rattle.radio_chronicle.specs.declared.stamp.Stamp.{Stamp}
+use Rattle.radio_chronicle.specs.Stamps.{stamp}
+use Rattle.radio_book.specs.Receipts.{ReceiptOf}
+use Rattle.radio_merge.specs.declared.family.MountItem.{MountItem}
+use Rattle.radio_merge.specs.Merged.{IsSubsequence}
+use Rattle.radio_merge.specs.declared.family.ControlLine.{ControlLine}
+use Rattle.radio_settling.specs.declared.fault.SettleFault.{SettleFault}
+use Rattle.radio_settling.specs.Settling.{AllRise, AllStand, IsCounted, Shows, all_places, all_stamps, is_same_place, stamps, times}
 
-pub All-whole : {X : Type 0} (P : X → Type 0) (xs : List X) (i : ℕ) → length xs ≤ i → All P (take i xs) → All P xs
-All-whole {X = X} P xs i end each = subst (λ (ys : List X). All P ys) (take_all i xs end) each
+-- the places of one pass more
+pub stamps_more : (passes : List (List ReceiptOf)) (i : ℕ) (d : List ReceiptOf) (before after : List Stamp) → i < length passes
+    → before ≡ all_stamps (take i passes) → after ≡ before ++ stamps (get_or passes i d) → after ≡ all_stamps (take (i + 1) passes)
+stamps_more passes i d before after below are more =
+    more ∙ ap (λ (xs : List Stamp). xs ++ stamps (get_or passes i d)) are
+    ∙ ap (λ (xs : List Stamp). all_stamps (take i passes) ++ xs) (sym (append-nil (stamps (get_or passes i d))))
+    ∙ sym (ap all_stamps (take_more passes i d below) ∙ flat_map-append stamps (take i passes) (get_or passes i d ∷ []))
 
--- the serials of one pass more
-pub serials_more : (passes : List (List Stamp)) (i : ℕ) (d : List Stamp) (before after : List ℕ) → i < length passes
-    → before ≡ all_serials (take i passes) → after ≡ before ++ serials (get_or passes i d) → after ≡ all_serials (take (i + 1) passes)
-serials_more passes i d before after below are more =
-    more ∙ ap (λ (xs : List ℕ). xs ++ serials (get_or passes i d)) are
-    ∙ ap (λ (xs : List ℕ). all_serials (take i passes) ++ xs) (sym (append-nil (serials (get_or passes i d))))
-    ∙ sym (ap all_serials (take_more passes i d below) ∙ flat_map-append serials (take i passes) (get_or passes i d ∷ []))
-
-receipts_of_all : (passes : List (List Stamp)) → length (all_serials passes) ≡ sum_by length passes
+pub receipts_of_all : (passes : List (List ReceiptOf)) → length (all_stamps passes) ≡ sum_by length passes
 receipts_of_all passes =
-    length-flat_map serials passes ∙ ap (λ (f : List Stamp → ℕ). sum_by f passes) (fun_ext (λ (pass : List Stamp). length-map pass (λ (s : Stamp). s.serial)))
-
--- where each place has one receipt, there are as many places as receipts
-pub totals : (n : ℕ) (passes : List (List Stamp)) → IsPermutation (range_with_len 1 n) (all_serials passes) → n ≡ sum_by length passes
-totals n passes once = sym (length-range_with_len 1 n) ∙ sym (length_permutation (range_with_len 1 n) (all_serials passes) once) ∙ receipts_of_all passes
+    length-flat_map stamps passes
+    ∙ ap (λ (f : List ReceiptOf → ℕ). sum_by f passes) (fun_ext (λ (pass : List ReceiptOf). length-map pass (λ (r : ReceiptOf). r.stamp)))
 
 -- two neighbours that are equal
-pub counted_twice : (xs : List ℕ) (i s d : ℕ) → i + 1 < length xs → get_or xs i d ≡ s → get_or xs (i + 1) d ≡ s → 2 ≤ times s xs
-counted_twice xs i s d below first second =
-    let one : ℕ → ℕ = λ x. cond (x == s) 1 0 in
-    let itself : (s == s) ≡ true = grind (arith, nat_tests) in
-    let at : one s ≡ 1 = ap (λ (b : Bool). cond b 1 0) itself in
-    let more = sum_by_more one xs i d (omega (arith, below)) in
-    let again = sum_by_more one xs (i + 1) d below in
+pub counted_twice : (xs : List Stamp) (i : ℕ) (at : Stamp) → i + 1 < length xs → get_or xs i (stamp 0 0) ≡ at → get_or xs (i + 1) (stamp 0 0) ≡ at
+    → 2 ≤ times at xs
+counted_twice xs i at below first second =
+    let one : Stamp → ℕ = λ x. cond (is_same_place at x) 1 0 in
+    let lists : (at.list == at.list) ≡ true = grind (arith, nat_tests) in
+    let serials : (at.serial == at.serial) ≡ true = grind (arith, nat_tests) in
+    let itself : one at ≡ 1 = ap (λ (b : Bool). cond (b && (at.serial == at.serial)) 1 0) lists ∙ ap (λ (b : Bool). cond b 1 0) serials in
+    let more = sum_by_more one xs i (stamp 0 0) (omega (arith, below)) in
+    let again = sum_by_more one xs (i + 1) (stamp 0 0) below in
     let all = sum_by-take-le one xs (i + 1 + 1) in
-    omega (arith, more, again, all, ap one first, ap one second, at)
+    omega (arith, more, again, all, ap one first, ap one second, itself)
 
 -- the one behind the one before it
-pub neighbour : (xs : List ℕ) (i d : ℕ) → 1 ≤ i → get_or xs (i - 1 + 1) d ≡ get_or xs i d
-neighbour xs i d some = let same : i - 1 + 1 ≡ i = omega (arith, some) in ap (λ k. get_or xs k d) same
+pub neighbour : (xs : List Stamp) (i : ℕ) → 1 ≤ i → get_or xs (i - 1 + 1) (stamp 0 0) ≡ get_or xs i (stamp 0 0)
+neighbour xs i some = let same : i - 1 + 1 ≡ i = omega (arith, some) in ap (λ k. get_or xs k (stamp 0 0)) same
 
--- where the serials, sorted, are those of a history of so many entries
-pub settled_once : {T E : Type 0} (n : ℕ) (passes : List (List Stamp)) (sorted : List ℕ) (result : Result T E) → IsPermutation (all_serials passes) sorted
-    → OnOk result (sorted ≡ range_with_len 1 n) → OnOk result (IsPermutation (range_with_len 1 n) (all_serials passes))
-settled_once n passes sorted (Ok done) moved are = subst (λ xs. IsPermutation xs (all_serials passes)) are (IsPermutation-sym _ _ moved)
-settled_once n passes sorted (Err fault) moved are = tt
+-- what holds of each image holds of each
+All-unmap : {X Y : Type 0} (P : X → Type 0) (f : Y → X) (ys : List Y) → All P (map f ys) → All (λ y. P (f y)) ys
+All-unmap P f [] h = All-nil (λ y. P (f y))
+All-unmap P f (y ∷ ys) h = All-cons (λ y. P (f y)) y ys (All-head P (f y) (map f ys) h) (All-unmap P f ys (All-tail P (f y) (map f ys) h))
 
-pub settled_total : {T E : Type 0} (n : ℕ) (passes : List (List Stamp)) (result : Result T E)
-    → OnOk result (IsPermutation (range_with_len 1 n) (all_serials passes)) → OnOk result (n ≡ sum_by length passes)
-settled_total n passes (Ok done) once = totals n passes once
-settled_total n passes (Err fault) once = tt
+-- the order keeps that of each pass, if it does so with the copies of their places
+pub keeps_passes : (order : List Stamp) (copies : List (Vec Stamp Global)) (passes : List (List ReceiptOf)) → map (λ places. places.items) copies ≡ map stamps passes
+    → All (λ places. IsSubsequence places.items order) copies → All (λ pass. IsSubsequence (stamps pass) order) passes
+keeps_passes order copies passes same kept =
+    All-unmap (λ places. IsSubsequence places order) stamps passes
+    (subst (λ (xs : List (List Stamp)). All (λ places. IsSubsequence places order) xs) same
+    (All-map (λ places. IsSubsequence places order) (λ (places : Vec Stamp Global). places.items) copies kept))
 
--- where they are not
-pub miscounted : {T : Type 0} (n : ℕ) (passes : List (List Stamp)) (sorted : List ℕ) (result : Result T SettleFault) → IsPermutation (all_serials passes) sorted
-    → AllRise passes → IfErr result (λ fault. fault ≡ Count n (length sorted)) → IfErr result (λ fault. ShowsBySerials n passes fault)
-miscounted n passes sorted result moved rise is =
-    IfErr-weaker result (λ fault. fault ≡ Count n (length sorted)) (λ fault. ShowsBySerials n passes fault)
-    (λ fault e. subst (λ f. ShowsBySerials n passes f) (sym e) (rise, refl, length_permutation (all_serials passes) sorted moved ∙ receipts_of_all passes)) is
+-- the copy of one pass more
+pub copies_more : (passes : List (List ReceiptOf)) (i : ℕ) (d : List ReceiptOf) (copies : List (Vec Stamp Global)) (copy : Vec Stamp Global) → i < length passes
+    → map (λ places. places.items) copies ≡ map stamps (take i passes) → copy.items ≡ stamps (get_or passes i d)
+    → map (λ places. places.items) (copies ++ copy ∷ []) ≡ map stamps (take (i + 1) passes)
+copies_more passes i d copies copy below are one =
+    map-append (λ (places : Vec Stamp Global). places.items) copies (copy ∷ [])
+    ∙ ap (λ (xs : List (List Stamp)). xs ++ copy.items ∷ []) are ∙ ap (λ (x : List Stamp). map stamps (take i passes) ++ x ∷ []) one
+    ∙ sym (ap (λ (xs : List (List ReceiptOf)). map stamps xs) (take_more passes i d below) ∙ map-append stamps (take i passes) (get_or passes i d ∷ []))
 
--- and where all receipts stand, it is the history that shows it
-shown_in : (history : List Entry) (passes : List (List Stamp)) (fault : SettleFault) → AllStand history passes
-    → ShowsBySerials (length history) passes fault → Shows history passes fault
-shown_in history passes (Twice serial) stand is = (stand, is)
-shown_in history passes (OutOfOrder seen got) stand is = (stand, is)
-shown_in history passes (Count book receipts) stand is = (stand, is)
-shown_in history passes (Strange serial) stand is = absurd is
-shown_in history passes OutOfMemory stand is = tt
-
-pub shown : {T : Type 0} (history : List Entry) (passes : List (List Stamp)) (result : Result T SettleFault) → AllStand history passes
-    → IfErr result (λ fault. ShowsBySerials (length history) passes fault) → IfErr result (λ fault. Shows history passes fault)
-shown history passes result stand is =
-    IfErr-weaker result (λ fault. ShowsBySerials (length history) passes fault) (λ fault. Shows history passes fault)
-    (λ fault e. shown_in history passes fault stand e) is
+-- what a wrong count shows
+pub counted : (control : List ControlLine) (mounts : List (List MountItem)) (passes : List (List ReceiptOf)) (receipts : ℕ) (fault : SettleFault)
+    → AllStand control mounts passes → AllRise (length mounts + 1) passes → receipts ≡ sum_by length passes
+    → IsCounted (length (all_places control mounts)) receipts fault → Shows control mounts passes fault
+counted control mounts passes receipts fault stand rise are (inl refused) =
+    subst (λ (f : SettleFault). Shows control mounts passes f) (sym refused) tt
+counted control mounts passes receipts fault stand rise are (inr wrong) =
+    subst (λ (f : SettleFault). Shows control mounts passes f) (sym wrong) (stand, (rise, refl, are))

@@ -1,17 +1,22 @@
 //! All passes held against the one legal history, when nobody calls any more.
 //!
-//! - [`settle`]: those of a hall, once the threads have been joined.
-//! - [`settle_book`]: those of a book; what is wrong with them is a [`SettleFault`].
+//! - [`settle`]: those of a hall, once the threads have been joined; [`settle_book`]: those of a book.
+//! - [`settle_family`]: those of a server that keeps a list for each mount and one for its control. Read it first.
+//! - [`SettleFault`]: what is wrong with them.
 //!
-//! Only a server that stores what happened can be settled, so the program has no need of it: tests have, and whoever
+//! Only a server that stores its entries can be settled, so the program has no need of it: tests have, and whoever
 //! wants to see the history.
 #![tactic(auto)]
 
+mod fault;
 mod hall;
+mod passes;
+mod places;
 mod settling;
 
+pub use fault::SettleFault;
 pub use hall::settle;
-pub use settling::{SettleFault, settle_book};
+pub use settling::{settle_book, settle_family};
 
-/// What a call answers where memory was refused.
+/// The error of a call if memory was refused.
 pub type OutOfMemory = std::alloc::AllocError;

@@ -101,14 +101,15 @@ pub enum Visit {
 }
 
 impl Visit {
-    /// Settles the passes of this hall. Whether they are settled as they are to be.
+    /// Settles the passes of this hall, which has these settings. Whether they are settled as they are to be.
     fn settles<H: House>(
         self,
         alloc: Global,
         hall: Hall<Kept, H>,
         passes: Vec<Pass<Kept, H>>,
+        again: Settings,
     ) -> bool {
-        let settled = settle(alloc, hall, passes);
+        let settled = settle(alloc, hall, passes, again, Lists::new(alloc));
         let is_settled = self.is_settled(alloc, &settled);
         drop(settled);
         is_settled
@@ -217,11 +218,12 @@ pub fn takes_pass<H: House, R: Wait>(
     }
 }
 
-/// The visit at a hall of these settings. Whether it went as it is to go.
+/// The visit at a hall of these settings, of which a second copy is for the settling. Whether it went as it is to go.
 fn goes_well<H: House + Send + Sync, R: Threads + Wait + Sync>(
     rt: &R,
     alloc: Global,
     settings: Settings,
+    again: Settings,
     blank: Blank,
     visit: Visit,
 ) -> bool
@@ -231,7 +233,7 @@ fn goes_well<H: House + Send + Sync, R: Threads + Wait + Sync>(
     let hall: Hall<Kept, H> = Hall::new(alloc, settings, Lists::new(alloc), blank);
     let mut passes = Vec::new(alloc);
     let went = visit_with(rt, alloc, &hall, &mut passes, visit);
-    visit.settles(alloc, hall, passes) && went
+    visit.settles(alloc, hall, passes, again) && went
 }
 
 fn went_well<R: Threads + Wait + Sync>(
@@ -240,9 +242,17 @@ fn went_well<R: Threads + Wait + Sync>(
     more: &str,
     visit: Visit,
 ) -> Result<bool, SettingsFault> {
-    let settings = settings(alloc, more)?;
-    let blank = Blank::new(PASSES);
-    Ok(goes_well::<Brand, R>(rt, alloc, settings, blank, visit))
+    let again = settings(alloc, more)?;
+    match settings(alloc, more) {
+        Ok(settings) => {
+            let blank = Blank::new(PASSES);
+            Ok(goes_well::<Brand, R>(rt, alloc, settings, again, blank, visit))
+        }
+        Err(fault) => {
+            drop(again);
+            Err(fault)
+        }
+    }
 }
 
 /// Whether at a hall with these settings more the visit goes as it is to go.

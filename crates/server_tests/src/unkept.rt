@@ -44,7 +44,7 @@ impl<'a, R: Wait, H: House> Beside<'a, R, H> {
     }
 
     fn count(&mut self, receipt: &Receipt, want: &Reply) {
-        if receipt.serial() == 0 && is_same_reply(receipt.reply(), want) {
+        if receipt.stamp().serial == 0 && is_same_reply(receipt.reply(), want) {
             self.alike = self.alike.saturating_add(1);
         }
     }

@@ -3,8 +3,8 @@ use Rattle.std.proofs.lemmas.List.{get_or_default, take_all}
 use Rattle.std.proofs.lemmas.Result.{IfOk-weaker}
 use Rattle.radio_house.specs.World.{World, opening}
 use Rattle.radio_merge.specs.declared.family.Family.{Family}
-use Rattle.radio_merge.specs.declared.stamp.Stamp.{Stamp}
-use Rattle.radio_merge.specs.Family.{stamp}
+use Rattle.radio_chronicle.specs.declared.stamp.Stamp.{Stamp}
+use Rattle.radio_chronicle.specs.Stamps.{stamp}
 use Rattle.radio_merge.specs.Merged.{IsMerge}
 use Rattle.radio_merge.specs.Replays.{IsSoFar}
 use Rattle.radio_merge.proofs.Steppings.{goes_on}

@@ -1,4 +1,4 @@
-use Rattle.radio_settling.proofs.HallSettled.{shown}
+use Rattle.radio_settling.proofs.Books.{shown}
 use Rattle.radio_settling.proofs.hall.settle.Goals as goal
 
 pub returns-clause-fault : goal.returns-clause-fault

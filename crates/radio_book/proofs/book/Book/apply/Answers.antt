@@ -7,16 +7,16 @@ pub returns-then-KEEPS-clause-legal : goal.returns-then-KEEPS-clause-legal
 returns-then-KEEPS-clause-legal g c =
     let before = c.self.inside.accounts.story in
     let after = c.note.new.self.story in
-    legal g.C.Chronicle.KEEPS g.H.House.opening (g.C.Chronicle.entries before.chronicle)
-    (g.C.Chronicle.entries after.chronicle) before.core after.core c.args.event
-    c.note.result c.note.ensures.step c.note.ensures.event (λ kept. c.note.ensures.history) (λ kept. c.note.ensures.serial) before.told
+    legal g.C.Chronicle.KEEPS g.H.House.opening before.entries.items
+    after.entries.items before.core after.core c.args.event
+    c.note.result c.note.ensures.step c.note.ensures.event (λ kept. c.note.ensures.history) (λ kept. c.note.ensures.place) before.told
 
 pub returns-else-KEEPS-clause-legal : goal.returns-else-KEEPS-clause-legal
 returns-else-KEEPS-clause-legal g c =
     let before = c.self.inside.accounts.story in
     let after = c.answer.new.self.story in
     let unkept : g.C.Chronicle.KEEPS ≡ false = sym c.if-KEEPS.ensures in
-    legal g.C.Chronicle.KEEPS g.H.House.opening (g.C.Chronicle.entries before.chronicle)
-    (g.C.Chronicle.entries after.chronicle) before.core after.core c.args.event
+    legal g.C.Chronicle.KEEPS g.H.House.opening before.entries.items
+    after.entries.items before.core after.core c.args.event
     c.answer.result c.answer.ensures.step (search rules) (λ kept. absurd (false≢true (sym unkept ∙ kept))) (λ kept. absurd (false≢true (sym unkept ∙ kept)))
     before.told

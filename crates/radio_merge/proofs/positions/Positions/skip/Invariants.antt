@@ -1,6 +1,6 @@
 use Rattle.std.proofs.Common.{List}
 use Rattle.radio_events.specs.declared.entry.Entry.{Entry}
-use Rattle.radio_merge.specs.declared.stamp.Stamp.{Stamp}
+use Rattle.radio_chronicle.specs.declared.stamp.Stamp.{Stamp}
 use Rattle.radio_merge.specs.Merged.{Merged}
 use Rattle.radio_merge.proofs.positions.Positions.skip.Given as goal
 
