@@ -22,7 +22,7 @@ PATIENCE = 20
 RECORD = 64
 
 
-LINE = re.compile(rb"[0-9]{4}-[0-9]{2}-[0-9]{2}T[0-9]{2}:[0-9]{2}:[0-9]{2}Z [a-z-]+( [a-z]+=[!-~]*)+\n")
+LINE = re.compile(rb"[0-9]{4}-[0-9]{2}-[0-9]{2}T[0-9]{2}:[0-9]{2}:[0-9]{2}Z [a-z-]+( [a-z-]+=[!-~]*)+\n")
 FIELDS = {
     "started": "version address",
     "ended": "why",
@@ -36,8 +36,8 @@ FIELDS = {
     "mount-gone": "mount why",
     "title": "mount title",
     "command": "command mount argument user peer",
-    "warning": "why key mount limit",
-    "fault": "why file line column address reason",
+    "warning": "why key mount limit table line did-you-mean belongs-to",
+    "fault": "why file line column address reason table mount value allowed",
     "lost": "lines",
 }
 

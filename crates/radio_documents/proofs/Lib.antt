@@ -3,3 +3,4 @@ mod PartLemmas
 mod DocumentLemmas
 mod LawLemmas
 mod OnLiterals
+mod SectionLemmas

@@ -8,6 +8,7 @@ pub mod Mounts
 pub mod Relays
 pub mod Slave
 pub mod WebNames
+pub mod Sections
 pub mod Document
 pub mod Parts
 pub mod Laws

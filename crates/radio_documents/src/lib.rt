@@ -9,6 +9,7 @@
 
 mod access;
 mod document;
+mod faulty;
 pub mod laws;
 mod limits;
 mod listen;
@@ -17,11 +18,14 @@ mod masters;
 mod mounts;
 mod named;
 mod relays;
+mod section;
 mod slave;
 mod web;
 
 pub use document::read_settings;
+pub use faulty::{Place, faulty_table, key_of};
 pub use radio_keys::{Key, SettingsFault};
+pub use section::{KnownKey, SECTIONS, Section, ValueKind, home_of};
 
 /// The error of each call that takes memory: there was none.
 pub type OutOfMemory = std::alloc::AllocError;

@@ -52,7 +52,7 @@ fn mounts_in(
 }
 
 #[tactic(auto, using(crate::proofs::PartLemmas::mount_parts), unfolding(crate::specs::Mounts::mount_of))]
-fn mount(
+pub(crate) fn mount(
     alloc: Global,
     table: &Table,
     access: &AccessSettings,

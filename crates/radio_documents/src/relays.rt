@@ -38,7 +38,7 @@ fn relays_in(alloc: Global, tables: &[&Table]) -> Result<Vec<RelaySetting>, Sett
 }
 
 #[tactic(auto, using(crate::proofs::PartLemmas::relay_parts), unfolding(crate::specs::Relays::relay_of))]
-fn relay(alloc: Global, table: &Table) -> Result<RelaySetting, SettingsFault>
+pub(crate) fn relay(alloc: Global, table: &Table) -> Result<RelaySetting, SettingsFault>
     ensures { let t = table_view table.now in
         Reads (relay_fault t) (relay_of t) result }
 {

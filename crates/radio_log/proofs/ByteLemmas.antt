@@ -64,6 +64,8 @@ values_are_bytes (MountUp mount) h = (h, tt)
 values_are_bytes (MountGone mount why) h = (h.0, (h.1, tt))
 values_are_bytes (Title t) h = (h.0, (h.1, tt))
 values_are_bytes (Command c) h = (h.0, (h.1, (h.2, (h.3, (peer_bytes c.peer h.4, tt)))))
-values_are_bytes (Warning w) h = (h.0, (h.1, (h.2, (count_bytes w.limit h.3, tt))))
-values_are_bytes (Fault f) h = (h.0, (h.1, (count_bytes f.line h.2, (count_bytes f.column h.3, (h.4, (h.5, tt))))))
+values_are_bytes (Warning w) h =
+    (h.0, (h.1, (h.2, (count_bytes w.limit h.3, (h.4, (count_bytes w.place.line h.5, (h.6, (h.7, tt))))))))
+values_are_bytes (Fault f) h =
+    (h.0, (h.1, (count_bytes f.line h.2, (count_bytes f.column h.3, (h.4, (h.5, (h.6, (h.7, (h.8, (h.9, tt))))))))))
 values_are_bytes (Lost lines) h = (count_bytes lines h, tt)

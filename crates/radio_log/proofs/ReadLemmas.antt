@@ -90,7 +90,13 @@ fact_told kind fs =
       user = value 3 fs;
       peer = peer_in (value 4 fs);
     }))
-    (is_kind kind (codes "warning") (Warning (record { why = value 0 fs; key = value 1 fs; mount = value 2 fs; limit = count_in (value 3 fs) }))
+    (is_kind kind (codes "warning") (Warning (record {
+      why = value 0 fs;
+      key = value 1 fs;
+      mount = value 2 fs;
+      limit = count_in (value 3 fs);
+      place = record { table = value 4 fs; line = count_in (value 5 fs); did_you_mean = value 6 fs; belongs_to = value 7 fs };
+    }))
     (is_kind kind (codes "fault") (Fault (record {
       why = value 0 fs;
       file = value 1 fs;
@@ -98,6 +104,7 @@ fact_told kind fs =
       column = count_in (value 3 fs);
       address = value 4 fs;
       reason = value 5 fs;
+      at = record { table = value 6 fs; mount = value 7 fs; value = value 8 fs; allowed = value 9 fs };
     }))
     (Lost (count_in (value 0 fs))))))))))))))))
 
@@ -115,7 +122,7 @@ fact_read peers (MountUp mount) h = refl
 fact_read peers (MountGone mount why) h = refl
 fact_read peers (Title t) h = refl
 fact_read peers (Command c) h = rw (peer_read peers c.peer h.4) refl
-fact_read peers (Warning w) h = rw (count_read w.limit h.3) refl
+fact_read peers (Warning w) h = rw (count_read w.limit h.3, count_read w.place.line h.5) refl
 fact_read peers (Fault f) h = rw (count_read f.line h.2, count_read f.column h.3) refl
 fact_read peers (Lost lines) h = rw (count_read lines h) refl
 

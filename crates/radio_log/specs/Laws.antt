@@ -40,9 +40,12 @@ IsFact (MountUp mount) = IsText mount
 IsFact (MountGone mount why) = IsText mount × IsText why
 IsFact (Title t) = IsText t.mount × IsText t.title
 IsFact (Command c) = IsText c.name × IsText c.mount × IsText c.argument × IsText c.user × IsPeer c.peer
-IsFact (Warning w) = IsText w.why × IsText w.key × IsText w.mount × IsCount w.limit
+IsFact (Warning w) =
+    IsText w.why × IsText w.key × IsText w.mount × IsCount w.limit × IsText w.place.table × IsCount w.place.line
+    × IsText w.place.did_you_mean × IsText w.place.belongs_to
 IsFact (Fault f) =
     IsText f.why × IsText f.file × IsCount f.line × IsCount f.column × IsText f.address × IsText f.reason
+    × IsText f.at.table × IsText f.at.mount × IsText f.at.value × IsText f.at.allowed
 IsFact (Lost lines) = IsCount lines
 
 abbrev pub IsNote : Note → Type 0

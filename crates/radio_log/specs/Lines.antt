@@ -4,6 +4,9 @@ use Rattle.std.specs.List.{flat_map}
 use Rattle.radio_addr.specs.Writing.{written}
 use Rattle.radio_log.specs.declared.facts.ClientEnded.{ClientEnded as Client}
 use Rattle.radio_log.specs.declared.facts.Fact.{Fact}
+use Rattle.radio_log.specs.declared.facts.Fault.{Fault as FaultTold}
+use Rattle.radio_log.specs.declared.facts.FaultyKey.{FaultyKey}
+use Rattle.radio_log.specs.declared.facts.KeyPlace.{KeyPlace}
 use Rattle.radio_log.specs.declared.facts.Fact.TheVariants.{Started, Ended, ClientEnded, SourceUp, SourceGone, RelayUp, RelayGone, RelayFailed, MountUp, MountGone, Title, Command, Warning, Fault, Lost}
 use Rattle.radio_log.specs.declared.notes.Note.{Note}
 use Rattle.radio_log.specs.Moments.{moment_text}
@@ -46,6 +49,22 @@ outcome_fields c =
     (codes "status", decimal c.status) ∷ (codes "why", c.why) ∷ (codes "user", c.user)
     ∷ (codes "seconds", decimal c.seconds) ∷ (codes "bytes", decimal c.bytes) ∷ (codes "agent", c.agent) ∷ []
 
+-- where a key of the settings stands, and what may have been meant
+abbrev pub place_fields : KeyPlace → List Field
+place_fields k =
+    (codes "table", k.table) ∷ (codes "line", decimal k.line) ∷ (codes "did-you-mean", k.did_you_mean)
+    ∷ (codes "belongs-to", k.belongs_to) ∷ []
+
+-- what a fault is, and which key of the settings it is of
+abbrev pub fault_fields : FaultTold → List Field
+fault_fields f =
+    (codes "why", f.why) ∷ (codes "file", f.file) ∷ (codes "line", decimal f.line) ∷ (codes "column", decimal f.column)
+    ∷ (codes "address", f.address) ∷ (codes "reason", f.reason) ∷ []
+
+abbrev pub faulty_fields : FaultyKey → List Field
+faulty_fields k =
+    (codes "table", k.table) ∷ (codes "mount", k.mount) ∷ (codes "value", k.value) ∷ (codes "allowed", k.allowed) ∷ []
+
 -- the fields that follow
 abbrev pub fields_of : Fact → List Field
 fields_of (Started version address) = (codes "version", version) ∷ (codes "address", address) ∷ []
@@ -71,10 +90,9 @@ fields_of (Command c) =
     (codes "command", c.name) ∷ (codes "mount", c.mount) ∷ (codes "argument", c.argument)
     ∷ (codes "user", c.user) ∷ (codes "peer", written c.peer) ∷ []
 fields_of (Warning w) =
-    (codes "why", w.why) ∷ (codes "key", w.key) ∷ (codes "mount", w.mount) ∷ (codes "limit", decimal w.limit) ∷ []
-fields_of (Fault f) =
-    (codes "why", f.why) ∷ (codes "file", f.file) ∷ (codes "line", decimal f.line) ∷ (codes "column", decimal f.column)
-    ∷ (codes "address", f.address) ∷ (codes "reason", f.reason) ∷ []
+    (codes "why", w.why) ∷ (codes "key", w.key) ∷ (codes "mount", w.mount) ∷ (codes "limit", decimal w.limit)
+    ∷ place_fields w.place
+fields_of (Fault f) = fault_fields f ++ faulty_fields f.at
 fields_of (Lost lines) = (codes "lines", decimal lines) ∷ []
 
 -- a word behind a space

@@ -1,4 +1,5 @@
 //! What a line can tell. No fact has a field for a password.
+ghost use Rattle.std.specs.Prelude.{◌≡◌, []};
 
 use crate::Text;
 use radio_addr::Peer;
@@ -177,6 +178,35 @@ pub struct Warning<'a> {
     pub mount: Text<'a>,
     /// What the system allows, 0 where that is not in question.
     pub limit: u64,
+    /// Where the key stands, if it is passed over.
+    pub place: KeyPlace<'a>,
+}
+
+/// Where a key stands that is passed over, and what may have been meant. All of it is empty in other warnings.
+#[derive(Drop)]
+pub struct KeyPlace<'a> {
+    /// The table in which the key stands, or `top`.
+    pub table: Text<'a>,
+    /// The line of the file, counted from 1; 0 where none is known.
+    pub line: u64,
+    /// The key of that table which may have been meant, empty where there is none.
+    pub did_you_mean: Text<'a>,
+    /// The table that has a key of that name, empty where none has.
+    pub belongs_to: Text<'a>,
+}
+
+impl KeyPlace<'static> {
+    /// That of a warning that is of no such key.
+    pub fn none() -> KeyPlace<'static>
+        ensures { result ≡ record { table = []; line = 0; did_you_mean = []; belongs_to = [] } }
+    {
+        KeyPlace {
+            table: Text::of(b""),
+            line: 0,
+            did_you_mean: Text::of(b""),
+            belongs_to: Text::of(b""),
+        }
+    }
 }
 
 /// A fault by which the program ends, and what is known of it beside its words.
@@ -194,4 +224,19 @@ pub struct Fault<'a> {
     pub address: Text<'a>,
     /// The reason that the system or the reader gives, empty where none is known.
     pub reason: Text<'a>,
+    /// Which key of the settings it is of.
+    pub at: FaultyKey<'a>,
+}
+
+/// Where the settings have a fault of a key. All of it is empty where a fault is of no key.
+#[derive(Drop)]
+pub struct FaultyKey<'a> {
+    /// The table, or `top`.
+    pub table: Text<'a>,
+    /// The mount of the table, or the one that its relay feeds; empty where there is none.
+    pub mount: Text<'a>,
+    /// What is there, nothing of a password.
+    pub value: Text<'a>,
+    /// What may be there.
+    pub allowed: Text<'a>,
 }

@@ -18,8 +18,8 @@ mod telling;
 mod text;
 
 pub use facts::{
-    ClientEnded, Command, Fact, Fault, RelayFailed, RelayGone, RelayUp, SourceGone, SourceUp,
-    Title, Warning,
+    ClientEnded, Command, Fact, Fault, FaultyKey, KeyPlace, RelayFailed, RelayGone, RelayUp,
+    SourceGone, SourceUp, Title, Warning,
 };
 pub use moment::{LAST_SECOND, Moment};
 pub use notes::{Note, line};

@@ -1,11 +1,11 @@
 //! How each fact is told: its word, and its fields in their order.
 ghost use Rattle.std.specs.Prelude.{◌≡◌, ◌++◌, OnOk};
-ghost use Rattle.radio_log.specs.Lines.{fields_text, outcome_fields, request_fields, told};
+ghost use Rattle.radio_log.specs.Lines.{fault_fields, faulty_fields, fields_text, outcome_fields, place_fields, request_fields, told};
 ghost use Rattle.radio_log.specs.declared.facts.Fact.TheVariants as facts;
 
 use crate::facts::{
-    ClientEnded, Command, Fact, Fault, RelayFailed, RelayGone, RelayUp, SourceGone, SourceUp,
-    Title, Warning,
+    ClientEnded, Command, Fact, Fault, FaultyKey, KeyPlace, RelayFailed, RelayGone, RelayUp,
+    SourceGone, SourceUp, Title, Warning,
 };
 use crate::fields::Fields;
 use crate::{OutOfMemory, Text};
@@ -196,7 +196,19 @@ impl Warning<'_> {
         to.put_text("why", &self.why)?;
         to.put_text("key", &self.key)?;
         to.put_text("mount", &self.mount)?;
-        to.put_count("limit", self.limit)
+        to.put_count("limit", self.limit)?;
+        self.place.tell(to)
+    }
+}
+
+impl KeyPlace<'_> {
+    fn tell(&self, to: &mut Fields) -> Result<(), OutOfMemory>
+        ensures { OnOk result (to.new ≡ to.old ++ fields_text (place_fields self.now)) }
+    {
+        to.put_text("table", &self.table)?;
+        to.put_count("line", self.line)?;
+        to.put_text("did-you-mean", &self.did_you_mean)?;
+        to.put_text("belongs-to", &self.belongs_to)
     }
 }
 
@@ -205,11 +217,30 @@ impl Fault<'_> {
         ensures { OnOk result (to.new ≡ to.old ++ told (facts.Fault self.now)) }
     {
         to.put_kind("fault")?;
+        self.tell_reason(to)?;
+        self.at.tell(to)
+    }
+
+    /// What it is, and why.
+    fn tell_reason(&self, to: &mut Fields) -> Result<(), OutOfMemory>
+        ensures { OnOk result (to.new ≡ to.old ++ fields_text (fault_fields self.now)) }
+    {
         to.put_text("why", &self.why)?;
         to.put_text("file", &self.file)?;
         to.put_count("line", self.line)?;
         to.put_count("column", self.column)?;
         to.put_text("address", &self.address)?;
         to.put_text("reason", &self.reason)
+    }
+}
+
+impl FaultyKey<'_> {
+    fn tell(&self, to: &mut Fields) -> Result<(), OutOfMemory>
+        ensures { OnOk result (to.new ≡ to.old ++ fields_text (faulty_fields self.now)) }
+    {
+        to.put_text("table", &self.table)?;
+        to.put_text("mount", &self.mount)?;
+        to.put_text("value", &self.value)?;
+        to.put_text("allowed", &self.allowed)
     }
 }

@@ -1,7 +1,7 @@
 //! What the log tells of a slave's list.
 
 use crate::MOST_LISTED;
-use radio_log::{Fact, Text, Warning};
+use radio_log::{Fact, KeyPlace, Text, Warning};
 use radio_notes::Log;
 use std::alloc::Global;
 
@@ -35,6 +35,7 @@ impl ListLog {
                 key: Text::of(b"master-server"),
                 mount: Text::of(b""),
                 limit: MOST_LISTED as u64,
+                place: KeyPlace::none(),
             }));
         }
         self.is_long = is_long;

@@ -13,7 +13,7 @@ abbrev pub fault_line : FileFault → List ℕ
 fault_line (CannotRead path error) = codes "cannot read " ++ string_bytes path
 fault_line (Line path line) = string_bytes path ++ (codes " line " ++ decimal line)
 fault_line (NotToml misreading) = codes "not toml"
-fault_line (Settings fault) = fault_text fault
+fault_line (Settings fault at) = fault_text fault
 fault_line OutOfMemory = codes "out of memory"
 
 -- want of memory is no fault of the settings
@@ -26,5 +26,5 @@ abbrev pub exit_status : FileFault → ℕ
 exit_status (CannotRead path error) = 3
 exit_status (Line path line) = 3
 exit_status (NotToml misreading) = 3
-exit_status (Settings fault) = settings_status fault
+exit_status (Settings fault at) = settings_status fault
 exit_status OutOfMemory = 1

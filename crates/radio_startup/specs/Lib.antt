@@ -1,1 +1,2 @@
 pub mod FaultLines
+pub mod Doubts

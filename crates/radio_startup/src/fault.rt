@@ -7,6 +7,8 @@ ghost use Rattle.radio_startup.specs.FaultLines.{exit_status, settings_status};
 use crate::misreading::Misreading;
 use crate::notices::words_of;
 use radio_documents::SettingsFault;
+use radio_log::{FaultyKey, Text};
+use radio_review::FaultPlace;
 use std::alloc::Global;
 use std::{fmt, io};
 
@@ -14,13 +16,22 @@ use std::{fmt, io};
 #[derive(Drop)]
 pub enum FileFault {
     /// The file of this path cannot be read, for this reason.
-    CannotRead { path: String, error: io::Error },
+    CannotRead {
+        path: String,
+        error: io::Error,
+    },
     /// This line of a list of addresses, counted from 1, is no address.
-    Line { path: String, line: usize },
+    Line {
+        path: String,
+        line: usize,
+    },
     /// The settings file is not TOML, or not UTF-8, which TOML is.
     NotToml(Misreading),
-    /// The settings have this fault.
-    Settings(SettingsFault),
+    /// The settings have this fault, and it is there, if it is of a key.
+    Settings {
+        fault: SettingsFault,
+        at: Option<FaultPlace>,
+    },
     /// Memory was refused.
     OutOfMemory,
 }
@@ -32,7 +43,7 @@ impl FileFault {
     {
         match self {
             FileFault::CannotRead { .. } | FileFault::Line { .. } | FileFault::NotToml(_) => 3,
-            FileFault::Settings(fault) => settings_status(fault),
+            FileFault::Settings { fault, .. } => settings_status(fault),
             FileFault::OutOfMemory => 1,
         }
     }
@@ -41,7 +52,7 @@ impl FileFault {
     pub fn file<'a>(&'a self, settings: &'a str) -> &'a str {
         match self {
             FileFault::CannotRead { path, .. } | FileFault::Line { path, .. } => path.as_str(),
-            FileFault::NotToml(_) | FileFault::Settings(_) => settings,
+            FileFault::NotToml(_) | FileFault::Settings { .. } => settings,
             FileFault::OutOfMemory => "",
         }
     }
@@ -51,7 +62,32 @@ impl FileFault {
         match self {
             FileFault::Line { line, .. } => (*line as u64, 0),
             FileFault::NotToml(misreading) => (misreading.line as u64, misreading.column as u64),
-            _ => (0, 0),
+            FileFault::Settings { at: Some(at), .. } => (at.line, 0),
+            FileFault::Settings { at: None, .. }
+            | FileFault::CannotRead { .. }
+            | FileFault::OutOfMemory => (0, 0),
+        }
+    }
+
+    /// Where the settings have it, if it is a fault of a key; else all is empty.
+    pub fn key(&self) -> FaultyKey<'_> {
+        match self {
+            FileFault::Settings { at: Some(at), .. } => FaultyKey {
+                table: Text::of(at.section.word().as_bytes()),
+                mount: Text::of(at.mount.as_bytes()),
+                value: Text::of(at.value.as_bytes()),
+                allowed: Text::of(at.allowed.as_bytes()),
+            },
+            FileFault::Settings { at: None, .. }
+            | FileFault::CannotRead { .. }
+            | FileFault::Line { .. }
+            | FileFault::NotToml(_)
+            | FileFault::OutOfMemory => FaultyKey {
+                table: Text::of(b""),
+                mount: Text::of(b""),
+                value: Text::of(b""),
+                allowed: Text::of(b""),
+            },
         }
     }
 
@@ -101,7 +137,7 @@ impl fmt::Display for FileFault {
             FileFault::CannotRead { path, .. } => write_unread(f, path.as_str()),
             FileFault::Line { path, line } => write_line(f, path.as_str(), *line),
             FileFault::NotToml(_) => f.write_str("not toml"),
-            FileFault::Settings(fault) => write!(f, "{fault}"),
+            FileFault::Settings { fault, .. } => write!(f, "{fault}"),
             FileFault::OutOfMemory => f.write_str("out of memory"),
         }
     }

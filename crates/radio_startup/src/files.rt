@@ -8,6 +8,7 @@ use crate::lists::read_lists;
 use crate::misreading::misread;
 use radio_access::Lists;
 use radio_documents::SettingsFault;
+use radio_review::{UnknownKey, locate, unknown_keys};
 use radio_settings::Settings;
 use std::alloc::{AllocGlobal, Global};
 use std::fs::Files;
@@ -21,6 +22,12 @@ pub struct Station {
     pub lists: Lists,
 }
 
+/// A settings file as it was read.
+#[derive(Drop)]
+pub struct SettingsText {
+    bytes: Vec<u8>,
+}
+
 /// The settings of the file of this path, and what the files hold that they name. A fault is the first of these: the file
 /// cannot be read, is not TOML, or has a fault of settings; then those of the files that it names, of which `deny-ip`
 /// comes first, then `allow-ip`, then each mount's `htpasswd` in the order of the tables.
@@ -29,17 +36,43 @@ pub fn read_station<R: Files + AllocGlobal>(rt: &R, path: &str) -> Result<Statio
     station_of(rt, bytes.as_slice())
 }
 
-/// The same, and a second copy of the settings: the house takes one, and who pulls relays in beside it reads the other.
-pub fn read_station_twice<R: Files + AllocGlobal>(
-    rt: &R,
-    path: &str,
-) -> Result<(Station, Settings), FileFault>
-    ensures copies { IfOk result (λ read. read.1 ≡ read.0.settings) }
-{
-    let bytes = read_file(rt, path)?;
-    let again = settings_of(rt.alloc(), bytes.as_slice())?;
-    let station = station_of(rt, bytes.as_slice());
-    with_copy(station, again)
+/// The settings file of this path. The fault is that it cannot be read.
+pub fn read_text<R: Files + AllocGlobal>(rt: &R, path: &str) -> Result<SettingsText, FileFault> {
+    Ok(SettingsText {
+        bytes: read_file(rt, path)?,
+    })
+}
+
+impl SettingsText {
+    /// The settings, with what the files hold that they name, and a second copy of the settings: the house takes one, and who
+    /// pulls relays in beside it reads the other. Faults are those of [`read_station`], without the first.
+    pub fn station_twice<R: Files + AllocGlobal>(
+        &self,
+        rt: &R,
+    ) -> Result<(Station, Settings), FileFault>
+        ensures copies { IfOk result (λ read. read.1 ≡ read.0.settings) }
+    {
+        let again = settings_of(rt.alloc(), self.bytes.as_slice())?;
+        let station = station_of(rt, self.bytes.as_slice());
+        with_copy(station, again)
+    }
+
+    /// The settings, with what the files hold that they name. Faults are those of [`read_station`], without the first.
+    pub fn station<R: Files + AllocGlobal>(&self, rt: &R) -> Result<Station, FileFault> {
+        station_of(rt, self.bytes.as_slice())
+    }
+
+    /// The keys that are passed over, each with its line. `OutOfMemory`: memory was refused.
+    pub fn unknown_keys(&self, alloc: Global) -> Result<Vec<UnknownKey>, FileFault> {
+        let found = match str::from_utf8(self.bytes.as_slice()) {
+            Ok(text) => unknown_keys(alloc, text),
+            Err(_) => Ok(Vec::new(alloc)),
+        };
+        match found {
+            Ok(keys) => Ok(keys),
+            Err(_) => Err(FileFault::OutOfMemory),
+        }
+    }
 }
 
 /// The station, if it was read, and these settings.
@@ -96,14 +129,20 @@ fn settings_in(alloc: Global, text: &str) -> Result<Settings, FileFault>
     match radio_documents::read_settings(alloc, text) {
         Ok(settings) => Ok(settings),
         Err(SettingsFault::NotToml) => Err(not_toml(alloc, text)),
-        Err(fault) => Err(FileFault::Settings(fault)),
+        Err(fault) => {
+            let at = locate(alloc, text, &fault);
+            Err(FileFault::Settings { fault, at })
+        }
     }
 }
 
 /// Where and why a text that is not TOML is not.
 fn not_toml(alloc: Global, text: &str) -> FileFault {
     let Err(error) = toml::table_from_str(alloc, text) else {
-        return FileFault::Settings(SettingsFault::NotToml);
+        return FileFault::Settings {
+            fault: SettingsFault::NotToml,
+            at: None,
+        };
     };
     match error.span() {
         Some(span) => misread(alloc, text.as_bytes(), span.start, error.message()),

@@ -19,6 +19,8 @@ pub enum Fault {
     CannotBind { address: String, reason: NotBound },
     /// The server did not begin, or has ended.
     Serve(ServeFault),
+    /// There are warnings, which a strict check does not let through.
+    Warnings,
     /// Memory was refused.
     OutOfMemory,
 }
@@ -41,6 +43,7 @@ impl Fault {
         match self {
             Fault::Usage => 2,
             Fault::File(fault) => fault.status(),
+            Fault::Warnings => 3,
             Fault::Play(_) | Fault::CannotBind { .. } | Fault::Serve(_) | Fault::OutOfMemory => 1,
         }
     }
@@ -59,6 +62,7 @@ impl fmt::Display for Fault {
             Fault::Play(fault) => write!(f, "{fault}"),
             Fault::CannotBind { .. } => f.write_str("cannot bind"),
             Fault::Serve(fault) => write!(f, "{fault}"),
+            Fault::Warnings => f.write_str("warnings"),
             Fault::OutOfMemory => f.write_str("out of memory"),
         }
     }

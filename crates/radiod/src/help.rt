@@ -11,13 +11,15 @@ radiod: an Internet radio server
 
 usage:
   radiod serve SETTINGS   serves sources and listeners over TCP, and writes its log on standard output
+  radiod check SETTINGS [--strict]
+                          reads the settings as serve does, and writes its warnings and `ok`
   radiod play SETTINGS    plays the script on standard input, and writes its transcript on standard output
   radiod --version        writes the name of the program and its version
   radiod --help           writes this text
 
 SETTINGS is a TOML file. The manual page radiod(1) and docs/ of its sources have the keys, the log and the statuses.
 A fault is one line on standard error. The status is 2 for wrong words, 3 for the settings and the files that they
-name, and 1 for other faults.
+name, and 1 for other faults. With --strict it is 3 for warnings too.
 ";
 
 /// Writes the program's name and its version on standard output. Output that takes no more is the fault `Play(Write)`.

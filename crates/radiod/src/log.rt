@@ -2,9 +2,10 @@
 
 use crate::fault::{Fault, NotBound};
 use crate::output::LimitedFile;
-use radio_log::{Fact, Text};
+use radio_log::{Fact, FaultyKey, Text};
 use radio_outlet::{LogQueue, start_log};
-use radio_startup::{Dated, Notices, line_now, words_of};
+use radio_review::UnknownKey;
+use radio_startup::{Dated, Notices, line_now, words_of, words_of_unknown};
 use std::sync::{Arc, Wait};
 use std::thread::Threads;
 use std::time::Clock;
@@ -42,9 +43,14 @@ impl<'a, W: Clock + Threads + Wait + Copy + Drop + Send + 'static> ProgramLog<'a
         }
     }
 
-    /// Adds the line that names the address at which the program listens.
-    pub fn tell_address(&self, line: &[u8]) {
+    /// Adds a line as it is: the one that names the address at which the program listens, or the last one of a check.
+    pub fn tell_line(&self, line: &[u8]) {
         self.queue.add(self.waits, line, 0);
+    }
+
+    /// Waits for a second at most until all is written.
+    pub fn wait_written(&self) {
+        self.queue.wait_written(self.waits, LAST_WAIT_MS);
     }
 
     /// Says the fault by which the program that served ends, and adds its line. It waits for a second at most until all is
@@ -90,6 +96,7 @@ impl<'a, W: Clock + Threads + Wait + Copy + Drop + Send + 'static> ProgramLog<'a
             column,
             address: Text::of(address_of(fault).as_bytes()),
             reason: Text::of(reason.as_bytes()),
+            at: key_of(fault),
         }));
         self.queue.wait_written(self.waits, LAST_WAIT_MS);
     }
@@ -99,6 +106,15 @@ impl<'a, W: Wait> Notices for ProgramLog<'a, W> {
     fn tell(&self, fact: Fact<'_>) {
         if let Some(Dated { line, seconds }) = line_now(self.rt, fact) {
             self.queue.add(self.waits, line.as_slice(), seconds);
+        }
+    }
+}
+
+/// Says on standard error which keys of the settings are passed over, a line for each.
+pub fn say_unknown(rt: &HostRuntime, unknown: &[UnknownKey]) {
+    for key in unknown {
+        if let Some(words) = words_of_unknown(rt.alloc(), key) {
+            let _ = eprintln!(rt; "radiod: warning {words}");
         }
     }
 }
@@ -121,6 +137,24 @@ fn place_of(fault: &Fault) -> (u64, u64) {
     match fault {
         Fault::File(fault) => fault.place(),
         _ => (0, 0),
+    }
+}
+
+/// The key of the settings that a fault is of; all is empty if it is of none.
+fn key_of(fault: &Fault) -> FaultyKey<'_> {
+    match fault {
+        Fault::File(fault) => fault.key(),
+        Fault::Usage
+        | Fault::Play(_)
+        | Fault::CannotBind { .. }
+        | Fault::Serve(_)
+        | Fault::Warnings
+        | Fault::OutOfMemory => FaultyKey {
+            table: Text::of(b""),
+            mount: Text::of(b""),
+            value: Text::of(b""),
+            allowed: Text::of(b""),
+        },
     }
 }
 

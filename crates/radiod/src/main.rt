@@ -1,9 +1,9 @@
 //! `radiod`: an Internet radio server.
 //!
 //! `radiod play SETTINGS` reads a script on standard input, and writes its transcript on standard
-//! output. `radiod serve SETTINGS` serves connections over TCP. `radiod --version` and `radiod --help` write what they
-//! name. A fault is one line on standard error, with status 2 for the words of the call, 3 for the settings and the files
-//! that they name, and else 1.
+//! output. `radiod serve SETTINGS` serves connections over TCP. `radiod check SETTINGS` reads what `serve` reads, and writes
+//! what is doubtful in it. `radiod --version` and `radiod --help` write what they name. A fault is one line on standard
+//! error, with status 2 for the words of the call, 3 for the settings and the files that they name, and else 1.
 #![tactic(auto)]
 
 mod fault;
@@ -15,11 +15,11 @@ mod words;
 
 use crate::fault::Fault;
 use crate::help::{write_help, write_version};
-use crate::log::{ProgramLog, say};
+use crate::log::{ProgramLog, say, say_unknown};
 use crate::serving::serve_station;
 use crate::words::{Call, read_words};
 use radio_floor::{Tally, play};
-use radio_startup::{Station, read_station, read_station_twice};
+use radio_startup::{FileFault, SettingsText, Station, read_station, read_text, warn};
 use std::io::BufReader;
 use std::process::ExitCode;
 use std::sync::Wait;
@@ -41,6 +41,7 @@ fn run<W: Clock + Threads + Wait + Sync + Copy + Drop + Send + 'static>(
     match read_words(rt) {
         Ok(Call::Play(path)) => said(rt, play_script(rt, path.as_str())),
         Ok(Call::Serve(path)) => serve_file(rt, waits, path.as_str()),
+        Ok(Call::Check { path, is_strict }) => check_file(rt, waits, path.as_str(), is_strict),
         Ok(Call::Version) => said(rt, write_version(rt)),
         Ok(Call::Help) => said(rt, write_help(rt)),
         Err(fault) => said(rt, Err(fault)),
@@ -74,18 +75,90 @@ fn serve_logged<W: Clock + Threads + Wait + Sync + Copy + Drop + Send + 'static>
     log: &ProgramLog<'_, W>,
     path: &str,
 ) -> Result<(), Fault> {
-    match read_station_twice(rt, path) {
-        Ok((station, again)) => {
-            let fault = serve_station(rt, waits, log, path, station, &again);
-            drop(again);
-            Err(fault)
-        }
-        Err(fault) => {
-            let fault = Fault::File(fault);
-            log.tell_fault(path, &fault);
-            Err(fault)
-        }
+    match read_text(rt, path) {
+        Ok(text) => Err(serve_text(rt, waits, log, path, &text)),
+        Err(fault) => Err(told(log, path, fault)),
     }
+}
+
+/// Serves connections, with these settings of a file, until a fault.
+fn serve_text<W: Clock + Threads + Wait + Sync + Copy + Drop + Send + 'static>(
+    rt: &HostRuntime,
+    waits: &W,
+    log: &ProgramLog<'_, W>,
+    path: &str,
+    text: &SettingsText,
+) -> Fault {
+    let unknown = match text.unknown_keys(rt.alloc()) {
+        Ok(unknown) => unknown,
+        Err(fault) => return told(log, path, fault),
+    };
+    match text.station_twice(rt) {
+        Ok((station, again)) => {
+            let fault = serve_station(rt, waits, log, path, station, &again, unknown.as_slice());
+            drop(again);
+            fault
+        }
+        Err(fault) => told(log, path, fault),
+    }
+}
+
+/// The fault of a file, of which the log and standard error were told.
+fn told<W: Clock + Threads + Wait + Copy + Drop + Send + 'static>(
+    log: &ProgramLog<'_, W>,
+    path: &str,
+    fault: FileFault,
+) -> Fault {
+    let fault = Fault::File(fault);
+    log.tell_fault(path, &fault);
+    fault
+}
+
+/// Reads what `serve` reads. What is doubtful is told as `serve` tells it, and then `ok`; warnings are a fault if the check is
+/// strict.
+fn check_file<W: Clock + Threads + Wait + Sync + Copy + Drop + Send + 'static>(
+    rt: &HostRuntime,
+    waits: &W,
+    path: &str,
+    is_strict: bool,
+) -> Result<(), Fault> {
+    match ProgramLog::start(rt, waits) {
+        Ok(log) => check_logged(rt, &log, path, is_strict),
+        Err(fault) => said(rt, Err(fault)),
+    }
+}
+
+fn check_logged<W: Clock + Threads + Wait + Copy + Drop + Send + 'static>(
+    rt: &HostRuntime,
+    log: &ProgramLog<'_, W>,
+    path: &str,
+    is_strict: bool,
+) -> Result<(), Fault> {
+    match warnings_of(rt, log, path) {
+        Ok(warnings) => {
+            if is_strict && warnings > 0 {
+                log.wait_written();
+                return said(rt, Err(Fault::Warnings));
+            }
+            log.tell_line(b"ok\n");
+            log.wait_written();
+            Ok(())
+        }
+        Err(fault) => Err(told(log, path, fault)),
+    }
+}
+
+/// How many warnings there are of a settings file; each was told.
+fn warnings_of<W: Clock + Threads + Wait + Copy + Drop + Send + 'static>(
+    rt: &HostRuntime,
+    log: &ProgramLog<'_, W>,
+    path: &str,
+) -> Result<u64, FileFault> {
+    let text = read_text(rt, path)?;
+    let unknown = text.unknown_keys(rt.alloc())?;
+    let station = text.station(rt)?;
+    say_unknown(rt, unknown.as_slice());
+    Ok(warn(rt, log, &station.settings, unknown.as_slice()))
 }
 
 /// Plays the script on standard input, with the settings of this file.

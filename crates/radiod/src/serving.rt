@@ -4,11 +4,12 @@ ghost use Rattle.std.specs.Prelude.{◌≡◌, ◌^◌};
 ghost use Rattle.radio_house.specs.World.{opening};
 
 use crate::fault::{Fault, NotBound};
-use crate::log::ProgramLog;
+use crate::log::{ProgramLog, say_unknown};
 use radio_book::{House, PASSES, Unkept};
 use radio_hall::Hall;
 use radio_listening::{BindFault, Listening, ServeFault, Service, SystemNet};
 use radio_outlet::LogQueue;
+use radio_review::UnknownKey;
 use radio_settings::Settings;
 use radio_startup::{Station, tell_start, warn};
 use std::marker::Brand;
@@ -18,7 +19,8 @@ use std::thread::Threads;
 use std::time::Clock;
 
 /// Binds the address and the port of the settings, says so in the log, and serves connections by so many workers as they say,
-/// until a fault. `path` is that of the settings, and `again` a second copy of them, by which relays are pulled in.
+/// until a fault. `path` is that of the settings, `again` a second copy of them, by which relays are pulled in, and `unknown`
+/// the keys of them that are passed over.
 pub fn serve_station<W: Clock + Threads + Wait + Sync + Copy + Drop + Send + 'static>(
     rt: &HostRuntime,
     waits: &W,
@@ -26,10 +28,11 @@ pub fn serve_station<W: Clock + Threads + Wait + Sync + Copy + Drop + Send + 'st
     path: &str,
     station: Station,
     again: &Settings,
+    unknown: &[UnknownKey],
 ) -> Fault {
-    match bind(rt, log, &station.settings) {
+    match bind(rt, log, &station.settings, unknown) {
         Ok((listening, queue)) => {
-            warn(rt, log, &station.settings);
+            let _warnings = warn(rt, log, &station.settings, unknown);
             let fault = Fault::Serve(serve_in::<W, Brand>(
                 rt,
                 waits,
@@ -50,16 +53,18 @@ pub fn serve_station<W: Clock + Threads + Wait + Sync + Copy + Drop + Send + 'st
     }
 }
 
-/// Returns the bound socket, of which the log was told, and the queue of the log.
+/// Returns the bound socket, of which the log was told, and the queue of the log. Keys that are passed over are said first.
 fn bind<W: Clock + Threads + Wait + Copy + Drop + Send + 'static>(
     rt: &HostRuntime,
     log: &ProgramLog<'_, W>,
     settings: &Settings,
+    unknown: &[UnknownKey],
 ) -> Result<(Listening, Arc<LogQueue>), Fault> {
     let listening = bind_socket(rt, settings)?;
+    say_unknown(rt, unknown);
     if let Ok(address) = listening.address() {
         if let Ok(line) = format!(in rt.alloc(); "listening on {address}\n") {
-            log.tell_address(line.as_bytes());
+            log.tell_line(line.as_bytes());
         }
         if let Ok(address) = format!(in rt.alloc(); "{address}") {
             tell_start(log, address.as_str());

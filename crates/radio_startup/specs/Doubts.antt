@@ -1,0 +1,19 @@
+-- What of the settings is doubtful.
+use Rattle.std.specs.Prelude.{ℕ, Bool, false, ◌||◌, ◌==◌, ◌/◌, ◌^◌, List, Option, None, Some, is_some, find}
+use Rattle.std.specs.Str.{bytes_eq}
+use Rattle.radio_addr.specs.declared.address.Address.{Address}
+use Rattle.radio_addr.specs.declared.address.Address.TheVariants.{V4, V6}
+use Rattle.radio_settings.specs.declared.settings.Settings.{Settings}
+
+-- only this machine reaches it: IPv4 from 127.0.0.0 to 127.255.255.255, and `::1`
+abbrev pub is_loopback : Option Address → Bool
+is_loopback None = false
+is_loopback (Some (V4 n)) = n / 2 ^ 24 == 127
+is_loopback (Some (V6 n)) = n == 1
+
+-- a mount has a table, a relay feeds it, or there is a slave, which feeds what its master has
+abbrev pub is_named : Settings → List ℕ → Bool
+is_named settings name =
+    is_some (find (λ mount. bytes_eq mount.name name) settings.mounts)
+    || is_some (find (λ relay. bytes_eq relay.local_mount name) settings.relays)
+    || is_some settings.slave
