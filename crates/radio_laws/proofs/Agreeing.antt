@@ -1,6 +1,7 @@
 -- what is looked up in states that agree within reach
 use Rattle.std.proofs.Common.{◌≡◌, ◌⊎◌, inl, inr, Bool, true, false, ℕ, ◌==◌, Option, Some, None, List, not, refl, ap, sym, subst, ◌∙◌}
-use Rattle.std.specs.Prelude.{map, is_some, length}
+use Rattle.std.specs.Prelude.{map, is_some, length, if◌then◌else◌}
+use Rattle.std.specs.Option.{option_map}
 use Rattle.std.specs.Ordering.{nat_cmp}
 use Rattle.std.specs.Cmp.Lexicographic.{slice_cmp}
 use Rattle.std.specs.Str.{bytes_eq}
@@ -9,19 +10,20 @@ use Rattle.radio_tables.proofs.FindLaws.{found_passes}
 use Rattle.radio_policy.specs.declared.rule.Rule.{Rule}
 use Rattle.radio_seats.specs.declared.seat.Listener.{Listener}
 use Rattle.radio_seats.specs.declared.seat.Seat.{Seat}
+use Rattle.radio_seats.specs.declared.seat.Seating.{Seating}
+use Rattle.radio_seats.specs.declared.seat.Seating.TheVariants.{Sits, Finished}
 use Rattle.radio_seats.specs.Seats.{is_listener, listener_of, seat_of, seat_in, seat_held, by_listener, seated, with_seat, advanced, with_place, moved}
 use Rattle.radio_seats.specs.Seats.{with_move, loses, with_end, hears_session, in_session_at, with_session_at}
-use Rattle.radio_seats.specs.Seats.{finished_if, with_ended, is_seat_at, without_listener, seats_at, count_at, is_user_at, sits_there}
+use Rattle.radio_seats.specs.Seats.{lost_by, ended_if, heard_to, finished_if, with_ended, is_seat_at, without_listener, seats_at, count_at, is_user_at, sits_there, last_mount, last_mount_of}
 use Rattle.radio_listeners.specs.Listed.{guest_at, guests_at}
 use Rattle.radio_parts.specs.Sessions.{Session, is_of, session_of, by_mount, with_session, longer, fed, with_title, titled, without_session}
-use Rattle.radio_laws.specs.Locality.{SessionsAgree, SameSession, FedBeyond, ListenersAgree, SameListener, SitsBeyond, AllAgree, IsAll}
+use Rattle.radio_laws.specs.Locality.{SessionsAgree, SameSession, FedBeyond, ListenersAgree, SameListener, LastBeyond, AllAgree, IsAll}
 use Rattle.radio_laws.proofs.AgreeingLists.{FoundAgree, NoneFound, BothFound, agree_length, agree_equal, agree_mapped, agree_kept, agree_any, agree_filtered, agree_found}
 use Rattle.radio_laws.proofs.AgreeingLists.{agree_updated, agree_picked, agree_each, agree_placed}
 use Rattle.radio_access.specs.Lists.{Lists}
 use Rattle.radio_seats.specs.Rests.{how_many}
 use Rattle.radio_seats.specs.Seats.{holds_of}
 use Rattle.radio_house.specs.Outsiders.{is_shut_out}
-use Rattle.radio_seats.proofs.GivenLaws.{seat_hearing}
 
 module _ (within : List ℕ → Bool) where
   -- what is beyond reach is at no mount within it
@@ -100,7 +102,7 @@ module _ (within : List ℕ → Bool) where
 
   same_id : (a b : Listener) → ListenersAgree within a b → a.id ≡ b.id
   same_id a b (SameListener same) = ap (λ (l : Listener). l.id) same
-  same_id a b (SitsBeyond id one other sits out his away) = id
+  same_id a b (LastBeyond id out away) = id
 
   is_alike : (id : ℕ) (a b : Listener) → ListenersAgree within a b → is_listener id a ≡ is_listener id b
   is_alike id a b r = ap (λ n. n == id) (same_id a b r)
@@ -108,10 +110,20 @@ module _ (within : List ℕ → Bool) where
   abbrev pub ListenersDo : List Listener → List Listener → Type 0
   ListenersDo xs ys = AllAgree (ListenersAgree within) xs ys
 
-  -- two seats are one, or both are beyond reach
+  -- the seat is beyond reach, if there is one
+  abbrev pub IsBeyond : Option Seat → Type 0
+  IsBeyond None = Unit {0}
+  IsBeyond (Some seat) = within seat.mount ≡ false
+
+  -- two seats are one, or neither is within reach
   pub data SeatsAgree : Option Seat → Option Seat → Type 0 where
     SameSeat : (seat : Option Seat) → SeatsAgree seat seat
-    BothBeyond : (one other : Seat) → within one.mount ≡ false → within other.mount ≡ false → SeatsAgree (Some one) (Some other)
+    BothBeyond : (one other : Option Seat) → IsBeyond one → IsBeyond other → SeatsAgree one other
+
+  -- who sits beyond reach, or sat there last, has no seat within it
+  held_beyond : (seating : Seating) → within (last_mount seating) ≡ false → IsBeyond (seat_held seating)
+  held_beyond (Sits seat) out = out
+  held_beyond (Finished rule mount) out = tt
 
   module _ (xs ys : List Listener) (r : ListenersDo xs ys) where
     pub numbers_alike : map (λ (l : Listener). l.id) xs ≡ map (λ (l : Listener). l.id) ys
@@ -125,13 +137,27 @@ module _ (within : List ℕ → Bool) where
       by_found : (one other : Option Listener) → FoundAgree (ListenersAgree within) one other → SeatsAgree (seat_in one) (seat_in other)
       by_found _ _ NoneFound = SameSeat None
       by_found _ _ (BothFound a b (SameListener same)) = subst (λ (l : Listener). SeatsAgree (seat_held a.seating) (seat_held l.seating)) same (SameSeat (seat_held a.seating))
-      by_found _ _ (BothFound a b (SitsBeyond id one other sits out his away)) = rw (sits, his) (BothBeyond one other out away)
+      by_found _ _ (BothFound a b (LastBeyond id out away)) =
+          BothBeyond (seat_held a.seating) (seat_held b.seating) (held_beyond a.seating out) (held_beyond b.seating away)
+
+    -- a listener that sits within reach, or sat there last, is the same
+    pub listener_same : (id : ℕ) → ((mount : List ℕ) → last_mount_of ys id ≡ Some mount → within mount ≡ true) → listener_of xs id ≡ listener_of ys id
+    listener_same id near = by_found (listener_of xs id) (listener_of ys id) (found_alike id) refl where
+      by_found : (one other : Option Listener) → FoundAgree (ListenersAgree within) one other → listener_of ys id ≡ other → one ≡ other
+      by_found _ _ NoneFound e = refl
+      by_found _ _ (BothFound a b (SameListener same)) e = ap Some same
+      by_found _ _ (BothFound a b (LastBeyond same out away)) e =
+          let there : within (last_mount b.seating) ≡ true = near (last_mount b.seating) (ap (option_map (λ (l : Listener). last_mount l.seating)) e) in cc
 
     -- a test of who sits at a mount within reach
     module _ (mount : List ℕ) (there : within mount ≡ true) where
+      not_there : (seating : Seating) → within (last_mount seating) ≡ false → is_seat_at mount seating ≡ false
+      not_there (Sits seat) out = beyond seat.mount mount out there
+      not_there (Finished rule last) out = refl
+
       at_alike : (a b : Listener) → ListenersAgree within a b → (a ≡ b) ⊎ ((is_seat_at mount a.seating ≡ false) × (is_seat_at mount b.seating ≡ false))
       at_alike a b (SameListener same) = inl same
-      at_alike a b (SitsBeyond id one other sits out his away) = inr (rw sits (beyond one.mount mount out there), rw his (beyond other.mount mount away there))
+      at_alike a b (LastBeyond id out away) = inr (not_there a.seating out, not_there b.seating away)
 
       pub seats_alike : seats_at xs mount ≡ seats_at ys mount
       seats_alike = agree_picked (ListenersAgree within) (λ (l : Listener). is_seat_at mount l.seating) at_alike xs ys r
@@ -139,18 +165,24 @@ module _ (within : List ℕ → Bool) where
       pub count_alike : count_at xs mount ≡ count_at ys mount
       count_alike = ap length seats_alike
 
+      no_user : (user : List ℕ) (seating : Seating) → within (last_mount seating) ≡ false → is_user_at mount user seating ≡ false
+      no_user user (Sits seat) out = rw (beyond seat.mount mount out there) refl
+      no_user user (Finished rule last) out = refl
+
       user_alike : (user : List ℕ) (a b : Listener) → ListenersAgree within a b → is_user_at mount user a.seating ≡ is_user_at mount user b.seating
       user_alike user a b (SameListener same) = ap (λ (l : Listener). is_user_at mount user l.seating) same
-      user_alike user a b (SitsBeyond id one other sits out his away) =
-          let here = beyond one.mount mount out there in let too = beyond other.mount mount away there in rw (sits, his, here, too) refl
+      user_alike user a b (LastBeyond id out away) = no_user user a.seating out ∙ sym (no_user user b.seating away)
 
       pub sits_alike : (user : List ℕ) → sits_there xs mount user ≡ sits_there ys mount user
       sits_alike user = agree_any (ListenersAgree within) (λ (l : Listener). is_user_at mount user l.seating) (user_alike user) xs ys r
 
+      no_guest : (id : ℕ) (seating : Seating) → within (last_mount seating) ≡ false → guest_at mount (record { id = id; seating = seating }) ≡ None
+      no_guest id (Sits seat) out = rw (beyond seat.mount mount out there) refl
+      no_guest id (Finished rule last) out = refl
+
       guest_alike : (a b : Listener) → ListenersAgree within a b → guest_at mount a ≡ guest_at mount b
       guest_alike a b (SameListener same) = ap (guest_at mount) same
-      guest_alike a b (SitsBeyond id one other sits out his away) =
-          let here = beyond one.mount mount out there in let too = beyond other.mount mount away there in rw (sits, his, here, too) refl
+      guest_alike a b (LastBeyond id out away) = no_guest a.id a.seating out ∙ sym (no_guest b.id b.seating away)
 
       pub guests_alike : guests_at xs mount ≡ guests_at ys mount
       guests_alike = agree_kept (ListenersAgree within) (guest_at mount) guest_alike xs ys r
@@ -163,10 +195,14 @@ module _ (within : List ℕ → Bool) where
     without_alike id = agree_filtered (ListenersAgree within) (λ l. not (is_listener id l)) (λ a b agree. ap not (is_alike id a b agree)) xs ys r
 
     -- his place moves on, wherever he sits
+    heard_last : (place : ℕ) (seating : Seating) → last_mount (heard_to place seating) ≡ last_mount seating
+    heard_last place (Sits seat) = refl
+    heard_last place (Finished rule mount) = refl
+
     heard_alike : (place : ℕ) (a b : Listener) → ListenersAgree within a b → ListenersAgree within (advanced place a) (advanced place b)
     heard_alike place a b (SameListener same) = SameListener (ap (advanced place) same)
-    heard_alike place a b (SitsBeyond id one other sits out his away) =
-        rw (sits, his) (SitsBeyond id (record one { place = place }) (record other { place = place }) refl out refl away)
+    heard_alike place a b (LastBeyond id out away) =
+        LastBeyond id (ap within (heard_last place a.seating) ∙ out) (ap within (heard_last place b.seating) ∙ away)
 
     pub with_place_alike : (id place : ℕ) → ListenersDo (with_place xs id place) (with_place ys id place)
     with_place_alike id place =
@@ -174,41 +210,63 @@ module _ (within : List ℕ → Bool) where
 
     -- as many seats are there of which something holds, where it holds of none beyond reach
     module _ (p : Seat → Bool) (none : (seat : Seat) → within seat.mount ≡ false → p seat ≡ false) where
+      holds_not : (seating : Seating) → within (last_mount seating) ≡ false → holds_of p seating ≡ false
+      holds_not (Sits seat) out = none seat out
+      holds_not (Finished rule mount) out = refl
+
       holds_alike : (a b : Listener) → ListenersAgree within a b → (a ≡ b) ⊎ ((holds_of p a.seating ≡ false) × (holds_of p b.seating ≡ false))
       holds_alike a b (SameListener same) = inl same
-      holds_alike a b (SitsBeyond id one other sits out his away) = inr (rw sits (none one out), rw his (none other away))
+      holds_alike a b (LastBeyond id out away) = inr (holds_not a.seating out, holds_not b.seating away)
 
       pub how_many_alike : how_many p xs ≡ how_many p ys
       how_many_alike = ap length (agree_picked (ListenersAgree within) (λ (l : Listener). holds_of p l.seating) holds_alike xs ys r)
 
     -- seats of which something holds are lost, where it holds of none beyond reach
     module _ (p : Seat → Bool) (rule : Rule) (none : (seat : Seat) → within seat.mount ≡ false → p seat ≡ false) where
+      lost_last : (seating : Seating) → last_mount (lost_by rule seating) ≡ last_mount seating
+      lost_last (Sits seat) = refl
+      lost_last (Finished by mount) = refl
+
+      ended_last_at : (b : Bool) (seating : Seating) → last_mount (if b then lost_by rule seating else seating) ≡ last_mount seating
+      ended_last_at true seating = lost_last seating
+      ended_last_at false seating = refl
+
+      ended_last : (seating : Seating) → last_mount (ended_if p rule seating) ≡ last_mount seating
+      ended_last seating = ended_last_at (holds_of p seating) seating
+
       ended_alike : (a b : Listener) → ListenersAgree within a b → ListenersAgree within (finished_if p rule a) (finished_if p rule b)
       ended_alike a b (SameListener same) = SameListener (ap (finished_if p rule) same)
-      ended_alike a b (SitsBeyond id one other sits out his away) =
-          let here = none one out in let too = none other away in rw (sits, his, here, too) (SitsBeyond id one other refl out refl away)
+      ended_alike a b (LastBeyond id out away) =
+          LastBeyond id (ap within (ended_last a.seating) ∙ out) (ap within (ended_last b.seating) ∙ away)
 
       pub with_ended_alike : ListenersDo (with_ended xs p rule) (with_ended ys p rule)
       with_ended_alike = agree_each (ListenersAgree within) (finished_if p rule) ended_alike xs ys r
 
     -- all at a mount hear a session that has begun there
     module _ (mount : List ℕ) (session : ℕ) where
+      hearing_last : (seating : Seating) → last_mount (in_session_at mount session seating) ≡ last_mount seating
+      hearing_last (Sits seat) = refl
+      hearing_last (Finished rule last) = refl
+
       hearing_alike : (a b : Listener) → ListenersAgree within a b
           → ListenersAgree within (hears_session mount session a) (hears_session mount session b)
       hearing_alike a b (SameListener same) = SameListener (ap (hears_session mount session) same)
-      hearing_alike a b (SitsBeyond same one other sits out his away) =
-          SitsBeyond same (seat_hearing mount session one) (seat_hearing mount session other) (ap (in_session_at mount session) sits) out
-          (ap (in_session_at mount session) his) away
+      hearing_alike a b (LastBeyond id out away) =
+          LastBeyond id (ap within (hearing_last a.seating) ∙ out) (ap within (hearing_last b.seating) ∙ away)
 
       pub given_alike : ListenersDo (with_session_at xs mount session) (with_session_at ys mount session)
       given_alike = agree_each (ListenersAgree within) (hears_session mount session) hearing_alike xs ys r
 
-    -- who has one seat in both moves, or loses it
-    module _ (id : ℕ) (near : (seat : Seat) → seat_of ys id ≡ Some seat → within seat.mount ≡ true) where
+    -- who has a seat within reach moves, or loses it
+    module _ (id : ℕ) (near : (seat : Seat) × (seat_of ys id ≡ Some seat) × (within seat.mount ≡ true)) where
+      last_held : (seating : Seating) (seat : Seat) → seat_held seating ≡ Some seat → last_mount seating ≡ seat.mount
+      last_held (Sits old) seat e = let same : old ≡ seat = cc in ap (λ (x : Seat). x.mount) same
+      last_held (Finished rule mount) seat e = cc
+
       near_alike : (f : Listener → Listener) (a b : Listener) → ListenersAgree within a b → listener_of ys id ≡ Some b → ListenersAgree within (f a) (f b)
       near_alike f a b (SameListener same) found = SameListener (ap f same)
-      near_alike f a b (SitsBeyond same one other sits out his away) found =
-          let clash = near other (ap seat_in found ∙ ap seat_held his) in cc
+      near_alike f a b (LastBeyond same out away) found =
+          let there : within (last_mount b.seating) ≡ true = ap within (last_held b.seating near.0 (sym (ap seat_in found) ∙ near.1)) ∙ near.2 in cc
 
       pub with_move_alike : (mount : List ℕ) (session place : ℕ) → ListenersDo (with_move xs id mount session place) (with_move ys id mount session place)
       with_move_alike mount session place =
@@ -221,4 +279,4 @@ module _ (within : List ℕ → Bool) where
     all_listeners all = agree_equal (ListenersAgree within) one xs ys r where
       one : (a b : Listener) → ListenersAgree within a b → a ≡ b
       one a b (SameListener same) = same
-      one a b (SitsBeyond id here there sits out his away) = let clash = all here.mount in cc
+      one a b (LastBeyond id out away) = let clash = all (last_mount a.seating) in cc

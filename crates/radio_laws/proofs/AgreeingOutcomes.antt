@@ -10,7 +10,8 @@ use Rattle.radio_settings.specs.Web.{web_path}
 use Rattle.radio_policy.specs.Verdicts.{verdict_in}
 use Rattle.radio_seats.specs.declared.seat.Listener.{Listener}
 use Rattle.radio_seats.specs.declared.seat.Seat.{Seat}
-use Rattle.radio_seats.specs.Seats.{listener_of, seat_of}
+use Rattle.radio_seats.specs.Seats.{seat_in, seat_of}
+use Rattle.radio_fallback.proofs.FitsLemmas.{sits_last}
 use Rattle.radio_parts.specs.Sessions.{Session}
 use Rattle.radio_fallback.specs.declared.walking.Found.{Found}
 use Rattle.radio_fallback.specs.declared.walking.Landing.{Landing}
@@ -25,12 +26,10 @@ use Rattle.radio_events.specs.declared.event.Event.{Event}
 use Rattle.radio_events.specs.declared.event.Event.TheVariants.{Arrive, Source, Push, SourceEnd, Title, Listen, Draw, Command, Leave}
 use Rattle.radio_events.specs.declared.event.Event.TheVariants.{RelayUp, RelayDown, Clock}
 use Rattle.radio_events.specs.declared.event.ListenRequest.{ListenRequest}
-use Rattle.radio_house.specs.declared.clients.ClientState.{ClientState}
-use Rattle.radio_house.specs.declared.clients.ClientState.TheVariants.{Undecided, Feeds, Listens, Answered, Ended}
 use Rattle.radio_changes.specs.declared.change.Change.TheVariants.{Nothing, Answer}
 use Rattle.radio_house.specs.declared.standing.Standing.{Standing}
 use Rattle.radio_house.specs.declared.standing.Standing.TheVariants.{Unknown, Undecided as IsUndecided, Feeds as IsFeeding, Sits, Answered as IsAnswered, Finished}
-use Rattle.radio_house.specs.Clients.{Client, client_of}
+use Rattle.radio_house.specs.Clients.{client_of}
 use Rattle.radio_core.specs.Command.{does_asked}
 use Rattle.radio_facts.specs.CommandFacts.{facts_asked, needs_of, sits_at}
 use Rattle.radio_core.proofs.DrawLemmas.{hands_out_at, draws_so}
@@ -41,11 +40,10 @@ use Rattle.radio_core.specs.Pages.{asks_by, asks_by_path}
 use Rattle.radio_core.specs.Push.{takes_in}
 use Rattle.radio_house.specs.Relays.{relay_of}
 use Rattle.radio_core.specs.Step.{outcome}
-use Rattle.radio_house.specs.World.{World, standing_of, standing_of_listener, standing_in, standing_seated}
-use Rattle.radio_laws.specs.Locality.{ListenersAgree, SameListener, SitsBeyond, IsAll, IsWithin, AsksWithin, HearsWithin, FallBackWithin, WalksWithin}
-use Rattle.radio_laws.proofs.AgreeingLists.{FoundAgree, NoneFound, BothFound}
+use Rattle.radio_house.specs.World.{World, standing_of, standing_in}
+use Rattle.radio_laws.specs.Locality.{IsAll, IsWithin, LastWithin, AsksWithin, HearsWithin, FallBackWithin, WalksWithin}
 use Rattle.radio_laws.proofs.Agreeing.{beyond, SessionsDo, as_many_live, live_alike, session_alike, all_sessions, ListenersDo, SeatsAgree, SameSeat, BothBeyond}
-use Rattle.radio_laws.proofs.Agreeing.{found_alike as listener_alike, seat_alike, guests_alike, all_listeners}
+use Rattle.radio_laws.proofs.Agreeing.{listener_same, seat_alike, guests_alike, all_listeners, IsBeyond}
 use Rattle.radio_laws.proofs.AgreeingWalks.{Onward, found_alike, landing_alike, lands_within, counts_alike}
 use Rattle.radio_laws.proofs.WalkLemmas.{falls_back}
 use Rattle.radio_laws.proofs.WebLaws.{is_path}
@@ -74,26 +72,8 @@ module _ (within : List ℕ → Bool) (w : World) (live : List Session) (seats :
 
   -- how a client stands
 
-  stands_alike : (one other : Option Listener) → FoundAgree (ListenersAgree within) one other → standing_of_listener one ≡ standing_of_listener other
-  stands_alike _ _ NoneFound = refl
-  stands_alike _ _ (BothFound a b (SameListener same)) = ap (λ (l : Listener). standing_seated l.seating) same
-  stands_alike _ _ (BothFound a b (SitsBeyond id x y sits out his away)) = rw (sits, his) refl
-
-  pub standing_alike : (id : ℕ) → standing_of v id ≡ standing_of w id
-  standing_alike id = by_client (client_of w.house.clients id) where
-    by_state : (client : Client) (state : ClientState)
-        → standing_in (relay_of w.house.relays id) (listener_of seats id) (Some (record client { state = state }))
-        ≡ standing_in (relay_of w.house.relays id) (listener_of w.seats id) (Some (record client { state = state }))
-    by_state client Undecided = refl
-    by_state client (Feeds mount) = refl
-    by_state client Listens = stands_alike (listener_of seats id) (listener_of w.seats id) (listener_alike within seats w.seats s id)
-    by_state client Answered = refl
-    by_state client (Ended rule) = refl
-
-    by_client : (client : Option Client)
-        → standing_in (relay_of w.house.relays id) (listener_of seats id) client ≡ standing_in (relay_of w.house.relays id) (listener_of w.seats id) client
-    by_client None = refl
-    by_client (Some client) = by_state client client.state
+  pub standing_alike : (id : ℕ) → LastWithin w within id → standing_of v id ≡ standing_of w id
+  standing_alike id near = ap (λ (found : Option Listener). standing_in (relay_of w.house.relays id) found (client_of w.house.clients id)) (listener_same within seats w.seats s id near)
 
   -- a block
   pushes : (id : ℕ) (block : List ℕ) (now : Standing) → standing_of w id ≡ now → ((mount : List ℕ) → standing_of w id ≡ IsFeeding mount → within mount ≡ true)
@@ -107,14 +87,17 @@ module _ (within : List ℕ → Bool) (w : World) (live : List Session) (seats :
   pushes id block (Finished rule) e near = refl
 
   -- a draw
-  draws_by : (id room : ℕ) → ((seat : Seat) → seat_of w.seats id ≡ Some seat → within seat.mount ≡ true) → (x y : Option Seat) → SeatsAgree within x y
-      → seat_of w.seats id ≡ y → hands_out_at v.house id room x ≡ hands_out_at w.house id room y
-  draws_by id room near _ _ (SameSeat None) e = refl
-  draws_by id room near _ _ (SameSeat (Some seat)) e = rw (session_alike within live w.house.live r seat.mount (near seat e)) refl
-  draws_by id room near _ _ (BothBeyond a b out away) e = let clash = near b e in cc
+  draws_at : (id room : ℕ) (has : Option Seat) → ((seat : Seat) → has ≡ Some seat → within seat.mount ≡ true) → hands_out_at v.house id room has ≡ hands_out_at w.house id room has
+  draws_at id room None near = refl
+  draws_at id room (Some seat) near = rw (session_alike within live w.house.live r seat.mount (near seat refl)) refl
+
+  draws_by : (id room : ℕ) → LastWithin w within id → hands_out_at v.house id room (seat_of seats id) ≡ hands_out_at w.house id room (seat_of w.seats id)
+  draws_by id room near =
+      ap (λ (found : Option Listener). hands_out_at v.house id room (seat_in found)) (listener_same within seats w.seats s id near)
+      ∙ draws_at id room (seat_of w.seats id) (λ seat has. near seat.mount (sits_last w.seats id seat has))
 
   -- a listener's request
-  module _ (asked : ListenRequest) (walks : WalksWithin w within asked.mount) where
+  module _ (asked : ListenRequest) (walks : WalksWithin w within asked.mount) (his : LastWithin w within asked.id) where
     walk_same : walks_to v.house v.seats asked.mount asked.pair ≡ walks_to w.house w.seats asked.mount asked.pair
     walk_same = landing_alike within w live r seats w.seats s (onward_by within w walks.onward live r) asked.mount asked.pair walks.there
 
@@ -134,7 +117,7 @@ module _ (within : List ℕ → Bool) (w : World) (live : List Session) (seats :
 
     hears : asks_to_hear v asked ≡ asks_to_hear w asked
     hears =
-        rw (standing_alike asked.id, rows_same, walk_same) (by_standing (standing_of w asked.id)) where
+        rw (standing_alike asked.id his, rows_same, walk_same) (by_standing (standing_of w asked.id)) where
           by_standing : (now : Standing)
               → if_undecided now (λ peer. on_verdict (verdict_in (rows_to_listen w asked)) (Answer asked.id)
               (sits_where v.house asked peer (walks_to w.house w.seats asked.mount asked.pair)))
@@ -149,21 +132,25 @@ module _ (within : List ℕ → Bool) (w : World) (live : List Session) (seats :
           by_standing IsAnswered = refl
           by_standing (Finished rule) = refl
 
-  listens : (asked : ListenRequest) → HearsWithin w within asked.mount → asks_by_path v asked ≡ asks_by_path w asked
-  listens asked near = by_path (web_path w.house.settings.web asked.mount) refl where
+  listens : (asked : ListenRequest) → HearsWithin w within asked.mount → LastWithin w within asked.id → asks_by_path v asked ≡ asks_by_path w asked
+  listens asked near his = by_path (web_path w.house.settings.web asked.mount) refl where
     by_path : (path : Option WebPath) → web_path w.house.settings.web asked.mount ≡ path → asks_by v asked path ≡ asks_by w asked path
-    by_path None e = hears asked near.walks
+    by_path None e = hears asked near.walks his
     by_path (Some IcecastStatus) e = ap (λ (x : World). asks_by x asked (Some IcecastStatus)) (all_one (near.status (is_path w asked.mount IcecastStatus e)))
-    by_path (Some AtPage) e = rw (standing_alike asked.id) refl
+    by_path (Some AtPage) e = rw (standing_alike asked.id his) refl
 
   -- a command
 
   sits_same : (mount : List ℕ) (listener : ℕ) → within mount ≡ true → sits_at seats mount listener ≡ sits_at w.seats mount listener
   sits_same mount listener near = by_seats (seat_of seats listener) (seat_of w.seats listener) (seat_alike within seats w.seats s listener) where
+    not_there : (x : Option Seat) → IsBeyond within x → option_map_or (λ (seat : Seat). bytes_eq seat.mount mount) x false ≡ false
+    not_there None out = refl
+    not_there (Some seat) out = beyond within seat.mount mount out near
+
     by_seats : (x y : Option Seat) → SeatsAgree within x y
         → option_map_or (λ (seat : Seat). bytes_eq seat.mount mount) x false ≡ option_map_or (λ (seat : Seat). bytes_eq seat.mount mount) y false
     by_seats _ _ (SameSeat seat) = refl
-    by_seats _ _ (BothBeyond a b out away) = beyond within a.mount mount out near ∙ sym (beyond within b.mount mount away near)
+    by_seats _ _ (BothBeyond a b out away) = not_there a out ∙ sym (not_there b away)
 
   needs_alike : (command : TheCommand) → AsksWithin w within (Asks command) → needs_of v command ≡ needs_of w command
   needs_alike (MoveClients mount destination) near =
@@ -211,20 +198,19 @@ module _ (within : List ℕ → Bool) (w : World) (live : List Session) (seats :
   unfolding outcome
   outcome_alike (Arrive peer) near = refl
   outcome_alike (Source asked) near =
-      rw (standing_alike asked.id, as_many_live within live w.house.live r, live_alike within live w.house.live r asked.mount) refl
-  outcome_alike (Push id block) near = rw (standing_alike id) (pushes id block (standing_of w id) refl near)
-  outcome_alike (SourceEnd id) near = rw (standing_alike id) refl
-  outcome_alike (Title id text) near = rw (standing_alike id) refl
-  outcome_alike (Listen asked) near = listens asked near
+      rw (standing_alike asked.id (near.client asked.id refl), as_many_live within live w.house.live r, live_alike within live w.house.live r asked.mount) refl
+  outcome_alike (Push id block) near = rw (standing_alike id (near.client id refl)) (pushes id block (standing_of w id) refl near.reached)
+  outcome_alike (SourceEnd id) near = rw (standing_alike id (near.client id refl)) refl
+  outcome_alike (Title id text) near = rw (standing_alike id (near.client id refl)) refl
+  outcome_alike (Listen asked) near = listens asked near.reached (near.client asked.id refl)
   outcome_alike (Draw id room) near =
       draws_so v id room
-      ∙ rw (standing_alike id)
-      (ap (if_sitting (standing_of w id)) (draws_by id room near (seat_of seats id) (seat_of w.seats id) (seat_alike within seats w.seats s id) refl))
+      ∙ rw (standing_alike id (near.client id refl)) (ap (if_sitting (standing_of w id)) (draws_by id room (near.client id refl)))
       ∙ sym (draws_so w id room)
   outcome_alike (Command asked) near =
-      rw (standing_alike asked.id, facts_alike asked.asked asked.pair near, does_alike asked.asked asked.id near) refl
-  outcome_alike (Leave id) near = rw (standing_alike id) refl
+      rw (standing_alike asked.id (near.client asked.id refl), facts_alike asked.asked asked.pair near.reached, does_alike asked.asked asked.id near.reached) refl
+  outcome_alike (Leave id) near = rw (standing_alike id (near.client id refl)) refl
   outcome_alike (RelayUp mount shown) near =
       rw (as_many_live within live w.house.live r, live_alike within live w.house.live r mount) refl
-  outcome_alike (RelayDown id) near = rw (standing_alike id) refl
+  outcome_alike (RelayDown id) near = rw (standing_alike id (near.client id refl)) refl
   outcome_alike (Clock ms) near = refl

@@ -17,12 +17,13 @@ use Rattle.radio_fallback.specs.declared.moves.Turn.{Turn}
 use Rattle.radio_fallback.specs.declared.moves.Turn.TheVariants.{Stays, GoesTo, IsOut}
 use Rattle.radio_fallback.specs.Walk.{Sight, is_full, sits_already, is_full_for, found_at, stop_of, landing_at, landing_here, hands_on, next_mount, onward, walk, landing}
 use Rattle.radio_fallback.specs.Carry.{concerns, walks_on, is_asked, turn_by, turn_in, turn_of, Carry, after_turn, turns, numbers_of, at_first, carried}
+use Rattle.radio_fallback.proofs.FitsLemmas.{is_out}
 use Rattle.radio_fallback.proofs.WalkLaws.{walks_ten}
 use Rattle.radio_house.specs.Facts.{sight_of, fallback_of}
 use Rattle.radio_house.specs.World.{World}
 use Rattle.radio_laws.specs.Locality.{ListenersAgree, SameListener}
 use Rattle.radio_laws.proofs.AgreeingLists.{agree_all}
-use Rattle.radio_laws.proofs.Agreeing.{beyond, SessionsDo, live_alike, session_alike, ListenersDo, SeatsAgree, SameSeat, BothBeyond, numbers_alike, seat_alike, count_alike, sits_alike}
+use Rattle.radio_laws.proofs.Agreeing.{beyond, SessionsDo, live_alike, session_alike, ListenersDo, IsBeyond, SeatsAgree, SameSeat, BothBeyond, numbers_alike, seat_alike, count_alike, sits_alike}
 use Rattle.radio_laws.proofs.Agreeing.{without_alike, with_move_alike, with_end_alike}
 use Rattle.radio_house.specs.Waiting.{heard_at, silence_of}
 use Rattle.std.specs.Option.{option_or}
@@ -147,11 +148,16 @@ module _ (within : List ℕ → Bool) (w : World) (live : List Session) (r : Ses
       by_move (To mount destination) goes pair =
           ap is_asked (here_alike (without_listener here id) (without_listener there id) (without_alike within here there s id) destination pair goes.1)
 
+      -- one beyond reach stays
+      stays : (sight : Sight) (others : List Listener) (x : Option Seat) → IsBeyond within x → turn_in sight others move x ≡ Stays
+      stays sight others None out = refl
+      stays sight others (Some seat) out = rw (unconcerned move near seat out) refl
+
       by_seats : (x y : Option Seat) → SeatsAgree within x y
           → turn_in one (without_listener here id) move x ≡ turn_in other (without_listener there id) move y
       by_seats _ _ (SameSeat None) = refl
       by_seats _ _ (SameSeat (Some seat)) = ap (λ t. if concerns move seat.mount seat.home then t else Stays) (by_move move near seat.pair)
-      by_seats _ _ (BothBeyond a b out away) = rw (unconcerned move near a out, unconcerned move near b away) refl
+      by_seats _ _ (BothBeyond a b out away) = stays one (without_listener here id) a out ∙ sym (stays other (without_listener there id) b away)
 
       turn_alike : turn_of one move here id ≡ turn_of other move there id
       turn_alike = by_seats (seat_of here id) (seat_of there id) (seat_alike within here there s id)
@@ -173,14 +179,13 @@ module _ (within : List ℕ → Bool) (w : World) (live : List Session) (r : Ses
         by_stop (Some rule) at = cc
 
       goes_in : (x : Option Seat) (to : List ℕ) → turn_in other (without_listener there id) move x ≡ GoesTo to
-          → (within to ≡ true) × ((seat : Seat) → x ≡ Some seat → within seat.mount ≡ true)
+          → (within to ≡ true) × ((seat : Seat) × (x ≡ Some seat) × (within seat.mount ≡ true))
       goes_in None to e = cc
       goes_in (Some seat) to e = by_test (concerns move seat.mount seat.home) refl e where
         by_test : (b : Bool) → concerns move seat.mount seat.home ≡ b
             → (if b then turn_by other (without_listener there id) seat.pair move else Stays) ≡ GoesTo to
-            → (within to ≡ true) × ((his : Seat) → Some seat ≡ Some his → within his.mount ≡ true)
-        by_test true is goes =
-            (goes_by move near seat.pair to goes, λ his same. let one_seat : seat ≡ his = cc in ap (λ (x : Seat). within x.mount) (sym one_seat) ∙ concerned move near seat is)
+            → (within to ≡ true) × ((his : Seat) × (Some seat ≡ Some his) × (within his.mount ≡ true))
+        by_test true is goes = (goes_by move near seat.pair to goes, (seat, refl, concerned move near seat is))
         by_test false is goes = cc
 
     -- and so sits whoever is left out
@@ -207,8 +212,9 @@ module _ (within : List ℕ → Bool) (w : World) (live : List Session) (r : Ses
           counts = ap (λ (c : Carried). record c { moved = c.moved + 1 }) both.counts;
         }
     one_turn a b both id (IsOut rule) e =
+        let his = is_out other move b.seats id rule e in
         record {
-          seats = with_end_alike within a.seats b.seats both.seats id (λ seat has. out_within b.seats id rule seat e has) rule;
+          seats = with_end_alike within a.seats b.seats both.seats id (his.0, his.1, out_within b.seats id rule his.0 e his.1) rule;
           counts = ap (λ (c : Carried). record c { ended = c.ended + 1 }) both.counts;
         }
 

@@ -8,6 +8,8 @@ use Rattle.radio_seats.specs.Seats.{seat_in, seat_of}
 use Rattle.radio_parts.specs.Sessions.{Session, session_of}
 use Rattle.radio_fallback.specs.declared.moves.Move.{Move}
 use Rattle.radio_events.specs.declared.command.Command.TheVariants.{MoveClients, KillClient, KillSource, SetTitle, AddUser, DeleteUser}
+use Rattle.radio_events.specs.Events.{client_in}
+use Rattle.radio_fallback.proofs.FitsLemmas.{sits_last}
 use Rattle.radio_events.specs.declared.event.Event.{Event}
 use Rattle.radio_events.specs.declared.event.Event.TheVariants.{Source, Push, SourceEnd, Title, Listen, Draw, Leave, RelayUp, RelayDown, Clock}
 use Rattle.radio_house.specs.declared.standing.Standing.TheVariants.{Feeds}
@@ -35,18 +37,26 @@ use Rattle.radio_laws.proofs.AgreeingLists.{agree_all}
 use Rattle.radio_laws.proofs.Agreeing.{SessionsDo}
 use Rattle.radio_laws.proofs.AgreeingWalks.{Onward, MovesWithin, lands_within, goes_within, out_within}
 use Rattle.radio_laws.proofs.AgreeingOutcomes.{onward_by}
-use Rattle.radio_laws.specs.Locality.{IsWithin, EndsWithin, WalksWithin, IsAll, LeavesAlone}
+use Rattle.radio_laws.specs.Locality.{ReachesWithin, EndsWithin, WalksWithin, IsAll, IsLeftAlone, LeavesAlone}
 use Rattle.radio_laws.proofs.LocalityLemmas.{agrees, asks_within}
 use Rattle.radio_core.specs.Allowed.{ChangesUsers, Adds, Deletes}
 use Rattle.radio_core.proofs.HeardLemmas.{heard_cases}
 
-module _ (within : List ℕ → Bool) (w : World) (s : IsSound w) (event : Event) (near : IsWithin w within event) where
+-- the mount where the event's client sits is within reach
+abbrev pub ClientSitsWithin : (List ℕ → Bool) → World → Event → Type 0
+ClientSitsWithin within w event = (id : ℕ) (seat : Seat) → client_in event ≡ Some id → seat_of w.seats id ≡ Some seat → within seat.mount ≡ true
+
+module _ (within : List ℕ → Bool) (w : World) (s : IsSound w) (event : Event) (near : ReachesWithin w within event) (sits : ClientSitsWithin within w event) where
   -- it is within reach after all
   abbrev Near : List ℕ → Type 0
   Near mount = within mount ≡ true
 
-  so_near : (other : Event) → event ≡ other → IsWithin w within other
-  so_near other e = subst (IsWithin w within) e near
+  so_near : (other : Event) → event ≡ other → ReachesWithin w within other
+  so_near other e = subst (ReachesWithin w within) e near
+
+  -- so is the mount where its client sits
+  sits_near : (other : Event) → event ≡ other → (id : ℕ) → client_in other ≡ Some id → (seat : Seat) → seat_of w.seats id ≡ Some seat → Near seat.mount
+  sits_near other e id his seat has = sits id seat (ap client_in e ∙ his) has
 
   -- the source of the session feeds its mount
   fed_near : (mount : List ℕ) (session : Session) → session_of w.house.live mount ≡ Some session → EndsWithin w within session.number → WalksWithin w within mount
@@ -56,7 +66,7 @@ module _ (within : List ℕ → Bool) (w : World) (s : IsSound w) (event : Event
       → (event ≡ SourceEnd session.number) ⊎ (event ≡ Leave session.number) ⊎ (event ≡ RelayDown session.number) ⊎ ((ms : ℕ) × (event ≡ Clock ms) × (1000 * w.house.settings.limits.source_timeout ≤ ms - session.last_block))
       → Near mount
   ends_near mount session is_live (inl e) = (fed_near mount session is_live (so_near (SourceEnd session.number) e)).there
-  ends_near mount session is_live (inr (inl e)) = (fed_near mount session is_live (so_near (Leave session.number) e).0).there
+  ends_near mount session is_live (inr (inl e)) = (fed_near mount session is_live (so_near (Leave session.number) e)).there
   ends_near mount session is_live (inr (inr (inl e))) = (fed_near mount session is_live (so_near (RelayDown session.number) e)).there
   ends_near mount session is_live (inr (inr (inr e))) = (so_near (Clock e.0) e.1) mount
 
@@ -84,11 +94,11 @@ module _ (within : List ℕ → Bool) (w : World) (s : IsSound w) (event : Event
   onward : {mount : List ℕ} → WalksWithin w within mount → Onward within w w.house.live (live_itself w)
   onward walks = onward_by within w walks.onward w.house.live (live_itself w)
 
-  closes : (e : Event) (him : ℕ) (mount : List ℕ) → Closes w him e → standing_of w him ≡ Feeds mount → IsWithin w within e → WalksWithin w within mount
-  closes _ him mount (OfClient no_relay) feeding its = its.0 mount feeding
+  closes : (e : Event) (him : ℕ) (mount : List ℕ) → Closes w him e → standing_of w him ≡ Feeds mount → ReachesWithin w within e → WalksWithin w within mount
+  closes _ him mount (OfClient no_relay) feeding its = its mount feeding
   closes _ him mount (OfRelay relay) feeding its = its mount feeding
 
-  moves_near : (e : Event) (move : Move) (during : World) → Brings w e move during → IsWithin w within e
+  moves_near : (e : Event) (move : Move) (during : World) → Brings w e move during → ReachesWithin w within e
       → IsAll within ⊎ (Moves during move × (during.seats ≡ w.seats))
   moves_near _ _ _ (ByItsEnd him mount feeding no_relay) its = let walks = its mount feeding in inr ((walks.there, onward walks), refl)
   moves_near _ _ _ (ByItsLeaving e him mount closing feeding) its = let walks = closes e him mount closing feeding its in inr ((walks.there, onward walks), refl)
@@ -132,7 +142,7 @@ module _ (within : List ℕ → Bool) (w : World) (s : IsSound w) (event : Event
           let no : (0 == 0) ≡ false = ap (λ (n : ℕ). n == 0) (sym waits) ∙ sat in
           cc)
     sent_near seat mount has (HeIsCalledHome up home override) = by_event event up near where
-      by_event : (e : Event) → ComesUpOn e mount → IsWithin w within e → Near seat.mount
+      by_event : (e : Event) → ComesUpOn e mount → ReachesWithin w within e → Near seat.mount
       by_event _ (ASource asked) its = its.home override seat.mount
       by_event _ (ARelay name shown) its = its.home override seat.mount
     sent_near seat mount has (IsCommandedThere c) = (asks_within within w event (MoveClients seat.mount mount) c near).0
@@ -160,7 +170,7 @@ module _ (within : List ℕ → Bool) (w : World) (s : IsSound w) (event : Event
         ap (λ (x : Seat). within x.mount) (sym same) ∙ changed_near his.mount changes
     caused_near _ seat has (HisSessionIsKilled session feeding is_live c) = let sits = s.sitting id seat has in cc
 
-    up_near : (e : Event) (mount : List ℕ) → ComesUpOn e mount → IsWithin w within e → Near mount
+    up_near : (e : Event) (mount : List ℕ) → ComesUpOn e mount → ReachesWithin w within e → Near mount
     up_near _ mount (ASource asked) its = its.there
     up_near _ mount (ARelay name shown) its = its.there
 
@@ -172,7 +182,7 @@ module _ (within : List ℕ → Bool) (w : World) (s : IsSound w) (event : Event
         → (seat : Seat) → within seat.mount ≡ false → (later ≡ Some seat) ↔ (before ≡ Some seat)
     seat_kept _ _ _ (SeatStays kept) has seat out = (λ e. e, λ e. e)
     seat_kept _ _ _ (IsHanded old session room is_event is_live his within_it) has seat out =
-        let there : Near old.mount = so_near (Draw id room) is_event old has in (
+        let there : Near old.mount = sits_near (Draw id room) is_event id refl old has in (
           not_it seat (record old { place = old.place + length (data_at session.stream old.place room) }) out there,
           not_it seat old out there,
         )
@@ -186,13 +196,18 @@ module _ (within : List ℕ → Bool) (w : World) (s : IsSound w) (event : Event
     seat_kept _ _ _ (IsGiven old session coming idle live empty waits start past) has seat out =
         let there : Near old.mount = up_near event old.mount coming near in
         (not_it seat (record old { session = session.number }) out there, not_it seat old out there)
-    seat_kept _ _ _ (Leaves old is_event) has seat out = (λ e. cc, not_it seat old out ((so_near (Leave id) is_event).1 old has))
+    seat_kept _ _ _ (Leaves old is_event) has seat out = (λ e. cc, not_it seat old out (sits_near (Leave id) is_event id refl old has))
     seat_kept _ _ _ (IsEnded old rule finishes) has seat out = (λ e. cc, not_it seat old out (caused_near rule old has finishes.cause))
 
-pub leaves_alone : (within : List ℕ → Bool) (w : World) → IsSound w → (event : Event) → LeavesAlone within w event
-leaves_alone within w s event near = record {
-  sessions = λ mount. session_kept within w s event near mount (session_of w.house.live mount) (session_of (world_after w event).house.live mount)
+pub left_alone : (within : List ℕ → Bool) (w : World) → IsSound w → (event : Event) → ReachesWithin w within event → ClientSitsWithin within w event
+    → IsLeftAlone within w (world_after w event)
+left_alone within w s event near sits = record {
+  sessions = λ mount. session_kept within w s event near sits mount (session_of w.house.live mount) (session_of (world_after w event).house.live mount)
       (sessions_step w s event mount) refl;
-  seats = λ id seat out. seat_kept within w s event near id (seat_of w.seats id) (seat_of (world_after w event).seats id) (handed_at w event id)
+  seats = λ id seat out. seat_kept within w s event near sits id (seat_of w.seats id) (seat_of (world_after w event).seats id) (handed_at w event id)
       (seats_step w s event id) refl seat out;
 }
+
+pub leaves_alone : (within : List ℕ → Bool) (w : World) → IsSound w → (event : Event) → LeavesAlone within w event
+leaves_alone within w s event near =
+    left_alone within w s event near.reached (λ id seat his has. near.client id his seat.mount (sits_last w.seats id seat has))

@@ -37,7 +37,7 @@ use Rattle.radio_core.specs.Ways.{EndsAndLeaves, Leaves, GoesDown, Obeys, Shows,
 use Rattle.radio_house.specs.World.{World, standing_of}
 use Rattle.radio_core.proofs.CommandedSeats.{killed_seat}
 use Rattle.radio_core.proofs.Ways.{way_of}
-use Rattle.radio_laws.specs.Locality.{AgreeWithin, SessionsAgree, SameSession, ListenersAgree, SameListener, IsAll, IsWithin, AsksWithin, ComesUpWithin, WalksWithin}
+use Rattle.radio_laws.specs.Locality.{AgreeWithin, SessionsAgree, SameSession, ListenersAgree, SameListener, IsAll, IsWithin, ReachesWithin, AsksWithin, ComesUpWithin, WalksWithin}
 use Rattle.radio_laws.specs.Locality.{AnswersAlike}
 use Rattle.radio_laws.proofs.AgreeingLists.{agree_all}
 use Rattle.radio_laws.proofs.Agreeing.{beyond, SessionsDo, session_alike, with_session_alike, without_session_alike, fed_alike, titled_alike, ListenersDo}
@@ -59,10 +59,10 @@ agrees within w = record {
 }
 
 -- what an allowed command reaches is what was asked
-pub asks_within : (within : List ℕ → Bool) (w : World) (event : Event) (command : TheCommand) → IsCommanded w event command → IsWithin w within event
+pub asks_within : (within : List ℕ → Bool) (w : World) (event : Event) (command : TheCommand) → IsCommanded w event command → ReachesWithin w within event
     → AsksWithin w within (Asks command)
 asks_within within w event command c near =
-    let its : IsWithin w within (Command c.asked) = subst (IsWithin w within) c.is_event near in
+    let its : ReachesWithin w within (Command c.asked) = subst (ReachesWithin w within) c.is_event near in
     subst (AsksWithin w within) c.is_asked its
 
 -- states agree that come to such as agree
@@ -167,12 +167,7 @@ module _ (within : List ℕ → Bool) (w : World) (live : List Session) (seats :
       record {
         house = refl;
         sessions = r;
-        listeners = with_end_alike within seats w.seats s listener
-            (λ seat has.
-            let both : Some his.0 ≡ Some seat = sym his.1 ∙ has in
-            let one : his.0 ≡ seat = cc in
-            ap (λ (x : Seat). within x.mount) (sym one) ∙ ap within his.2 ∙ near)
-            Killed;
+        listeners = with_end_alike within seats w.seats s listener (his.0, his.1, ap within his.2 ∙ near) Killed;
       }
   obeys event id (KillSource mount) c near =
       rw (session_alike within live w.house.live r mount near.there) (by_session (session_of w.house.live mount) refl) where
@@ -204,11 +199,11 @@ module _ (within : List ℕ → Bool) (w : World) (live : List Session) (seats :
   unchanged : Agree Nothing
   unchanged = record { house = refl; sessions = r; listeners = s }
 
-  closes : (event : Event) (id : ℕ) (mount : List ℕ) → Closes w id event → standing_of w id ≡ Feeds mount → IsWithin w within event → WalksWithin w within mount
-  closes _ id mount (OfClient no_relay) feeding near = near.0 mount feeding
+  closes : (event : Event) (id : ℕ) (mount : List ℕ) → Closes w id event → standing_of w id ≡ Feeds mount → ReachesWithin w within event → WalksWithin w within mount
+  closes _ id mount (OfClient no_relay) feeding near = near mount feeding
   closes _ id mount (OfRelay relay) feeding near = near mount feeding
 
-  by_way : (event : Event) (o : Outcome) → Way w event o → IsWithin w within event → Agree o.change
+  by_way : (event : Event) (o : Outcome) → Way w event o → ReachesWithin w within event → Agree o.change
   by_way event o (Misplaced _) near = unchanged
   by_way event o (IsFinished _ him by its known) near = unchanged
   by_way event o (IsDenied _ by verdict nobody) near = unchanged
@@ -242,7 +237,7 @@ module _ (within : List ℕ → Bool) (w : World) (live : List Session) (seats :
   unfolding reply_to world_after
   in_step event near =
       let same = outcome_alike within w live seats r s event near in
-      (ap (λ (o : Outcome). o.reply) same, rw same (by_way event (outcome w event) (way_of w event) near))
+      (ap (λ (o : Outcome). o.reply) same, rw same (by_way event (outcome w event) (way_of w event) near.reached))
 
 pub answers_alike : (within : List ℕ → Bool) (v w : World) (event : Event) → AnswersAlike within v w event
 answers_alike within v w event agree near =

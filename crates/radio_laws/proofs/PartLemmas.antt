@@ -22,7 +22,7 @@ use Rattle.radio_parts.proofs.PartLemmas.{found_changed}
 use Rattle.radio_events.specs.declared.event.Event.TheVariants.{Push, Title, Draw}
 use Rattle.radio_events.specs.declared.reply.Reply.TheVariants.{Noted, Stray}
 use Rattle.radio_house.specs.declared.standing.Standing.{Standing}
-use Rattle.radio_house.specs.declared.standing.Standing.TheVariants.{Feeds}
+use Rattle.radio_house.specs.declared.standing.Standing.TheVariants.{Feeds, Sits as IsSitting}
 use Rattle.radio_house.specs.Facts.{rows_to_push}
 use Rattle.radio_house.specs.Waiting.{heard_at, silence_of}
 use Rattle.radio_house.specs.World.{World, standing_of}
@@ -37,7 +37,7 @@ use Rattle.radio_core.specs.Sound.{IsSound}
 use Rattle.radio_core.specs.Step.{outcome, reply_to, world_after}
 use Rattle.radio_core.proofs.DrawLemmas.{hands_out_at, draws_so}
 use Rattle.radio_laws.specs.Parts.{seat_if, is_at, seat_at, IsPartOf, part_heard, is_mount_of, IsPartsStep, DrawsByItsPart}
-use Rattle.radio_laws.proofs.LeftAlone.{leaves_alone}
+use Rattle.radio_laws.proofs.LeftAlone.{left_alone}
 
 -- who keeps his seat when those lose theirs of whom this holds
 module _ (p : Seat → Bool) where
@@ -125,11 +125,14 @@ module _ (w : World) (s : IsSound w) (p : Part) (of : IsPartOf w p) where
           let after : world_after w (Draw id room) ≡ changed w (Advance id place) = ap (changed w) (ap (λ (o : Outcome). o.change) handed ∙ change) in
           record {
             here = subst (λ (later : World). IsPartOf later (part_heard p id place)) (sym after) (record { live = of.live; seats = seat_heard place });
-            there = leaves_alone (is_mount_of p) w s (Draw id room) within;
+            there = left_alone (is_mount_of p) w s (Draw id room) tt within;
           };
     } where
-      within : (his : Seat) → seat_of w.seats id ≡ Some his → is_mount_of p his.mount ≡ true
-      within his found = let both : Some seat ≡ Some his = sym in_state.0 ∙ found in let same : seat ≡ his = cc in ap (is_at p.mount) (sym same) ∙ in_state.1
+      within : (him : ℕ) (his : Seat) → Some id ≡ Some him → seat_of w.seats him ≡ Some his → is_mount_of p his.mount ≡ true
+      within him his is has =
+          let one : id ≡ him = cc in
+          let found : seat_of w.seats id ≡ Some his = ap (seat_of w.seats) one ∙ has in
+          let both : Some seat ≡ Some his = sym in_state.0 ∙ found in let same : seat ≡ his = cc in ap (is_at p.mount) (sym same) ∙ in_state.1
 
   -- a block
   module _ (block : List ℕ) where
@@ -179,6 +182,13 @@ module _ (w : World) (s : IsSound w) (p : Part) (of : IsPartOf w p) where
         let same : p.mount ≡ mount = cc in
         (bytes_eq-Decides mount p.mount).1 (sym same)
 
+    -- and has no seat
+    nobody_sits : (him : ℕ) (his : Seat) → Some session.number ≡ Some him → seat_of w.seats him ≡ Some his → is_mount_of p his.mount ≡ true
+    nobody_sits him his is has =
+        let one : session.number ≡ him = cc in
+        let clash : Feeds p.mount ≡ IsSitting = sym feeding ∙ ap (standing_of w) one ∙ s.sitting him his has in
+        cc
+
     pub parts_receive : (block : List ℕ) → reply_to w (Push session.number block) ≡ Noted
         → IsPartsStep w (world_after w (Push session.number block)) p (part_received w.house.settings.limits.queue_size w.house.time block p)
     unfolding outcome reply_to world_after
@@ -195,7 +205,7 @@ module _ (w : World) (s : IsSound w) (p : Part) (of : IsPartOf w p) where
           record {
             here = subst (λ (later : World). IsPartOf later (part_received w.house.settings.limits.queue_size w.house.time block p))
                 (sym (ap (λ (o : Outcome). changed w o.change) taken)) (received block);
-            there = leaves_alone (is_mount_of p) w s (Push session.number block) fed_within;
+            there = left_alone (is_mount_of p) w s (Push session.number block) fed_within nobody_sits;
           }
       by_verdict (Denied rule) e =
           let denied : outcome w (Push session.number block) ≡ on_verdict (Denied rule) Nothing (takes_in p.mount block)
@@ -208,7 +218,7 @@ module _ (w : World) (s : IsSound w) (p : Part) (of : IsPartOf w p) where
     unfolding outcome world_after
     parts_titled text = record {
       here = subst (λ (later : World). IsPartOf later (part_titled text p)) (sym after) (on_the_air text);
-      there = leaves_alone (is_mount_of p) w s (Title session.number text) fed_within;
+      there = left_alone (is_mount_of p) w s (Title session.number text) fed_within nobody_sits;
     } where
       after : world_after w (Title session.number text) ≡ changed w (SetTitle p.mount text)
       after = ap (λ (standing : Standing). changed w (if_feeding standing (λ mount. says Noted (SetTitle mount text))).change) feeding

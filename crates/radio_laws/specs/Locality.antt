@@ -3,12 +3,12 @@ use Rattle.std.specs.Prelude.{◌≡◌, ◌↔◌, Bool, true, false, ℕ, List
 use Rattle.radio_settings.specs.Options.{options_for}
 use Rattle.radio_seats.specs.declared.seat.Listener.{Listener}
 use Rattle.radio_seats.specs.declared.seat.Seat.{Seat}
-use Rattle.radio_seats.specs.declared.seat.Seating.TheVariants.{Sits}
-use Rattle.radio_seats.specs.Seats.{seat_of}
+use Rattle.radio_seats.specs.Seats.{seat_of, last_mount, last_mount_of}
 use Rattle.radio_parts.specs.Sessions.{Session, session_of}
 use Rattle.radio_events.specs.declared.event.Event.{Event}
 use Rattle.radio_events.specs.declared.event.Event.TheVariants.{Arrive, Source, Push, SourceEnd, Title, Listen, Draw, Command, Leave}
 use Rattle.radio_events.specs.declared.event.Event.TheVariants.{RelayUp, RelayDown, Clock}
+use Rattle.radio_events.specs.Events.{client_in}
 use Rattle.radio_events.specs.declared.command.Asked.{Asked}
 use Rattle.radio_events.specs.declared.command.Asked.TheVariants.{NoCommand, MissingArgument, Listing as AsksFor, Command as Asks}
 use Rattle.radio_events.specs.declared.command.Command.TheVariants.{MoveClients, KillClient, KillSource, SetTitle, SetFallback, AddUser, DeleteUser}
@@ -27,11 +27,10 @@ pub data SessionsAgree (within : List ℕ → Bool) (a b : Session) : Type 0 whe
   SameSession : a ≡ b → SessionsAgree within a b
   FedBeyond : a.mount ≡ b.mount → a.number ≡ b.number → within a.mount ≡ false → SessionsAgree within a b
 
--- one listener, who sits beyond reach in both states, or has the same seat, or none
+-- one listener, the same in both states, or beyond reach in each: it sits there, or sat there last
 pub data ListenersAgree (within : List ℕ → Bool) (a b : Listener) : Type 0 where
   SameListener : a ≡ b → ListenersAgree within a b
-  SitsBeyond : a.id ≡ b.id → (one other : Seat) → a.seating ≡ Sits one → within one.mount ≡ false → b.seating ≡ Sits other → within other.mount ≡ false
-      → ListenersAgree within a b
+  LastBeyond : a.id ≡ b.id → within (last_mount a.seating) ≡ false → within (last_mount b.seating) ≡ false → ListenersAgree within a b
 
 -- each element of a list goes with that of the other at its place
 abbrev pub AllAgree : {X : Type 0} → (X → X → Type 0) → List X → List X → Type 0
@@ -41,7 +40,7 @@ AllAgree R [] (y ∷ ys) = ⊥
 AllAgree R (x ∷ xs) [] = ⊥
 
 -- The states agree within reach, and on what is no mount's own: the moment, settings and lists, the fallbacks that were set, clients and relays. Beyond
--- it the same mounts are live, fed by the same sources; what they have sent, their titles, and who sits there, may differ.
+-- it the same mounts are live, fed by the same sources; what they have sent, their titles, who sits there, and which of these have finished, may differ.
 pub record AgreeWithin (within : List ℕ → Bool) (v w : World) : Type 0 where
   pub house : v.house ≡ record w.house { live = v.house.live }
   pub sessions : AllAgree (SessionsAgree within) v.house.live w.house.live
@@ -72,9 +71,9 @@ FeedsWithin w within id = (mount : List ℕ) → standing_of w id ≡ Feeds moun
 abbrev pub EndsWithin : World → (List ℕ → Bool) → ℕ → Type 0
 EndsWithin w within id = (mount : List ℕ) → standing_of w id ≡ Feeds mount → WalksWithin w within mount
 
--- the mount where the listener of this number sits, if he sits
-abbrev pub SitsWithin : World → (List ℕ → Bool) → ℕ → Type 0
-SitsWithin w within id = (seat : Seat) → seat_of w.seats id ≡ Some seat → within seat.mount ≡ true
+-- the mount where the listener of this number sits, or sat last, if there is one
+abbrev pub LastWithin : World → (List ℕ → Bool) → ℕ → Type 0
+LastWithin w within id = (mount : List ℕ) → last_mount_of w.seats id ≡ Some mount → within mount ≡ true
 
 -- what a command can reach, and what is seen in a listing; a fallback is no mount's own
 abbrev pub AsksWithin : World → (List ℕ → Bool) → Asked → Type 0
@@ -95,20 +94,25 @@ pub record HearsWithin (w : World) (within : List ℕ → Bool) (path : List ℕ
   pub walks : WalksWithin w within path
   pub status : IsPath w path IcecastStatus → IsAll within
 
--- what the event can reach is within reach
-abbrev pub IsWithin : World → (List ℕ → Bool) → Event → Type 0
-IsWithin w within (Arrive peer) = Unit {0}
-IsWithin w within (Source asked) = ComesUpWithin w within asked.mount
-IsWithin w within (Push id block) = FeedsWithin w within id
-IsWithin w within (SourceEnd id) = EndsWithin w within id
-IsWithin w within (Title id text) = FeedsWithin w within id
-IsWithin w within (Listen asked) = HearsWithin w within asked.mount
-IsWithin w within (Draw id room) = SitsWithin w within id
-IsWithin w within (Command asked) = AsksWithin w within asked.asked
-IsWithin w within (Leave id) = EndsWithin w within id × SitsWithin w within id
-IsWithin w within (RelayUp mount shown) = ComesUpWithin w within mount
-IsWithin w within (RelayDown id) = EndsWithin w within id
-IsWithin w within (Clock ms) = IsAll within
+-- the mounts that the event can reach, besides that of its client
+abbrev pub ReachesWithin : World → (List ℕ → Bool) → Event → Type 0
+ReachesWithin w within (Arrive peer) = Unit {0}
+ReachesWithin w within (Source asked) = ComesUpWithin w within asked.mount
+ReachesWithin w within (Push id block) = FeedsWithin w within id
+ReachesWithin w within (SourceEnd id) = EndsWithin w within id
+ReachesWithin w within (Title id text) = FeedsWithin w within id
+ReachesWithin w within (Listen asked) = HearsWithin w within asked.mount
+ReachesWithin w within (Draw id room) = Unit {0}
+ReachesWithin w within (Command asked) = AsksWithin w within asked.asked
+ReachesWithin w within (Leave id) = EndsWithin w within id
+ReachesWithin w within (RelayUp mount shown) = ComesUpWithin w within mount
+ReachesWithin w within (RelayDown id) = EndsWithin w within id
+ReachesWithin w within (Clock ms) = IsAll within
+
+-- what the event can reach is within reach: and if its client is a listener, the mount where that sits, or sat last
+pub record IsWithin (w : World) (within : List ℕ → Bool) (event : Event) : Type 0 where
+  pub reached : ReachesWithin w within event
+  pub client : (id : ℕ) → client_in event ≡ Some id → LastWithin w within id
 
 -- beyond reach each mount has the session that it had, and those sit there who sat there, each in his seat
 pub record IsLeftAlone (within : List ℕ → Bool) (w later : World) : Type 0 where

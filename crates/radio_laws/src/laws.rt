@@ -225,10 +225,12 @@ pub fn who_left_is_gone()
         → StaysGone (run_after settings lists events) more id }
 {}
 
-/// The law of locality.
+/// An event depends on the mounts that it can reach, and changes no other. If its client is a listener,
+/// the mount where that sits, or sat last, is one of them.
 pub fn events_go_by_their_mounts()
     // of any two stations, after whatever has happened to each: where they agree on all that an event can reach, they
-    // answer it alike, and agree on that still; what streams and listeners there are at other mounts does not matter
+    // answer it alike, and agree on that still; what streams and listeners there are at other mounts, and which of these
+    // have finished, does not matter
     ensures alike { (settings others : Settings) (lists files : Lists) (events more : List Event) (within : List ℕ → Bool) (event : Event)
         → AnswersAlike within (run_after others files more) (run_after settings lists events) event }
     // and what an event cannot reach is left alone: each other mount has the session that it had, and those sit there who sat there
