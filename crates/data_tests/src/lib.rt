@@ -2,7 +2,7 @@
 //! with ample memory, and the definitions mean what the standards and the rules say, on examples from outside. More such
 //! examples are rows and cases of the end-to-end scripts.
 //!
-//! - `tables`: rows by number; `blocks`: the memory of blocks; `queue`: the blocks that are kept.
+//! - `tables`: rows by number; `blocks`: the memory of blocks; `queue`: the blocks that are kept; `packing`: small ones of them.
 //! - `bodies`: feeds behind an end or a fault; `icy`: sound with titles woven into it and taken out.
 //! - `addresses`: peers as texts; `credentials`: values that no head can hold, and secrets.
 //! - `log_lines`: lines of the log, and the calendar; `outlet`: the thread that writes them.
@@ -34,6 +34,8 @@ mod listings;
 mod log_lines;
 #[cfg(test)]
 mod outlet;
+#[cfg(test)]
+mod packing;
 #[cfg(test)]
 mod queue;
 #[cfg(test)]

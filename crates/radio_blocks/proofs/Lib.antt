@@ -1,2 +1,4 @@
 pub mod BlockLemmas
+pub mod ChunkLemmas
+pub mod PartLemmas
 pub mod QueueLemmas

@@ -1,13 +1,15 @@
 -- The tail of a stream that a queue keeps, and the slices that are drawn of it.
 use Rattle.std.proofs.Common.{◌≡◌, ℕ, zero, suc, ◌+◌, ◌-◌, ◌<◌, ◌≤◌, min, Bool, true, false, List, [], ◌∷◌, ◌++◌, length, take, drop, ap, sym, ◌∙◌, refl}
 use Rattle.std.proofs.Common.{subst, inl, inr, slice_index_or, Some, arith, length-append, append_assoc, append-nil}
-use Rattle.std.specs.Prelude.{nat_le, ◌⊎◌, find, unwrap_or, if◌then◌else◌}
+use Rattle.std.specs.Prelude.{nat_le, ◌⊎◌, Option, None, find, unwrap_or, if◌then◌else◌}
+use Rattle.std.specs.Option.{option_or}
 use Rattle.std.specs.List.{concat}
-use Rattle.std.proofs.lemmas.Bool.{le-leb, leb-false, leb-true}
-use Rattle.std.proofs.lemmas.List.{take-append-drop, drop_min, length-take, drop_all, drop_more, take-append-le}
-use Rattle.std.proofs.lemmas.List.Folds.{concat-append}
+use Rattle.std.proofs.lemmas.Bool.{le-leb, lt-leb, leb-false, leb-true}
+use Rattle.std.proofs.lemmas.List.{take-append-drop, drop_min, drop_all, drop_more}
+use Rattle.std.proofs.lemmas.List.Folds.{concat-append, find-append}
 use Rattle.std.proofs.Math.Seq.{drop-append-add, drop-append_seam}
 use Rattle.radio_blocks.proofs.BlockLemmas.{concat-push}
+use Rattle.radio_blocks.specs.Chunk.{starts_of}
 use Rattle.radio_blocks.specs.Queue.{KeptTail, nothing_kept, kept_end, shortest_tail, trimmed, with_pushed, starts_from, bytes_behind}
 use Rattle.radio_blocks.specs.QueueLaws.{with_all, tail_after, IsShortestTail}
 
@@ -34,7 +36,7 @@ kept_at bytes offset place lag inside is =
     let here : length bytes - lag ≡ min (place - offset) (length bytes) = omega (arith, inside, is) in
     ap (λ (n : ℕ). drop n bytes) here ∙ drop_min (place - offset) bytes
 
-drop_twice : (n m : ℕ) (xs : List ℕ) → drop n (drop m xs) ≡ drop (m + n) xs
+pub drop_twice : (n m : ℕ) (xs : List ℕ) → drop n (drop m xs) ≡ drop (m + n) xs
 drop_twice n zero xs = let same : n ≡ zero + n = omega arith in ap (λ (k : ℕ). drop k xs) same
 drop_twice n (suc m) [] = drop_all n [] (omega arith) ∙ sym (drop_all (suc m + n) [] (omega arith))
 drop_twice n (suc m) (x ∷ xs) = let same : suc (m + n) ≡ suc m + n = omega arith in drop_twice n m xs ∙ ap (λ (k : ℕ). drop k (x ∷ xs)) same
@@ -70,12 +72,47 @@ part_and_rest slice rest part skip room is =
 abbrev pub first_within : ℕ → ℕ → ℕ → List (List ℕ) → ℕ
 first_within end burst here blocks = unwrap_or (find (λ start. nat_le (end - start) burst) (starts_from here blocks)) end
 
--- it is here, where here is a start
-pub first_here : (end burst here : ℕ) (blocks : List (List ℕ)) → 0 < length blocks → end - here ≤ burst → here ≡ first_within end burst here blocks
-first_here end burst here [] some near = absurd (omega (arith, some))
-first_here end burst here (block ∷ blocks) some near =
-    ap (λ (b : Bool). unwrap_or (if b then Some here else find (λ start. nat_le (end - start) burst) (starts_from (here + length block) blocks)) end)
-    (sym (le-leb (end - here) burst near))
+-- of sizes, it is here if here is a start
+pub start_here : (end burst here : ℕ) (sizes : List ℕ) → 0 < length sizes → end - here ≤ burst
+    → Some here ≡ find (λ place. nat_le (end - place) burst) (starts_of here sizes)
+start_here end burst here [] some near = absurd (omega (arith, some))
+start_here end burst here (size ∷ sizes) some near =
+    ap (λ (b : Bool). if b then Some here else find (λ place. nat_le (end - place) burst) (starts_of (here + size) sizes)) (sym (le-leb (end - here) burst near))
+
+-- how many bytes blocks have, the first of which are these
+pub sizes_of : (blocks more all : List (List ℕ)) → all ≡ blocks ++ more → length (concat all) ≡ length (concat blocks) + length (concat more)
+sizes_of blocks more all is =
+    ap (λ (t : List (List ℕ)). length (concat t)) is
+    ∙ (ap (λ (t : List ℕ). length t) (concat-append blocks more) ∙ length-append (concat blocks) (concat more))
+
+starts_from-append : (here : ℕ) (blocks more : List (List ℕ)) → starts_from here (blocks ++ more) ≡ starts_from here blocks ++ starts_from (here + length (concat blocks)) more
+starts_from-append here [] more = let same : here ≡ here + length {A = ℕ} [] = omega arith in ap (λ (n : ℕ). starts_from n more) same
+starts_from-append here (block ∷ blocks) more =
+    let sizes = length-append block (concat blocks) in
+    let next : (here + length block) + length (concat blocks) ≡ here + length (concat (block ∷ blocks)) = omega (arith, sizes) in
+    ap (λ (t : List ℕ). here ∷ t)
+    (starts_from-append (here + length block) blocks more
+    ∙ ap (λ (n : ℕ). starts_from (here + length block) blocks ++ starts_from n more) next)
+
+-- it is among the first blocks, or else among the others
+first_of_parts : (end burst here : ℕ) (blocks more : List (List ℕ)) (found : Option ℕ)
+    → find (λ start. nat_le (end - start) burst) (starts_from here blocks) ≡ found
+    → first_within end burst here (blocks ++ more)
+    ≡ unwrap_or (option_or found (find (λ start. nat_le (end - start) burst) (starts_from (here + length (concat blocks)) more))) end
+first_of_parts end burst here blocks more found is =
+    let near : ℕ → Bool = λ start. nat_le (end - start) burst in
+    ap (λ (t : List ℕ). unwrap_or (find near t) end) (starts_from-append here blocks more)
+    ∙ (ap (λ (t : Option ℕ). unwrap_or t end) (find-append near (starts_from here blocks) (starts_from (here + length (concat blocks)) more))
+    ∙ ap (λ (t : Option ℕ). unwrap_or (option_or t (find near (starts_from (here + length (concat blocks)) more))) end) is)
+
+pub first_among : (end burst here start : ℕ) (blocks more : List (List ℕ)) → Some start ≡ find (λ start. nat_le (end - start) burst) (starts_from here blocks)
+    → start ≡ first_within end burst here (blocks ++ more)
+first_among end burst here start blocks more is = sym (first_of_parts end burst here blocks more (Some start) (sym is))
+
+pub first_behind : (end burst here next : ℕ) (blocks more : List (List ℕ)) → None ≡ find (λ start. nat_le (end - start) burst) (starts_from here blocks)
+    → next ≡ here + length (concat blocks) → first_within end burst next more ≡ first_within end burst here (blocks ++ more)
+first_behind end burst here next blocks more is next_is =
+    ap (λ (n : ℕ). first_within end burst n more) next_is ∙ sym (first_of_parts end burst here blocks more None (sym is))
 
 -- the bytes from a slice on, and from the next one on
 pub bytes_from : (slices : List (List ℕ)) (index : ℕ) (slice : List ℕ) → index < length slices → slice ≡ slice_index_or slices index slice
@@ -90,32 +127,40 @@ sizes_from slices before index slice next inside is =
     ap (λ (t : List ℕ). length t) (bytes_from slices before slice (omega (arith, next, inside)) is)
     ∙ (length-append slice (concat (drop (before + 1) slices)) ∙ ap (λ (n : ℕ). length slice + length (concat (drop n slices))) next)
 
--- one part more
-pub part_more : (blocks pushed more : List (List ℕ)) (slice part : List ℕ) (index skip room size later : ℕ) → index < length blocks
-    → slice ≡ slice_index_or blocks index slice → part ≡ take room (drop skip slice) → later ≡ skip - length slice → size ≡ length part
-    → more ≡ pushed ++ part ∷ []
-    → concat more ++ take (room - size) (bytes_behind (index + 1) later blocks) ≡ concat pushed ++ take room (bytes_behind index skip blocks)
-part_more blocks pushed more slice part index skip room size later inside is part_is later_is size_is more_is =
-    let rest = concat (drop (index + 1) blocks) in
-    let joined : concat more ≡ concat pushed ++ part = ap concat more_is ∙ concat-push pushed part in
-    ap (λ (t : List ℕ). t ++ take (room - size) (drop later rest)) joined
-    ∙ (append_assoc (concat pushed) part (take (room - size) (drop later rest))
-    ∙ ap (λ (t : List ℕ). concat pushed ++ t)
-    (ap (λ (n : ℕ). part ++ take (room - n) (drop later rest)) size_is
-    ∙ (ap (λ (n : ℕ). part ++ take (room - length part) (drop n rest)) later_is
-    ∙ (sym (part_and_rest slice rest part skip room part_is)
-    ∙ ap (λ (t : List ℕ). take room (drop skip t)) (sym (bytes_from blocks index slice inside is))))))
-
--- what stood in front stands there still
-pub still_front : (old now next : List (List ℕ)) (part : List ℕ) → take (length old) now ≡ old → next ≡ now ++ part ∷ [] → take (length old) next ≡ old
-still_front old now next part front is =
-    let sizes = sym (ap (λ (t : List (List ℕ)). length t) front) ∙ length-take (length old) now in
-    ap (λ (t : List (List ℕ)). take (length old) t) is ∙ (take-append-le (length old) now (part ∷ []) (omega (arith, sizes)) ∙ front)
-
 -- the size of a queue with one more block
 pub one_more : (blocks more : List (List ℕ)) (block : List ℕ) → more ≡ blocks ++ block ∷ [] → length (concat more) ≡ length (concat blocks) + length block
 one_more blocks more block is =
     ap (λ (t : List (List ℕ)). length (concat t)) is ∙ (ap (λ (t : List ℕ). length t) (concat-push blocks block) ∙ length-append (concat blocks) block)
+
+shortest_at_first : (slice : List ℕ) (slices : List (List ℕ)) (lag : ℕ) → length (concat slices) < lag → slice ∷ slices ≡ shortest_tail lag (slice ∷ slices)
+shortest_at_first slice slices lag few =
+    let none : nat_le lag (length (concat slices)) ≡ false = lt-leb lag (length (concat slices)) few in
+    sym (ap (λ (b : Bool). if b then shortest_tail lag slices else slice ∷ slices) none)
+
+shortest_at_index : (slices : List (List ℕ)) (index lag : ℕ) → index < length slices → length (concat (drop (suc index) slices)) < lag
+    → lag ≤ length (concat (drop index slices)) → drop index slices ≡ shortest_tail lag slices
+shortest_at_index [] index lag inside few enough = absurd (omega (arith, inside))
+shortest_at_index (slice ∷ slices) zero lag inside few enough = shortest_at_first slice slices lag few
+shortest_at_index (slice ∷ slices) (suc index) lag inside few enough =
+    let parts = ap (λ (t : List ℕ). length t) (concat-parts slices index) in
+    let sizes = length-append (concat (take index slices)) (concat (drop index slices)) in
+    let all : lag ≤ length (concat slices) = omega (arith, parts, sizes, enough) in
+    let yes_too : nat_le lag (length (concat slices)) ≡ true = le-leb lag (length (concat slices)) all in
+    shortest_at_index slices index lag (omega (arith, inside)) few enough
+    ∙ sym (ap (λ (b : Bool). if b then shortest_tail lag slices else slice ∷ slices) yes_too)
+
+-- the fewest last slices that have so many bytes begin at the last one from which on there are so many
+pub shortest_from : (slices : List (List ℕ)) (index next lag : ℕ) → index < length slices → next ≡ suc index → length (concat (drop next slices)) < lag
+    → lag ≤ length (concat (drop index slices)) → drop index slices ≡ shortest_tail lag slices
+shortest_from slices index next lag inside is few enough =
+    let same = ap (λ (n : ℕ). length (concat (drop n slices))) is in
+    shortest_at_index slices index lag inside (omega (arith, few, same)) enough
+
+pub shortest_none : (slices : List (List ℕ)) → [] ≡ shortest_tail 0 slices
+shortest_none [] = refl
+shortest_none (slice ∷ slices) =
+    let yes_too : nat_le 0 (length (concat slices)) ≡ true = le-leb 0 (length (concat slices)) (omega arith) in
+    shortest_none slices ∙ sym (ap (λ (b : Bool). if b then shortest_tail 0 slices else slice ∷ slices) yes_too)
 
 shortest-here : (limit : ℕ) (block : List ℕ) (blocks more : List (List ℕ)) (enough : Bool) → nat_le limit (length (concat blocks)) ≡ enough
     → shortest_tail limit (shortest_tail limit blocks ++ more) ≡ shortest_tail limit (blocks ++ more)
@@ -241,3 +286,16 @@ tail_after-stream limit blocks =
     let here : tail.offset ≡ length (concat is.dropped) = omega (arith, end, sizes) in
     ap (λ (n : ℕ). drop n (concat blocks)) here
     ∙ (ap (λ (t : List ℕ). drop (length (concat is.dropped)) t) parts ∙ drop-append_seam (concat is.dropped) (concat tail.blocks))
+
+-- of too few blocks none is dropped
+shortest_few : (limit : ℕ) (blocks : List (List ℕ)) → length (concat blocks) < limit → shortest_tail limit blocks ≡ blocks
+shortest_few limit [] few = refl
+shortest_few limit (block ∷ blocks) few =
+    let sizes = length-append block (concat blocks) in
+    sym (shortest_at_first block blocks limit (omega (arith, sizes, few)))
+
+pub trimmed_few : (tail : KeptTail) → length (concat tail.blocks) < tail.limit → trimmed tail ≡ tail
+trimmed_few tail few =
+    let here : kept_end tail - length (concat tail.blocks) ≡ tail.offset = omega arith in
+    ap (λ (t : List (List ℕ)). record tail { offset = kept_end tail - length (concat t); blocks = t }) (shortest_few tail.limit tail.blocks few)
+    ∙ ap (λ (n : ℕ). record tail { offset = n }) here

@@ -8,12 +8,16 @@
 #![tactic(auto)]
 
 mod block;
+mod chunk;
 mod cutting;
 mod gathering;
+mod kept;
 pub mod laws;
+mod parts;
 mod pieces;
 mod place;
 mod queue;
+mod sizes;
 
 pub use block::{Block, MAX_BLOCK};
 pub use cutting::first_block;

@@ -1,9 +1,12 @@
 //! Data that a listener draws.
-ghost use Rattle.std.specs.Prelude.{◌≡◌, ◌==◌, ◌++◌, ◌∷◌, [], suc, length, take, drop, IfOk, OnOk, OnErr};
+ghost use Rattle.std.specs.Prelude.{◌≡◌, ◌++◌, ◌∷◌, [], suc, map, length, take, drop, IsTrue, IfOk, OnOk, OnErr};
 ghost use Rattle.std.specs.List.{concat};
+ghost use Rattle.radio_blocks.specs.Chunk.{all_blocks};
+ghost use Rattle.radio_blocks.specs.Parts.{parts_of};
 ghost use Rattle.radio_blocks.specs.Queue.{bytes_behind};
 
 use crate::OutOfMemory;
+use crate::chunk::Chunk;
 use bytes::Bytes;
 use std::alloc::Global;
 use std::collections::VecDeque;
@@ -51,27 +54,27 @@ impl Pieces {
         }
     }
 
-    /// Appends at most `room` bytes of the blocks, from the block at `index` on, but for the `skip` bytes at the front.
+    /// Appends at most `room` bytes of the chunks, from the chunk at `index` on, but for the `skip` bytes at the front.
     /// They are not copied. `OutOfMemory` where memory was refused; the pieces are unchanged then.
     pub(crate) fn append_from(
         &mut self,
-        blocks: &VecDeque<Bytes>,
+        chunks: &VecDeque<Chunk>,
         index: usize,
         skip: usize,
         room: usize,
     ) -> Result<(), OutOfMemory>
-        ensures ok { OnOk result (self.new ≡ self.old ++ take room (bytes_behind index skip blocks.now.items)) }
+        ensures ok { OnOk result (self.new ≡ self.old ++ take room (bytes_behind index skip (map concat chunks.now.items))) }
         ensures err { OnErr result (self.new ≡ self.old) }
     {
         let slices = match &mut self.slices {
             Slices::One(first) => {
-                let slices = one_and_parts(self.alloc, first, blocks, index, skip, room)?;
+                let slices = one_and_parts(self.alloc, first, chunks, index, skip, room)?;
                 Slices::Many(slices)
             }
-            Slices::Many(slices) if slices.is_empty() && is_last(blocks, index) => {
-                Slices::One(part_of(&blocks[index], skip, room)?)
+            Slices::Many(slices) if slices.is_empty() && is_last_block(chunks, index) => {
+                Slices::One(last_part(chunks, index, skip, room)?)
             }
-            Slices::Many(slices) => return push_parts(slices, blocks, index, skip, room),
+            Slices::Many(slices) => return push_all_parts(slices, chunks, index, skip, room),
         };
         self.slices = slices;
         Ok(())
@@ -124,84 +127,72 @@ fn write_slices(slices: &[Bytes], out: &mut Vec<u8>) -> Result<(), OutOfMemory>
     Ok(())
 }
 
-/// Whether the block at this place is the last one.
-fn is_last(blocks: &VecDeque<Bytes>, index: usize) -> bool
-    ensures { result ≡ (length blocks.now.items == suc index) }
+/// Whether this chunk is the last one, and a single block.
+fn is_last_block(chunks: &VecDeque<Chunk>, index: usize) -> bool
+    ensures { IsTrue result → length chunks.now.items ≡ suc index }
 {
-    index < blocks.len() && blocks.len() - index == 1
+    index < chunks.len() && chunks.len() - index == 1 && chunks[index].is_block()
 }
 
-/// A slice, and behind it as much of the blocks. `OutOfMemory` where memory was refused.
+/// As much of the last chunk, which is a single block. `OutOfMemory` where memory was refused.
+fn last_part(
+    chunks: &VecDeque<Chunk>,
+    index: usize,
+    skip: usize,
+    room: usize,
+) -> Result<Bytes, OutOfMemory>
+    requires { length chunks.now.items ≡ suc index }
+    ensures { IfOk result (λ part. part ≡ take room (bytes_behind index skip (map concat chunks.now.items))) }
+{
+    chunks[index].part(skip, room)
+}
+
+/// A slice, and behind it as much of the chunks. `OutOfMemory` where memory was refused.
 fn one_and_parts(
     alloc: Global,
     first: &Bytes,
-    blocks: &VecDeque<Bytes>,
+    chunks: &VecDeque<Chunk>,
     index: usize,
     skip: usize,
     room: usize,
 ) -> Result<Vec<Bytes>, OutOfMemory>
-    ensures { IfOk result (λ slices. concat slices.items ≡ first.now ++ take room (bytes_behind index skip blocks.now.items)) }
+    ensures { IfOk result (λ slices. concat slices.items ≡ first.now ++ take room (bytes_behind index skip (map concat chunks.now.items))) }
 {
     let mut slices = Vec::new(alloc);
     slices.push(first.clone()?)?;
-    push_parts(&mut slices, blocks, index, skip, room)?;
+    push_all_parts(&mut slices, chunks, index, skip, room)?;
     Ok(slices)
 }
 
-/// Puts as much of the blocks behind the slices. `OutOfMemory` where memory was refused; the slices are unchanged then.
-fn push_parts(
+/// Puts at most `room` bytes of the chunks behind the slices, from the chunk at `index` on, but for the `skip` bytes at
+/// the front: a slice of each block that has some of them. `OutOfMemory` where memory was refused; the slices are
+/// unchanged then.
+fn push_all_parts(
     slices: &mut Vec<Bytes>,
-    blocks: &VecDeque<Bytes>,
+    chunks: &VecDeque<Chunk>,
     index: usize,
     skip: usize,
     room: usize,
 ) -> Result<(), OutOfMemory>
-    ensures ok { OnOk result (concat slices.new.items
-        ≡ concat slices.old.items ++ take room (bytes_behind index skip blocks.now.items)) }
+    ensures ok { OnOk result (slices.new.items ≡ slices.old.items ++ parts_of skip room (all_blocks (drop index chunks.now.items))) }
+    ensures bytes { OnOk result (concat slices.new.items
+        ≡ concat slices.old.items ++ take room (bytes_behind index skip (map concat chunks.now.items))) }
     ensures err { OnErr result (slices.new.items ≡ slices.old.items) }
 {
     let before = slices.len();
     let mut index = index;
     let mut skip = skip;
     let mut left = room;
-    'index: while left > 0 && index < blocks.len() {
-        let block = &blocks[index];
-        match push_part(slices, block, skip, left) {
-            Ok(taken) => left -= taken,
-            Err(refused) => {
-                slices.truncate(before);
-                return Err(refused);
-            }
+    'index: while left > 0 && index < chunks.len() {
+        let chunk = &chunks[index];
+        if let Err(refused) = chunk.push_parts(slices, skip, left) {
+            slices.truncate(before);
+            return Err(refused);
         }
-        skip = skip.saturating_sub(block.len());
+        let size = chunk.len();
+        left = left.saturating_sub(size.saturating_sub(skip));
+        skip = skip.saturating_sub(size);
         index += 1;
     }
     Ok(())
-}
-
-/// Puts at most `room` bytes of the block behind the slices, but for the `skip` bytes at its front, and tells how many they are.
-/// `OutOfMemory` where memory was refused; the slices are unchanged then.
-fn push_part(
-    slices: &mut Vec<Bytes>,
-    block: &Bytes,
-    skip: usize,
-    room: usize,
-) -> Result<usize, OutOfMemory>
-    ensures part { OnOk result (slices.new.items ≡ slices.old.items ++ take room (drop skip block.now) ∷ []) }
-    ensures taken { IfOk result (λ taken. taken ≡ length (take room (drop skip block.now))) }
-    ensures err { OnErr result (slices.new.items ≡ slices.old.items) }
-{
-    let part = part_of(block, skip, room)?;
-    let taken = part.len();
-    slices.push(part)?;
-    Ok(taken)
-}
-
-/// At most `room` bytes of the slice, but for the `skip` bytes at its front.
-fn part_of(slice: &Bytes, skip: usize, room: usize) -> Result<Bytes, OutOfMemory>
-    ensures { IfOk result (λ part. part ≡ take room (drop skip slice.now)) }
-{
-    let from = skip.min(slice.len());
-    let to = from + room.min(slice.len() - from);
-    slice.slice(from..to)
 }

@@ -7,11 +7,10 @@ ghost use Rattle.radio_blocks.specs.Queue.{nothing_kept, kept_end, kept_lag, tri
 
 use crate::OutOfMemory;
 use crate::block::Block;
+use crate::kept::KeptBlocks;
 use crate::pieces::Pieces;
 use crate::place::Place;
-use bytes::Bytes;
 use std::alloc::{AllocFailed, Global};
-use std::collections::VecDeque;
 use std::marker::Model;
 
 /// Why nothing was drawn.
@@ -23,7 +22,7 @@ pub enum DrawFault {
     OutOfMemory,
 }
 
-/// The last blocks of a stream, as shared slices. Places count the bytes of the whole stream.
+/// The last blocks of a stream, as shared slices; small ones are packed, so that they take little memory. Places count the bytes of the whole stream.
 ///
 /// After each push it keeps the fewest whole blocks that have at least `limit` bytes together, or all blocks
 /// where these have fewer.
@@ -31,7 +30,7 @@ pub struct BlockQueue {
     limit: u64,
     offset: u64,
     end: u64,
-    blocks: VecDeque<Bytes>,
+    blocks: KeptBlocks,
 }
 
 impl Drop for BlockQueue {
@@ -53,9 +52,9 @@ impl Model for BlockQueue {
 
     ghost Value = { KeptTail };
 
-    ghost view = { λ q. record { offset = q.offset; blocks = q.blocks.items; limit = q.limit } };
+    ghost view = { λ q. record { offset = q.offset; blocks = q.blocks; limit = q.limit } };
 
-    ghost invariant = { λ q. q.offset + length (concat q.blocks.items) ≡ q.end };
+    ghost invariant = { λ q. q.offset + length (concat q.blocks) ≡ q.end };
 }
 
 impl BlockQueue {
@@ -67,7 +66,7 @@ impl BlockQueue {
             limit,
             offset: 0,
             end: 0,
-            blocks: VecDeque::new(alloc),
+            blocks: KeptBlocks::new(alloc),
         }
     }
 
@@ -104,14 +103,7 @@ impl BlockQueue {
     pub fn start_for(&self, burst: u64) -> Place
         ensures { result ≡ kept_start self.now burst }
     {
-        let mut start = self.offset;
-        for i in 0..self.blocks.len() {
-            if self.end - start <= burst {
-                return Place::new(start);
-            }
-            start += self.blocks[i].len() as u64;
-        }
-        Place::new(self.end)
+        Place::new(self.blocks.start_within(self.offset, self.end, burst))
     }
 
     /// Appends a block, and drops the blocks at the front that are not needed for `limit` bytes.
@@ -126,16 +118,12 @@ impl BlockQueue {
         let Some(end) = self.end.checked_add(block.len() as u64) else {
             return Err(AllocFailed { value: block });
         };
-        match self.blocks.push_back(block.into_bytes()) {
-            Ok(()) => {
-                self.end = end;
-                self.trim();
-                Ok(())
-            }
-            Err(refused) => Err(AllocFailed {
-                value: Block::again(refused.value),
-            }),
+        if let Err(refused) = self.blocks.push(block) {
+            return Err(refused);
         }
+        self.end = end;
+        self.trim();
+        Ok(())
     }
 
     /// Drops the blocks that are not needed.
@@ -151,15 +139,14 @@ impl BlockQueue {
         ensures dropped { IsTrue result → length self.new.blocks < length self.old.blocks }
         ensures done { IsFalse result → trimmed self.new ≡ self.new }
     {
-        let Some(first) = self.blocks.front() else {
-            return false;
-        };
-        let next = self.offset + first.len() as u64;
-        if self.end - next < self.limit {
+        let kept = self.end - self.offset;
+        if kept < self.limit {
             return false;
         }
-        self.blocks.pop_front();
-        self.offset = next;
+        let Some(size) = self.blocks.drop_first(kept - self.limit) else {
+            return false;
+        };
+        self.offset += size;
         true
     }
 
@@ -180,35 +167,10 @@ impl BlockQueue {
         if before < self.offset {
             return Err(DrawFault::Trimmed);
         }
-        let end = self.end;
-        let lag = end.saturating_sub(before);
-        let (index, skip) = last_start(&self.blocks, lag as usize);
-        match pieces.append_from(&self.blocks, index, skip, room as usize) {
+        let lag = self.end.saturating_sub(before);
+        match self.blocks.draw_last(lag as usize, room as usize, pieces) {
             Ok(()) => Ok(Place::new(before + lag.min(room as u64))),
             Err(_) => Err(DrawFault::OutOfMemory),
         }
     }
-}
-
-/// The slice in which the last `lag` bytes begin, and how many of its bytes lie before them. It looks from the end on,
-/// so it costs as many steps as slices hold these bytes.
-fn last_start(slices: &VecDeque<Bytes>, lag: usize) -> (usize, usize)
-    requires { lag ≤ length (concat slices.now.items) }
-    ensures { bytes_behind result.0 result.1 slices.now.items
-        ≡ drop (length (concat slices.now.items) - lag) (concat slices.now.items) }
-{
-    if lag == 0 {
-        return (slices.len(), 0);
-    }
-    let mut index = slices.len();
-    let mut left = lag;
-    'index: while index > 0 {
-        index -= 1;
-        let size = slices[index].len();
-        if left <= size {
-            return (index, size - left);
-        }
-        left -= size;
-    }
-    (0, 0)
 }
