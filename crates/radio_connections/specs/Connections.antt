@@ -4,6 +4,7 @@ use Rattle.std.specs.List.{position, remove}
 use Rattle.radio_addr.specs.declared.peer.Peer.{Peer}
 use Rattle.radio_events.specs.declared.event.Event.{Event}
 use Rattle.radio_events.specs.declared.reply.Reply.{Reply}
+use Rattle.radio_session.specs.declared.web_answers.WebAnswers.{WebAnswers}
 use Rattle.radio_session.specs.Conversation.{Conversation, fresh, asking}
 use Rattle.radio_session.specs.Exchanges.{is_leave}
 use Rattle.radio_session.specs.Saying.{said}
@@ -51,9 +52,9 @@ status_at fate has_left ms =
     record { fate = fate; has_left = has_left; sits = false; is_behind = false; has_taken = false; is_finished = false; asked_ms = ms; moved_ms = ms }
 
 -- a client was let in, whose line gave and took this, and was called so often
-abbrev pub newly_come : ℕ → Peer → List ℕ → List ℕ → Calls → ℕ → Connection
-newly_come id peer given taken calls ms =
-    record { id = id; given = given; taken = taken; calls = calls; owed = []; session = fresh id peer; status = status_at Open false ms; refused = no_refusals }
+abbrev pub newly_come : WebAnswers → ℕ → Peer → List ℕ → List ℕ → Calls → ℕ → Connection
+newly_come web id peer given taken calls ms =
+    record { id = id; given = given; taken = taken; calls = calls; owed = []; session = fresh web id peer; status = status_at Open false ms; refused = no_refusals }
 
 -- the connection of nobody, whose conversation has ended so
 abbrev pub newly_ended : List ℕ → List ℕ → Calls → List ℕ → Conversation → ℕ → Connection
@@ -82,9 +83,10 @@ abbrev pub without_first : List Connection → List Connection
 without_first cs = without_at (position lingers cs) cs
 
 -- one was not let in, and is owed what he is told; his line gave and took this
-pub record IsTurnedAway (denial : Reply) (given taken : List ℕ) (ms : ℕ) (c : Connection) : Type 0 where
+pub record IsTurnedAway (web : WebAnswers) (denial : Reply) (given taken : List ℕ) (ms : ℕ) (c : Connection) : Type 0 where
   pub id : c.id ≡ 0
   pub given_so_far : c.given ≡ given
   pub taken_so_far : c.taken ≡ taken
-  pub owed : c.owed ≡ (said asking denial).bytes
+  pub web_of_it : c.session.says.web ≡ web
+  pub owed : c.owed ≡ (said (asking web) denial).bytes
   pub status : c.status ≡ status_at Ended true ms

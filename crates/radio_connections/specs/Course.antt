@@ -10,6 +10,7 @@ use Rattle.radio_events.specs.declared.entry.Entry.{Entry}
 use Rattle.radio_events.specs.Events.{entry}
 use Rattle.radio_events.specs.declared.state.State.{State}
 use Rattle.radio_events.specs.declared.state.State.TheVariants.{Running, Shut}
+use Rattle.radio_session.specs.declared.web_answers.WebAnswers.{WebAnswers}
 use Rattle.radio_session.specs.Conversation.{Conversation, fresh, asking, saying_now}
 use Rattle.radio_session.specs.Hearing.{Heard, IsHeard}
 use Rattle.radio_session.specs.Saying.{said}
@@ -35,14 +36,14 @@ pub record Standing : Type 0 where
   -- whether its client has left, or was none
   pub has_left : Bool
 
--- a client whose connection has just come
-abbrev pub newcomer : Peer → ℕ → Standing
-newcomer peer id =
+-- a client whose connection has just come, by what the settings say of its answers
+abbrev pub newcomer : WebAnswers → Peer → ℕ → Standing
+newcomer web peer id =
     record {
       given = [];
       entries = entry (Arrive peer) (Arrived id) ∷ [];
       text = [];
-      session = fresh id peer;
+      session = fresh web id peer;
       pending = [];
       sits = false;
       fate =
@@ -51,13 +52,13 @@ newcomer peer id =
     }
 
 -- one whose connection is not taken in: it is told of the denial, and is nobody's client
-abbrev pub stranger : Peer → Rule → Standing
-stranger peer rule =
+abbrev pub stranger : WebAnswers → Peer → Rule → Standing
+stranger web peer rule =
     record {
       given = [];
       entries = [];
-      text = (said asking (Deny rule)).bytes;
-      session = fresh 0 peer;
+      text = (said (asking web) (Deny rule)).bytes;
+      session = fresh web 0 peer;
       pending = [];
       sits = false;
       fate = Ended;
@@ -110,8 +111,8 @@ IsQuiet s = (s.fate ≡ Open) × (s.pending ≡ [])
 -- What can have happened on the connection of this client, up to now.
 pub data Course (id : ℕ) : Standing → Type 0 where
   -- it comes, and is taken in, or not
-  arrives : (peer : Peer) → Course id (newcomer peer id)
-  turned_away : (peer : Peer) (rule : Rule) → Course id (stranger peer rule)
+  arrives : (web : WebAnswers) (peer : Peer) → Course id (newcomer web peer id)
+  turned_away : (web : WebAnswers) (peer : Peer) (rule : Rule) → Course id (stranger web peer rule)
   -- its line gives bytes, and they are heard as these events
   hears : (s : Standing) → Course id s → IsQuiet s → (bytes : List ℕ) (heard : Heard) → IsHeard s.session bytes heard
       → Course id (record s { given = s.given ++ bytes; session = heard.conversation; pending = heard.events })

@@ -1,12 +1,14 @@
 //! A connection, as its worker has it.
 
 ghost use Rattle.std.specs.Prelude.{◌≡◌, IfOk};
-ghost use Rattle.radio_session.specs.Conversation.{saying_now};
+ghost use Rattle.radio_policy.specs.declared.rule.Rule.{Rule};
+ghost use Rattle.radio_events.specs.declared.reply.Reply.TheVariants.{Deny};
+ghost use Rattle.radio_session.specs.Conversation.{asking, saying_now};
 ghost use Rattle.radio_session.specs.Saying.{said};
 
 use crate::owed::Owed;
 use crate::refusals::Refusals;
-use crate::{Line, OutOfMemory};
+use crate::{Line, OutOfMemory, WebAnswers};
 use radio_addr::Peer;
 use radio_events::Reply;
 use radio_notes::{Account, Told};
@@ -122,13 +124,13 @@ impl<L: Line> Conn<L> {
     ghost use Rattle.radio_connections.specs.Admission.{IsTakenIn, LetsNobodyIn};
 
     /// The connection of a client who was let in under this number.
-    fn new(alloc: Global, id: u64, peer: Peer, line: L, ms: u64) -> Conn<L>
-        ensures { result ≡ newly_come id peer (L.given line) (L.taken line) (L.calls line) ms }
+    fn new(alloc: Global, web: WebAnswers, id: u64, peer: Peer, line: L, ms: u64) -> Conn<L>
+        ensures { result ≡ newly_come web id peer (L.given line) (L.taken line) (L.calls line) ms }
     {
         Conn {
             id,
             line,
-            session: Session::new(alloc, id, peer),
+            session: Session::new(alloc, web, id, peer),
             owed: Owed::new(alloc),
             status: Status::new(Fate::Open, false, ms),
             refusals: Refusals::new(),
@@ -140,15 +142,16 @@ impl<L: Line> Conn<L> {
     /// memory was refused; the line is closed then.
     fn turned_away(
         alloc: Global,
+        web: WebAnswers,
         peer: Peer,
         line: L,
         denial: Reply,
         ms: u64,
     ) -> Result<Conn<L>, OutOfMemory>
-        ensures { IfOk result (λ c. IsTurnedAway denial (L.given line) (L.taken line) ms c) }
+        ensures { IfOk result (λ c. IsTurnedAway web denial (L.given line) (L.taken line) ms c) }
     {
         let account = denied_account(alloc, &denial, ms);
-        let mut session = Session::new(alloc, 0, peer);
+        let mut session = Session::new(alloc, web, 0, peer);
         match told_first(alloc, &mut session, &account, denial) {
             Ok(owed) => Ok(Conn::ended(line, session, owed, account, ms)),
             Err(refused) => {
@@ -175,22 +178,25 @@ impl<L: Line> Conn<L> {
         }
     }
 
-    /// The connection of one who comes, and to whom the server replies so. `OutOfMemory` where
-    /// memory was refused; the line is closed then.
+    /// The connection of one who comes, and to whom the server replies so, by what the settings say of its answers.
+    /// `OutOfMemory` where memory was refused; the line is closed then.
     pub fn admitted(
         alloc: Global,
+        web: WebAnswers,
         peer: Peer,
         line: L,
         reply: Reply,
         ms: u64,
     ) -> Result<Conn<L>, OutOfMemory>
         ensures taken_in { IfOk result (λ c. IsTakenIn peer reply (L.given line) (L.taken line) c) }
+        ensures answers { IfOk result (λ c. c.session.says.web ≡ web) }
+        ensures denial { IfOk result (λ c. (rule : Rule) → reply ≡ Deny rule → c.owed ≡ (said (asking web) (Deny rule)).bytes) }
         // memory is wanted only for one who was not let in
         ensures err { OnErr result (LetsNobodyIn reply) }
     {
         match reply {
-            Reply::Arrived(id) => Ok(Conn::new(alloc, id, peer, line, ms)),
-            denial => Conn::turned_away(alloc, peer, line, denial, ms),
+            Reply::Arrived(id) => Ok(Conn::new(alloc, web, id, peer, line, ms)),
+            denial => Conn::turned_away(alloc, web, peer, line, denial, ms),
         }
     }
 

@@ -10,6 +10,7 @@ ghost use Rattle.radio_documents.specs.Document.{reading_of, settings_of};
 ghost use Rattle.radio_documents.specs.Parts.{apart_fault, basics_fault, basics_of, fault_by_parts, listed, listed_in, lists_fault, named_fault};
 ghost use Rattle.radio_documents.specs.Parts.{optional_slave_fault, settings_with, station_fault, station_of, streams_fault, streams_of};
 ghost use Rattle.radio_documents.specs.Slave.{slave_of};
+ghost use Rattle.radio_documents.specs.Web.{answers_told};
 
 use crate::access::access;
 use crate::limits::limits;
@@ -18,7 +19,7 @@ use crate::mounts::{default_options, mounts};
 use crate::named::named;
 use crate::relays::relays;
 use crate::slave::slave;
-use crate::web::{names_fault, web};
+use crate::web::{AnswerSettings, answers, names_fault, web};
 use crate::{Key, SettingsFault};
 use radio_keys::table_at;
 use radio_settings::{
@@ -46,6 +47,15 @@ pub fn read_settings(alloc: Global, text: &str) -> Result<Settings, SettingsFaul
 {
     let document = document(alloc, text)?;
     settings(alloc, &document)
+}
+
+/// What a text in TOML says of requests and answers, in its table `[web]`. A text that sets something has no fault here but
+/// `OutOfMemory`: its faults are told by [`read_settings`].
+pub fn read_answers(alloc: Global, text: &str) -> Result<AnswerSettings, SettingsFault>
+    ensures { IfOk result (λ answers. answers_told text.now ≡ Some answers) }
+{
+    let document = document(alloc, text)?;
+    answers(&document)
 }
 
 /// The document that a text is.

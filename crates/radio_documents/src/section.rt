@@ -94,6 +94,9 @@ const WEB: &[KnownKey] = &[
     (Key::AllowOrigin, ValueKind::Origin),
     (Key::IcecastStatus, ValueKind::Flag),
     (Key::Page, ValueKind::Flag),
+    (Key::CacheControl, ValueKind::Flag),
+    (Key::BrowserCommands, ValueKind::Flag),
+    (Key::LogPolls, ValueKind::Flag),
 ];
 
 const MOUNT: &[KnownKey] = &[

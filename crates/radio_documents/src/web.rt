@@ -1,19 +1,32 @@
 //! The table `[web]`, and the names that it takes from mounts.
-ghost use Rattle.std.specs.Prelude.{◌≡◌};
+ghost use Rattle.std.specs.Prelude.{◌≡◌, IfOk};
 ghost use Rattle.std.specs.List.{list_all};
 ghost use Rattle.toml.specs.View.{table_view};
 ghost use Rattle.radio_keys.specs.Lookup.{table_or_empty};
 ghost use Rattle.radio_keys.specs.declared.key.Key.TheVariants.{Web};
 ghost use Rattle.radio_keys.specs.Reading.{Reads};
 ghost use Rattle.radio_documents.specs.Parts.{web_table_fault};
-ghost use Rattle.radio_documents.specs.Web.{web_fault, web_of};
+ghost use Rattle.radio_documents.specs.Web.{answers_fault, answers_in, answers_of, no_answers, web_fault, web_of};
 ghost use Rattle.radio_documents.specs.WebNames.{feeds_free_mount, has_free_fallback, has_free_name, web_names_fault};
 
 use crate::{Key, SettingsFault};
-use radio_keys::{flag_or, origin, table_or};
+use radio_keys::{flag_or, origin, table_at, table_or};
 use radio_settings::{MountSetting, RelaySetting, WebSettings};
 use std::alloc::Global;
 use toml::Table;
+
+/// What the table `[web]` says of requests and answers.
+#[derive(Clone, Copy, PartialEq, Eq)]
+pub struct AnswerSettings {
+    /// There is such a table.
+    pub has_table: bool,
+    /// `cache-control`
+    pub cache_control: bool,
+    /// `browser-commands`
+    pub browser_commands: bool,
+    /// `log-polls`
+    pub log_polls: bool,
+}
 
 /// What browsers are told, and the scripts of web sites.
 #[tactic(auto, unfolding(crate::specs::Parts::web_table_fault, crate::specs::Web::web_fault))]
@@ -25,16 +38,49 @@ pub fn web(alloc: Global, document: &Table) -> Result<WebSettings, SettingsFault
     web_in(alloc, table_or(document, Key::Web, &empty)?)
 }
 
-#[tactic(auto, unfolding(crate::specs::Web::web_fault, crate::specs::Web::web_of))]
+#[tactic(auto, unfolding(crate::specs::Web::web_fault, crate::specs::Web::answers_fault, crate::specs::Web::web_of))]
 fn web_in(alloc: Global, table: &Table) -> Result<WebSettings, SettingsFault>
     ensures { let t = table_view table.now in
         Reads (web_fault t) (web_of t) result }
 {
+    let allow_origin = origin(alloc, table, Key::AllowOrigin)?;
+    let icecast_status = flag_or(table, Key::IcecastStatus, false)?;
+    let page = flag_or(table, Key::Page, false)?;
+    let _answers = answers_of(table)?;
     Ok(WebSettings {
-        allow_origin: origin(alloc, table, Key::AllowOrigin)?,
-        icecast_status: flag_or(table, Key::IcecastStatus, false)?,
-        page: flag_or(table, Key::Page, false)?,
+        allow_origin,
+        icecast_status,
+        page,
     })
+}
+
+#[tactic(auto, unfolding(crate::specs::Web::answers_fault, crate::specs::Web::answers_of))]
+fn answers_of(table: &Table) -> Result<AnswerSettings, SettingsFault>
+    ensures { let t = table_view table.now in
+        Reads (answers_fault t) (answers_of t) result }
+{
+    Ok(AnswerSettings {
+        has_table: true,
+        cache_control: flag_or(table, Key::CacheControl, false)?,
+        browser_commands: flag_or(table, Key::BrowserCommands, false)?,
+        log_polls: flag_or(table, Key::LogPolls, true)?,
+    })
+}
+
+/// What a document says of answers. Its faults are among those of [`web`].
+#[tactic(auto, unfolding(radio_keys::specs::Lookup::table_at))]
+pub fn answers(document: &Table) -> Result<AnswerSettings, SettingsFault>
+    ensures { IfOk result (λ answers. answers ≡ answers_in (table_view document.now)) }
+{
+    match table_at(document, Key::Web)? {
+        Some(table) => answers_of(table),
+        None => Ok(AnswerSettings {
+            has_table: false,
+            cache_control: false,
+            browser_commands: false,
+            log_polls: true,
+        }),
+    }
 }
 
 /// The fault of the first name that is a path of the web site: of a mount, of a fallback, or of a mount that a relay feeds.

@@ -20,6 +20,7 @@ use Rattle.radio_values.specs.Limits.{max_title}
 use Rattle.radio_session.specs.declared.session.Hears.{Hears}
 use Rattle.radio_session.specs.declared.session.Hears.TheVariants.{Head, Body, Nothing}
 use Rattle.radio_session.specs.declared.session.Says.{Says}
+use Rattle.radio_session.specs.declared.web_answers.WebAnswers.{WebAnswers}
 use Rattle.radio_events.specs.declared.state.State.{State}
 use Rattle.radio_events.specs.declared.state.State.TheVariants.{Running, Shut}
 use Rattle.radio_session.specs.Conversation.{Conversation}
@@ -107,9 +108,9 @@ comes_as : (state : ScriptState) (delivery : Delivery) (p q : Performed) → p �
 comes_as state delivery p q e c = subst (λ (x : Performed). Comes state delivery x.state) (sym e) c
 
 module _ (state : ScriptState) (label : ℕ) where
-  opened : (peer : Peer) (found : Option (Option Connection)) → Comes state (Open label peer) (for_new_label state (opens state label peer) found).state
-  opened peer None = (Arrive peer ∷ [], Arrives label peer, refl)
-  opened peer (Some connection) = ([], NoEvents (Open label peer), refl)
+  opened : (web : WebAnswers) (peer : Peer) (found : Option (Option Connection)) → Comes state (Open label peer) (for_new_label state (opens web state label peer) found).state
+  opened web peer None = (Arrive peer ∷ [], Arrives label peer, refl)
+  opened web peer (Some connection) = ([], NoEvents (Open label peer), refl)
 
   module _ (conversation : Conversation) (connected : connection_of state.connections label ≡ Some (Some (Client conversation))) where
     exchange_comes : (input : Input) (now : Conversation) (asked : List Event) → now.id ≡ conversation.id → IsAskedBy conversation input asked
@@ -181,27 +182,27 @@ module _ (state : ScriptState) (label : ℕ) where
   label_comes input p (Some None) known h = comes_as state (To label input) p _ h ([], NoEvents (To label input), refl)
   label_comes input p (Some (Some connection)) known h = connection_comes input p connection known h
 
-delivery_comes : (state : ScriptState) (delivery : Delivery) (p : Performed) → IsPerformed state delivery p → Comes state delivery p.state
-delivery_comes state (Open label peer) p h = comes_as state (Open label peer) p _ h (opened state label peer (connection_of state.connections label))
-delivery_comes state (Pull label mount) p h =
+delivery_comes : (web : WebAnswers) (state : ScriptState) (delivery : Delivery) (p : Performed) → IsPerformed web state delivery p → Comes state delivery p.state
+delivery_comes web state (Open label peer) p h = comes_as state (Open label peer) p _ h (opened state label web peer (connection_of state.connections label))
+delivery_comes web state (Pull label mount) p h =
     comes_as state (Pull label mount) p _ h (connected state label mount (relay_named state.world mount) (connection_of state.connections label))
-delivery_comes state (To label input) p h = label_comes state label input p (connection_of state.connections label) refl h
-delivery_comes state (ClockIs ms) p h = comes_as state (ClockIs ms) p _ h (Clock ms ∷ [], Ticks ms, refl)
+delivery_comes web state (To label input) p h = label_comes state label input p (connection_of state.connections label) refl h
+delivery_comes web state (ClockIs ms) p h = comes_as state (ClockIs ms) p _ h (Clock ms ∷ [], Ticks ms, refl)
 
 -- the run goes on in this state
 abbrev Stands : ScriptState → Traced → Type 0
 Stands state traced = state ≡ traced.state
 
-traced_on : (old new : ScriptState) (traced : Traced) (delivery : Delivery) (lines : Option (List ℕ)) → Stands old traced → conduct old delivery lines new
-    → (next : Traced) × Stands new next × traces traced delivery lines next
-traced_on old new traced delivery lines same performed =
-    let here : conduct traced.state delivery lines new = subst (λ (s : ScriptState). conduct s delivery lines new) same performed in
-    let c = delivery_comes traced.state delivery (record { lines = lines; state = new }) here in
+traced_on : (web : WebAnswers) (old new : ScriptState) (traced : Traced) (delivery : Delivery) (lines : Option (List ℕ)) → Stands old traced → conduct web old delivery lines new
+    → (next : Traced) × Stands new next × traces web traced delivery lines next
+traced_on web old new traced delivery lines same performed =
+    let here : conduct web traced.state delivery lines new = subst (λ (s : ScriptState). conduct web s delivery lines new) same performed in
+    let c = delivery_comes web traced.state delivery (record { lines = lines; state = new }) here in
     (record { state = new; events = traced.events ++ c.0 }, refl, (here, c.0, c.1, refl, c.2))
 
-pub scripts_come : (settings : Settings) (lists : Lists) (deliveries : List Delivery) (text : List ℕ) (stop : Option ℕ)
-    → IsTranscriptOf settings lists deliveries text stop → (events : List Event) × ComeToEvents settings lists deliveries text stop events
-scripts_come settings lists deliveries text stop (last, run) =
+pub scripts_come : (web : WebAnswers) (settings : Settings) (lists : Lists) (deliveries : List Delivery) (text : List ℕ) (stop : Option ℕ)
+    → IsTranscriptOf web settings lists deliveries text stop → (events : List Event) × ComeToEvents web settings lists deliveries text stop events
+scripts_come web settings lists deliveries text stop (last, run) =
     let start : Traced = record { state = opening_script settings lists; events = [] } in
-    let r = runs conduct traces Stands traced_on deliveries (opening_script settings lists) last start 1 text stop refl run in
+    let r = runs (conduct web) (traces web) Stands (traced_on web) deliveries (opening_script settings lists) last start 1 text stop refl run in
     (r.0.events, (r.0.state, r.2))

@@ -4,6 +4,7 @@ use Rattle.radio_deliveries.specs.declared.delivery.Delivery.{Delivery}
 use Rattle.radio_deliveries.specs.declared.delivery.Delivery.TheVariants.{Open, Pull, To, Clock}
 use Rattle.radio_deliveries.specs.declared.delivery.Input.{Input}
 use Rattle.radio_deliveries.specs.declared.delivery.Input.TheVariants.{Data, Room, Title, End}
+use Rattle.radio_session.specs.declared.web_answers.WebAnswers.{WebAnswers}
 use Rattle.radio_session.specs.Conversation.{Conversation}
 use Rattle.radio_session.specs.Hearing.{Heard}
 use Rattle.radio_session.specs.Laws.{HearingIsOne}
@@ -73,15 +74,15 @@ module _ (heard_as_one : HearingIsOne) (take_as_one : TakingIsOne) (ask_as_one :
   comes_to_once state label (Relay pulling) input p q h k = relay_once state label pulling input p q h k
 
   -- a delivery comes to one thing
-  performed_once : (state : ScriptState) (delivery : Delivery) (p q : Performed) → IsPerformed state delivery p → IsPerformed state delivery q → p ≡ q
-  performed_once state (Open label peer) p q h k = h ∙ sym k
-  performed_once state (Pull label mount) p q h k = h ∙ sym k
-  performed_once state (To label input) p q h k =
+  performed_once : (web : WebAnswers) (state : ScriptState) (delivery : Delivery) (p q : Performed) → IsPerformed web state delivery p → IsPerformed web state delivery q → p ≡ q
+  performed_once web state (Open label peer) p q h k = h ∙ sym k
+  performed_once web state (Pull label mount) p q h k = h ∙ sym k
+  performed_once web state (To label input) p q h k =
       one_on_connection state (λ connection done. ComesTo state label connection input done) (λ connection. comes_to_once state label connection input)
       (connection_of state.connections label) p q h k
-  performed_once state (Clock ms) p q h k = h ∙ sym k
+  performed_once web state (Clock ms) p q h k = h ∙ sym k
 
-  pub is_determined : IsDetermined conduct
-  is_determined old delivery said told new next h k =
-      let same = performed_once old delivery (record { lines = said; state = new }) (record { lines = told; state = next }) h k in
+  pub is_determined : (web : WebAnswers) → IsDetermined (conduct web)
+  is_determined web old delivery said told new next h k =
+      let same = performed_once web old delivery (record { lines = said; state = new }) (record { lines = told; state = next }) h k in
       (ap (λ (p : Performed). p.lines) same, ap (λ (p : Performed). p.state) same)

@@ -3,6 +3,7 @@ use Rattle.radio_house.specs.World.{World}
 use Rattle.radio_deliveries.specs.declared.delivery.Delivery.{Delivery}
 use Rattle.radio_deliveries.specs.declared.faults.PerformFault.{PerformFault}
 use Rattle.radio_deliveries.specs.declared.faults.PerformFault.TheVariants.{Label}
+use Rattle.radio_session.specs.declared.web_answers.WebAnswers.{WebAnswers}
 use Rattle.radio_floor.specs.declared.labelled.Connection.{Connection}
 use Rattle.radio_floor.specs.declared.labelled.Labelled.{Labelled}
 use Rattle.radio_floor.specs.ScriptState.{ScriptState, Performed, connection_of, for_new_label}
@@ -17,14 +18,20 @@ new-label state label opened done e h = by_connection (connection_of state.conne
   by_connection (Some o) f = cc
 
 -- the two clauses of a performer, from the one by cases
-pub performs-ok : (r : Result (Unit {0}) PerformFault) (core : World) (connections : List Labelled) (delivery : Delivery) (lines lines' : List ℕ)
-    (core' : World) (connections' : List Labelled) → PerformsAs r core connections delivery lines lines' core' connections'
-    → OnOk r ((text : List ℕ) × (lines' ≡ lines ++ text) × Performs core connections delivery (Some text) core' connections')
-performs-ok (Ok done) core connections delivery lines lines' core' connections' h = h
-performs-ok (Err fault) core connections delivery lines lines' core' connections' h = tt
+pub performs-ok : (web : WebAnswers) (r : Result (Unit {0}) PerformFault) (core : World) (connections : List Labelled) (delivery : Delivery) (lines lines' : List ℕ)
+    (core' : World) (connections' : List Labelled) → PerformsAs web r core connections delivery lines lines' core' connections'
+    → OnOk r ((text : List ℕ) × (lines' ≡ lines ++ text) × Performs web core connections delivery (Some text) core' connections')
+performs-ok web (Ok done) core connections delivery lines lines' core' connections' h = h
+performs-ok web (Err fault) core connections delivery lines lines' core' connections' h = tt
 
-pub performs-label : (r : Result (Unit {0}) PerformFault) (core : World) (connections : List Labelled) (delivery : Delivery) (lines lines' : List ℕ)
-    (core' : World) (connections' : List Labelled) → PerformsAs r core connections delivery lines lines' core' connections' → r ≡ Err Label
-    → Performs core connections delivery None core' connections'
-performs-label r core connections delivery lines lines' core' connections' h e =
-    subst (λ (s : Result (Unit {0}) PerformFault). PerformsAs s core connections delivery lines lines' core' connections') e h
+pub performs-label : (web : WebAnswers) (r : Result (Unit {0}) PerformFault) (core : World) (connections : List Labelled) (delivery : Delivery) (lines lines' : List ℕ)
+    (core' : World) (connections' : List Labelled) → PerformsAs web r core connections delivery lines lines' core' connections' → r ≡ Err Label
+    → Performs web core connections delivery None core' connections'
+performs-label web r core connections delivery lines lines' core' connections' h e =
+    subst (λ (s : Result (Unit {0}) PerformFault). PerformsAs web s core connections delivery lines lines' core' connections') e h
+
+-- with a fact that holds in any case
+pub with_web : (r : Result (Unit {0}) PerformFault) (lines lines' : List ℕ) (P : List ℕ → Type 0) {Q : Type 0} → Q
+    → OnOk r ((text : List ℕ) × (lines' ≡ lines ++ text) × P text) → OnOk r ((text : List ℕ) × (lines' ≡ lines ++ text) × (Q × P text))
+with_web (Ok done) lines lines' P q h = (h.0, h.1, (q, h.2))
+with_web (Err fault) lines lines' P q h = tt

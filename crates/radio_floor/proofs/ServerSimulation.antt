@@ -1,11 +1,12 @@
 -- The server does what the state does, whatever state its core stands for.
-use Rattle.std.proofs.Common.{◌≡◌, ℕ, List, [], Option, None, Some, Result, refl, sym, ap, subst}
+use Rattle.std.proofs.Common.{◌≡◌, ℕ, List, [], Option, None, Some, Result, refl, sym, ap, subst, ◌∙◌}
 use Rattle.radio_house.specs.World.{World, opening}
 use Rattle.radio_core.specs.Step.{Represents}
 use Rattle.radio_settings.specs.declared.settings.Settings.{Settings}
 use Rattle.radio_access.specs.Lists.{Lists}
 use Rattle.radio_deliveries.specs.declared.delivery.Delivery.{Delivery}
 use Rattle.radio_floor.specs.declared.script_server.ScriptServer.{ScriptServer}
+use Rattle.radio_session.specs.declared.web_answers.WebAnswers.{WebAnswers}
 use Rattle.radio_deliveries.specs.declared.faults.PlayFault.{PlayFault}
 use Rattle.radio_floor.specs.ScriptState.{ScriptState, opening_script}
 use Rattle.radio_floor.specs.ScriptServer.{script_state_of}
@@ -17,38 +18,42 @@ use Rattle.radio_script.proofs.SimulationLemmas.{runs, plays}
 
 -- what the server does
 abbrev pub server_conduct : Conduct ScriptServer
-server_conduct old delivery lines new = Performs old.handler.core old.connections delivery lines new.handler.core new.connections
+server_conduct old delivery lines new = (new.web ≡ old.web) × Performs old.web old.handler.core old.connections delivery lines new.handler.core new.connections
 
--- the server's core stands for the state's state, and the connections are the same
-abbrev Same : ScriptServer → ScriptState → Type 0
-Same server state = (w : World) × Represents server.handler.core w × (state ≡ script_state_of w server.connections)
+-- the server answers by this, its core stands for the state's state, and the connections are the same
+abbrev Same : WebAnswers → ScriptServer → ScriptState → Type 0
+Same web server state = (server.web ≡ web) × (w : World) × Represents server.handler.core w × (state ≡ script_state_of w server.connections)
 
-does : (server server' : ScriptServer) (state : ScriptState) (delivery : Delivery) (lines : Option (List ℕ)) → Same server state
-    → server_conduct server delivery lines server' → (state' : ScriptState) × Same server' state' × conduct state delivery lines state'
-does server server' state delivery lines same performs =
-    let d = performs same.0 same.1 in
-    let state' = script_state_of d.0 server'.connections in
-    (state', (d.0, d.1, refl), subst (λ (f : ScriptState). conduct f delivery lines state') (sym same.2) d.2)
+does : (web : WebAnswers) (server server' : ScriptServer) (state : ScriptState) (delivery : Delivery) (lines : Option (List ℕ)) → Same web server state
+    → server_conduct server delivery lines server' → (state' : ScriptState) × Same web server' state' × conduct web state delivery lines state'
+does web server server' state delivery lines same performs =
+    let d = performs.1 same.1 same.2 in
+    let state' = script_state_of d.0 server'.connections in (
+      state',
+      (performs.0 ∙ same.0, d.0, d.1, refl),
+      subst (λ (f : ScriptState). conduct web f delivery lines state') (sym same.3)
+          (subst (λ (x : WebAnswers). conduct x (script_state_of same.1 server.connections) delivery lines state') same.0 d.2),
+    )
 
 -- a new server stands for the opening state
-opens : (server : ScriptServer) (settings : Settings) (lists : Lists) → Represents server.handler.core (opening settings lists) → server.connections ≡ []
-    → Same server (opening_script settings lists)
-opens server settings lists stands none = (opening settings lists, stands, ap (script_state_of (opening settings lists)) (sym none))
+opens : (web : WebAnswers) (server : ScriptServer) (settings : Settings) (lists : Lists) → server.web ≡ web → Represents server.handler.core (opening settings lists) → server.connections ≡ []
+    → Same web server (opening_script settings lists)
+opens web server settings lists answers stands none = (answers, opening settings lists, stands, ap (script_state_of (opening settings lists)) (sym none))
 
-pub server_runs : (server last : ScriptServer) (settings : Settings) (lists : Lists) (deliveries : List Delivery) (text : List ℕ) (stop : Option ℕ)
-    → Represents server.handler.core (opening settings lists) → server.connections ≡ [] → Runs server_conduct server 1 deliveries text stop last
-    → IsTranscriptOf settings lists deliveries text stop
-server_runs server last settings lists deliveries text stop stands none r =
+pub server_runs : (web : WebAnswers) (server last : ScriptServer) (settings : Settings) (lists : Lists) (deliveries : List Delivery) (text : List ℕ) (stop : Option ℕ)
+    → server.web ≡ web → Represents server.handler.core (opening settings lists) → server.connections ≡ [] → Runs server_conduct server 1 deliveries text stop last
+    → IsTranscriptOf web settings lists deliveries text stop
+server_runs web server last settings lists deliveries text stop answers stands none r =
     let t =
-    runs server_conduct conduct Same does deliveries server last (opening_script settings lists) 1 text stop (opens server settings lists stands none) r in
+    runs server_conduct (conduct web) (Same web) (does web) deliveries server last (opening_script settings lists) 1 text stop (opens web server settings lists answers stands none) r in
     (t.0, t.2)
 
-pub server_plays : (server last : ScriptServer) (settings : Settings) (lists : Lists) (script left : List ℕ) (result : Result (Unit {0}) PlayFault)
-    (written : List ℕ) (turns : ℕ) → Represents server.handler.core (opening settings lists) → server.connections ≡ []
-    → Plays server_conduct server 1 script left result written turns last → PlaysScript settings lists script left result written turns
-server_plays server last settings lists script left result written turns stands none h =
-    plays server_conduct conduct Same does server last (opening_script settings lists) 1 script left result written turns
-    (opens server settings lists stands none) h
+pub server_plays : (web : WebAnswers) (server last : ScriptServer) (settings : Settings) (lists : Lists) (script left : List ℕ) (result : Result (Unit {0}) PlayFault)
+    (written : List ℕ) (turns : ℕ) → server.web ≡ web → Represents server.handler.core (opening settings lists) → server.connections ≡ []
+    → Plays server_conduct server 1 script left result written turns last → PlaysScript web settings lists script left result written turns
+server_plays web server last settings lists script left result written turns answers stands none h =
+    plays server_conduct (conduct web) (Same web) (does web) server last (opening_script settings lists) 1 script left result written turns
+    (opens web server settings lists answers stands none) h
 
 -- what holds of known bytes may be weakened
 pub known-weaker : (old new : Option (List ℕ)) (P Q : List ℕ → List ℕ → Type 0) → ((script left : List ℕ) → P script left → Q script left) → IfKnown old new P

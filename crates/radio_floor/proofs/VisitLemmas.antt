@@ -10,6 +10,7 @@ use Rattle.radio_deliveries.specs.declared.faults.PerformFault.{PerformFault}
 use Rattle.radio_deliveries.specs.declared.faults.PerformFault.TheVariants.{OutOfMemory}
 use Rattle.radio_tables.proofs.FindLaws.{changed_alike, unchanged}
 use Rattle.radio_tables.specs.Lists.{update_first}
+use Rattle.radio_session.specs.declared.web_answers.WebAnswers.{WebAnswers}
 use Rattle.radio_floor.specs.declared.handler.Told.{Told}
 use Rattle.radio_floor.specs.declared.labelled.Connection.{Connection}
 use Rattle.radio_floor.specs.declared.labelled.Labelled.{Labelled}
@@ -92,9 +93,9 @@ module _ (label : ℕ) (input : Input) (connections connections' : List Labelled
     answered-label told h = told_at l.connection l'.connection told refl refl h.0 h.1
 
 -- the lines are written of what was performed, or memory was refused
-pub performs-written : (r : Result (Unit {0}) PerformFault) (core : World) (connections : List Labelled) (delivery : Delivery) (lines lines' text : List ℕ)
+pub performs-written : (web : WebAnswers) (r : Result (Unit {0}) PerformFault) (core : World) (connections : List Labelled) (delivery : Delivery) (lines lines' text : List ℕ)
     (core' : World) (connections' : List Labelled) → MatchResult r (λ _. lines' ≡ lines ++ text) (λ fault. fault ≡ OutOfMemory)
-    → Performs core connections delivery (Some text) core' connections' → PerformsAs r core connections delivery lines lines' core' connections'
-performs-written (Ok done) core connections delivery lines lines' text core' connections' written performs = (text, written, performs)
-performs-written (Err fault) core connections delivery lines lines' text core' connections' refused performs =
-    subst (λ (f : PerformFault). PerformsAs (Err f) core connections delivery lines lines' core' connections') (sym refused) tt
+    → Performs web core connections delivery (Some text) core' connections' → PerformsAs web r core connections delivery lines lines' core' connections'
+performs-written web (Ok done) core connections delivery lines lines' text core' connections' written performs = (text, written, performs)
+performs-written web (Err fault) core connections delivery lines lines' text core' connections' refused performs =
+    subst (λ (f : PerformFault). PerformsAs web (Err f) core connections delivery lines lines' core' connections') (sym refused) tt

@@ -11,6 +11,7 @@ use Rattle.radio_core.specs.Step.{reply_to}
 use Rattle.radio_deliveries.specs.TranscriptLines.{answer_lines}
 use Rattle.radio_session.specs.Conversation.{Conversation}
 use Rattle.radio_session.specs.Saying.{text_answer}
+use Rattle.radio_session.specs.WebAnswers.{answered_by}
 use Rattle.radio_session.specs.LastWords.{IsAsking}
 use Rattle.radio_floor.specs.ScriptState.{ScriptState, exchanges, closes}
 
@@ -23,12 +24,13 @@ ShutsWith state label conversation event bytes word =
 abbrev pub DenialsAreTold : Type 0
 DenialsAreTold = (state : ScriptState) (label : ℕ) (conversation : Conversation) (event : Event) (rule : Rule) (status : Status)
     → IsAsking conversation.says → reply_to state.world event ≡ Deny rule → status_of rule ≡ Some status
-    → ShutsWith state label conversation event (denial_text status (word_of rule)) (word_of rule)
+    → ShutsWith state label conversation event
+    (answered_by conversation.says.web (denial_text status (word_of rule))) (word_of rule)
 
 -- a command was done: the lines show the answer that says so, and that the connection is done
 abbrev pub CommandsAreTold : Type 0
 CommandsAreTold = (state : ScriptState) (label : ℕ) (conversation : Conversation) (event : Event) (text : CommandText)
-    → IsAsking conversation.says → reply_to state.world event ≡ Text text → ShutsWith state label conversation event (text_answer text) (codes "done")
+    → IsAsking conversation.says → reply_to state.world event ≡ Text text → ShutsWith state label conversation event (text_answer conversation.says.web text) (codes "done")
 
 -- the client was finished by a rule: the line shows its word
 abbrev pub FinishesAreTold : Type 0

@@ -11,6 +11,7 @@ use Rattle.radio_core.specs.Run.{world_after_all}
 use Rattle.radio_relay.specs.Items.{items_of}
 use Rattle.radio_relay.specs.Pulled.{IsPulledAt, Pulled}
 use Rattle.radio_pull.specs.Pulling.{Pulling, event_of}
+use Rattle.radio_session.specs.declared.web_answers.WebAnswers.{WebAnswers}
 use Rattle.radio_session.specs.Conversation.{Conversation}
 use Rattle.radio_session.specs.Hearing.{Heard, IsHeard}
 use Rattle.radio_deliveries.specs.declared.delivery.Delivery.{Delivery}
@@ -68,18 +69,18 @@ pub record Traced : Type 0 where
   pub events : List Event
 
 -- a delivery is performed, and the events that it comes to, which lead the server from its state to the next, are noted behind those before
-abbrev pub traces : Conduct Traced
-traces old delivery lines new =
-    conduct old.state delivery lines new.state
+abbrev pub traces : WebAnswers → Conduct Traced
+traces web old delivery lines new =
+    conduct web old.state delivery lines new.state
     × (events : List Event) × ComesToEvents old.state delivery events × (new.events ≡ old.events ++ events)
     × (new.state.world ≡ world_after_all old.state.world events)
 
 -- the deliveries come to this text and to these events, in their order
-abbrev pub ComeToEvents : Settings → Lists → List Delivery → List ℕ → Option ℕ → List Event → Type 0
-ComeToEvents settings lists deliveries text stop events = (last : ScriptState)
-    × Runs traces (record { state = opening_script settings lists; events = [] }) 1 deliveries text stop (record { state = last; events = events })
+abbrev pub ComeToEvents : WebAnswers → Settings → Lists → List Delivery → List ℕ → Option ℕ → List Event → Type 0
+ComeToEvents web settings lists deliveries text stop events = (last : ScriptState)
+    × Runs (traces web) (record { state = opening_script settings lists; events = [] }) 1 deliveries text stop (record { state = last; events = events })
 
 -- deliveries that come to a transcript come to events
 abbrev pub ScriptsComeToEvents : Type 0
-ScriptsComeToEvents = (settings : Settings) (lists : Lists) (deliveries : List Delivery) (text : List ℕ) (stop : Option ℕ)
-    → IsTranscriptOf settings lists deliveries text stop → (events : List Event) × ComeToEvents settings lists deliveries text stop events
+ScriptsComeToEvents = (web : WebAnswers) (settings : Settings) (lists : Lists) (deliveries : List Delivery) (text : List ℕ) (stop : Option ℕ)
+    → IsTranscriptOf web settings lists deliveries text stop → (events : List Event) × ComeToEvents web settings lists deliveries text stop events

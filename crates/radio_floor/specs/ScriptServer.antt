@@ -7,6 +7,7 @@ use Rattle.radio_core.specs.Step.{Represents}
 use Rattle.radio_deliveries.specs.declared.delivery.Input.{Input}
 use Rattle.radio_events.specs.declared.state.State.{State}
 use Rattle.radio_pull.specs.Pulling.{Pulling}
+use Rattle.radio_session.specs.declared.web_answers.WebAnswers.{WebAnswers}
 use Rattle.radio_floor.specs.declared.handler.Told.{Told}
 use Rattle.radio_floor.specs.declared.labelled.Labelled.{Labelled}
 use Rattle.radio_floor.specs.declared.labelled.Connection.{Connection}
@@ -19,11 +20,11 @@ abbrev pub performed_as : Option (List ℕ) → World → List Labelled → Perf
 performed_as lines w connections = record { lines = lines; state = script_state_of w connections }
 
 -- Some text was added to the lines, and whatever state the core stood for, the arrival comes to it, and the core stands for the state after it.
-abbrev pub OpensAs : World → List Labelled → ℕ → Peer → List ℕ → World → List Labelled → List ℕ → Type 0
-OpensAs core connections label peer lines core' connections' lines' =
+abbrev pub OpensAs : WebAnswers → World → List Labelled → ℕ → Peer → List ℕ → World → List Labelled → List ℕ → Type 0
+OpensAs web core connections label peer lines core' connections' lines' =
     (text : List ℕ) × (lines' ≡ lines ++ text)
     × ((w : World) → Represents core w
-    → (w' : World) × Represents core' w' × (opens (script_state_of w connections) label peer ≡ performed_as (Some text) w' connections'))
+    → (w' : World) × Represents core' w' × (opens web (script_state_of w connections) label peer ≡ performed_as (Some text) w' connections'))
 
 -- whatever state the core stood for, the relay of this mount connects, or there is none, and the core is as it was
 abbrev pub ConnectsAs : World → List Labelled → ℕ → List ℕ → Option (List ℕ) → List Labelled → Type 0

@@ -33,6 +33,7 @@ use Rattle.radio_floor.specs.declared.labelled.Connection.{Connection}
 use Rattle.radio_floor.specs.declared.labelled.Connection.TheVariants.{Client, Relay}
 use Rattle.radio_deliveries.specs.TranscriptLines.{answer_lines}
 use Rattle.radio_events.specs.Endings.{ending_word}
+use Rattle.radio_session.specs.declared.web_answers.WebAnswers.{WebAnswers}
 use Rattle.radio_session.specs.Conversation.{asking, Conversation, fresh, saying_now}
 use Rattle.radio_session.specs.Hearing.{Heard, IsHeard}
 use Rattle.radio_session.specs.Saying.{said}
@@ -88,22 +89,22 @@ abbrev pub passed_over : ScriptState → Performed
 passed_over state = record { lines = Some []; state = state }
 
 -- the label's new connection, if the server takes it in
-abbrev pub taken_in : Peer → Reply → Option Connection
-taken_in peer (Arrived id) = Some (Client (fresh id peer))
-taken_in peer reply = None
+abbrev pub taken_in : WebAnswers → Peer → Reply → Option Connection
+taken_in web peer (Arrived id) = Some (Client (fresh web id peer))
+taken_in web peer reply = None
 
--- a connection arrives under a new label
-abbrev pub opens : ScriptState → ℕ → Peer → Performed
-opens state label peer =
+-- a connection arrives under a new label, and is answered by what the settings say
+abbrev pub opens : WebAnswers → ScriptState → ℕ → Peer → Performed
+opens web state label peer =
     let reply = reply_to state.world (Arrive peer) in
-    let told = said asking reply in
+    let told = said (asking web) reply in
     record {
       lines = Some (told_lines label told.bytes told.state);
       state =
           record {
             world = world_after state.world (Arrive peer);
             connections =
-                placed by_label (record { label = label; connection = taken_in peer reply }) state.connections;
+                placed by_label (record { label = label; connection = taken_in web peer reply }) state.connections;
           };
     }
 
@@ -210,9 +211,10 @@ for_new_label state performed None = performed
 for_new_label state performed (Some connection) = at_fault state
 
 -- from this state the delivery comes to that
-abbrev pub IsPerformed : ScriptState → Delivery → Performed → Type 0
-IsPerformed state (Open label peer) performed = performed ≡ for_new_label state (opens state label peer) (connection_of state.connections label)
-IsPerformed state (Pull label mount) performed =
+abbrev pub IsPerformed : WebAnswers → ScriptState → Delivery → Performed → Type 0
+IsPerformed web state (Open label peer) performed =
+    performed ≡ for_new_label state (opens web state label peer) (connection_of state.connections label)
+IsPerformed web state (Pull label mount) performed =
     performed ≡ for_new_label state (connects state label (relay_named state.world mount)) (connection_of state.connections label)
-IsPerformed state (To label input) performed = for_label state label (λ connection done. ComesTo state label connection input done) performed
-IsPerformed state (ClockIs ms) performed = performed ≡ ticks state ms
+IsPerformed web state (To label input) performed = for_label state label (λ connection done. ComesTo state label connection input done) performed
+IsPerformed web state (ClockIs ms) performed = performed ≡ ticks state ms

@@ -3,20 +3,22 @@ use Rattle.std.specs.Prelude.{ℕ, List, Option, Result}
 use Rattle.radio_settings.specs.declared.settings.Settings.{Settings}
 use Rattle.radio_access.specs.Lists.{Lists}
 use Rattle.radio_deliveries.specs.declared.delivery.Delivery.{Delivery}
+use Rattle.radio_session.specs.declared.web_answers.WebAnswers.{WebAnswers}
 use Rattle.radio_deliveries.specs.declared.faults.PlayFault.{PlayFault}
 use Rattle.radio_floor.specs.ScriptState.{ScriptState, opening_script, IsPerformed}
 use Rattle.radio_script.specs.Runs.{Conduct, Runs}
 use Rattle.radio_script.specs.Plays.{Plays}
 
 -- from this state the delivery comes to these lines, or is at fault, and to that state
-abbrev pub conduct : Conduct ScriptState
-conduct old delivery lines new = IsPerformed old delivery (record { lines = lines; state = new })
+abbrev pub conduct : WebAnswers → Conduct ScriptState
+conduct web old delivery lines new = IsPerformed web old delivery (record { lines = lines; state = new })
 
 -- the text is the transcript of the deliveries, up to the number of the first whose label is at fault, if there is one
-abbrev pub IsTranscriptOf : Settings → Lists → List Delivery → List ℕ → Option ℕ → Type 0
-IsTranscriptOf settings lists deliveries text stop = (last : ScriptState) × Runs conduct (opening_script settings lists) 1 deliveries text stop last
+abbrev pub IsTranscriptOf : WebAnswers → Settings → Lists → List Delivery → List ℕ → Option ℕ → Type 0
+IsTranscriptOf web settings lists deliveries text stop = (last : ScriptState)
+    × Runs (conduct web) (opening_script settings lists) 1 deliveries text stop last
 
 -- a script was played so: what was left unread, the result, what was written, and in how many turns
-abbrev pub PlaysScript : Settings → Lists → List ℕ → List ℕ → Result (Unit {0}) PlayFault → List ℕ → ℕ → Type 0
-PlaysScript settings lists script left result written turns = (last : ScriptState)
-    × Plays conduct (opening_script settings lists) 1 script left result written turns last
+abbrev pub PlaysScript : WebAnswers → Settings → Lists → List ℕ → List ℕ → Result (Unit {0}) PlayFault → List ℕ → ℕ → Type 0
+PlaysScript web settings lists script left result written turns = (last : ScriptState)
+    × Plays (conduct web) (opening_script settings lists) 1 script left result written turns last

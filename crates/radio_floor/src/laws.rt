@@ -1,6 +1,7 @@
 //! Laws on the transcript, which run no code.
 
 ghost use Rattle.radio_script.specs.Laws.{GoesOnAsItBegan, HasOneTranscript, IsDetermined};
+ghost use Rattle.radio_session.specs.declared.web_answers.WebAnswers.{WebAnswers};
 ghost use Rattle.radio_floor.specs.Transcript.{conduct};
 ghost use Rattle.radio_floor.specs.LastWords.{DenialsAreTold, CommandsAreTold, FinishesAreTold, ClosedOnesAreDone};
 ghost use Rattle.radio_floor.specs.ScriptEvents.{ScriptsComeToEvents};
@@ -11,9 +12,9 @@ use radio_session::{hearing_is_one, last_words_name_the_rule};
 /// The server does one thing at each delivery. So a script has one transcript, and what the whole
 /// lines at its front come to is a front of it, whatever lines are behind them.
 pub fn the_transcript_is_one()
-    ensures determined { IsDetermined conduct }
-    ensures one { HasOneTranscript conduct }
-    ensures goes_on { GoesOnAsItBegan conduct }
+    ensures determined { (web : WebAnswers) → IsDetermined (conduct web) }
+    ensures one { (web : WebAnswers) → HasOneTranscript (conduct web) }
+    ensures goes_on { (web : WebAnswers) → GoesOnAsItBegan (conduct web) }
 {
     hearing_is_one();
     pulling_is_one();

@@ -18,7 +18,8 @@ impl ScriptServer {
         delivery: &Delivery,
         lines: &mut Vec<u8>,
     ) -> Result<(), PerformFault>
-        ensures { PerformsAs result self.old.handler.core self.old.connections delivery.now lines.old.items lines.new.items
+        ensures web { self.new.web ≡ self.old.web }
+        ensures performs { PerformsAs self.old.web result self.old.handler.core self.old.connections delivery.now lines.old.items lines.new.items
             self.new.handler.core self.new.connections }
     {
         match delivery {
@@ -35,7 +36,8 @@ impl ScriptServer {
         peer: Peer,
         lines: &mut Vec<u8>,
     ) -> Result<(), PerformFault>
-        ensures { PerformsAs result self.old.handler.core self.old.connections (Open label peer) lines.old.items lines.new.items
+        ensures web { self.new.web ≡ self.old.web }
+        ensures performs { PerformsAs self.old.web result self.old.handler.core self.old.connections (Open label peer) lines.old.items lines.new.items
             self.new.handler.core self.new.connections }
     {
         if has_label(&self.connections, label) {
@@ -53,7 +55,8 @@ impl ScriptServer {
         mount: &[u8],
         lines: &mut Vec<u8>,
     ) -> Result<(), PerformFault>
-        ensures { PerformsAs result self.old.handler.core self.old.connections (Pull label mount.now) lines.old.items lines.new.items
+        ensures web { self.new.web ≡ self.old.web }
+        ensures performs { PerformsAs self.old.web result self.old.handler.core self.old.connections (Pull label mount.now) lines.old.items lines.new.items
             self.new.handler.core self.new.connections }
     {
         if has_label(&self.connections, label) {
@@ -72,7 +75,8 @@ impl ScriptServer {
         input: &Input,
         lines: &mut Vec<u8>,
     ) -> Result<(), PerformFault>
-        ensures { PerformsAs result self.old.handler.core self.old.connections (To label input.now) lines.old.items lines.new.items
+        ensures web { self.new.web ≡ self.old.web }
+        ensures performs { PerformsAs self.old.web result self.old.handler.core self.old.connections (To label input.now) lines.old.items lines.new.items
             self.new.handler.core self.new.connections }
     {
         match self.connections.visit(&label, &mut self.handler, input) {
@@ -84,7 +88,8 @@ impl ScriptServer {
     }
 
     fn perform_clock(&mut self, ms: u64, lines: &mut Vec<u8>) -> Result<(), PerformFault>
-        ensures { PerformsAs result self.old.handler.core self.old.connections (Clock ms) lines.old.items lines.new.items
+        ensures web { self.new.web ≡ self.old.web }
+        ensures performs { PerformsAs self.old.web result self.old.handler.core self.old.connections (Clock ms) lines.old.items lines.new.items
             self.new.handler.core self.new.connections }
     {
         match tick(&mut self.handler.core, ms) {
@@ -95,9 +100,10 @@ impl ScriptServer {
 }
 
 impl Performer for ScriptServer {
+    ghost use Rattle.std.specs.Prelude.{◌≡◌};
     ghost use Rattle.radio_floor.specs.Performing.{Performs};
 
-    ghost performs = { λ old delivery lines new. Performs old.handler.core old.connections delivery lines new.handler.core new.connections };
+    ghost performs = { λ old delivery lines new. (new.web ≡ old.web) × Performs old.web old.handler.core old.connections delivery lines new.handler.core new.connections };
 
     fn perform(
         &mut self,

@@ -20,7 +20,7 @@ use radio_events::{Event, Reply};
 use radio_pull::RelayPull;
 use radio_relay::request_text;
 use radio_script::push_answer;
-use radio_session::{Session, State};
+use radio_session::{Session, State, WebAnswers};
 use radio_settings::{RelaySetting, Settings};
 use radio_tables::Table;
 use radio_values::MountName;
@@ -29,6 +29,8 @@ use std::alloc::Global;
 /// The server behind a script.
 #[derive(Drop)]
 pub(crate) struct ScriptServer {
+    /// What the settings say of answers.
+    pub(crate) web: WebAnswers,
     pub(crate) handler: Handler,
     /// The labels that were opened, in rising order.
     pub(crate) connections: Table<Labelled>,
@@ -36,11 +38,18 @@ pub(crate) struct ScriptServer {
 
 impl ScriptServer {
     /// A server of these settings and lists, to which no connection has come. It takes no memory.
-    pub(crate) fn new(alloc: Global, settings: Settings, lists: Lists) -> ScriptServer
+    pub(crate) fn new(
+        alloc: Global,
+        web: WebAnswers,
+        settings: Settings,
+        lists: Lists,
+    ) -> ScriptServer
+        ensures web { result.web ≡ web }
         ensures core { Represents result.handler.core (opening settings lists) }
         ensures connections { result.connections ≡ [] }
     {
         ScriptServer {
+            web,
             handler: Handler {
                 alloc,
                 core: Core::new(alloc, settings, lists),
@@ -56,12 +65,13 @@ impl ScriptServer {
         peer: Peer,
         lines: &mut Vec<u8>,
     ) -> Result<(), OutOfMemory>
-        ensures { OnOk result (OpensAs self.old.handler.core self.old.connections label peer lines.old.items
+        ensures web { self.new.web ≡ self.old.web }
+        ensures opens { OnOk result (OpensAs self.old.web self.old.handler.core self.old.connections label peer lines.old.items
             self.new.handler.core self.new.connections lines.new.items) }
     {
         let alloc = self.handler.alloc;
         let mut told = Vec::new(alloc);
-        let (connection, state) = arrive(alloc, &mut self.handler.core, peer, &mut told)?;
+        let (connection, state) = arrive(alloc, self.web, &mut self.handler.core, peer, &mut told)?;
         self.connections.insert(Labelled { label, connection })?;
         push_told(alloc, label, told.as_slice(), state, lines)?;
         Ok(())
@@ -75,6 +85,7 @@ impl ScriptServer {
         mount: &[u8],
         lines: &mut Vec<u8>,
     ) -> Result<bool, OutOfMemory>
+        ensures web { self.new.web ≡ self.old.web }
         ensures core { self.new.handler.core ≡ self.old.handler.core }
         ensures one { result ≡ Ok true → (text : List ℕ) × (lines.new.items ≡ lines.old.items ++ text)
             × ConnectsAs self.old.handler.core self.old.connections label mount.now (Some text) self.new.connections }
@@ -104,56 +115,59 @@ fn relay_named<'a>(core: &'a Core, mount: &[u8]) -> Option<&'a RelaySetting>
 /// on.
 fn arrive(
     alloc: Global,
+    web: WebAnswers,
     core: &mut Core,
     peer: Peer,
     out: &mut Vec<u8>,
 ) -> Result<(Option<Connection>, State), OutOfMemory>
     ensures { IfOk result (λ arrived. (w : World) → Represents core.old w →
         let reply = reply_to w (Arrive peer) in
-        let told = said asking reply in
-        Represents core.new (world_after w (Arrive peer)) × (out.new.items ≡ out.old.items ++ told.bytes) × (arrived.0 ≡ taken_in peer reply) × (arrived.1
+        let told = said (asking web) reply in
+        Represents core.new (world_after w (Arrive peer)) × (out.new.items ≡ out.old.items ++ told.bytes) × (arrived.0 ≡ taken_in web peer reply) × (arrived.1
         ≡ told.state)) }
 {
     let reply = core.step(Event::Arrive { peer })?;
-    answer_arrival(alloc, peer, reply, out)
+    answer_arrival(alloc, web, peer, reply, out)
 }
 
 /// What comes of the reply to an arrival: the connection, if it is taken in, and whether it goes
 /// on.
 fn answer_arrival(
     alloc: Global,
+    web: WebAnswers,
     peer: Peer,
     reply: Reply,
     out: &mut Vec<u8>,
 ) -> Result<(Option<Connection>, State), OutOfMemory>
-    ensures { let told = said asking reply in
-        IfOk result (λ arrived. (out.new.items ≡ out.old.items ++ told.bytes) × (arrived.0 ≡ taken_in peer reply) × (arrived.1 ≡ told.state)) }
+    ensures { let told = said (asking web) reply in
+        IfOk result (λ arrived. (out.new.items ≡ out.old.items ++ told.bytes) × (arrived.0 ≡ taken_in web peer reply) × (arrived.1 ≡ told.state)) }
 {
-    let connection = taken_in(alloc, peer, &reply);
-    let state = tell_arrival(alloc, peer, reply, out)?;
+    let connection = taken_in(alloc, web, peer, &reply);
+    let state = tell_arrival(alloc, web, peer, reply, out)?;
     Ok((connection, state))
 }
 
 /// What a peer is told who has just come.
 fn tell_arrival(
     alloc: Global,
+    web: WebAnswers,
     peer: Peer,
     reply: Reply,
     out: &mut Vec<u8>,
 ) -> Result<State, OutOfMemory>
-    ensures { let told = said asking reply in
+    ensures { let told = said (asking web) reply in
         IfOk result (λ state. (out.new.items ≡ out.old.items ++ told.bytes) × (state ≡ told.state)) }
 {
-    let mut session = Session::new(alloc, 0, peer);
+    let mut session = Session::new(alloc, web, 0, peer);
     session.give(reply, out)
 }
 
 /// The new connection, if the server takes it in.
-fn taken_in(alloc: Global, peer: Peer, reply: &Reply) -> Option<Connection>
-    ensures { result ≡ taken_in peer reply.now }
+fn taken_in(alloc: Global, web: WebAnswers, peer: Peer, reply: &Reply) -> Option<Connection>
+    ensures { result ≡ taken_in web peer reply.now }
 {
     match reply {
-        Reply::Arrived(id) => Some(Connection::Client(Session::new(alloc, *id, peer))),
+        Reply::Arrived(id) => Some(Connection::Client(Session::new(alloc, web, *id, peer))),
         _ => None,
     }
 }

@@ -8,38 +8,40 @@ ghost use Rattle.radio_floor.specs.Transcript.{IsTranscriptOf, PlaysScript};
 use crate::script_server::ScriptServer;
 use radio_access::Lists;
 use radio_script::{CountedRead, CountedWrite, Delivery, PlayFault, RunFault, play_with, run_with};
+use radio_session::WebAnswers;
 use radio_settings::Settings;
 use std::alloc::Global;
 
 /// The lines `out` and `shut` that deliveries come to.
 pub type Transcript = Vec<u8>;
 
-/// Runs deliveries through a server of these settings and lists, to which nothing has happened yet, and
-/// answers their transcript.
+/// Runs deliveries through a server of these settings and lists, to which nothing has happened yet, and answers their
+/// transcript. `web` is what the settings say of answers.
 ///
 /// - `Delivery`: at the first delivery, counted from 1, whose label was not opened or is opened
 ///   twice.
 /// - `OutOfMemory`: memory was refused.
 pub fn run(
     alloc: Global,
+    web: WebAnswers,
     settings: Settings,
     lists: Lists,
     deliveries: &[Delivery],
 ) -> Result<Transcript, RunFault>
     // the transcript is that of all deliveries
-    ensures ok { IfOk result (λ transcript. IsTranscriptOf settings lists deliveries.now transcript.items None) }
+    ensures ok { IfOk result (λ transcript. IsTranscriptOf web settings lists deliveries.now transcript.items None) }
     // the fault comes only at a delivery whose label is at fault
     ensures delivery { (number : ℕ) → result ≡ Err (RunFault.Delivery number)
-        → (text : List ℕ) × IsTranscriptOf settings lists deliveries.now text (Some number) }
+        → (text : List ℕ) × IsTranscriptOf web settings lists deliveries.now text (Some number) }
 {
-    let mut server = ScriptServer::new(alloc, settings, lists);
+    let mut server = ScriptServer::new(alloc, web, settings, lists);
     let transcript = run_with(alloc, &mut server, deliveries);
     drop(server);
     transcript
 }
 
 /// Plays a script: reads it line by line, runs each delivery through a server of these settings and lists,
-/// and writes what it comes to before it reads on.
+/// and writes what it comes to before it reads on. `web` is what the settings say of answers.
 ///
 /// - `Read`, `Write`: that device failed; an interrupted call, and a write that takes nothing, are
 ///   failures too.
@@ -48,6 +50,7 @@ pub fn run(
 /// - `OutOfMemory`: memory was refused.
 pub fn play<R: CountedRead, W: CountedWrite>(
     alloc: Global,
+    web: WebAnswers,
     settings: Settings,
     lists: Lists,
     reader: &mut R,
@@ -56,7 +59,7 @@ pub fn play<R: CountedRead, W: CountedWrite>(
     // what was written is what the script's lines come to, as far as the result says
     ensures plays { IfKnown (R.remaining reader.old) (R.remaining reader.new) (λ script left.
         Writes (W.contents writer.old) (W.contents writer.new) (W.calls writer.old) (W.calls writer.new) (λ written turns.
-        PlaysScript settings lists script left result written turns)) }
+        PlaysScript web settings lists script left result written turns)) }
     // 1,000,000 lines of 65,536 bytes with their line feeds, a byte a call, and one call more
     ensures reader_calls { R.calls reader.new ≤ R.calls reader.old + 65537000001 }
     // a fault of a device comes with its first failure, and only with one
@@ -65,7 +68,7 @@ pub fn play<R: CountedRead, W: CountedWrite>(
     // nothing that was written is kept back
     ensures flushed { result ≢ Err PlayFault.Write → W.is_flushed writer.old ≡ true → W.is_flushed writer.new ≡ true }
 {
-    let mut server = ScriptServer::new(alloc, settings, lists);
+    let mut server = ScriptServer::new(alloc, web, settings, lists);
     let played = play_with(alloc, &mut server, reader, writer);
     drop(server);
     played

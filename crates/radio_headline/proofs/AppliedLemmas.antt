@@ -1,5 +1,5 @@
 -- The events that are applied are those that lead on, and what is told is what is told of the replies to them.
-use Rattle.std.proofs.Common.{◌≡◌, ℕ, Bool, true, false, List, [], ◌∷◌, ◌++◌, Option, None, Some, refl, sym, ap, ◌∙◌, append_assoc}
+use Rattle.std.proofs.Common.{◌≡◌, ◌==◌, ℕ, Bool, true, false, List, [], ◌∷◌, ◌++◌, Option, None, Some, refl, sym, ap, ◌∙◌, append_assoc}
 use Rattle.std.specs.Prelude.{if◌then◌else◌, option_map}
 use Rattle.std.proofs.lemmas.List.{append-nil}
 use Rattle.radio_events.specs.declared.event.Event.{Event}
@@ -15,7 +15,8 @@ use Rattle.radio_events.specs.declared.state.State.TheVariants.{Running, Shut}
 use Rattle.radio_exchanges.specs.Exchanges.{WorldExchange, exchanged, then_exchanged}
 use Rattle.radio_session.specs.Exchanges.{is_leave}
 use Rattle.radio_session.specs.declared.session.Closing.{Closing}
-use Rattle.radio_session.specs.Saying.{Said, noted, one_less, said}
+use Rattle.radio_session.specs.Saying.{Said, counted, ends, last_ending, last_text, noted, one_less, said, tells}
+use Rattle.radio_session.specs.declared.web_answers.WebAnswers.{WebAnswers}
 use Rattle.radio_session.specs.Told.{told, while_open}
 use Rattle.radio_headline.specs.Course.{and_then, applied}
 use Rattle.radio_headline.proofs.Logs.{Entry, entries, replies, Each}
@@ -73,6 +74,29 @@ applied_tell w id says (event ∷ asked) =
 abbrev pub said_all : Says → List Reply → Says
 said_all says [] = says
 said_all says (reply ∷ later) = said_all (said says reply).says later
+
+-- what is told changes nothing of what the settings say
+noted_web : (says : Says) (closing : Option Closing) → (noted says closing).says.web ≡ says.web
+noted_web says None = refl
+noted_web says (Some closing) = by_count (closing.awaits == 0) where
+  by_count : (b : Bool) → (if b then ends (last_text says.web says.greeting closing.word) says (last_ending closing.word) else tells [] (counted says)).says.web ≡ says.web
+  by_count true = refl
+  by_count false = refl
+
+said_web : (says : Says) (reply : Reply) → (said says reply).says.web ≡ says.web
+said_web says (Arrived id) = refl
+said_web says Feeding = refl
+said_web says (Seated interval head) = refl
+said_web says (Drawn bytes title) = refl
+said_web says Noted = noted_web says says.closing
+said_web says (Text text) = refl
+said_web says (Deny rule) = refl
+said_web says (Finished rule) = refl
+said_web says Stray = refl
+
+pub web_stays : (says : Says) (told_so_far : List Reply) → (said_all says told_so_far).web ≡ says.web
+web_stays says [] = refl
+web_stays says (reply ∷ later) = web_stays (said says reply).says later ∙ said_web says reply
 
 -- the connection goes on after them
 abbrev pub IsOpen : Says → List Reply → Type 0

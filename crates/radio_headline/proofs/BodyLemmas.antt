@@ -58,6 +58,7 @@ use Rattle.radio_headline.proofs.ListenerLemmas.{on_his}
 use Rattle.radio_headline.proofs.GetLogs.{Waited, waited, by_get, get_is_of, no_entry, orderly_second, parted_at_get}
 use Rattle.radio_headline.proofs.SourceLemmas.{orderly_is_cut, Front, IsHisOrNotesNothing, NotesNothing, brings_front, delivered_gathered, given_before, no_block, noted, noted_of, nothing_noted}
 use Rattle.radio_headline.proofs.Partings.{Parted, none_there, parted}
+use Rattle.radio_session.specs.declared.web_answers.WebAnswers.{WebAnswers}
 
 -- by this event a mount is asked for, to feed it
 abbrev IsSourcing : Event → Type 0
@@ -105,18 +106,18 @@ behind_feeds_not id (Title him text) h l = l
 behind_feeds_not id (Draw him room) h l = l
 behind_feeds_not id (Leave him) h l = l
 
-get_feeds_not : (id : ℕ) (request : RequestParts) → IsSourcing (asks_by_get id request) → ⊥
-get_feeds_not id request l = by_kind (is_for_commands (path_in request)) l where
-  by_kind : (b : Bool) → IsSourcing (if b then gives_command id request (path_in request) else asks_to_hear id request (path_in request)) → ⊥
+get_feeds_not : (web : WebAnswers) (id : ℕ) (request : RequestParts) → IsSourcing (asks_by_get web id request) → ⊥
+get_feeds_not web id request l = by_kind (is_for_commands (path_in request)) l where
+  by_kind : (b : Bool) → IsSourcing (if b then gives_command web id request (path_in request) else asks_to_hear id request (path_in request)) → ⊥
   by_kind true h = h
   by_kind false h = h
 
-get_not : (bytes : List ℕ) (log : List Entry) (given : List ℕ) → ByGet bytes log given → Each FeedsNot log
-get_not bytes log given g =
+get_not : (web : WebAnswers) (bytes : List ℕ) (log : List Entry) (given : List ℕ) → ByGet web bytes log given → Each FeedsNot log
+get_not web bytes log given g =
     subst (Each FeedsNot) (sym g.in_order) (
       (λ l. l),
       each_joined FeedsNot g.idle _ (each_as (IsIdling g.id) FeedsNot (idle_feeds_not g.id) g.idle g.idles)
-          (get_feeds_not g.id g.request, each_as (IsIdleOrLeaving g.id) FeedsNot (leaving_feeds_not g.id) g.behind g.no_more),
+          (get_feeds_not web g.id g.request, each_as (IsIdleOrLeaving g.id) FeedsNot (leaving_feeds_not g.id) g.behind g.no_more),
     )
 
 -- a relay asks for no mount
@@ -124,31 +125,31 @@ relay_feeds_not : (log : List Entry) → OwnRelay None log → Each FeedsNot log
 relay_feeds_not log own = relay_asks_not IsSourcing (λ mount shown a. a) (λ id block a. a) (λ id text a. a) (λ id room a. a) (λ id a. a) None log own
 
 -- where a mount is asked for, to feed it, a source's request was heard
-module _ (bytes : List ℕ) (log : List Entry) (given : List ℕ) (before behind : List Entry) (e : Entry) (parts : log ≡ before ++ e ∷ behind)
+module _ (web : WebAnswers) (bytes : List ℕ) (log : List Entry) (given : List ℕ) (before behind : List Entry) (e : Entry) (parts : log ≡ before ++ e ∷ behind)
     (feeds : IsSourcing e.event) where
   -- it feeds, and was told so
   abbrev FeedsGreeted : Type 0
-  FeedsGreeted = (f : Feeds bytes log) × IsGreeted f given
+  FeedsGreeted = (f : Feeds bytes log) × IsGreeted web f given
 
   never : {A : Type 0} → Each FeedsNot log → A
   never h = absurd (none_there IsSourcing before behind e (subst (Each FeedsNot) parts h) feeds)
 
-  of_facts : Facts bytes log given → FeedsGreeted
+  of_facts : Facts web bytes log given → FeedsGreeted
   of_facts (HasAskedNothing h) = never (nothing_fed log h)
-  of_facts (HasSentGet g) = never (get_not bytes log given g)
+  of_facts (HasSentGet g) = never (get_not web bytes log given g)
   of_facts (IsSource f told) = (f, told)
   of_facts (IsPulling q) = never (relay_feeds_not log q.own)
 
-  of_stage : (conversation : Conversation) → Stage bytes log given conversation → FeedsGreeted
+  of_stage : (conversation : Conversation) → Stage web bytes log given conversation → FeedsGreeted
   of_stage conversation (AtHead idle arrived idles hears held t) =
       never (subst (Each FeedsNot) (sym arrived)
       ((λ l. l), each_as (IsIdling conversation.id) FeedsNot (idle_feeds_not conversation.id) idle idles))
-  of_stage conversation (AfterGet g hears t) = never (get_not bytes log given g)
+  of_stage conversation (AfterGet g hears t) = never (get_not web bytes log given g)
   of_stage conversation (AtBody f told none hears) = (f, told)
   of_stage conversation (AfterBody f told hears) = (f, told)
   of_stage conversation (Refused h hears) = never (nothing_fed log h)
 
-  feeds_so : (c : Option (Option Connection)) → IsSo c bytes log given → FeedsGreeted
+  feeds_so : (c : Option (Option Connection)) → IsSo web c bytes log given → FeedsGreeted
   feeds_so None h = absurd (no_entry before behind e (sym h.1 ∙ parts))
   feeds_so (Some None) h = of_facts h.facts
   feeds_so (Some (Some (Client conversation))) h = of_stage conversation h.stage
@@ -176,7 +177,7 @@ get_so conversation request behind source get =
     else if bytes_eq request.method (codes "GET") then get_heard conversation request else refuses conversation BadMethod) source
     ∙ ap (λ (b : Bool). if b then get_heard conversation request else refuses conversation BadMethod) get
 
-module _ (settled : IsSettled ShowsRequest) (within : HeadsLieWithin ShowsRequest) (joined : (bytes : List ℕ) → concat (blocks_of bytes) ≡ bytes)
+module _ (web : WebAnswers) (settled : IsSettled ShowsRequest) (within : HeadsLieWithin ShowsRequest) (joined : (bytes : List ℕ) → concat (blocks_of bytes) ≡ bytes)
     (places : (place : Place) (first second : List ℕ) → after place (first ++ second) ≡ after (after place first) second)
     (data_joined : (place : Place) (first second : List ℕ) → data_of place (first ++ second) ≡ data_of place first ++ data_of (after place first) second) where
   -- a source's bytes are heard as its request, and the data of its body behind it
@@ -188,13 +189,14 @@ module _ (settled : IsSettled ShowsRequest) (within : HeadsLieWithin ShowsReques
 
   heard_body : (bytes : List ℕ) (log : List Entry) (f : Feeds bytes log) → HeardBody bytes log f
   heard_body bytes log f =
-      let c = fresh f.id f.peer in
+      let c = fresh web f.id f.peer in
       let rest = drop f.length bytes in
       let d = delivers_by settled within joined places data_joined (greeted c f.request) (asks_to_feed f.id f.request ∷ []) f.start rest
       (body_closes (has_ended (after f.start rest)) (fault_at (after f.start rest))) in
       record {
         behind = d.asked;
         is_request = record {
+          web = web;
           peer = f.peer;
           heard = request_heard c f.request rest;
           is_heard = (Ok (Whole f.request f.length), f.reading, refl);
@@ -205,10 +207,11 @@ module _ (settled : IsSettled ShowsRequest) (within : HeadsLieWithin ShowsReques
       }
 
   -- and those of one who hears as his request
-  pub heard_get : (bytes : List ℕ) (log : List Entry) (given : List ℕ) (g : ByGet bytes log given) → IsRequest bytes g.id (asks_by_get g.id g.request) []
+  pub heard_get : (bytes : List ℕ) (log : List Entry) (given : List ℕ) (g : ByGet web bytes log given) → IsRequest bytes g.id (asks_by_get web g.id g.request) []
   heard_get bytes log given g =
-      let c = fresh g.id g.peer in
+      let c = fresh web g.id g.peer in
       record {
+        web = web;
         peer = g.peer;
         heard = request_heard c g.request (drop g.length bytes);
         is_heard = (Ok (Whole g.request g.length), g.reading, refl);
@@ -220,7 +223,7 @@ module _ (settled : IsSettled ShowsRequest) (within : HeadsLieWithin ShowsReques
       (adds : (events : List Event) (event : Event) → AddsUp (run_after settings lists events) event)
       (steps : (events : List Event) (event : Event) → ClientsStep (run_after settings lists events) event)
       (deliveries done rest : List Delivery) (all : deliveries ≡ done ++ rest) (last : ScriptState) (course : List Happening) (lines : List TranscriptLine)
-      (each : (label : ℕ) → IsSo (connection_of last.connections label) (brought done label) (log_on (opening settings lists) course label) (given lines label))
+      (each : (label : ℕ) → IsSo web (connection_of last.connections label) (brought done label) (log_on (opening settings lists) course label) (given lines label))
       (nowhere : AllNowhere (λ h. IsMoment h.event) course) where
     abbrev w0 : World
     w0 = opening settings lists
@@ -242,8 +245,8 @@ module _ (settled : IsSettled ShowsRequest) (within : HeadsLieWithin ShowsReques
       in_order = ap (λ (hs : List Happening). log_on w0 hs label) parts ∙ log_joined w0 past (on label (Source asked) ∷ later) label
           ∙ ap (λ (b : Bool). before ++ ((if b then entry w (Source asked) ∷ [] else []) ++ behind)) (itself label)
 
-      feeds_greeted : (f : Feeds (brought done label) (log label)) × IsGreeted f (given lines label)
-      feeds_greeted = feeds_so (brought done label) (log label) (given lines label) before behind (entry w (Source asked)) in_order tt
+      feeds_greeted : (f : Feeds (brought done label) (log label)) × IsGreeted web f (given lines label)
+      feeds_greeted = feeds_so web (brought done label) (log label) (given lines label) before behind (entry w (Source asked)) in_order tt
           (connection_of last.connections label) (each label)
 
       abbrev f : Feeds (brought done label) (log label)
@@ -264,7 +267,7 @@ module _ (settled : IsSettled ShowsRequest) (within : HeadsLieWithin ShowsReques
       has_number_before = subst (HasNumber f.id) (sym p.before) (inl refl)
 
       on_it : AllByRecursion (IsOnIt label f.id) course
-      on_it = on_his settings lists fits adds steps done last course lines each nowhere label f.id (subst (HasNumber f.id) (sym f.in_order) (inl refl))
+      on_it = on_his web settings lists fits adds steps done last course lines each nowhere label f.id (subst (HasNumber f.id) (sym f.in_order) (inl refl))
 
       on_it_later : AllByRecursion (IsOnIt label f.id) later
       on_it_later = (all_second (IsOnIt label f.id) past (on label (Source asked) ∷ later) (subst (AllByRecursion (IsOnIt label f.id)) parts on_it)).1 where
@@ -342,37 +345,37 @@ module _ (settled : IsSettled ShowsRequest) (within : HeadsLieWithin ShowsReques
       }
 
       -- what it was told
-      abbrev greeted_here : IsGreeted f (given lines label)
+      abbrev greeted_here : IsGreeted web f (given lines label)
       greeted_here = feeds_greeted.1
 
-      mute : Waited f.idle
-      mute = waited f.idle greeted_here.goes.1
+      mute : Waited web f.idle
+      mute = waited web f.idle greeted_here.goes.1
           (arrives_and_idles settings lists fits adds steps w0 past label f.id f.peer f.idle (reached_opening settings lists fits adds steps)
           (are_on_first settings lists fits adds steps label f.id past (on label (Source asked) ∷ later) (subst (AllByRecursion (IsOnIt label f.id)) parts on_it))
           p.before f.idles).1
 
       told_as : (r : Reply) → reply_to w (Source asked) ≡ r
-          → given lines label ≡ (said (record asking { greeting = greeting_of f.request; closing = greeted_here.closing }) r).bytes ++ greeted_here.rest
+          → given lines label ≡ (said (record (asking web) { greeting = greeting_of f.request; closing = greeted_here.closing }) r).bytes ++ greeted_here.rest
       told_as r e =
           greeted_here.is_told
-          ∙ ap (λ (xs : List ℕ). xs ++ ((said (greeted_says f.id f.idle f.request greeted_here.closing) f.reply).bytes ++ greeted_here.rest)) mute.untold
+          ∙ ap (λ (xs : List ℕ). xs ++ ((said (greeted_says web f.id f.idle f.request greeted_here.closing) f.reply).bytes ++ greeted_here.rest)) mute.untold
           ∙ ap (λ (s : Says). (said (record s { greeting = greeting_of f.request; closing = greeted_here.closing }) f.reply).bytes ++ greeted_here.rest) mute.says
-          ∙ ap (λ (x : Reply). (said (record asking { greeting = greeting_of f.request; closing = greeted_here.closing }) x).bytes ++ greeted_here.rest)
+          ∙ ap (λ (x : Reply). (said (record (asking web) { greeting = greeting_of f.request; closing = greeted_here.closing }) x).bytes ++ greeted_here.rest)
           (ap (λ (x : Entry). x.reply) (sym p.here) ∙ e)
 
       nothing_more : (r : Reply) → reply_to w (Source asked) ≡ r → IsLast r → greeted_here.rest ≡ []
       nothing_more r e l = greeted_here.ends (subst IsLast (sym (ap (λ (x : Entry). x.reply) (sym p.here) ∙ e)) l)
 
       pub source_answered : (denied : (events : List Event) (event : Event) → DenialsAreThePolicys (run_after settings lists events) event)
-          → SourceIsAnswered settings lists deliveries course lines label asked past
+          → SourceIsAnswered settings lists deliveries course web lines label asked past
       source_answered denied = record {
         behind = body.behind;
         is_request = heard_so.0;
         denied = λ rule e. (
           (denied (events_in past) (Source asked) rule e).0,
-          told_as (Deny rule) e ∙ ap (λ (xs : List ℕ). denial rule ++ xs) (nothing_more (Deny rule) e tt) ∙ append-nil (denial rule),
+          told_as (Deny rule) e ∙ ap (λ (xs : List ℕ). denial web rule ++ xs) (nothing_more (Deny rule) e tt) ∙ append-nil (denial web rule),
         );
-        feeds = λ e. (greeted_here.rest, told_as Feeding e ∙ ap (λ (g : Greeting). greeting_text g ++ greeted_here.rest) (sym heard_so.1));
+        feeds = λ e. (greeted_here.rest, told_as Feeding e ∙ ap (λ (g : Greeting). greeting_text web g ++ greeted_here.rest) (sym heard_so.1));
         too_late = λ rule e. told_as (Finished rule) e ∙ nothing_more (Finished rule) e tt;
       }
 
@@ -386,12 +389,12 @@ module _ (settled : IsSettled ShowsRequest) (within : HeadsLieWithin ShowsReques
           let in_order : log label ≡ before ++ entry w (Listen asked) ∷ behind =
           ap (λ (hs : List Happening). log_on w0 hs label) parts ∙ log_joined w0 past (on label (Listen asked) ∷ later) label
           ∙ ap (λ (b : Bool). before ++ ((if b then entry w (Listen asked) ∷ [] else []) ++ behind)) (itself label) in
-          let first = by_get (brought done label) (log label) (given lines label) before behind (entry w (Listen asked)) in_order tt
+          let first = by_get web (brought done label) (log label) (given lines label) before behind (entry w (Listen asked)) in_order tt
           (connection_of last.connections label) (each label) in
-          let g = more_for_get settled within joined places data_joined (brought done label) (brought rest label) (log label) (given lines label) first in
-          let p = parted_at_get (brought done label ++ brought rest label) (log label) (given lines label) g before behind (entry w (Listen asked)) in_order tt in
-          let number : asked.id ≡ g.id = get_is_of g.id g.request (sym p) in
+          let g = more_for_get settled within joined places data_joined web (brought done label) (brought rest label) (log label) (given lines label) first in
+          let p = parted_at_get web (brought done label ++ brought rest label) (log label) (given lines label) g before behind (entry w (Listen asked)) in_order tt in
+          let number : asked.id ≡ g.id = get_is_of web g.id g.request (sym p) in
           subst (λ (bytes : List ℕ). IsRequest bytes asked.id (Listen asked) []) (sym (brought_joined done rest label) ∙ ap (λ (ds : List Delivery). brought ds label) (sym all))
           (subst (λ (e : Event). IsRequest (brought done label ++ brought rest label) asked.id e []) (sym p)
-          (subst (λ (n : ℕ). IsRequest (brought done label ++ brought rest label) n (asks_by_get g.id g.request) []) (sym number)
+          (subst (λ (n : ℕ). IsRequest (brought done label ++ brought rest label) n (asks_by_get web g.id g.request) []) (sym number)
           (heard_get (brought done label ++ brought rest label) (log label) (given lines label) g)))

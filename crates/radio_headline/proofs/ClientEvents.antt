@@ -36,6 +36,7 @@ use Rattle.radio_headline.proofs.RunLemmas.{IsOwn}
 use Rattle.radio_headline.proofs.Connections.{arrival, events_of, IsIdleOrLeaving, IsBehindRequest, IsNoRequest, AsksForMount, ByGet, Feeds}
 use Rattle.radio_headline.proofs.Connections.{Facts, IsTold, Stage}
 use Rattle.radio_headline.proofs.Connections.{IsSo}
+use Rattle.radio_session.specs.declared.web_answers.WebAnswers.{WebAnswers}
 
 pub events_of_entries : (w : World) (events : List Event) → events_of (entries w events) ≡ events
 events_of_entries w [] = refl
@@ -227,7 +228,7 @@ client_owns id peer others log e his =
     )
 
 -- A client's events are exchanged.
-module _ (w : World) (bytes : List ℕ) (log : List Entry) (given : List ℕ) (now : Conversation) (events : List Event) where
+module _ (web : WebAnswers) (w : World) (bytes : List ℕ) (log : List Entry) (given : List ℕ) (now : Conversation) (events : List Event) where
   abbrev pub x : WorldExchange
   x = exchanged w now.id now.says events
 
@@ -236,9 +237,9 @@ module _ (w : World) (bytes : List ℕ) (log : List Entry) (given : List ℕ) (n
 
   pub settles : (others : List Entry) → log ≡ arrival now.peer now.id ∷ others → Each (λ e. client_in e.event ≡ Some now.id) others → Each IsNotLast log
       → EachAsked (λ e. client_in e ≡ Some now.id) events
-      → (x.exchange.state ≡ Running → Stage bytes (log ++ new) (given ++ x.exchange.bytes) (saying_now now x.exchange.says))
-      → Facts bytes (log ++ new) (given ++ x.exchange.bytes)
-      → IsSo (Some (connection_unless (Some (Client (saying_now now x.exchange.says))) x.exchange.state)) bytes (log ++ new) (given ++ x.exchange.bytes)
+      → (x.exchange.state ≡ Running → Stage web bytes (log ++ new) (given ++ x.exchange.bytes) (saying_now now x.exchange.says))
+      → Facts web bytes (log ++ new) (given ++ x.exchange.bytes)
+      → IsSo web (Some (connection_unless (Some (Client (saying_now now x.exchange.says))) x.exchange.state)) bytes (log ++ new) (given ++ x.exchange.bytes)
   settles others arrived his goes asked stage facts = by_state x.exchange.state refl where
     all_his : Each (λ e. client_in e.event ≡ Some now.id) (others ++ new)
     all_his = each_joined (λ e. client_in e.event ≡ Some now.id) others new his
@@ -248,7 +249,7 @@ module _ (w : World) (bytes : List ℕ) (log : List Entry) (given : List ℕ) (n
     all = ap (λ (xs : List Entry). xs ++ new) arrived
 
     by_state : (state : State) → x.exchange.state ≡ state
-        → IsSo (Some (connection_unless (Some (Client (saying_now now x.exchange.says))) state)) bytes (log ++ new) (given ++ x.exchange.bytes)
+        → IsSo web (Some (connection_unless (Some (Client (saying_now now x.exchange.says))) state)) bytes (log ++ new) (given ++ x.exchange.bytes)
     by_state Running e = record {
       others = others ++ new;
       arrived = all;
@@ -259,35 +260,35 @@ module _ (w : World) (bytes : List ℕ) (log : List Entry) (given : List ℕ) (n
     by_state (Shut ending) e = record { own = client_owns now.id now.peer (others ++ new) (log ++ new) all all_his; facts = facts }
 
   -- what is given is told of the replies still
-  module _ (before : Conversation) (t : IsTold before log given) (same : now.says ≡ before.says) where
-    says_now : now.says ≡ said_all asking (replies log)
+  module _ (before : Conversation) (t : IsTold web before log given) (same : now.says ≡ before.says) where
+    says_now : now.says ≡ said_all (asking web) (replies log)
     says_now = same ∙ t.says
 
-    pub told_now : given ++ x.exchange.bytes ≡ told asking (replies (log ++ new))
+    pub told_now : given ++ x.exchange.bytes ≡ told (asking web) (replies (log ++ new))
     told_now =
         ap (λ (xs : List ℕ). xs ++ x.exchange.bytes) t.is_told
-        ∙ ap (λ (xs : List ℕ). told asking (replies log) ++ xs) (applied_tell w now.id now.says events)
-        ∙ ap (λ (s : Says). told asking (replies log) ++ told s (replies new)) says_now
-        ∙ sym (told_joined asking (replies log) (replies new) t.goes)
-        ∙ ap (λ (rs : List Reply). told asking rs) (sym (replies_joined log new))
+        ∙ ap (λ (xs : List ℕ). told (asking web) (replies log) ++ xs) (applied_tell w now.id now.says events)
+        ∙ ap (λ (s : Says). told (asking web) (replies log) ++ told s (replies new)) says_now
+        ∙ sym (told_joined (asking web) (replies log) (replies new) t.goes)
+        ∙ ap (λ (rs : List Reply). told (asking web) rs) (sym (replies_joined log new))
 
-    pub still_told : x.exchange.state ≡ Running → IsTold (saying_now now x.exchange.says) (log ++ new) (given ++ x.exchange.bytes)
+    pub still_told : x.exchange.state ≡ Running → IsTold web (saying_now now x.exchange.says) (log ++ new) (given ++ x.exchange.bytes)
     still_told run =
         let g = goes_on w now.id now.says events run in
         record {
-          says = g.so ∙ ap (λ (s : Says). said_all s (replies new)) says_now ∙ sym (said_joined asking (replies log) (replies new))
-              ∙ ap (λ (rs : List Reply). said_all asking rs) (sym (replies_joined log new));
-          goes = subst (λ (rs : List Reply). IsOpen asking rs) (sym (replies_joined log new))
-              (open_joined asking (replies log) (replies new) t.goes (subst (λ (s : Says). IsOpen s (replies new)) says_now g.goes));
+          says = g.so ∙ ap (λ (s : Says). said_all s (replies new)) says_now ∙ sym (said_joined (asking web) (replies log) (replies new))
+              ∙ ap (λ (rs : List Reply). said_all (asking web) rs) (sym (replies_joined log new));
+          goes = subst (λ (rs : List Reply). IsOpen (asking web) rs) (sym (replies_joined log new))
+              (open_joined (asking web) (replies log) (replies new) t.goes (subst (λ (s : Says). IsOpen s (replies new)) says_now g.goes));
           is_told = told_now;
         }
 
 -- the same client, of other bytes and another log
-pub get_with : (bytes bytes' : List ℕ) (log log' : List Entry) (given given' : List ℕ) (g : ByGet bytes log given)
+pub get_with : (web : WebAnswers) (bytes bytes' : List ℕ) (log log' : List Entry) (given given' : List ℕ) (g : ByGet web bytes log given)
     → IsReading ShowsRequest bytes' (Ok (Whole g.request g.length)) → (behind : List Entry)
-    → log' ≡ arrival g.peer g.id ∷ g.idle ++ record { event = asks_by_get g.id g.request; reply = g.reply } ∷ behind
-    → Each (IsIdleOrLeaving g.id) behind → IsOrderly g.id log' → given' ≡ told asking (replies log') → ByGet bytes' log' given'
-get_with bytes bytes' log log' given given' g reading behind in_order no_more orderly is_told = record {
+    → log' ≡ arrival g.peer g.id ∷ g.idle ++ record { event = asks_by_get web g.id g.request; reply = g.reply } ∷ behind
+    → Each (IsIdleOrLeaving g.id) behind → IsOrderly g.id log' → given' ≡ told (asking web) (replies log') → ByGet web bytes' log' given'
+get_with web bytes bytes' log log' given given' g reading behind in_order no_more orderly is_told = record {
   id = g.id;
   peer = g.peer;
   idle = g.idle;

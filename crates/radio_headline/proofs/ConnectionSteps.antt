@@ -38,44 +38,45 @@ use Rattle.radio_headline.proofs.ClientEvents.{IsIdleOrLeave, Pushed, PushesNoth
 use Rattle.radio_headline.proofs.HeardLemmas.{Delivers, behind_head, delivers_by, more_data, more_for_source, of_reading, read_more}
 use Rattle.radio_headline.proofs.Settling.{CameOn, logged, settled_in}
 use Rattle.radio_headline.proofs.HeadSteps.{nothing_asked, idle_at_head, head_comes}
+use Rattle.radio_session.specs.declared.web_answers.WebAnswers.{WebAnswers}
 
-module _ (settled : IsSettled ShowsRequest) (within : HeadsLieWithin ShowsRequest) (joined : (bytes : List ℕ) → concat (blocks_of bytes) ≡ bytes)
+module _ (web : WebAnswers) (settled : IsSettled ShowsRequest) (within : HeadsLieWithin ShowsRequest) (joined : (bytes : List ℕ) → concat (blocks_of bytes) ≡ bytes)
     (places : (place : Place) (first second : List ℕ) → after place (first ++ second) ≡ after (after place first) second)
     (data_joined : (place : Place) (first second : List ℕ) → data_of place (first ++ second) ≡ data_of place first ++ data_of (after place first) second) where
   -- Something comes to a client's connection, whose conversation stood so.
-  module _ (w : World) (bytes : List ℕ) (log : List Entry) (given : List ℕ) (conversation : Conversation) (c : IsClient bytes log given conversation) where
+  module _ (w : World) (bytes : List ℕ) (log : List Entry) (given : List ℕ) (conversation : Conversation) (c : IsClient web bytes log given conversation) where
     abbrev Came : List ℕ → Conversation → List Event → Type 0
-    Came = CameOn w bytes log given conversation c
+    Came = CameOn web w bytes log given conversation c
 
     abbrev id : ℕ
     id = conversation.id
 
     -- what comes behind a GET
-    behind_get : (g : ByGet bytes log given) → g.id ≡ id → IsTold conversation log given → conversation.hears ≡ Nothing → (more : List ℕ) (events : List Event)
+    behind_get : (g : ByGet web bytes log given) → g.id ≡ id → IsTold web conversation log given → conversation.hears ≡ Nothing → (more : List ℕ) (events : List Event)
         → EachAsked (IsIdleOrLeave id) events → Came (bytes ++ more) conversation events
     behind_get g his t hears more events asked =
-        settled_in w bytes log given conversation c conversation (bytes ++ more) events refl refl (asked_as (IsIdleOrLeave id) _ (λ e h. idle_or_leaving_is_his id e h) events asked)
-        (λ run. AfterGet got hears (still_told w (bytes ++ more) log given conversation events conversation t refl run)) (HasSentGet got) where
-          got : ByGet (bytes ++ more) (log ++ (entries w (applied w id conversation.says events))) (given ++ (exchanged w id conversation.says events).exchange.bytes)
-          got = get_with bytes (bytes ++ more) log (log ++ (entries w (applied w id conversation.says events))) given
+        settled_in web w bytes log given conversation c conversation (bytes ++ more) events refl refl (asked_as (IsIdleOrLeave id) _ (λ e h. idle_or_leaving_is_his id e h) events asked)
+        (λ run. AfterGet got hears (still_told web w (bytes ++ more) log given conversation events conversation t refl run)) (HasSentGet got) where
+          got : ByGet web (bytes ++ more) (log ++ (entries w (applied w id conversation.says events))) (given ++ (exchanged w id conversation.says events).exchange.bytes)
+          got = get_with web bytes (bytes ++ more) log (log ++ (entries w (applied w id conversation.says events))) given
               (given ++ (exchanged w id conversation.says events).exchange.bytes) g (read_more settled within joined places data_joined bytes more g.request g.length g.reading)
               (g.behind ++ (entries w (applied w id conversation.says events)))
               (ap (λ (xs : List Entry). xs ++ (entries w (applied w id conversation.says events))) g.in_order
-              ∙ logged (arrival g.peer g.id) g.idle (record { event = asks_by_get g.id g.request; reply = g.reply } ∷ g.behind) (entries w (applied w id conversation.says events)))
+              ∙ logged (arrival g.peer g.id) g.idle (record { event = asks_by_get web g.id g.request; reply = g.reply } ∷ g.behind) (entries w (applied w id conversation.says events)))
               (each_joined (IsIdleOrLeaving g.id) g.behind (entries w (applied w id conversation.says events)) g.no_more
               (subst (λ (m : ℕ). Each (IsIdleOrLeaving m) (entries w (applied w id conversation.says events))) (sym his)
               (applied_each (IsIdleOrLeave id) w id conversation.says events (inr refl) asked)))
               (subst (λ (m : ℕ). IsOrderly m (log ++ (entries w (applied w id conversation.says events)))) (sym his)
               (orderly_joined id log (entries w (applied w id conversation.says events)) c.goes_on (applied_orderly w id conversation.says events)))
-              (told_now w (bytes ++ more) log given conversation events conversation t refl)
+              (told_now web w (bytes ++ more) log given conversation events conversation t refl)
 
     -- a source's events go on
-    module _ (f : Feeds bytes log) (was : IsGreeted f given) (his : f.id ≡ id) where
+    module _ (f : Feeds bytes log) (was : IsGreeted web f given) (his : f.id ≡ id) where
       abbrev coming : List ℕ → List ℕ
       coming more = data_of (after f.start (drop f.length bytes)) more
 
       abbrev Fed : List ℕ → List Entry → List ℕ → Type 0
-      Fed later newer rest = (g : Feeds later newer) × (g.rest ≡ rest) × (g.start ≡ f.start) × (g.length ≡ f.length) × ((more : List ℕ) → IsGreeted g (given ++ more))
+      Fed later newer rest = (g : Feeds later newer) × (g.rest ≡ rest) × (g.start ≡ f.start) × (g.length ≡ f.length) × ((more : List ℕ) → IsGreeted web g (given ++ more))
 
       feeds_on : (more : List ℕ) (now : Conversation) (events : List Event) → now.id ≡ id → EachAsked (IsBehindRequest id) events
           → (rest : List ℕ) → pushed (applied w now.id now.says events) ++ rest ≡ f.rest ++ coming more
@@ -102,7 +103,7 @@ module _ (settled : IsSettled ShowsRequest) (within : HeadsLieWithin ShowsReques
         refl,
         refl,
         refl,
-        λ told. greeted_on f.id f.idle f.request f.reply given told was no_last,
+        λ told. greeted_on web f.id f.idle f.request f.reply given told was no_last,
       ) where
         no_last : IsLast f.reply → ⊥
         no_last = (each_second IsNotLast (arrival f.peer f.id ∷ f.idle) _ (subst (Each IsNotLast) f.in_order c.goes_on)).0
@@ -122,7 +123,7 @@ module _ (settled : IsSettled ShowsRequest) (within : HeadsLieWithin ShowsReques
           → Delivers settled within joined places data_joined (nothing_held conversation) [] (after f.start (drop f.length bytes)) more heard
           → Came (bytes ++ more) heard.conversation heard.events
       body_comes none more heard d =
-          settled_in w bytes log given conversation c heard.conversation (bytes ++ more) heard.events d.his d.peer
+          settled_in web w bytes log given conversation c heard.conversation (bytes ++ more) heard.events d.his d.peer
           (subst (EachAsked (λ e. client_in e ≡ Some id)) (sym d.events) (asked_as (IsBehindRequest id) _ (λ e h. behind_is_his id e h) d.asked d.each))
           (λ run. stage run d.hears) (IsSource fed.0 (fed.4 _)) where
             p : Pushed w heard.conversation.id heard.conversation.says heard.events
@@ -134,7 +135,7 @@ module _ (settled : IsSettled ShowsRequest) (within : HeadsLieWithin ShowsReques
 
             stage : (exchanged w heard.conversation.id heard.conversation.says heard.events).exchange.state ≡ Running
                 → (heard.conversation.hears ≡ Body (unfed (after (after f.start (drop f.length bytes)) more))) ⊎ (heard.conversation.hears ≡ Nothing)
-                → Stage (bytes ++ more) (log ++ entries w (applied w heard.conversation.id heard.conversation.says heard.events))
+                → Stage web (bytes ++ more) (log ++ entries w (applied w heard.conversation.id heard.conversation.says heard.events))
                 (given ++ (exchanged w heard.conversation.id heard.conversation.says heard.events).exchange.bytes) (saying_now heard.conversation (exchanged w heard.conversation.id heard.conversation.says heard.events).exchange.says)
             stage run (inl h) = AtBody fed.0 (fed.4 _) (fed.1 ∙ p.whole run) (h ∙ ap (λ (place : Place). Body (unfed place))
                 (sym (places f.start (drop f.length bytes) more)
@@ -147,7 +148,7 @@ module _ (settled : IsSettled ShowsRequest) (within : HeadsLieWithin ShowsReques
       idle_at_body : f.rest ≡ [] → conversation.hears ≡ Body (unfed (after f.start (drop f.length bytes))) → (events : List Event)
           → EachAsked (IsIdle id) events → Came (bytes ++ []) conversation events
       idle_at_body none hears events asked =
-          settled_in w bytes log given conversation c conversation (bytes ++ []) events refl refl (asked_as (IsIdle id) _ (λ e h. idle_is_his id e h) events asked)
+          settled_in web w bytes log given conversation c conversation (bytes ++ []) events refl refl (asked_as (IsIdle id) _ (λ e h. idle_is_his id e h) events asked)
           (λ run. AtBody silent.0 (silent.4 _) (silent.1 ∙ append-nil f.rest ∙ none)
           (hears ∙ ap (λ (xs : List ℕ). Body (unfed (after f.start (drop f.length xs)))) (sym (append-nil bytes))
           ∙ ap (λ (n : ℕ). Body (unfed (after f.start (drop n (bytes ++ []))))) (sym silent.3)
@@ -159,14 +160,14 @@ module _ (settled : IsSettled ShowsRequest) (within : HeadsLieWithin ShowsReques
       after_body : conversation.hears ≡ Nothing → (more : List ℕ) (events : List Event) → EachAsked (IsIdle id) events → Came (bytes ++ more) conversation events
       after_body hears more events asked =
           let silent = feeds_silently more conversation events refl asked in
-          settled_in w bytes log given conversation c conversation (bytes ++ more) events refl refl (asked_as (IsIdle id) _ (λ e h. idle_is_his id e h) events asked)
+          settled_in web w bytes log given conversation c conversation (bytes ++ more) events refl refl (asked_as (IsIdle id) _ (λ e h. idle_is_his id e h) events asked)
           (λ run. AfterBody silent.0 (silent.4 _) hears) (IsSource silent.0 (silent.4 _))
 
     -- nothing more is heard
     after_refusal : Each AsksNothing log → conversation.hears ≡ Nothing → (later : List ℕ) (events : List Event) → EachAsked (IsIdle id) events
         → Came later conversation events
     after_refusal nothing hears later events asked =
-        settled_in w bytes log given conversation c conversation later events refl refl (asked_as (IsIdle id) _ (λ e h. idle_is_his id e h) events asked)
+        settled_in web w bytes log given conversation c conversation later events refl refl (asked_as (IsIdle id) _ (λ e h. idle_is_his id e h) events asked)
         (λ run. Refused still hears) (HasAskedNothing still) where
           still : Each AsksNothing (log ++ entries w (applied w id conversation.says events))
           still = each_joined AsksNothing log (entries w (applied w id conversation.says events)) nothing
@@ -190,11 +191,11 @@ module _ (settled : IsSettled ShowsRequest) (within : HeadsLieWithin ShowsReques
           subst (λ (x : Heard). Came (bytes ++ more) x.conversation x.events)
           (sym (subst (λ (s : Hears). HearsAs s conversation more heard) e h)) came
 
-      by_stage : Stage bytes log given conversation → Came (bytes ++ more) heard.conversation heard.events
+      by_stage : Stage web bytes log given conversation → Came (bytes ++ more) heard.conversation heard.events
       by_stage (AtHead idle arrived idles hears held t) =
           let r = subst (λ (s : Hears). HearsAs s conversation more heard) hears h in
           subst (λ (x : Heard). Came (bytes ++ more) x.conversation x.events) (sym (r.2 ∙ ap (λ (b : List ℕ). head_heard conversation (b ++ more) r.0) held))
-          (head_comes settled within joined places data_joined w bytes log given conversation c idle arrived idles t (bytes ++ more) (head_heard conversation (bytes ++ more) r.0)
+          (head_comes web settled within joined places data_joined w bytes log given conversation c idle arrived idles t (bytes ++ more) (head_heard conversation (bytes ++ more) r.0)
           (of_reading settled within joined places data_joined conversation (bytes ++ more) r.0 (subst (λ (b : List ℕ). IsReading ShowsRequest (b ++ more) r.0) held r.1)) hears)
       by_stage (AfterGet g hears t) =
           nothing_heard hears (behind_get g (same_arrival g.peer g.id _ g.in_order) t hears more [] tt)
@@ -210,20 +211,20 @@ module _ (settled : IsSettled ShowsRequest) (within : HeadsLieWithin ShowsReques
     -- he draws, or tells a title
     pub idle_comes : (event : Event) → IsIdle id event → Came (bytes ++ []) conversation (event ∷ [])
     idle_comes event idle = by_stage c.stage where
-      by_stage : Stage bytes log given conversation → Came (bytes ++ []) conversation (event ∷ [])
+      by_stage : Stage web bytes log given conversation → Came (bytes ++ []) conversation (event ∷ [])
       by_stage (AtHead others arrived idles hears held t) =
-          idle_at_head settled within joined places data_joined w bytes log given conversation c others arrived idles t (bytes ++ []) conversation (event ∷ []) refl refl refl hears (held ∙ sym (append-nil bytes)) (idle, tt)
+          idle_at_head web settled within joined places data_joined w bytes log given conversation c others arrived idles t (bytes ++ []) conversation (event ∷ []) refl refl refl hears (held ∙ sym (append-nil bytes)) (idle, tt)
       by_stage (AfterGet g hears t) = behind_get g (same_arrival g.peer g.id _ g.in_order) t hears [] (event ∷ []) (inl idle, tt)
       by_stage (AtBody f told none hears) = idle_at_body f told (same_arrival f.peer f.id _ f.in_order) none hears (event ∷ []) (idle, tt)
       by_stage (AfterBody f told hears) = after_body f told (same_arrival f.peer f.id _ f.in_order) hears [] (event ∷ []) (idle, tt)
       by_stage (Refused nothing hears) = after_refusal nothing hears (bytes ++ []) (event ∷ []) (idle, tt)
 
     -- its peer closes it
-    pub end_comes : IsClosed (bytes ++ []) (log ++ entry w (Leave id) ∷ []) (given ++ [])
+    pub end_comes : IsClosed web (bytes ++ []) (log ++ entry w (Leave id) ∷ []) (given ++ [])
     end_comes = record {
       own = client_owns id conversation.peer (c.others ++ (entry w (Leave id) ∷ [])) (log ++ (entry w (Leave id) ∷ [])) (ap (λ (xs : List Entry). xs ++ (entry w (Leave id) ∷ [])) c.arrived)
           (each_joined (λ e. client_in e.event ≡ Some id) c.others (entry w (Leave id) ∷ []) c.his (refl, tt));
-      facts = subst (λ (xs : List ℕ). Facts (bytes ++ []) (log ++ (entry w (Leave id) ∷ [])) xs) (sym (append-nil given)) (by_stage c.stage);
+      facts = subst (λ (xs : List ℕ). Facts web (bytes ++ []) (log ++ (entry w (Leave id) ∷ [])) xs) (sym (append-nil given)) (by_stage c.stage);
     } where
       nothing : Each AsksNothing log → Each AsksNothing (log ++ (entry w (Leave id) ∷ []))
       nothing h = each_joined AsksNothing log (entry w (Leave id) ∷ []) h ((λ a. a), tt)
@@ -231,24 +232,24 @@ module _ (settled : IsSettled ShowsRequest) (within : HeadsLieWithin ShowsReques
       orderly : IsOrderly id (log ++ (entry w (Leave id) ∷ []))
       orderly = orderly_joined id log (entry w (Leave id) ∷ []) c.goes_on ((λ h. tt), tt)
 
-      still : IsTold conversation log given → given ≡ told asking (replies (log ++ (entry w (Leave id) ∷ [])))
+      still : IsTold web conversation log given → given ≡ told (asking web) (replies (log ++ (entry w (Leave id) ∷ [])))
       still t =
-          let says = said_all asking (replies log) in
+          let says = said_all (asking web) (replies log) in
           t.is_told
-          ∙ sym (append-nil (told asking (replies log)))
-          ∙ ap (λ (xs : List ℕ). told asking (replies log) ++ xs)
-          (sym (leaves_silently says (reply_to w (Leave id)) (all_close_nothing asking (replies log) refl) (leave_reply w id)))
-          ∙ sym (told_joined asking (replies log) (reply_to w (Leave id) ∷ []) t.goes)
-          ∙ ap (λ (rs : List Reply). told asking rs) (sym (replies_joined log (entry w (Leave id) ∷ [])))
+          ∙ sym (append-nil (told (asking web) (replies log)))
+          ∙ ap (λ (xs : List ℕ). told (asking web) (replies log) ++ xs)
+          (sym (leaves_silently says (reply_to w (Leave id)) (all_close_nothing (asking web) (replies log) refl) (leave_reply w id)))
+          ∙ sym (told_joined (asking web) (replies log) (reply_to w (Leave id) ∷ []) t.goes)
+          ∙ ap (λ (rs : List Reply). told (asking web) rs) (sym (replies_joined log (entry w (Leave id) ∷ [])))
 
-      more_get : ByGet bytes log given → IsTold conversation log given → Facts (bytes ++ []) (log ++ (entry w (Leave id) ∷ [])) given
-      more_get g t = HasSentGet (get_with bytes (bytes ++ []) log (log ++ (entry w (Leave id) ∷ [])) given given g (read_more settled within joined places data_joined bytes [] g.request g.length g.reading) (g.behind ++ (entry w (Leave id) ∷ []))
+      more_get : ByGet web bytes log given → IsTold web conversation log given → Facts web (bytes ++ []) (log ++ (entry w (Leave id) ∷ [])) given
+      more_get g t = HasSentGet (get_with web bytes (bytes ++ []) log (log ++ (entry w (Leave id) ∷ [])) given given g (read_more settled within joined places data_joined bytes [] g.request g.length g.reading) (g.behind ++ (entry w (Leave id) ∷ []))
           (ap (λ (xs : List Entry). xs ++ (entry w (Leave id) ∷ [])) g.in_order
-          ∙ logged (arrival g.peer g.id) g.idle (record { event = asks_by_get g.id g.request; reply = g.reply } ∷ g.behind) (entry w (Leave id) ∷ []))
+          ∙ logged (arrival g.peer g.id) g.idle (record { event = asks_by_get web g.id g.request; reply = g.reply } ∷ g.behind) (entry w (Leave id) ∷ []))
           (each_joined (IsIdleOrLeaving g.id) g.behind (entry w (Leave id) ∷ []) g.no_more (inr (ap (λ (n : ℕ). Leave n) (sym (same_arrival g.peer g.id _ g.in_order))), tt))
           (subst (λ (m : ℕ). IsOrderly m (log ++ (entry w (Leave id) ∷ []))) (sym (same_arrival g.peer g.id _ g.in_order)) orderly) (still t))
 
-      more_source : (f : Feeds bytes log) → IsGreeted f given → Facts (bytes ++ []) (log ++ (entry w (Leave id) ∷ [])) given
+      more_source : (f : Feeds bytes log) → IsGreeted web f given → Facts web (bytes ++ []) (log ++ (entry w (Leave id) ∷ [])) given
       more_source f told =
           let m = more_for_source settled within joined places data_joined bytes [] log f in
           IsSource (feeds_with (bytes ++ []) (bytes ++ []) log (log ++ (entry w (Leave id) ∷ [])) m m.reading (m.behind ++ (entry w (Leave id) ∷ []))
@@ -261,8 +262,8 @@ module _ (settled : IsSettled ShowsRequest) (within : HeadsLieWithin ShowsReques
           (ap pushed (events_of_joined m.behind (entry w (Leave id) ∷ [])) ∙ pushed_joined (events_of m.behind) (Leave id ∷ []) ∙ append-nil (pushed (events_of m.behind)))
           ∙ m.front)) told
 
-      by_stage : Stage bytes log given conversation → Facts (bytes ++ []) (log ++ (entry w (Leave id) ∷ [])) given
-      by_stage (AtHead idle arrived idles hears held t) = HasAskedNothing (nothing (nothing_asked settled within joined places data_joined w bytes log given conversation c idle arrived idles t))
+      by_stage : Stage web bytes log given conversation → Facts web (bytes ++ []) (log ++ (entry w (Leave id) ∷ [])) given
+      by_stage (AtHead idle arrived idles hears held t) = HasAskedNothing (nothing (nothing_asked web settled within joined places data_joined w bytes log given conversation c idle arrived idles t))
       by_stage (AfterGet g hears t) = more_get g t
       by_stage (AtBody f told none hears) = more_source f told
       by_stage (AfterBody f told hears) = more_source f told

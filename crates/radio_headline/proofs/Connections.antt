@@ -34,6 +34,7 @@ use Rattle.radio_headline.proofs.Greetings.{Greeted}
 use Rattle.radio_headline.proofs.RelayWords.{IsCut, IsNotRefused, IsNoUp, OwnRelay, number_after}
 use Rattle.radio_headline.proofs.ReplyForms.{IsIdle}
 use Rattle.radio_headline.proofs.RunLemmas.{IsOwn, IsIdling}
+use Rattle.radio_session.specs.declared.web_answers.WebAnswers.{WebAnswers}
 
 -- he has arrived, and has this number
 abbrev pub arrival : Peer → ℕ → Entry
@@ -71,23 +72,23 @@ abbrev pub AsksNothing : Entry → Type 0
 AsksNothing e = AsksForMount e.event → ⊥
 
 -- a GET was heard, and what was given is what is told of the replies
-pub record ByGet (bytes : List ℕ) (log : List Entry) (given : List ℕ) : Type 0 where
+pub record ByGet (web : WebAnswers) (bytes : List ℕ) (log : List Entry) (given : List ℕ) : Type 0 where
   pub id : ℕ
   pub peer : Peer
   pub idle : List Entry
   pub request : RequestParts
   pub reply : Reply
   pub behind : List Entry
-  pub in_order : log ≡ arrival peer id ∷ idle ++ record { event = asks_by_get id request; reply = reply } ∷ behind
+  pub in_order : log ≡ arrival peer id ∷ idle ++ record { event = asks_by_get web id request; reply = reply } ∷ behind
   pub idles : Each (IsIdling id) idle
-  pub goes : IsOpen asking (Arrived id ∷ replies idle)
+  pub goes : IsOpen (asking web) (Arrived id ∷ replies idle)
   pub no_more : Each (IsIdleOrLeaving id) behind
   pub orderly : IsOrderly id log
   pub length : ℕ
   pub reading : IsReading ShowsRequest bytes (Ok (Whole request length))
   pub no_source : is_source request ≡ false
   pub is_get : bytes_eq request.method (codes "GET") ≡ true
-  pub is_told : given ≡ told asking (replies log)
+  pub is_told : given ≡ told (asking web) (replies log)
 
 -- a source's request was heard, and what was pushed is a front of the data of its body
 pub record Feeds (bytes : List ℕ) (log : List Entry) : Type 0 where
@@ -127,45 +128,45 @@ pub record Pulls (bytes : List ℕ) (log : List Entry) : Type 0 where
   pub front : pushed (events_of behind) ++ rest ≡ sound_in (stream_parts (stream_with interval) (drop length bytes))
 
 -- what was given begins with what it was told of its request
-abbrev pub IsGreeted : {bytes : List ℕ} {log : List Entry} → Feeds bytes log → List ℕ → Type 0
-IsGreeted f given = Greeted f.id f.idle f.request f.reply given
+abbrev pub IsGreeted : (web : WebAnswers) → {bytes : List ℕ} {log : List Entry} → Feeds bytes log → List ℕ → Type 0
+IsGreeted web f given = Greeted web f.id f.idle f.request f.reply given
 
 -- the stream behind what has come of it
 abbrev pub stream_after : {bytes : List ℕ} {log : List Entry} → Pulls bytes log → Stream
 stream_after {bytes = bytes} p = after_bytes (stream_with p.interval) (drop p.length bytes)
 
-pub data Facts (bytes : List ℕ) (log : List Entry) (given : List ℕ) : Type 0 where
-  HasAskedNothing : Each AsksNothing log → Facts bytes log given
-  HasSentGet : ByGet bytes log given → Facts bytes log given
-  IsSource : (f : Feeds bytes log) → IsGreeted f given → Facts bytes log given
-  IsPulling : Pulls bytes log → Facts bytes log given
+pub data Facts (web : WebAnswers) (bytes : List ℕ) (log : List Entry) (given : List ℕ) : Type 0 where
+  HasAskedNothing : Each AsksNothing log → Facts web bytes log given
+  HasSentGet : ByGet web bytes log given → Facts web bytes log given
+  IsSource : (f : Feeds bytes log) → IsGreeted web f given → Facts web bytes log given
+  IsPulling : Pulls bytes log → Facts web bytes log given
 
-pub record IsClosed (bytes : List ℕ) (log : List Entry) (given : List ℕ) : Type 0 where
+pub record IsClosed (web : WebAnswers) (bytes : List ℕ) (log : List Entry) (given : List ℕ) : Type 0 where
   pub own : Each (IsOwn log) log
-  pub facts : Facts bytes log given
+  pub facts : Facts web bytes log given
 
 -- what was given is what is told of the replies, and the conversation goes on so
-pub record IsTold (conversation : Conversation) (log : List Entry) (given : List ℕ) : Type 0 where
-  pub says : conversation.says ≡ said_all asking (replies log)
-  pub goes : IsOpen asking (replies log)
-  pub is_told : given ≡ told asking (replies log)
+pub record IsTold (web : WebAnswers) (conversation : Conversation) (log : List Entry) (given : List ℕ) : Type 0 where
+  pub says : conversation.says ≡ said_all (asking web) (replies log)
+  pub goes : IsOpen (asking web) (replies log)
+  pub is_told : given ≡ told (asking web) (replies log)
 
-pub data Stage (bytes : List ℕ) (log : List Entry) (given : List ℕ) (conversation : Conversation) : Type 0 where
+pub data Stage (web : WebAnswers) (bytes : List ℕ) (log : List Entry) (given : List ℕ) (conversation : Conversation) : Type 0 where
   AtHead : (idle : List Entry) → log ≡ arrival conversation.peer conversation.id ∷ idle → Each (IsIdling conversation.id) idle
-      → conversation.hears ≡ HearsHead → conversation.held ≡ bytes → IsTold conversation log given → Stage bytes log given conversation
-  AfterGet : ByGet bytes log given → conversation.hears ≡ Nothing → IsTold conversation log given → Stage bytes log given conversation
-  AtBody : (f : Feeds bytes log) → IsGreeted f given → f.rest ≡ [] → conversation.hears ≡ Body (unfed (after f.start (drop f.length bytes)))
-      → Stage bytes log given conversation
-  AfterBody : (f : Feeds bytes log) → IsGreeted f given → conversation.hears ≡ Nothing → Stage bytes log given conversation
-  Refused : Each AsksNothing log → conversation.hears ≡ Nothing → Stage bytes log given conversation
+      → conversation.hears ≡ HearsHead → conversation.held ≡ bytes → IsTold web conversation log given → Stage web bytes log given conversation
+  AfterGet : ByGet web bytes log given → conversation.hears ≡ Nothing → IsTold web conversation log given → Stage web bytes log given conversation
+  AtBody : (f : Feeds bytes log) → IsGreeted web f given → f.rest ≡ [] → conversation.hears ≡ Body (unfed (after f.start (drop f.length bytes)))
+      → Stage web bytes log given conversation
+  AfterBody : (f : Feeds bytes log) → IsGreeted web f given → conversation.hears ≡ Nothing → Stage web bytes log given conversation
+  Refused : Each AsksNothing log → conversation.hears ≡ Nothing → Stage web bytes log given conversation
 
 -- a client's connection that is open
-pub record IsClient (bytes : List ℕ) (log : List Entry) (given : List ℕ) (conversation : Conversation) : Type 0 where
+pub record IsClient (web : WebAnswers) (bytes : List ℕ) (log : List Entry) (given : List ℕ) (conversation : Conversation) : Type 0 where
   pub others : List Entry
   pub arrived : log ≡ arrival conversation.peer conversation.id ∷ others
   pub his : Each (λ e. client_in e.event ≡ Some conversation.id) others
   pub goes_on : Each IsNotLast log
-  pub stage : Stage bytes log given conversation
+  pub stage : Stage web bytes log given conversation
 
 pub data RelayStage (bytes : List ℕ) (log : List Entry) (pulling : Pulling) : Type 0 where
   AtAnswer : pulling.stage ≡ Head bytes → log ≡ [] → RelayStage bytes log pulling
@@ -179,8 +180,8 @@ pub record IsRelay (bytes : List ℕ) (log : List Entry) (pulling : Pulling) : T
   pub stage : RelayStage bytes log pulling
 
 -- what became of the label
-abbrev pub IsSo : Option (Option Connection) → List ℕ → List Entry → List ℕ → Type 0
-IsSo None bytes log given = (bytes ≡ []) × (log ≡ []) × (given ≡ [])
-IsSo (Some None) bytes log given = IsClosed bytes log given
-IsSo (Some (Some (Client conversation))) bytes log given = IsClient bytes log given conversation
-IsSo (Some (Some (Relay pulling))) bytes log given = IsRelay bytes log pulling
+abbrev pub IsSo : (web : WebAnswers) → Option (Option Connection) → List ℕ → List Entry → List ℕ → Type 0
+IsSo web None bytes log given = (bytes ≡ []) × (log ≡ []) × (given ≡ [])
+IsSo web (Some None) bytes log given = IsClosed web bytes log given
+IsSo web (Some (Some (Client conversation))) bytes log given = IsClient web bytes log given conversation
+IsSo web (Some (Some (Relay pulling))) bytes log given = IsRelay bytes log pulling

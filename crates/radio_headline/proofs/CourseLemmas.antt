@@ -55,8 +55,9 @@ use Rattle.radio_relay.proofs.CutLemmas.{AfterPieces, HeardInPieces}
 use Rattle.radio_relay.specs.declared.pull.Stage.TheVariants.{Head}
 use Rattle.radio_headline.proofs.LabelLemmas.{answer, answer_here, answer_elsewhere, answer_written, opened_here, opened_elsewhere, with_here, with_elsewhere}
 use Rattle.radio_headline.proofs.Standing.{brought_joined, brought_here, brought_elsewhere, front_none, IsSo_as, Stands, nowhere_joined, Changes, then_stands}
+use Rattle.radio_session.specs.declared.web_answers.WebAnswers.{WebAnswers}
 
-module _ (settings : Settings) (lists : Lists) (settled : IsSettled ShowsRequest) (within : HeadsLieWithin ShowsRequest)
+module _ (web : WebAnswers) (settings : Settings) (lists : Lists) (settled : IsSettled ShowsRequest) (within : HeadsLieWithin ShowsRequest)
     (settled_answers : IsSettled ShowsResponse) (within_answers : HeadsLieWithin ShowsResponse) (none_blocks : blocks_of [] ≡ []) (in_pieces : HeardInPieces)
     (afters : AfterPieces) (joined : (bytes : List ℕ) → concat (blocks_of bytes) ≡ bytes)
     (places : (place : Place) (first second : List ℕ) → after place (first ++ second) ≡ after (after place first) second)
@@ -64,14 +65,14 @@ module _ (settings : Settings) (lists : Lists) (settled : IsSettled ShowsRequest
   abbrev w0 : World
   w0 = opening settings lists
 
-  module _ (done : List Delivery) (state : ScriptState) (past : List Happening) (lines : List TranscriptLine) (s : Stands settings lists done state past lines) where
+  module _ (done : List Delivery) (state : ScriptState) (past : List Happening) (lines : List TranscriptLine) (s : Stands web settings lists done state past lines) where
     -- a delivery is performed, and things stand so
     pub record Next (delivery : Delivery) (text : List ℕ) (later : ScriptState) : Type 0 where
       pub happenings : List Happening
       pub happen : Happens state delivery happenings
       pub told : List TranscriptLine
       pub is_written : written told ≡ text
-      pub stands : Stands settings lists (done ++ delivery ∷ []) later (past ++ happenings) (lines ++ told)
+      pub stands : Stands web settings lists (done ++ delivery ∷ []) later (past ++ happenings) (lines ++ told)
 
     next_as : (delivery : Delivery) (text : List ℕ) (p q : Performed) → p ≡ q → p.lines ≡ Some text
         → ((text : List ℕ) → q.lines ≡ Some text → Next delivery text q.state) → Next delivery text p.state
@@ -80,21 +81,21 @@ module _ (settings : Settings) (lists : Lists) (settled : IsSettled ShowsRequest
 
     -- a connection comes
     opens_next : (label : ℕ) (peer : Peer) (found : Option (Option Connection)) → connection_of state.connections label ≡ found → (text : List ℕ)
-        → (for_new_label state (opens state label peer) found).lines ≡ Some text
-        → Next (Open label peer) text (for_new_label state (opens state label peer) found).state
+        → (for_new_label state (opens web state label peer) found).lines ≡ Some text
+        → Next (Open label peer) text (for_new_label state (opens web state label peer) found).state
     opens_next label peer (Some connection) known text told = cc
     opens_next label peer None known text told =
         let reply = reply_to state.world (Arrive peer) in
-        let of = said asking reply in
-        let connection = taken_in peer reply in
+        let of = said (asking web) reply in
+        let connection = taken_in web peer reply in
         record {
           happenings = on label (Arrive peer) ∷ [];
           happen = ap (arrivals label peer) (sym known);
           told = answer label of.bytes (last_word of.state);
           is_written = answer_written label of.bytes (last_word of.state) ∙ the_text told;
-          stands = then_stands settings lists done state past lines s (opens state label peer).state (Open label peer) (Arrive peer ∷ []) (answer label of.bytes (last_word of.state)) label (record {
+          stands = then_stands web settings lists done state past lines s (opens web state label peer).state (Open label peer) (Arrive peer ∷ []) (answer label of.bytes (last_word of.state)) label (record {
             world = refl;
-            here = IsSo_as _ _ _ _ _ _ _ _ (sym (opened_here state.connections label connection known)) (sym (append-nil (brought done label)))
+            here = IsSo_as web _ _ _ _ _ _ _ _ (sym (opened_here state.connections label connection known)) (sym (append-nil (brought done label)))
                 (ap (λ (xs : List Entry). xs ++ entry state.world (Arrive peer) ∷ []) (sym unopened.1))
                 (ap (λ (xs : List ℕ). xs ++ of.bytes) (sym unopened.2)
                 ∙ ap (λ (xs : List ℕ). given lines label ++ xs) (sym (answer_here label of.bytes (last_word of.state))))
@@ -105,17 +106,17 @@ module _ (settings : Settings) (lists : Lists) (settled : IsSettled ShowsRequest
           });
         } where
           unopened : (brought done label ≡ []) × (log_on w0 past label ≡ []) × (given lines label ≡ [])
-          unopened = subst (λ (o : Option (Option Connection)). IsSo o (brought done label) (log_on w0 past label) (given lines label)) known (s.each label)
+          unopened = subst (λ (o : Option (Option Connection)). IsSo web o (brought done label) (log_on w0 past label) (given lines label)) known (s.each label)
 
-          the_text : Some (told_lines label (said asking (reply_to state.world (Arrive peer))).bytes (said asking (reply_to state.world (Arrive peer))).state)
-              ≡ Some text → told_lines label (said asking (reply_to state.world (Arrive peer))).bytes (said asking (reply_to state.world (Arrive peer))).state ≡ text
+          the_text : Some (told_lines label (said (asking web) (reply_to state.world (Arrive peer))).bytes (said (asking web) (reply_to state.world (Arrive peer))).state)
+              ≡ Some text → told_lines label (said (asking web) (reply_to state.world (Arrive peer))).bytes (said (asking web) (reply_to state.world (Arrive peer))).state ≡ text
           the_text e = cc
 
-          not_there : (bytes : List ℕ) (reply : Reply) (given : List ℕ) → IsClosed bytes (record { event = Arrive peer; reply = reply } ∷ []) given
+          not_there : (bytes : List ℕ) (reply : Reply) (given : List ℕ) → IsClosed web bytes (record { event = Arrive peer; reply = reply } ∷ []) given
           not_there bytes reply given = record { own = ((λ id h. cc), tt); facts = HasAskedNothing ((λ a. a), tt) }
 
           arrives_so : (bytes : List ℕ) → bytes ≡ [] → (reply : Reply)
-              → IsSo (Some (taken_in peer reply)) bytes (record { event = Arrive peer; reply = reply } ∷ []) ((said asking reply).bytes)
+              → IsSo web (Some (taken_in web peer reply)) bytes (record { event = Arrive peer; reply = reply } ∷ []) ((said (asking web) reply).bytes)
           arrives_so bytes none (Arrived id) = record {
             others = [];
             arrived = refl;
@@ -144,9 +145,9 @@ module _ (settings : Settings) (lists : Lists) (settled : IsSettled ShowsRequest
       happen = refl;
       told = answer label (request_text relay) None;
       is_written = answer_written label (request_text relay) None ∙ the_text told;
-      stands = then_stands settings lists done state past lines s (connects state label (Some relay)).state (Pull label mount) [] (answer label (request_text relay) None) label (record {
+      stands = then_stands web settings lists done state past lines s (connects state label (Some relay)).state (Pull label mount) [] (answer label (request_text relay) None) label (record {
         world = refl;
-        here = IsSo_as _ _ _ _ _ _ _ _ (sym (opened_here state.connections label (Some (Relay (begun relay.local_mount))) known)) (sym (append-nil (brought done label)))
+        here = IsSo_as web _ _ _ _ _ _ _ _ (sym (opened_here state.connections label (Some (Relay (begun relay.local_mount))) known)) (sym (append-nil (brought done label)))
             (sym (append-nil (log_on w0 past label) ∙ unopened.1)) refl
             (relay_begins relay.local_mount);
         connections = λ other apart. opened_elsewhere state.connections label other (Some (Relay (begun relay.local_mount))) apart known;
@@ -155,7 +156,7 @@ module _ (settings : Settings) (lists : Lists) (settled : IsSettled ShowsRequest
       });
     } where
       unopened : (brought done label ≡ []) × (log_on w0 past label ≡ []) × (given lines label ≡ [])
-      unopened = subst (λ (o : Option (Option Connection)). IsSo o (brought done label) (log_on w0 past label) (given lines label)) known (s.each label)
+      unopened = subst (λ (o : Option (Option Connection)). IsSo web o (brought done label) (log_on w0 past label) (given lines label)) known (s.each label)
 
       the_text : Some (told_lines label (request_text relay) Running) ≡ Some text → told_lines label (request_text relay) Running ≡ text
       the_text e = cc
@@ -173,11 +174,11 @@ module _ (settings : Settings) (lists : Lists) (settled : IsSettled ShowsRequest
       stands = record {
         world = ap (λ (x : World). world_after x (Clock ms)) s.world ∙ sym (after_joined w0 (events_in past) (Clock ms ∷ []))
             ∙ ap (run_after settings lists) (sym (events_joined past (record { label = None; event = Clock ms } ∷ [])));
-        each = λ label. IsSo_as _ _ _ _ _ _ _ _ refl
+        each = λ label. IsSo_as web _ _ _ _ _ _ _ _ refl
             (sym (brought_joined done (ClockIs ms ∷ []) label ∙ append-nil (brought done label)))
             (sym (log_joined w0 past (record { label = None; event = Clock ms } ∷ []) label ∙ append-nil (log_on w0 past label)))
             (ap (λ (xs : List TranscriptLine). given xs label) (sym (append-nil lines))) (s.each label);
-        nowhere = nowhere_joined settings lists past (record { label = None; event = Clock ms } ∷ []) s.nowhere ((λ e. tt), tt);
+        nowhere = nowhere_joined web settings lists past (record { label = None; event = Clock ms } ∷ []) s.nowhere ((λ e. tt), tt);
       };
     } where
       the_text : Some [] ≡ Some text → [] ≡ text
@@ -188,11 +189,11 @@ module _ (settings : Settings) (lists : Lists) (settled : IsSettled ShowsRequest
       comes_there : (later : ScriptState) (events : List Event) (bytes : List ℕ) (word : Option (List ℕ)) (text : List ℕ) (new : Option Connection)
           → later.world ≡ world_after_all state.world events → later.connections ≡ with_connection state.connections label new
           → (old : Option Connection) → connection_of state.connections label ≡ Some old
-          → IsSo (Some new) (brought done label ++ bytes_in input) (log_on w0 past label ++ entries state.world events) (given lines label ++ bytes)
-          → Changes settings lists done state later past lines (To label input) events (answer label bytes word) label
+          → IsSo web (Some new) (brought done label ++ bytes_in input) (log_on w0 past label ++ entries state.world events) (given lines label ++ bytes)
+          → Changes web settings lists done state later past lines (To label input) events (answer label bytes word) label
       comes_there later events bytes word text new world connections old known so = record {
         world = world;
-        here = IsSo_as _ _ _ _ _ _ _ _
+        here = IsSo_as web _ _ _ _ _ _ _ _
             (sym (ap (λ (xs : List Labelled). connection_of xs label) connections ∙ with_here state.connections label old new known))
             (ap (λ (xs : List ℕ). brought done label ++ xs) (sym (brought_here label input))) refl
             (ap (λ (xs : List ℕ). given lines label ++ xs) (sym (answer_here label bytes word))) so;
@@ -203,13 +204,13 @@ module _ (settings : Settings) (lists : Lists) (settled : IsSettled ShowsRequest
       }
 
       module _ (conversation : Conversation) (known : connection_of state.connections label ≡ Some (Some (Client conversation))) where
-        client : IsClient (brought done label) (log_on w0 past label) (given lines label) conversation
-        client = subst (λ (o : Option (Option Connection)). IsSo o (brought done label) (log_on w0 past label) (given lines label)) known (s.each label)
+        client : IsClient web (brought done label) (log_on w0 past label) (given lines label) conversation
+        client = subst (λ (o : Option (Option Connection)). IsSo web o (brought done label) (log_on w0 past label) (given lines label)) known (s.each label)
 
         -- its events are exchanged
         exchange_next : (heard : Heard) → IsAsked conversation input heard
             → (let x = exchanged state.world heard.conversation.id heard.conversation.says heard.events in
-            IsSo (Some (connection_unless (Some (Client (saying_now heard.conversation x.exchange.says))) x.exchange.state))
+            IsSo web (Some (connection_unless (Some (Client (saying_now heard.conversation x.exchange.says))) x.exchange.state))
             (brought done label ++ bytes_in input)
             (log_on w0 past label ++ entries state.world (applied state.world heard.conversation.id heard.conversation.says heard.events))
             (given lines label ++ x.exchange.bytes))
@@ -223,7 +224,7 @@ module _ (settings : Settings) (lists : Lists) (settled : IsSettled ShowsRequest
               happen = subst (λ (o : Option (Option Connection)). HappensThere state label input (map (on label) events) o) (sym known) (heard, asked, refl);
               told = answer label x.exchange.bytes (last_word x.exchange.state);
               is_written = answer_written label x.exchange.bytes (last_word x.exchange.state) ∙ the_text told;
-              stands = then_stands settings lists done state past lines s (exchanges state label heard.conversation heard.events).state (To label input) events
+              stands = then_stands web settings lists done state past lines s (exchanges state label heard.conversation heard.events).state (To label input) events
                   (answer label x.exchange.bytes (last_word x.exchange.state)) label
                   (comes_there (exchanges state label heard.conversation heard.events).state events x.exchange.bytes (last_word x.exchange.state) text
                   (kept_unless (Client (saying_now heard.conversation x.exchange.says)) x.exchange.state)
@@ -236,12 +237,12 @@ module _ (settings : Settings) (lists : Lists) (settled : IsSettled ShowsRequest
 
       module _ (pulling : Pulling) (known : connection_of state.connections label ≡ Some (Some (Relay pulling))) where
         relay : IsRelay (brought done label) (log_on w0 past label) pulling
-        relay = subst (λ (o : Option (Option Connection)). IsSo o (brought done label) (log_on w0 past label) (given lines label)) known (s.each label)
+        relay = subst (λ (o : Option (Option Connection)). IsSo web o (brought done label) (log_on w0 past label) (given lines label)) known (s.each label)
 
         -- its pull goes on, or is shut
         pulls_next : (now : Pulling) (ends : State) (w : World) (events : List Event) → ComesToNoted state.world pulling input (at w events)
             → w ≡ world_after_all state.world events
-            → IsSo (Some (connection_unless (Some (Relay now)) ends)) (brought done label ++ bytes_in input) (log_on w0 past label ++ entries state.world events)
+            → IsSo web (Some (connection_unless (Some (Relay now)) ends)) (brought done label ++ bytes_in input) (log_on w0 past label ++ entries state.world events)
             (given lines label ++ [])
             → (text : List ℕ) → (pulled_on state label now ends w).lines ≡ Some text → Next (To label input) text (pulled_on state label now ends w).state
         pulls_next now ends w events noted leads so text told = record {
@@ -249,7 +250,7 @@ module _ (settings : Settings) (lists : Lists) (settled : IsSettled ShowsRequest
           happen = subst (λ (o : Option (Option Connection)). HappensThere state label input (map (on label) events) o) (sym known) (at w events, noted, refl);
           told = answer label [] (last_word ends);
           is_written = answer_written label [] (last_word ends) ∙ the_text told;
-          stands = then_stands settings lists done state past lines s (pulled_on state label now ends w).state (To label input) events (answer label [] (last_word ends)) label
+          stands = then_stands web settings lists done state past lines s (pulled_on state label now ends w).state (To label input) events (answer label [] (last_word ends)) label
               (comes_there (pulled_on state label now ends w).state events [] (last_word ends) text (kept_unless (Relay now) ends) leads refl
               (Some (Relay pulling)) known
               so);
@@ -263,18 +264,18 @@ module _ (settings : Settings) (lists : Lists) (settled : IsSettled ShowsRequest
     client_next label conversation known (Data bytes) p h text told =
         next_as (To label (Data bytes)) text p _ (sym h.2) told
         (exchange_next label (Data bytes) conversation known h.0 h.1
-        (data_come settled within joined places data_joined state.world (brought done label) (log_on w0 past label) (given lines label) conversation
+        (data_come web settled within joined places data_joined state.world (brought done label) (log_on w0 past label) (given lines label) conversation
         (client label (Data bytes) conversation known) bytes h.0 h.1))
     client_next label conversation known (Room room) p h text told =
         next_as (To label (Room room)) text p _ (sym h) told
         (exchange_next label (Room room) conversation known (record { events = Draw conversation.id room ∷ []; conversation = conversation }) refl
-        (idle_comes settled within joined places data_joined state.world (brought done label) (log_on w0 past label) (given lines label) conversation
+        (idle_comes web settled within joined places data_joined state.world (brought done label) (log_on w0 past label) (given lines label) conversation
         (client label (Room room) conversation known) (Draw conversation.id room) refl))
     client_next label conversation known (Named text) p h written_text told =
         next_as (To label (Named text)) written_text p _ (sym h) told
         (exchange_next label (Named text) conversation known
         (record { events = Title conversation.id (cleaned max_title text) ∷ []; conversation = conversation }) refl
-        (idle_comes settled within joined places data_joined state.world (brought done label) (log_on w0 past label) (given lines label) conversation
+        (idle_comes web settled within joined places data_joined state.world (brought done label) (log_on w0 past label) (given lines label) conversation
         (client label (Named text) conversation known) (Title conversation.id (cleaned max_title text)) refl))
     client_next label conversation known End p h text told = next_as (To label End) text p _ (sym h) told ends_next where
       leaves_alone : (state : State) → and_then conversation.id (Leave conversation.id) state [] ≡ Leave conversation.id ∷ []
@@ -294,10 +295,10 @@ module _ (settings : Settings) (lists : Lists) (settled : IsSettled ShowsRequest
         );
         told = answer label [] (last_word (Shut Done));
         is_written = answer_written label [] (last_word (Shut Done)) ∙ the_text words e;
-        stands = then_stands settings lists done state past lines s (closes state label conversation).state (To label End) (Leave conversation.id ∷ []) (answer label [] (last_word (Shut Done))) label
+        stands = then_stands web settings lists done state past lines s (closes state label conversation).state (To label End) (Leave conversation.id ∷ []) (answer label [] (last_word (Shut Done))) label
             (comes_there label End (closes state label conversation).state (Leave conversation.id ∷ []) [] (last_word (Shut Done)) words None refl refl
             (Some (Client conversation)) known
-            (end_comes settled within joined places data_joined state.world (brought done label) (log_on w0 past label) (given lines label) conversation
+            (end_comes web settled within joined places data_joined state.world (brought done label) (log_on w0 past label) (given lines label) conversation
             (client label End conversation known)));
       }
 
@@ -312,16 +313,16 @@ module _ (settings : Settings) (lists : Lists) (settled : IsSettled ShowsRequest
           let l = asks_lifts pulling.number event state.world h.1 [] h.0 his silent h.2 plain in
           next_as (To label input) text p _ (sym h.3) told
           (pulls_next label input pulling known (record pulling { number = h.0.number }) h.0.state h.1 l.events (comes h.0 (at h.1 l.events) l.lifted) l.leads
-          (subst (λ (xs : List ℕ). IsSo (Some (connection_unless (Some (Relay (record pulling { number = h.0.number }))) h.0.state)) (brought done label ++ xs)
+          (subst (λ (xs : List ℕ). IsSo web (Some (connection_unless (Some (Relay (record pulling { number = h.0.number }))) h.0.state)) (brought done label ++ xs)
           (log_on w0 past label ++ entries state.world l.events) (given lines label ++ [])) (sym no_bytes)
-          (idles_so settled_answers within_answers joined none_blocks in_pieces afters state.world (brought done label) (log_on w0 past label) pulling
+          (idles_so web settled_answers within_answers joined none_blocks in_pieces afters state.world (brought done label) (log_on w0 past label) pulling
           (relay label input pulling known) l.events (given lines label ++ []) (record pulling { number = h.0.number }) h.0.state l.own l.stands refl l.quiet
           l.holds l.cut (front_none (pushed l.events) l.rest l.front))))
 
       relay_next : (input : Input) (p : Performed) → ComesToRelay state label pulling input p → (text : List ℕ) → p.lines ≡ Some text
           → Next (To label input) text p.state
       relay_next (Data bytes) p h text told =
-          let t = takes_so settled_answers within_answers joined none_blocks in_pieces afters state.world (brought done label) (log_on w0 past label) pulling
+          let t = takes_so web settled_answers within_answers joined none_blocks in_pieces afters state.world (brought done label) (log_on w0 past label) pulling
           (relay label (Data bytes) pulling known) bytes (given lines label ++ []) h.0 h.1 h.2 h.3 in
           next_as (To label (Data bytes)) text p _ (sym h.4) told (pulls_next label (Data bytes) pulling known h.0 h.1 h.2 t.events t.done t.leads t.so)
       relay_next (Room room) p h text told =
@@ -332,7 +333,7 @@ module _ (settings : Settings) (lists : Lists) (settled : IsSettled ShowsRequest
           let d = down Done pulling.number state.world h.0 [] h.1 in
           next_as (To label End) text p _ (sym h.2) told
           (pulls_next label End pulling known pulling (Shut Done) h.0 d.events d.lifted d.leads
-          (idles_so settled_answers within_answers joined none_blocks in_pieces afters state.world (brought done label) (log_on w0 past label) pulling
+          (idles_so web settled_answers within_answers joined none_blocks in_pieces afters state.world (brought done label) (log_on w0 past label) pulling
           (relay label End pulling known) d.events (given lines label ++ []) pulling (Shut Done) d.own (λ run. cc) refl (λ run. cc) d.plain d.cut d.silent))
 
     -- nothing happens on a connection that was shut
@@ -343,9 +344,9 @@ module _ (settings : Settings) (lists : Lists) (settled : IsSettled ShowsRequest
       happen = subst (λ (o : Option (Option Connection)). HappensThere state label input [] o) (sym known) refl;
       told = [];
       is_written = the_text told;
-      stands = then_stands settings lists done state past lines s state (To label input) [] [] label (record {
+      stands = then_stands web settings lists done state past lines s state (To label input) [] [] label (record {
         world = refl;
-        here = IsSo_as _ _ _ _ _ _ _ _ (sym known) (ap (λ (xs : List ℕ). brought done label ++ xs) (sym (brought_here label input)))
+        here = IsSo_as web _ _ _ _ _ _ _ _ (sym known) (ap (λ (xs : List ℕ). brought done label ++ xs) (sym (brought_here label input)))
             (sym (append-nil (log_on w0 past label))) (sym (append-nil (given lines label))) closed;
         connections = λ other apart. refl;
         silent = λ other apart. brought_elsewhere label other input apart;
@@ -355,13 +356,13 @@ module _ (settings : Settings) (lists : Lists) (settled : IsSettled ShowsRequest
       the_text : Some [] ≡ Some text → [] ≡ text
       the_text e = cc
 
-      was : IsClosed (brought done label) (log_on w0 past label) (given lines label)
-      was = subst (λ (o : Option (Option Connection)). IsSo o (brought done label) (log_on w0 past label) (given lines label)) known (s.each label)
+      was : IsClosed web (brought done label) (log_on w0 past label) (given lines label)
+      was = subst (λ (o : Option (Option Connection)). IsSo web o (brought done label) (log_on w0 past label) (given lines label)) known (s.each label)
 
-      closed : IsClosed (brought done label ++ bytes_in input) (log_on w0 past label) (given lines label)
+      closed : IsClosed web (brought done label ++ bytes_in input) (log_on w0 past label) (given lines label)
       closed = record {
         own = was.own;
-        facts = more_facts settled_answers within_answers joined none_blocks in_pieces afters settled within places data_joined (brought done label) (bytes_in input) (log_on w0 past label) (given lines label) was.facts;
+        facts = more_facts web settled_answers within_answers joined none_blocks in_pieces afters settled within places data_joined (brought done label) (bytes_in input) (log_on w0 past label) (given lines label) was.facts;
       }
 
     there_next : (label : ℕ) (input : Input) (found : Option (Option Connection)) → connection_of state.connections label ≡ found → (p : Performed)
@@ -372,7 +373,7 @@ module _ (settings : Settings) (lists : Lists) (settled : IsSettled ShowsRequest
     there_next label input (Some (Some (Client conversation))) known p h text told = client_next label conversation known input p h text told
     there_next label input (Some (Some (Relay pulling))) known p h text told = relay_next label pulling known input p h text told
 
-    pub performs_next : (delivery : Delivery) (p : Performed) → IsPerformed state delivery p → (text : List ℕ) → p.lines ≡ Some text → Next delivery text p.state
+    pub performs_next : (delivery : Delivery) (p : Performed) → IsPerformed web state delivery p → (text : List ℕ) → p.lines ≡ Some text → Next delivery text p.state
     performs_next (Open label peer) p h text told =
         next_as (Open label peer) text p _ h told (opens_next label peer (connection_of state.connections label) refl)
     performs_next (Pull label mount) p h text told =

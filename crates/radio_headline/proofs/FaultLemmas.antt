@@ -2,6 +2,7 @@
 use Rattle.std.proofs.Common.{◌≡◌, ℕ, List, [], Option, None, Some, refl, sym, ap, subst, ◌∙◌}
 use Rattle.radio_addr.specs.declared.peer.Peer.{Peer}
 use Rattle.radio_settings.specs.declared.settings.RelaySetting.{RelaySetting}
+use Rattle.radio_session.specs.declared.web_answers.WebAnswers.{WebAnswers}
 use Rattle.radio_session.specs.Conversation.{Conversation}
 use Rattle.radio_pull.specs.Pulling.{Pulling}
 use Rattle.radio_deliveries.specs.declared.delivery.Delivery.{Delivery}
@@ -15,7 +16,7 @@ use Rattle.radio_floor.specs.ScriptState.{connects, for_new_label, on_connection
 use Rattle.radio_headline.specs.Course.{Happens, HappensThere, arrivals}
 
 -- a delivery is at fault: nothing happens
-module _ (state : ScriptState) where
+module _ (web : WebAnswers) (state : ScriptState) where
   abbrev FaultOf : Delivery → ScriptState → Type 0
   FaultOf delivery later = Happens state delivery [] × (later ≡ state)
 
@@ -23,7 +24,7 @@ module _ (state : ScriptState) where
   never_at_fault p text e f = let both : Some text ≡ None = sym e ∙ f in cc
 
   opens_at_fault : (label : ℕ) (peer : Peer) (found : Option (Option Connection)) → connection_of state.connections label ≡ found → (p : Performed)
-      → p ≡ for_new_label state (opens state label peer) found → p.lines ≡ None → FaultOf (Open label peer) p.state
+      → p ≡ for_new_label state (opens web state label peer) found → p.lines ≡ None → FaultOf (Open label peer) p.state
   opens_at_fault label peer None known p e none =
       never_at_fault p _ (ap (λ (x : Performed). x.lines) e) none
   opens_at_fault label peer (Some connection) known p e none = (ap (arrivals label peer) (sym known), ap (λ (x : Performed). x.state) e)
@@ -55,7 +56,7 @@ module _ (state : ScriptState) where
   there_at_fault label input (Some (Some (Client conversation))) known p h none = client_at_fault label conversation input p h none
   there_at_fault label input (Some (Some (Relay pulling))) known p h none = relay_at_fault label pulling input p h none
 
-  pub at_fault_so : (delivery : Delivery) (p : Performed) → IsPerformed state delivery p → p.lines ≡ None → FaultOf delivery p.state
+  pub at_fault_so : (delivery : Delivery) (p : Performed) → IsPerformed web state delivery p → p.lines ≡ None → FaultOf delivery p.state
   at_fault_so (Open label peer) p h none = opens_at_fault label peer (connection_of state.connections label) refl p h none
   at_fault_so (Pull label mount) p h none =
       connects_at_fault label mount (relay_named state.world mount) (connection_of state.connections label) p h none

@@ -35,20 +35,21 @@ use Rattle.radio_headline.proofs.ClientEvents.{client_owns, idle_asks_nothing, i
 use Rattle.radio_headline.proofs.OwnLogs.{relay_owns}
 use Rattle.radio_headline.proofs.RelayWords.{OwnRelay, relay_asks_not}
 use Rattle.radio_headline.proofs.Partings.{none_there, parted}
+use Rattle.radio_session.specs.declared.web_answers.WebAnswers.{WebAnswers}
 
 pub idle_or_leaving_is_his : (id : ℕ) (e : Entry) → IsIdleOrLeaving id e → client_in e.event ≡ Some id
 idle_or_leaving_is_his id e (inl h) = idle_is_his id e.event h
 idle_or_leaving_is_his id e (inr h) = ap client_in h
 
-pub get_is_his : (id : ℕ) (request : RequestParts) → client_in (asks_by_get id request) ≡ Some id
-get_is_his id request = by_kind (is_for_commands (path_in request)) where
-  by_kind : (b : Bool) → client_in (if b then gives_command id request (path_in request) else asks_to_hear id request (path_in request)) ≡ Some id
+pub get_is_his : (web : WebAnswers) (id : ℕ) (request : RequestParts) → client_in (asks_by_get web id request) ≡ Some id
+get_is_his web id request = by_kind (is_for_commands (path_in request)) where
+  by_kind : (b : Bool) → client_in (if b then gives_command web id request (path_in request) else asks_to_hear id request (path_in request)) ≡ Some id
   by_kind true = refl
   by_kind false = refl
 
-pub get_is_of : (id : ℕ) (request : RequestParts) {asked : ListenRequest} → asks_by_get id request ≡ Listen asked → asked.id ≡ id
-get_is_of id request {asked} e = by_kind (is_for_commands (path_in request)) e where
-  by_kind : (b : Bool) → (if b then gives_command id request (path_in request) else asks_to_hear id request (path_in request)) ≡ Listen asked → asked.id ≡ id
+pub get_is_of : (web : WebAnswers) (id : ℕ) (request : RequestParts) {asked : ListenRequest} → asks_by_get web id request ≡ Listen asked → asked.id ≡ id
+get_is_of web id request {asked} e = by_kind (is_for_commands (path_in request)) e where
+  by_kind : (b : Bool) → (if b then gives_command web id request (path_in request) else asks_to_hear id request (path_in request)) ≡ Listen asked → asked.id ≡ id
   by_kind true e = cc
   by_kind false e = let his : Some id ≡ Some asked.id = ap client_in e in cc
 
@@ -57,11 +58,11 @@ orderly_second id [] more h = h
 orderly_second id (e ∷ log) more h = orderly_second id log more h.1
 
 -- whose events come on a connection
-pub so_owns : (c : Option (Option Connection)) (bytes : List ℕ) (log : List Entry) (given : List ℕ) → IsSo c bytes log given → Each (IsOwn log) log
-so_owns None bytes log given h = subst (λ (xs : List Entry). Each (IsOwn xs) xs) (sym h.1) tt
-so_owns (Some None) bytes log given h = h.own
-so_owns (Some (Some (Client conversation))) bytes log given h = client_owns conversation.id conversation.peer h.others log h.arrived h.his
-so_owns (Some (Some (Relay pulling))) bytes log given h = relay_owns log h.own
+pub so_owns : (web : WebAnswers) (c : Option (Option Connection)) (bytes : List ℕ) (log : List Entry) (given : List ℕ) → IsSo web c bytes log given → Each (IsOwn log) log
+so_owns web None bytes log given h = subst (λ (xs : List Entry). Each (IsOwn xs) xs) (sym h.1) tt
+so_owns web (Some None) bytes log given h = h.own
+so_owns web (Some (Some (Client conversation))) bytes log given h = client_owns conversation.id conversation.peer h.others log h.arrived h.his
+so_owns web (Some (Some (Relay pulling))) bytes log given h = relay_owns log h.own
 
 -- by this event a mount is asked for, to hear it
 abbrev pub IsGetting : Event → Type 0
@@ -123,18 +124,18 @@ no_entry [] behind e h = cc
 no_entry (x ∷ before) behind e h = cc
 
 -- where a mount is asked for, to hear it, a GET was heard
-module _ (bytes : List ℕ) (log : List Entry) (given : List ℕ) (before behind : List Entry) (e : Entry) (parts : log ≡ before ++ e ∷ behind)
+module _ (web : WebAnswers) (bytes : List ℕ) (log : List Entry) (given : List ℕ) (before behind : List Entry) (e : Entry) (parts : log ≡ before ++ e ∷ behind)
     (listens : IsGetting e.event) where
   never : {A : Type 0} → Each GetsNot log → A
   never h = absurd (none_there IsGetting before behind e (subst (Each GetsNot) parts h) listens)
 
-  of_facts : Facts bytes log given → ByGet bytes log given
+  of_facts : Facts web bytes log given → ByGet web bytes log given
   of_facts (HasAskedNothing h) = never (nothing_listened log h)
   of_facts (HasSentGet g) = g
   of_facts (IsSource f told) = never (source_not bytes log f)
   of_facts (IsPulling q) = never (relay_listens_not log q.own)
 
-  of_stage : (conversation : _) → Stage bytes log given conversation → ByGet bytes log given
+  of_stage : (conversation : _) → Stage web bytes log given conversation → ByGet web bytes log given
   of_stage conversation (AtHead idle arrived idles hears held t) =
       never (subst (Each GetsNot) (sym arrived) ((λ l. l), each_as (IsIdling conversation.id) GetsNot (idle_not conversation.id) idle idles))
   of_stage conversation (AfterGet g hears t) = g
@@ -142,7 +143,7 @@ module _ (bytes : List ℕ) (log : List Entry) (given : List ℕ) (before behind
   of_stage conversation (AfterBody f told hears) = never (source_not bytes log f)
   of_stage conversation (Refused h hears) = never (nothing_listened log h)
 
-  pub by_get : (c : Option (Option Connection)) → IsSo c bytes log given → ByGet bytes log given
+  pub by_get : (c : Option (Option Connection)) → IsSo web c bytes log given → ByGet web bytes log given
   by_get None h = absurd (no_entry before behind e (sym h.1 ∙ parts))
   by_get (Some None) h = of_facts h.facts
   by_get (Some (Some (Client conversation))) h = of_stage conversation h.stage
@@ -153,9 +154,9 @@ idle_or_leaving_not id e (inl h) l = idle_asks_nothing id e.event h (listening_a
 idle_or_leaving_not id e (inr h) l = subst IsGetting h l
 
 -- what was asked for was asked for by that GET
-pub parted_at_get : (bytes : List ℕ) (log : List Entry) (given : List ℕ) (g : ByGet bytes log given) (before behind : List Entry) (e : Entry)
-    → log ≡ before ++ e ∷ behind → IsGetting e.event → e.event ≡ asks_by_get g.id g.request
-parted_at_get bytes log given g before behind e parts l =
+pub parted_at_get : (web : WebAnswers) (bytes : List ℕ) (log : List Entry) (given : List ℕ) (g : ByGet web bytes log given) (before behind : List Entry) (e : Entry)
+    → log ≡ before ++ e ∷ behind → IsGetting e.event → e.event ≡ asks_by_get web g.id g.request
+parted_at_get web bytes log given g before behind e parts l =
     ap (λ (x : Entry). x.event) (parted IsGetting before (arrival g.peer g.id ∷ g.idle) behind g.behind e _ (sym parts ∙ g.in_order) l
     ((λ k. k), each_as (IsIdling g.id) GetsNot (idle_not g.id) g.idle g.idles)
     (each_as (IsIdleOrLeaving g.id) GetsNot (idle_or_leaving_not g.id) g.behind g.no_more)).here
@@ -164,21 +165,21 @@ parted_at_get bytes log given g before behind e parts l =
 abbrev pub IsMute : Entry → Type 0
 IsMute e = (e.reply ≡ Stray) ⊎ ((rule : Rule) × (e.reply ≡ Finished rule))
 
-pub record Waited (idle : List Entry) : Type 0 where
-  pub untold : told asking (replies idle) ≡ []
-  pub says : said_all asking (replies idle) ≡ asking
+pub record Waited (web : WebAnswers) (idle : List Entry) : Type 0 where
+  pub untold : told (asking web) (replies idle) ≡ []
+  pub says : said_all (asking web) (replies idle) ≡ asking web
 
-pub waited : (idle : List Entry) → IsOpen asking (replies idle) → Each IsMute idle → Waited idle
-waited [] goes mute = record { untold = refl; says = refl }
-waited (e ∷ idle) goes mute = elim mute.0 [
+pub waited : (web : WebAnswers) (idle : List Entry) → IsOpen (asking web) (replies idle) → Each IsMute idle → Waited web idle
+waited web [] goes mute = record { untold = refl; says = refl }
+waited web (e ∷ idle) goes mute = elim mute.0 [
   | inl stray ↦
-      let later = waited idle (subst (λ (r : Reply). IsOpen (said asking r).says (replies idle)) stray goes.1) mute.1 in
+      let later = waited web idle (subst (λ (r : Reply). IsOpen (said (asking web) r).says (replies idle)) stray goes.1) mute.1 in
       record {
-        untold = ap (λ (r : Reply). told asking (r ∷ replies idle)) stray ∙ later.untold;
-        says = ap (λ (r : Reply). said_all asking (r ∷ replies idle)) stray ∙ later.says;
+        untold = ap (λ (r : Reply). told (asking web) (r ∷ replies idle)) stray ∙ later.untold;
+        says = ap (λ (r : Reply). said_all (asking web) (r ∷ replies idle)) stray ∙ later.says;
       }
   | inr (rule, finished) ↦
-      let shut = ap (λ (r : Reply). (said asking r).state) (sym finished) ∙ goes.0 in absurd (cc)
+      let shut = ap (λ (r : Reply). (said (asking web) r).state) (sym finished) ∙ goes.0 in absurd (cc)
 ]
 
 -- draws

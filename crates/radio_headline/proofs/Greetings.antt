@@ -18,26 +18,27 @@ use Rattle.radio_session.specs.Saying.{said}
 use Rattle.radio_session.specs.Told.{told}
 use Rattle.radio_headline.proofs.Logs.{Entry, replies}
 use Rattle.radio_headline.proofs.AppliedLemmas.{IsLast, IsOpen, last_shuts, said_all}
+use Rattle.radio_session.specs.declared.web_answers.WebAnswers.{WebAnswers}
 
 -- how the reply to its request is told
-abbrev pub greeted_says : ℕ → List Entry → RequestParts → Option Closing → Says
-greeted_says id idle request closing =
-    record (said_all asking (Arrived id ∷ replies idle)) { greeting = greeting_of request; closing = closing }
+abbrev pub greeted_says : (web : WebAnswers) → ℕ → List Entry → RequestParts → Option Closing → Says
+greeted_says web id idle request closing =
+    record (said_all (asking web) (Arrived id ∷ replies idle)) { greeting = greeting_of request; closing = closing }
 
 -- It was told that of the reply to its request, behind what it had been told before, and nothing behind a last word.
-pub record Greeted (id : ℕ) (idle : List Entry) (request : RequestParts) (reply : Reply) (given : List ℕ) : Type 0 where
-  pub goes : IsOpen asking (Arrived id ∷ replies idle)
+pub record Greeted (web : WebAnswers) (id : ℕ) (idle : List Entry) (request : RequestParts) (reply : Reply) (given : List ℕ) : Type 0 where
+  pub goes : IsOpen (asking web) (Arrived id ∷ replies idle)
   pub closing : Option Closing
   pub rest : List ℕ
-  pub is_told : given ≡ told asking (Arrived id ∷ replies idle) ++ ((said (greeted_says id idle request closing) reply).bytes ++ rest)
+  pub is_told : given ≡ told (asking web) (Arrived id ∷ replies idle) ++ ((said (greeted_says web id idle request closing) reply).bytes ++ rest)
   pub ends : IsLast reply → rest ≡ []
 
 -- more may be told where that was no last word
-pub greeted_on : (id : ℕ) (idle : List Entry) (request : RequestParts) (reply : Reply) (given more : List ℕ) → Greeted id idle request reply given
-    → (IsLast reply → ⊥) → Greeted id idle request reply (given ++ more)
-greeted_on id idle request reply given more g goes_on =
-    let before = told asking (Arrived id ∷ replies idle) in
-    let here = (said (greeted_says id idle request g.closing) reply).bytes in
+pub greeted_on : (web : WebAnswers) (id : ℕ) (idle : List Entry) (request : RequestParts) (reply : Reply) (given more : List ℕ) → Greeted web id idle request reply given
+    → (IsLast reply → ⊥) → Greeted web id idle request reply (given ++ more)
+greeted_on web id idle request reply given more g goes_on =
+    let before = told (asking web) (Arrived id ∷ replies idle) in
+    let here = (said (greeted_says web id idle request g.closing) reply).bytes in
     record {
       goes = g.goes;
       closing = g.closing;

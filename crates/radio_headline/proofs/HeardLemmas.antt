@@ -20,6 +20,7 @@ use Rattle.radio_source.specs.Place.{Place, after, data_of}
 use Rattle.radio_session.specs.declared.session.Hears.TheVariants.{Body, Nothing}
 use Rattle.radio_session.specs.declared.session.Closing.{Closing}
 use Rattle.radio_session.specs.declared.session.LastWord.{LastWord}
+use Rattle.radio_session.specs.declared.web_answers.WebAnswers.{WebAnswers}
 use Rattle.radio_session.specs.Asking.{asks_to_feed}
 use Rattle.radio_session.specs.Conversation.{Conversation}
 use Rattle.radio_session.specs.Framing.{is_source, framing_of, start_of}
@@ -39,9 +40,9 @@ module _ (settled : IsSettled ShowsRequest) (within : HeadsLieWithin ShowsReques
       → IsReading ShowsRequest (bytes ++ more) (Ok (Whole request n))
   read_more bytes more request n reading = settled bytes more (Ok (Whole request n)) reading (λ e. cc)
 
-  pub more_for_get : (bytes more : List ℕ) (log : List Entry) (given : List ℕ) → ByGet bytes log given → ByGet (bytes ++ more) log given
-  more_for_get bytes more log given g =
-      get_with bytes (bytes ++ more) log log given given g (read_more bytes more g.request g.length g.reading) g.behind g.in_order g.no_more g.orderly g.is_told
+  pub more_for_get : (web : WebAnswers) (bytes more : List ℕ) (log : List Entry) (given : List ℕ) → ByGet web bytes log given → ByGet web (bytes ++ more) log given
+  more_for_get web bytes more log given g =
+      get_with web bytes (bytes ++ more) log log given given g (read_more bytes more g.request g.length g.reading) g.behind g.in_order g.no_more g.orderly g.is_told
 
   pub behind_head : (bytes more : List ℕ) (request : RequestParts) (n : ℕ) → IsReading ShowsRequest bytes (Ok (Whole request n))
       → drop n (bytes ++ more) ≡ drop n bytes ++ more

@@ -67,14 +67,15 @@ use Rattle.radio_headline.proofs.Connections.{arrival, AsksForMount, ByGet, IsId
 use Rattle.radio_headline.proofs.Connections.{IsSo}
 use Rattle.radio_headline.proofs.GetLogs.{DrawsNothing, EntryFits, FitsEvent, GetsNot, IsGetting, IsHisOrDrawsNothing, IsMute, Waited, admit_nobody, by_get, calls, calls_of, draws_gathered, get_is_his, idle_not, idle_or_leaving_is_his, idle_or_leaving_not, mute_draws, no_calls, none_admitted, orderly_draws, orderly_second, so_owns, waited}
 use Rattle.radio_headline.proofs.Partings.{Parted, parted}
+use Rattle.radio_session.specs.declared.web_answers.WebAnswers.{WebAnswers}
 
 -- the events of clients come each on one connection
-module _ (settings : Settings) (lists : Lists)
+module _ (web : WebAnswers) (settings : Settings) (lists : Lists)
     (fits : (events : List Event) (event : Event) → RepliesFit (run_after settings lists events) event)
     (adds : (events : List Event) (event : Event) → AddsUp (run_after settings lists events) event)
     (steps : (events : List Event) (event : Event) → ClientsStep (run_after settings lists events) event)
     (done : List Delivery) (last : ScriptState) (course : List Happening) (lines : List TranscriptLine)
-    (each : (label : ℕ) → IsSo (connection_of last.connections label) (brought done label) (log_on (opening settings lists) course label) (given lines label))
+    (each : (label : ℕ) → IsSo web (connection_of last.connections label) (brought done label) (log_on (opening settings lists) course label) (given lines label))
     (nowhere : AllNowhere (λ h. IsMoment h.event) course) where
   -- the events of a client are on the connection on which he was given his number
   none_nowhere : (label id : ℕ) (past : List Happening) → AllNowhere (λ h. IsMoment h.event) past → AllNowhere (IsOnIt label id) past
@@ -89,7 +90,7 @@ module _ (settings : Settings) (lists : Lists)
       let same : other ≡ label = one_owner settings lists fits adds steps (opening settings lists) course other label id (reached_opening settings lists fits adds steps) (own id his) has in
       ap (λ (n : ℕ). n == label) same ∙ itself label)
       (opening settings lists) course
-      (λ other. so_owns (connection_of last.connections other) (brought done other) (log_on (opening settings lists) course other) (given lines other) (each other))
+      (λ other. so_owns web (connection_of last.connections other) (brought done other) (log_on (opening settings lists) course other) (given lines other) (each other))
       (none_nowhere label id course nowhere)
 
 -- who has asked for nothing yet, and asks to hear, is not out of place
@@ -133,7 +134,7 @@ module _ (w : World) (asked : ListenRequest)
   never_stray s n e h = by_path (web_path w.house.settings.web asked.mount) s n e h
 
 -- with a bare name of the law
-module _ (settings : Settings) (lists : Lists)
+module _ (web : WebAnswers) (settings : Settings) (lists : Lists)
     (fits : (events : List Event) (event : Event) → RepliesFit (run_after settings lists events) event)
     (adds : (events : List Event) (event : Event) → AddsUp (run_after settings lists events) event)
     (steps : (events : List Event) (event : Event) → ClientsStep (run_after settings lists events) event)
@@ -186,7 +187,7 @@ module _ (settings : Settings) (lists : Lists)
       (follow : DrawsFollowTheHead) (plainly : PlainDrawsAreTheirData) (weave : JoinedDrawsAreWoven) (take : DrawsAreTakenOutAgain)
       (done : List Delivery) (last : ScriptState) (course : List Happening) (lines : List TranscriptLine)
       (world : last.world ≡ run_after settings lists (events_in course))
-      (each : (label : ℕ) → IsSo (connection_of last.connections label) (brought done label) (log_on (opening settings lists) course label) (given lines label))
+      (each : (label : ℕ) → IsSo web (connection_of last.connections label) (brought done label) (log_on (opening settings lists) course label) (given lines label))
       (nowhere : AllNowhere (λ h. IsMoment h.event) course)
       (deliveries : List Delivery)
       (shown_by_source : (past : List Happening) (interval : Option ℕ) (head : StreamHead) (asked : ListenRequest) (rest : List Happening) → course ≡ past ++ rest
@@ -216,11 +217,11 @@ module _ (settings : Settings) (lists : Lists)
       in_order = ap (λ (hs : List Happening). log_on w0 hs label) parts ∙ log_joined w0 past (on label ask ∷ later) label
           ∙ ap (λ (b : Bool). before ++ ((if b then (entry w ask) ∷ [] else []) ++ behind)) (itself label)
 
-      g : ByGet (brought done label) (log label) (given lines label)
-      g = by_get (brought done label) (log label) (given lines label) before behind (entry w ask) in_order gets
+      g : ByGet web (brought done label) (log label) (given lines label)
+      g = by_get web (brought done label) (log label) (given lines label) before behind (entry w ask) in_order gets
           (connection_of last.connections label) (each label)
 
-      p : Parted before (arrival g.peer g.id ∷ g.idle) (entry w ask) (record { event = asks_by_get g.id g.request; reply = g.reply }) behind g.behind
+      p : Parted before (arrival g.peer g.id ∷ g.idle) (entry w ask) (record { event = asks_by_get web g.id g.request; reply = g.reply }) behind g.behind
       p = parted IsGetting before (arrival g.peer g.id ∷ g.idle) behind g.behind (entry w ask) _ (sym in_order ∙ g.in_order) gets
           ((λ l. l), each_as (IsIdling g.id) GetsNot (idle_not g.id) g.idle g.idles)
           (each_as (IsIdleOrLeaving g.id) GetsNot (idle_or_leaving_not g.id) g.behind g.no_more)
@@ -229,7 +230,7 @@ module _ (settings : Settings) (lists : Lists)
       has_number = subst (HasNumber g.id) (sym g.in_order) (inl refl)
 
       on_it : AllByRecursion (IsOnIt label g.id) course
-      on_it = on_his settings lists fits adds steps done last course lines each nowhere label g.id has_number
+      on_it = on_his web settings lists fits adds steps done last course lines each nowhere label g.id has_number
 
       on_it_before : AllByRecursion (IsOnIt label g.id) past
       on_it_before = are_on_first settings lists fits adds steps label g.id past (on label ask ∷ later)
@@ -240,22 +241,22 @@ module _ (settings : Settings) (lists : Lists)
           p.before g.idles
 
       his_ask : client_in ask ≡ Some g.id
-      his_ask = ap (λ (x : Entry). client_in x.event) p.here ∙ get_is_his g.id g.request
+      his_ask = ap (λ (x : Entry). client_in x.event) p.here ∙ get_is_his web g.id g.request
 
-      mute : Waited g.idle
-      mute = waited g.idle g.goes.1 waits.1
+      mute : Waited web g.idle
+      mute = waited web g.idle g.goes.1 waits.1
 
       -- behind his head stand the draws
-      told_behind : given lines label ≡ told asking (reply ∷ replies behind)
+      told_behind : given lines label ≡ told (asking web) (reply ∷ replies behind)
       told_behind =
           g.is_told
-          ∙ ap (λ (xs : List Entry). told asking (replies xs)) (g.in_order)
-          ∙ ap (told asking) (ap (λ (rs : List Reply). Arrived g.id ∷ rs) (replies_joined g.idle (record { event = asks_by_get g.id g.request; reply = g.reply } ∷ g.behind)))
-          ∙ told_joined asking (Arrived g.id ∷ replies g.idle) (g.reply ∷ replies g.behind) g.goes
-          ∙ ap (λ (xs : List ℕ). xs ++ told (said_all asking (replies g.idle)) (g.reply ∷ replies g.behind)) mute.untold
+          ∙ ap (λ (xs : List Entry). told (asking web) (replies xs)) (g.in_order)
+          ∙ ap (told (asking web)) (ap (λ (rs : List Reply). Arrived g.id ∷ rs) (replies_joined g.idle (record { event = asks_by_get web g.id g.request; reply = g.reply } ∷ g.behind)))
+          ∙ told_joined (asking web) (Arrived g.id ∷ replies g.idle) (g.reply ∷ replies g.behind) g.goes
+          ∙ ap (λ (xs : List ℕ). xs ++ told (said_all (asking web) (replies g.idle)) (g.reply ∷ replies g.behind)) mute.untold
           ∙ ap (λ (s : Says). told s (g.reply ∷ replies g.behind)) mute.says
-          ∙ ap (λ (e : Entry). told asking (e.reply ∷ replies g.behind)) (sym p.here)
-          ∙ ap (λ (xs : List Entry). told asking (reply ∷ replies xs)) (sym p.behind)
+          ∙ ap (λ (e : Entry). told (asking web) (e.reply ∷ replies g.behind)) (sym p.here)
+          ∙ ap (λ (xs : List Entry). told (asking web) (reply ∷ replies xs)) (sym p.behind)
 
       fits_behind : Each EntryFits behind
       fits_behind = (each_second EntryFits before ((entry w ask) ∷ behind) (subst (Each EntryFits) in_order (log_fits [] course label))).1
@@ -290,18 +291,18 @@ module _ (settings : Settings) (lists : Lists)
                 (inr refl, each_as IsMute (IsHisOrDrawsNothing g.id) (λ e m. inr (mute_draws e m)) g.idle waits.1))
                 (inr none_here, each_as (IsIdleOrLeaving g.id) (IsHisOrDrawsNothing g.id) (λ e h. inl (idle_or_leaving_is_his g.id e h)) behind idle_behind))
 
-      told_as : (r : Reply) → reply ≡ r → given lines label ≡ told asking (r ∷ replies behind)
-      told_as r e = told_behind ∙ ap (λ (x : Reply). told asking (x ∷ replies behind)) e
+      told_as : (r : Reply) → reply ≡ r → given lines label ≡ told (asking web) (r ∷ replies behind)
+      told_as r e = told_behind ∙ ap (λ (x : Reply). told (asking web) (x ∷ replies behind)) e
 
-      reads_denial : (rule : Rule) → reply ≡ Deny rule → Denies (rows_for w ask) rule × (given lines label ≡ denial rule)
-      reads_denial rule e = ((denied (events_in past) ask rule e).0, told_as (Deny rule) e ∙ append-nil (denial rule))
+      reads_denial : (rule : Rule) → reply ≡ Deny rule → Denies (rows_for w ask) rule × (given lines label ≡ denial web rule)
+      reads_denial rule e = ((denied (events_in past) ask rule e).0, told_as (Deny rule) e ∙ append-nil (denial web rule))
 
-      reads_text : (text : CommandText) → reply ≡ Text text → given lines label ≡ text_answer text
-      reads_text text e = told_as (Text text) e ∙ append-nil (text_answer text)
+      reads_text : (text : CommandText) → reply ≡ Text text → given lines label ≡ text_answer web text
+      reads_text text e = told_as (Text text) e ∙ append-nil (text_answer web text)
 
     -- one who gives a command
     pub answered_by : (label : ℕ) (asked : CommandRequest) (past later : List Happening) → course ≡ past ++ on label (Command asked) ∷ later
-        → CommandIsAnswered settings lists deliveries course lines label asked past
+        → CommandIsAnswered settings lists deliveries course web lines label asked past
     answered_by label asked past later parts = record {
       denied = reads_denial label (Command asked) tt past later parts;
       told = reads_text label (Command asked) tt past later parts;
@@ -315,7 +316,7 @@ module _ (settings : Settings) (lists : Lists)
       abbrev answer : Reply
       answer = reply_to at (Listen asked)
 
-      abbrev his : ByGet (brought done label) (log label) (given lines label)
+      abbrev his : ByGet web (brought done label) (log label) (given lines label)
       his = g label (Listen asked) tt past later parts
 
       his_number : asked.id ≡ his.id
@@ -327,9 +328,9 @@ module _ (settings : Settings) (lists : Lists)
       abbrev later_log : List Entry
       later_log = log_on (world_after at (Listen asked)) later label
 
-      pub given_by : IsGiven settings lists deliveries course at asked (given lines label) answer
+      pub given_by : IsGiven settings lists deliveries course web at asked (given lines label) answer
       given_by = by_reply answer refl (listen_reply at asked) where
-        by_reply : (r : Reply) → answer ≡ r → ListenReply r → IsGiven settings lists deliveries course at asked (given lines label) r
+        by_reply : (r : Reply) → answer ≡ r → ListenReply r → IsGiven settings lists deliveries course web at asked (given lines label) r
         by_reply (Arrived him) e x = elim x [ ]
         by_reply Feeding e x = elim x [ ]
         by_reply (Drawn sound title) e x = elim x [ ]
@@ -345,8 +346,8 @@ module _ (settings : Settings) (lists : Lists)
           sits_with_sources = sit asked.id;
           behind = joined_draws interval (draws_to w0 (events_in course) asked.id);
           head_first = told_as label (Listen asked) tt past later parts (Seated interval head) e
-              ∙ follow asking interval head (replies later_log) refl (nobody label (Listen asked) tt past later parts)
-              ∙ ap (λ (ds : List Call). head_text interval head ++ joined_draws interval ds)
+              ∙ follow (asking web) interval head (replies later_log) refl (nobody label (Listen asked) tt past later parts)
+              ∙ ap (λ (ds : List Call). head_text web interval head ++ joined_draws interval ds)
               (all_draws label (Listen asked) tt past later parts interval head e ∙ ap (draws_to w0 (events_in course)) (sym his_number));
           are_draws = refl;
           plain = λ none. plainly interval (draws_to w0 (events_in course) asked.id) none;

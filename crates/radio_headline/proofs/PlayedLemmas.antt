@@ -7,6 +7,7 @@ use Rattle.radio_deliveries.specs.declared.faults.PlayFault.{PlayFault}
 use Rattle.radio_script.specs.Transcripts.{first_fault}
 use Rattle.radio_script.specs.Runs.{Runs}
 use Rattle.radio_floor.specs.ScriptState.{ScriptState, opening_script}
+use Rattle.radio_session.specs.declared.web_answers.WebAnswers.{WebAnswers}
 use Rattle.radio_floor.specs.Transcript.{conduct}
 use Rattle.radio_headline.specs.Listeners.{HearsSlices, ListenersHearSlices}
 
@@ -15,8 +16,8 @@ by_stop : (P : Option ℕ → Type 0) (fault : Option PlayFault) (stop : Option 
 by_stop P fault None e h = h
 by_stop P fault (Some number) e h = cc
 
-pub played : ListenersHearSlices → (settings : Settings) (lists : Lists) (deliveries : List Delivery) (text : List ℕ) (fault : Option PlayFault)
-    (stop : Option ℕ) (last : ScriptState) → Runs conduct (opening_script settings lists) 1 deliveries text stop last → None ≡ first_fault stop fault
-    → HearsSlices settings lists deliveries text None
-played law settings lists deliveries text fault stop last run ends =
-    by_stop (λ s. HearsSlices settings lists deliveries text s) fault stop ends (law settings lists deliveries text stop (last, run))
+pub played : ListenersHearSlices → (web : WebAnswers) (settings : Settings) (lists : Lists) (deliveries : List Delivery) (text : List ℕ) (fault : Option PlayFault)
+    (stop : Option ℕ) (last : ScriptState) → Runs (conduct web) (opening_script settings lists) 1 deliveries text stop last → None ≡ first_fault stop fault
+    → HearsSlices web settings lists deliveries text None
+played law web settings lists deliveries text fault stop last run ends =
+    by_stop (λ s. HearsSlices web settings lists deliveries text s) fault stop ends (law web settings lists deliveries text stop (last, run))

@@ -49,8 +49,9 @@ use Rattle.radio_headline.proofs.HeardLemmas.{more_for_get, more_for_source}
 use Rattle.radio_headline.proofs.ClientEvents.{entries_each, events_of_entries, events_of_joined, pushed_joined}
 use Rattle.radio_headline.proofs.OwnLogs.{relay_owns}
 use Rattle.radio_headline.proofs.PullParts.{behind_head, head_items, items_sound, items_up, more_pulled, more_sound, no_items, none_up, pulls_with, read_more, stream_shows}
+use Rattle.radio_session.specs.declared.web_answers.WebAnswers.{WebAnswers}
 
-module _ (settled : IsSettled ShowsResponse) (within : HeadsLieWithin ShowsResponse) (joined : (bytes : List ℕ) → concat (blocks_of bytes) ≡ bytes)
+module _ (web : WebAnswers) (settled : IsSettled ShowsResponse) (within : HeadsLieWithin ShowsResponse) (joined : (bytes : List ℕ) → concat (blocks_of bytes) ≡ bytes)
     (none_blocks : blocks_of [] ≡ []) (in_pieces : HeardInPieces) (afters : AfterPieces) where
   -- Something comes to a relay's connection, which stood so.
   module _ (w : World) (bytes : List ℕ) (log : List Entry) (pulling : Pulling) (r : IsRelay bytes log pulling) where
@@ -88,7 +89,7 @@ module _ (settled : IsSettled ShowsResponse) (within : HeadsLieWithin ShowsRespo
     -- it stands so, or is shut
     stands_so : (later : List ℕ) (events : List Event) (given : List ℕ) (now : Pulling) (ends : State) → OwnRelay pulling.number (entries w events)
         → (ends ≡ Running → now.number ≡ number_after pulling.number (entries w events)) → (ends ≡ Running → RelayStage later (newer events) now)
-        → Facts later (newer events) given → IsSo (Some (connection_unless (Some (Relay now)) ends)) later (newer events) given
+        → Facts web later (newer events) given → IsSo web (Some (connection_unless (Some (Relay now)) ends)) later (newer events) given
     stands_so later events given now Running own number stage facts = record {
       own = new_own events own;
       number = number refl ∙ ap (λ (n : Option ℕ). number_after n (entries w events)) r.number ∙ sym (number_joined None log (entries w events));
@@ -105,8 +106,8 @@ module _ (settled : IsSettled ShowsResponse) (within : HeadsLieWithin ShowsRespo
         ap (λ (xs : List Entry). xs ++ entries w events) e
         ∙ ap (entries w) (none_up w events (subst (λ (n : Option ℕ). OwnRelay n (entries w events)) (no_number e) own) plain)
 
-    nothing_asked : (later : List ℕ) (events : List Event) (given : List ℕ) → newer events ≡ [] → Facts later (newer events) given
-    nothing_asked later events given e = subst (λ (xs : List Entry). Facts later xs given) (sym e) (HasAskedNothing tt)
+    nothing_asked : (later : List ℕ) (events : List Event) (given : List ℕ) → newer events ≡ [] → Facts web later (newer events) given
+    nothing_asked later events given e = subst (λ (xs : List Entry). Facts web later xs given) (sym e) (HasAskedNothing tt)
 
     -- more events alone
     pulls_still : (events : List Event) (p : Pulls bytes log) → Each IsNotRefused log → OwnRelay pulling.number (entries w events)
@@ -131,10 +132,10 @@ module _ (settled : IsSettled ShowsResponse) (within : HeadsLieWithin ShowsRespo
     pub idles_so : (events : List Event) (given : List ℕ) (now : Pulling) (ends : State) → OwnRelay pulling.number (entries w events)
         → (ends ≡ Running → now.number ≡ number_after pulling.number (entries w events)) → now.stage ≡ pulling.stage
         → (ends ≡ Running → Each IsNotRefused (entries w events)) → EachAsked IsNoUp events → IsCut (entries w events) → pushed events ≡ []
-        → IsSo (Some (connection_unless (Some (Relay now)) ends)) (bytes ++ []) (newer events) given
+        → IsSo web (Some (connection_unless (Some (Relay now)) ends)) (bytes ++ []) (newer events) given
     idles_so events given now ends own number stage quiet plain cut silent =
-        subst (λ (bs : List ℕ). IsSo (Some (connection_unless (Some (Relay now)) ends)) bs (newer events) given) (sym (append-nil bytes)) (by_stage r.stage) where
-          by_stage : RelayStage bytes log pulling → IsSo (Some (connection_unless (Some (Relay now)) ends)) bytes (newer events) given
+        subst (λ (bs : List ℕ). IsSo web (Some (connection_unless (Some (Relay now)) ends)) bs (newer events) given) (sym (append-nil bytes)) (by_stage r.stage) where
+          by_stage : RelayStage bytes log pulling → IsSo web (Some (connection_unless (Some (Relay now)) ends)) bytes (newer events) given
           by_stage (AtAnswer st lg) =
               stands_so bytes events given now ends own number
               (λ run. AtAnswer (stage ∙ st) (nothing_newer events lg own plain))
@@ -155,7 +156,7 @@ module _ (settled : IsSettled ShowsResponse) (within : HeadsLieWithin ShowsRespo
       pub events : List Event
       pub done : ComesToNoted w pulling (Data more) (at later events)
       pub leads : later ≡ world_after_all w events
-      pub so : IsSo (Some (connection_unless (Some (Relay now)) ends)) (bytes ++ more) (newer events) given
+      pub so : IsSo web (Some (connection_unless (Some (Relay now)) ends)) (bytes ++ more) (newer events) given
 
     module _ (more : List ℕ) (given : List ℕ) (now : Pulling) (ends : State) (later : World) (pulled : Pulled)
         (is_pulled : IsPulledAt pulling.stage more pulled) where
@@ -343,10 +344,10 @@ module _ (settled : IsSettled ShowsResponse) (within : HeadsLieWithin ShowsRespo
   module _ (settled_requests : IsSettled ShowsRequest) (within_requests : HeadsLieWithin ShowsRequest)
       (places : (place : Place) (first second : List ℕ) → after place (first ++ second) ≡ after (after place first) second)
       (data_joined : (place : Place) (first second : List ℕ) → data_of place (first ++ second) ≡ data_of place first ++ data_of (after place first) second) where
-    pub more_facts : (bytes more : List ℕ) (log : List Entry) (given : List ℕ) → Facts bytes log given → Facts (bytes ++ more) log given
+    pub more_facts : (bytes more : List ℕ) (log : List Entry) (given : List ℕ) → Facts web bytes log given → Facts web (bytes ++ more) log given
     more_facts bytes more log given (HasAskedNothing h) = HasAskedNothing h
     more_facts bytes more log given (HasSentGet g) =
-        HasSentGet (more_for_get settled_requests within_requests joined places data_joined bytes more log given g)
+        HasSentGet (more_for_get settled_requests within_requests joined places data_joined web bytes more log given g)
     more_facts bytes more log given (IsSource f told) =
         IsSource (more_for_source settled_requests within_requests joined places data_joined bytes more log f) told
     more_facts bytes more log given (IsPulling p) = IsPulling (more_pulled settled within joined none_blocks in_pieces afters bytes more log p)

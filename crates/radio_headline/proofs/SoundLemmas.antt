@@ -48,6 +48,7 @@ use Rattle.radio_headline.proofs.GetLogs.{no_entry}
 use Rattle.radio_headline.proofs.PullParts.{more_pulled}
 use Rattle.radio_headline.proofs.SourceLemmas.{Front, IsHisOrNotesNothing, brings_front, delivered_gathered, no_block, noted}
 use Rattle.radio_headline.proofs.Partings.{none_there}
+use Rattle.radio_session.specs.declared.web_answers.WebAnswers.{WebAnswers}
 
 -- by this event a relay comes up
 abbrev IsUp : Event → Type 0
@@ -96,18 +97,18 @@ his_up_not id (Leave him) e l = elim l [ ]
 his_up_not id (RelayDown him) e l = elim l [ ]
 his_up_not id (Clock ms) e l = elim l [ ]
 
-get_up_not : (id : ℕ) (request : RequestParts) → IsUp (asks_by_get id request) → ⊥
-get_up_not id request l = by_kind (is_for_commands (path_in request)) l where
-  by_kind : (b : Bool) → IsUp (if b then gives_command id request (path_in request) else asks_to_hear id request (path_in request)) → ⊥
+get_up_not : (web : WebAnswers) (id : ℕ) (request : RequestParts) → IsUp (asks_by_get web id request) → ⊥
+get_up_not web id request l = by_kind (is_for_commands (path_in request)) l where
+  by_kind : (b : Bool) → IsUp (if b then gives_command web id request (path_in request) else asks_to_hear id request (path_in request)) → ⊥
   by_kind true h = h
   by_kind false h = h
 
-get_not : (bytes : List ℕ) (log : List Entry) (given : List ℕ) → ByGet bytes log given → Each UpNot log
-get_not bytes log given g =
+get_not : (web : WebAnswers) (bytes : List ℕ) (log : List Entry) (given : List ℕ) → ByGet web bytes log given → Each UpNot log
+get_not web bytes log given g =
     subst (Each UpNot) (sym g.in_order) (
       (λ l. l),
       each_joined UpNot g.idle _ (each_as (IsIdling g.id) UpNot (idle_up_not g.id) g.idle g.idles)
-          (get_up_not g.id g.request, each_as (IsIdleOrLeaving g.id) UpNot (leaving_up_not g.id) g.behind g.no_more),
+          (get_up_not web g.id g.request, each_as (IsIdleOrLeaving g.id) UpNot (leaving_up_not g.id) g.behind g.no_more),
     )
 
 source_not : (bytes : List ℕ) (log : List Entry) → Feeds bytes log → Each UpNot log
@@ -118,20 +119,20 @@ source_not bytes log f =
           ((λ l. l), each_as (IsNoRequest f.id) UpNot (λ e h. his_up_not f.id e.event (behind_is_his f.id e.event h)) f.behind f.no_more),
     )
 
-client_not : (conversation : Conversation) (bytes : List ℕ) (log : List Entry) (given : List ℕ) → IsClient bytes log given conversation → Each UpNot log
-client_not conversation bytes log given c =
+client_not : (web : WebAnswers) (conversation : Conversation) (bytes : List ℕ) (log : List Entry) (given : List ℕ) → IsClient web bytes log given conversation → Each UpNot log
+client_not web conversation bytes log given c =
     subst (Each UpNot) (sym c.arrived)
     ((λ l. l), each_as (λ e. client_in e.event ≡ Some conversation.id) UpNot (λ e h. his_up_not conversation.id e.event h) c.others c.his)
 
 -- where a relay has come up, its master's answer was read
-module _ (bytes : List ℕ) (log : List Entry) (given : List ℕ) (before behind : List Entry) (e : Entry) (parts : log ≡ before ++ e ∷ behind)
+module _ (web : WebAnswers) (bytes : List ℕ) (log : List Entry) (given : List ℕ) (before behind : List Entry) (e : Entry) (parts : log ≡ before ++ e ∷ behind)
     (up : IsUp e.event) where
   never : {A : Type 0} → Each UpNot log → A
   never h = absurd (none_there IsUp before behind e (subst (Each UpNot) parts h) up)
 
-  of_facts : Facts bytes log given → Pulls bytes log
+  of_facts : Facts web bytes log given → Pulls bytes log
   of_facts (HasAskedNothing h) = never (none_asked log h)
-  of_facts (HasSentGet g) = never (get_not bytes log given g)
+  of_facts (HasSentGet g) = never (get_not web bytes log given g)
   of_facts (IsSource f told) = never (source_not bytes log f)
   of_facts (IsPulling p) = p
 
@@ -139,10 +140,10 @@ module _ (bytes : List ℕ) (log : List Entry) (given : List ℕ) (before behind
   of_stage pulling (AtAnswer st lg) = absurd (no_entry before behind e (sym lg ∙ parts))
   of_stage pulling (InAnswer p st whole calm) = p
 
-  pulls_so : (c : Option (Option Connection)) → IsSo c bytes log given → Pulls bytes log
+  pulls_so : (c : Option (Option Connection)) → IsSo web c bytes log given → Pulls bytes log
   pulls_so None h = absurd (no_entry before behind e (sym h.1 ∙ parts))
   pulls_so (Some None) h = of_facts h.facts
-  pulls_so (Some (Some (Client conversation))) h = never (client_not conversation bytes log given h)
+  pulls_so (Some (Some (Client conversation))) h = never (client_not web conversation bytes log given h)
   pulls_so (Some (Some (Relay pulling))) h = of_stage pulling h.stage
 
 -- it is the first of its log
@@ -193,13 +194,13 @@ own_his number (e ∷ log) own plain =
       by_event (Draw him room) h n = cc
       by_event (RelayDown him) h n = cc
 
-module _ (settled : IsSettled ShowsResponse) (within : HeadsLieWithin ShowsResponse) (joined : (bytes : List ℕ) → concat (blocks_of bytes) ≡ bytes)
+module _ (web : WebAnswers) (settled : IsSettled ShowsResponse) (within : HeadsLieWithin ShowsResponse) (joined : (bytes : List ℕ) → concat (blocks_of bytes) ≡ bytes)
     (none_blocks : blocks_of [] ≡ []) (in_pieces : HeardInPieces) (afters : AfterPieces) (settings : Settings) (lists : Lists)
     (fits : (events : List Event) (event : Event) → RepliesFit (run_after settings lists events) event)
     (adds : (events : List Event) (event : Event) → AddsUp (run_after settings lists events) event)
     (steps : (events : List Event) (event : Event) → ClientsStep (run_after settings lists events) event)
     (deliveries done rest : List Delivery) (all : deliveries ≡ done ++ rest) (last : ScriptState) (course : List Happening) (lines : List TranscriptLine)
-    (each : (label : ℕ) → IsSo (connection_of last.connections label) (brought done label) (log_on (opening settings lists) course label) (given lines label))
+    (each : (label : ℕ) → IsSo web (connection_of last.connections label) (brought done label) (log_on (opening settings lists) course label) (given lines label))
     (nowhere : AllNowhere (λ h. IsMoment h.event) course) where
   abbrev w0 : World
   w0 = opening settings lists
@@ -227,7 +228,7 @@ module _ (settled : IsSettled ShowsResponse) (within : HeadsLieWithin ShowsRespo
         ∙ ap (λ (b : Bool). before ++ ((if b then entry w event ∷ [] else []) ++ behind)) (itself label)
 
     p : Pulls (brought done label) (log label)
-    p = pulls_so (brought done label) (log label) (given lines label) before behind (entry w event) in_order tt
+    p = pulls_so web (brought done label) (log label) (given lines label) before behind (entry w event) in_order tt
         (connection_of last.connections label) (each label)
 
     whole : Pulls (brought done label ++ brought rest label) (log label)
@@ -243,7 +244,7 @@ module _ (settled : IsSettled ShowsResponse) (within : HeadsLieWithin ShowsRespo
     has_number = subst (HasNumber number) (sym (in_order ∙ ap (λ (xs : List Entry). xs ++ entry w event ∷ behind) first.before_none)) (inl arrived)
 
     on_it : AllByRecursion (IsOnIt label number) course
-    on_it = on_his settings lists fits adds steps done last course lines each nowhere label number has_number
+    on_it = on_his web settings lists fits adds steps done last course lines each nowhere label number has_number
 
     all_second : (P : Happening → Type 0) (xs ys : List Happening) → AllByRecursion P (xs ++ ys) → AllByRecursion P ys
     all_second P [] ys h = h

@@ -21,6 +21,7 @@ use Rattle.radio_headline.proofs.RunLemmas.{AllNowhere, IsMoment}
 use Rattle.radio_headline.proofs.Connections.{IsSo}
 use Rattle.radio_headline.proofs.LabelLemmas.{given_joined}
 use Rattle.radio_tables.proofs.KeyLaws.{by_number}
+use Rattle.radio_session.specs.declared.web_answers.WebAnswers.{WebAnswers}
 
 pub brought_joined : (deliveries more : List Delivery) (label : ℕ) → brought (deliveries ++ more) label ≡ brought deliveries label ++ brought more label
 brought_joined deliveries more label = flat_map-append (brought_by label) deliveries more
@@ -36,20 +37,20 @@ pub front_none : (xs ys : List ℕ) → xs ++ ys ≡ [] → xs ≡ []
 front_none [] ys e = refl
 front_none (x ∷ xs) ys e = cc
 
-pub IsSo_as : (c c' : Option (Option Connection)) (b b' : List ℕ) (l l' : List Entry) (g g' : List ℕ) → c ≡ c' → b ≡ b' → l ≡ l' → g ≡ g'
-    → IsSo c b l g → IsSo c' b' l' g'
-IsSo_as c c' b b' l l' g g' ec eb el eg h =
-    subst (λ (o : Option (Option Connection)). IsSo o b' l' g') ec
-    (subst (λ (x : List ℕ). IsSo c x l' g') eb (subst (λ (x : List Entry). IsSo c b x g') el (subst (λ (x : List ℕ). IsSo c b l x) eg h)))
+pub IsSo_as : (web : WebAnswers) (c c' : Option (Option Connection)) (b b' : List ℕ) (l l' : List Entry) (g g' : List ℕ) → c ≡ c' → b ≡ b' → l ≡ l' → g ≡ g'
+    → IsSo web c b l g → IsSo web c' b' l' g'
+IsSo_as web c c' b b' l l' g g' ec eb el eg h =
+    subst (λ (o : Option (Option Connection)). IsSo web o b' l' g') ec
+    (subst (λ (x : List ℕ). IsSo web c x l' g') eb (subst (λ (x : List Entry). IsSo web c b x g') el (subst (λ (x : List ℕ). IsSo web c b l x) eg h)))
 
-module _ (settings : Settings) (lists : Lists) where
+module _ (web : WebAnswers) (settings : Settings) (lists : Lists) where
   abbrev w0 : World
   w0 = opening settings lists
 
   -- how things stand after these deliveries
   pub record Stands (done : List Delivery) (state : ScriptState) (past : List Happening) (lines : List TranscriptLine) : Type 0 where
     pub world : state.world ≡ run_after settings lists (events_in past)
-    pub each : (label : ℕ) → IsSo (connection_of state.connections label) (brought done label) (log_on w0 past label) (given lines label)
+    pub each : (label : ℕ) → IsSo web (connection_of state.connections label) (brought done label) (log_on w0 past label) (given lines label)
     pub nowhere : AllNowhere (λ h. IsMoment h.event) past
 
   pub nowhere_joined : (past more : List Happening) → AllNowhere (λ h. IsMoment h.event) past → AllNowhere (λ h. IsMoment h.event) more
@@ -65,7 +66,7 @@ module _ (settings : Settings) (lists : Lists) where
   pub record Changes (done : List Delivery) (state later : ScriptState) (past : List Happening) (lines : List TranscriptLine) (delivery : Delivery)
       (events : List Event) (told : List TranscriptLine) (label : ℕ) : Type 0 where
     pub world : later.world ≡ world_after_all state.world events
-    pub here : IsSo (connection_of later.connections label) (brought done label ++ brought (delivery ∷ []) label)
+    pub here : IsSo web (connection_of later.connections label) (brought done label ++ brought (delivery ∷ []) label)
         (log_on w0 past label ++ entries state.world events) (given lines label ++ given told label)
     pub connections : (other : ℕ) → (label ≡ other → ⊥) → connection_of later.connections other ≡ connection_of state.connections other
     pub silent : (other : ℕ) → (label ≡ other → ⊥) → brought (delivery ∷ []) other ≡ []
@@ -81,24 +82,24 @@ module _ (settings : Settings) (lists : Lists) where
           ∙ ap (λ (es : List Event). run_after settings lists (events_in past ++ es)) (sym (events_on label events))
           ∙ ap (run_after settings lists) (sym (events_joined past (map (on label) events)));
       each = λ other. by_number label other
-          (λ same. subst (λ (l : ℕ). IsSo (connection_of later.connections l) (brought (done ++ delivery ∷ []) l) (log_on w0 (past ++ map (on label) events) l)
+          (λ same. subst (λ (l : ℕ). IsSo web (connection_of later.connections l) (brought (done ++ delivery ∷ []) l) (log_on w0 (past ++ map (on label) events) l)
           (given (lines ++ told) l)) same here)
           (λ apart. elsewhere other (λ same. let it : (label == other) ≡ true = ap (λ (n : ℕ). label == n) (sym same) ∙ itself label in
           let both : true ≡ false = sym it ∙ apart in cc));
       nowhere = nowhere_joined past (map (on label) events) s.nowhere (nowhere_on label events);
     } where
-      here : IsSo (connection_of later.connections label) (brought (done ++ delivery ∷ []) label) (log_on w0 (past ++ map (on label) events) label)
+      here : IsSo web (connection_of later.connections label) (brought (done ++ delivery ∷ []) label) (log_on w0 (past ++ map (on label) events) label)
           (given (lines ++ told) label)
-      here = IsSo_as _ _ _ _ _ _ _ _ refl (sym (brought_joined done (delivery ∷ []) label))
+      here = IsSo_as web _ _ _ _ _ _ _ _ refl (sym (brought_joined done (delivery ∷ []) label))
           (ap (λ (x : World). log_on w0 past label ++ entries x events) s.world
           ∙ ap (λ (xs : List Entry). log_on w0 past label ++ xs) (sym (log_here (run_after settings lists (events_in past)) label events))
           ∙ sym (log_joined w0 past (map (on label) events) label))
           (sym (given_joined lines told label)) c.here
 
       elsewhere : (other : ℕ) → (label ≡ other → ⊥)
-          → IsSo (connection_of later.connections other) (brought (done ++ delivery ∷ []) other) (log_on w0 (past ++ map (on label) events) other)
+          → IsSo web (connection_of later.connections other) (brought (done ++ delivery ∷ []) other) (log_on w0 (past ++ map (on label) events) other)
           (given (lines ++ told) other)
-      elsewhere other apart = IsSo_as _ _ _ _ _ _ _ _ (sym (c.connections other apart))
+      elsewhere other apart = IsSo_as web _ _ _ _ _ _ _ _ (sym (c.connections other apart))
           (sym (brought_joined done (delivery ∷ []) other ∙ ap (λ (xs : List ℕ). brought done other ++ xs) (c.silent other apart) ∙ append-nil (brought done other)))
           (sym (log_joined w0 past (map (on label) events) other
           ∙ ap (λ (xs : List Entry). log_on w0 past other ++ xs) (log_elsewhere (run_after settings lists (events_in past)) label other events apart)

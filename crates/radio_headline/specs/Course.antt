@@ -13,6 +13,7 @@ use Rattle.radio_core.specs.Step.{Step, reply_to, world_after}
 use Rattle.radio_pull.specs.Pulling.{Pulling, Standing}
 use Rattle.radio_pull.specs.Course.{AsksIf, GoesDown, Takes}
 use Rattle.radio_session.specs.declared.session.Says.{Says}
+use Rattle.radio_session.specs.declared.web_answers.WebAnswers.{WebAnswers}
 use Rattle.radio_events.specs.declared.state.State.{State}
 use Rattle.radio_events.specs.declared.state.State.TheVariants.{Running, Shut}
 use Rattle.radio_session.specs.Conversation.{Conversation}
@@ -116,12 +117,12 @@ pub record Course : Type 0 where
   pub past : List Happening
 
 -- a delivery is performed, and what happens at it is noted behind what has happened before
-abbrev pub courses : Conduct Course
-courses old delivery lines new =
-    conduct old.state delivery lines new.state
+abbrev pub courses : WebAnswers → Conduct Course
+courses web old delivery lines new =
+    conduct web old.state delivery lines new.state
     × (happenings : List Happening) × Happens old.state delivery happenings × (new.past ≡ old.past ++ happenings)
 
 -- the deliveries come to this text, and to this course
-abbrev pub ComesTo : Settings → Lists → List Delivery → List ℕ → Option ℕ → List Happening → Type 0
-ComesTo settings lists deliveries text stop course = (last : ScriptState)
-    × Runs courses (record { state = opening_script settings lists; past = [] }) 1 deliveries text stop (record { state = last; past = course })
+abbrev pub ComesTo : WebAnswers → Settings → Lists → List Delivery → List ℕ → Option ℕ → List Happening → Type 0
+ComesTo web settings lists deliveries text stop course = (last : ScriptState)
+    × Runs (courses web) (record { state = opening_script settings lists; past = [] }) 1 deliveries text stop (record { state = last; past = course })

@@ -33,6 +33,7 @@ use Rattle.radio_laws.specs.Stretches.{AreStretches, SeatsKeepTheirMounts, Sitti
 use Rattle.radio_laws.specs.TitlesTold.{TitlesAreTold}
 use Rattle.radio_laws.specs.WalkingOn.{ListenersWalkOn}
 use Rattle.radio_pull.specs.Laws.{ItemsAreOfTheirRelay}
+use Rattle.radio_session.specs.declared.web_answers.WebAnswers.{WebAnswers}
 use Rattle.radio_session.specs.Bodies.{PlainBodiesAreHeard, SizedBodiesAreHeard, ChunkedBodiesAreHeard, FaultyBodiesAreHeard}
 use Rattle.radio_session.specs.Draws.{interval_told, joined_draws}
 use Rattle.radio_session.specs.Saying.{denial, greeting_text, head_text, text_answer}
@@ -66,70 +67,72 @@ module _ (settings : Settings) (lists : Lists) (deliveries : List Delivery) (cou
   abbrev pub SitsWithASource : Sitting → Type 0
   SitsWithASource sitting = (shown : Shown) × HasItsSource settings lists deliveries course sitting.mount sitting.source shown
 
-  -- he is seated in the session of a source, or where one is awaited, and given a head that shows what that shows; then his draws, woven as one stream at
-  -- the interval that the head tells, or their data alone where it tells none; these data are slices, one for each time that he sat down, each time with
-  -- a source, or without data, awaiting one
-  pub record IsHearing (w : World) (asked : ListenRequest) (interval : Option ℕ) (head : StreamHead) (bytes : List ℕ) : Type 0 where
-    pub is_seated : IsSeated w (Listen asked) interval head
-    pub shows_his_source :
-        HasItsSource settings lists deliveries course is_seated.session.mount is_seated.session.number head.shown
-    pub behind : List ℕ
-    pub head_first : bytes ≡ head_text interval head ++ behind
-    pub are_draws : behind ≡ joined_draws interval (draws_to (opening settings lists) (events_in course) asked.id)
-    pub plain : interval_told interval ≡ None → behind ≡ sound_of_calls (draws_to (opening settings lists) (events_in course) asked.id)
-    pub woven : (n : ℕ) → interval_told interval ≡ Some n → IsWoven n (draws_to (opening settings lists) (events_in course) asked.id) behind
-    pub taken_out_again : (n : ℕ) → interval_told interval ≡ Some n
-        → sound_in (taken_out n behind) ≡ sound_of_calls (draws_to (opening settings lists) (events_in course) asked.id)
-    pub are_slices : DrawsAreStretches settings lists (events_in course) asked.id
-    pub sits_with_sources : AllByRecursion SitsWithASource (sittings (opening settings lists) (events_in course) asked.id)
+  -- by what the settings say of answers
+  module _ (web : WebAnswers) where
+    -- he is seated in the session of a source, or where one is awaited, and given a head that shows what that shows; then his draws, woven as one stream at
+    -- the interval that the head tells, or their data alone where it tells none; these data are slices, one for each time that he sat down, each time with
+    -- a source, or without data, awaiting one
+    pub record IsHearing (w : World) (asked : ListenRequest) (interval : Option ℕ) (head : StreamHead) (bytes : List ℕ) : Type 0 where
+      pub is_seated : IsSeated w (Listen asked) interval head
+      pub shows_his_source :
+          HasItsSource settings lists deliveries course is_seated.session.mount is_seated.session.number head.shown
+      pub behind : List ℕ
+      pub head_first : bytes ≡ head_text web interval head ++ behind
+      pub are_draws : behind ≡ joined_draws interval (draws_to (opening settings lists) (events_in course) asked.id)
+      pub plain : interval_told interval ≡ None → behind ≡ sound_of_calls (draws_to (opening settings lists) (events_in course) asked.id)
+      pub woven : (n : ℕ) → interval_told interval ≡ Some n → IsWoven n (draws_to (opening settings lists) (events_in course) asked.id) behind
+      pub taken_out_again : (n : ℕ) → interval_told interval ≡ Some n
+          → sound_in (taken_out n behind) ≡ sound_of_calls (draws_to (opening settings lists) (events_in course) asked.id)
+      pub are_slices : DrawsAreStretches settings lists (events_in course) asked.id
+      pub sits_with_sources : AllByRecursion SitsWithASource (sittings (opening settings lists) (events_in course) asked.id)
 
-  -- all that one is given who asked so, by the reply
-  pub data IsGiven (w : World) (asked : ListenRequest) (bytes : List ℕ) : Reply → Type 0 where
-    -- the policy denies it, by the first rule that held then, which he reads
-    IsDenied : (rule : Rule) → Denies (rows_for w (Listen asked)) rule → bytes ≡ denial rule → IsGiven w asked bytes (Deny rule)
-    -- he asked for a path of the web site
-    IsShown : (text : ShownText) → bytes ≡ text_answer text → IsGiven w asked bytes (Text text)
-    Hears : (interval : Option ℕ) (head : StreamHead) → IsHearing w asked interval head bytes → IsGiven w asked bytes (Seated interval head)
-    -- he was finished before he had asked
-    IsTooLate : (rule : Rule) → bytes ≡ [] → IsGiven w asked bytes (Finished rule)
+    -- all that one is given who asked so, by the reply
+    pub data IsGiven (w : World) (asked : ListenRequest) (bytes : List ℕ) : Reply → Type 0 where
+      -- the policy denies it, by the first rule that held then, which he reads
+      IsDenied : (rule : Rule) → Denies (rows_for w (Listen asked)) rule → bytes ≡ denial web rule → IsGiven w asked bytes (Deny rule)
+      -- he asked for a path of the web site
+      IsShown : (text : ShownText) → bytes ≡ text_answer web text → IsGiven w asked bytes (Text text)
+      Hears : (interval : Option ℕ) (head : StreamHead) → IsHearing w asked interval head bytes → IsGiven w asked bytes (Seated interval head)
+      -- he was finished before he had asked
+      IsTooLate : (rule : Rule) → bytes ≡ [] → IsGiven w asked bytes (Finished rule)
 
-  -- one who asks so on the connection of the label, when this had happened: that is how the bytes are heard that have come, and he is given that
-  pub record IsAnswered (lines : List TranscriptLine) (label : ℕ) (asked : ListenRequest) (past : List Happening) : Type 0 where
-    pub is_request : IsRequest (brought deliveries label) asked.id (Listen asked) []
-    pub is_given : IsGiven (server_after past) asked (given lines label) (reply_to (server_after past) (Listen asked))
+    -- one who asks so on the connection of the label, when this had happened: that is how the bytes are heard that have come, and he is given that
+    pub record IsAnswered (lines : List TranscriptLine) (label : ℕ) (asked : ListenRequest) (past : List Happening) : Type 0 where
+      pub is_request : IsRequest (brought deliveries label) asked.id (Listen asked) []
+      pub is_given : IsGiven (server_after past) asked (given lines label) (reply_to (server_after past) (Listen asked))
 
-  -- one who gives a command so: he reads what is said of it, or that the policy denies it, by the first rule that held then
-  pub record CommandIsAnswered (lines : List TranscriptLine) (label : ℕ) (asked : CommandRequest) (past : List Happening) : Type 0 where
-    pub denied : (rule : Rule) → reply_to (server_after past) (Command asked) ≡ Deny rule
-        → Denies (rows_for (server_after past) (Command asked)) rule × (given lines label ≡ denial rule)
-    pub told : (text : ShownText) → reply_to (server_after past) (Command asked) ≡ Text text → given lines label ≡ text_answer text
+    -- one who gives a command so: he reads what is said of it, or that the policy denies it, by the first rule that held then
+    pub record CommandIsAnswered (lines : List TranscriptLine) (label : ℕ) (asked : CommandRequest) (past : List Happening) : Type 0 where
+      pub denied : (rule : Rule) → reply_to (server_after past) (Command asked) ≡ Deny rule
+          → Denies (rows_for (server_after past) (Command asked)) rule × (given lines label ≡ denial web rule)
+      pub told : (text : ShownText) → reply_to (server_after past) (Command asked) ≡ Text text → given lines label ≡ text_answer web text
 
-  -- one who asks to feed a mount so: that is how the bytes are heard that have come; where the policy denies it, it reads the first rule that held then,
-  -- and nothing else; where it is admitted, it reads that first, or that it may go on, where it had asked for that (RFC 9110, section 10.1.1)
-  pub record SourceIsAnswered (lines : List TranscriptLine) (label : ℕ) (asked : SourceRequest) (past : List Happening) : Type 0 where
-    pub behind : List Event
-    pub is_request : IsRequest (brought deliveries label) asked.id (Source asked) behind
-    pub denied : (rule : Rule) → reply_to (server_after past) (Source asked) ≡ Deny rule
-        → Denies (rows_for (server_after past) (Source asked)) rule × (given lines label ≡ denial rule)
-    pub feeds : reply_to (server_after past) (Source asked) ≡ Feeding
-        → (later : List ℕ) × (given lines label ≡ greeting_text is_request.heard.conversation.says.greeting ++ later)
-    -- it was finished before it had asked
-    pub too_late : (rule : Rule) → reply_to (server_after past) (Source asked) ≡ Finished rule → given lines label ≡ []
+    -- one who asks to feed a mount so: that is how the bytes are heard that have come; where the policy denies it, it reads the first rule that held then,
+    -- and nothing else; where it is admitted, it reads that first, or that it may go on, where it had asked for that (RFC 9110, section 10.1.1)
+    pub record SourceIsAnswered (lines : List TranscriptLine) (label : ℕ) (asked : SourceRequest) (past : List Happening) : Type 0 where
+      pub behind : List Event
+      pub is_request : IsRequest (brought deliveries label) asked.id (Source asked) behind
+      pub denied : (rule : Rule) → reply_to (server_after past) (Source asked) ≡ Deny rule
+          → Denies (rows_for (server_after past) (Source asked)) rule × (given lines label ≡ denial web rule)
+      pub feeds : reply_to (server_after past) (Source asked) ≡ Feeding
+          → (later : List ℕ) × (given lines label ≡ greeting_text web is_request.heard.conversation.says.greeting ++ later)
+      -- it was finished before it had asked
+      pub too_late : (rule : Rule) → reply_to (server_after past) (Source asked) ≡ Finished rule → given lines label ≡ []
 
-  -- each who does
-  abbrev pub SourcesAreAnswered : List TranscriptLine → Type 0
-  SourcesAreAnswered lines = (label : ℕ) (asked : SourceRequest) (past later : List Happening) → course ≡ past ++ on label (Source asked) ∷ later
-      → SourceIsAnswered lines label asked past
+    -- each who does
+    abbrev pub SourcesAreAnswered : List TranscriptLine → Type 0
+    SourcesAreAnswered lines = (label : ℕ) (asked : SourceRequest) (past later : List Happening) → course ≡ past ++ on label (Source asked) ∷ later
+        → SourceIsAnswered lines label asked past
 
-  -- each who gives a command
-  abbrev pub CommandsAreAnswered : List TranscriptLine → Type 0
-  CommandsAreAnswered lines = (label : ℕ) (asked : CommandRequest) (past later : List Happening) → course ≡ past ++ on label (Command asked) ∷ later
-      → CommandIsAnswered lines label asked past
+    -- each who gives a command
+    abbrev pub CommandsAreAnswered : List TranscriptLine → Type 0
+    CommandsAreAnswered lines = (label : ℕ) (asked : CommandRequest) (past later : List Happening) → course ≡ past ++ on label (Command asked) ∷ later
+        → CommandIsAnswered lines label asked past
 
-  -- each who asks to hear a mount
-  abbrev pub ListenersAreGiven : List TranscriptLine → Type 0
-  ListenersAreGiven lines = (label : ℕ) (asked : ListenRequest) (past later : List Happening) → course ≡ past ++ on label (Listen asked) ∷ later
-      → IsAnswered lines label asked past
+    -- each who asks to hear a mount
+    abbrev pub ListenersAreGiven : List TranscriptLine → Type 0
+    ListenersAreGiven lines = (label : ℕ) (asked : ListenRequest) (past later : List Happening) → course ≡ past ++ on label (Listen asked) ∷ later
+        → IsAnswered lines label asked past
 
 -- The transcript is written by these lines, and by no others.
 pub record IsWrittenBy (text : List ℕ) (lines : List TranscriptLine) : Type 0 where
@@ -163,27 +166,27 @@ pub record BodiesAreHeard : Type 0 where
 
 -- A script comes to its transcript by a course of lawful events. Its sources deliver a front of the data of their bodies, and its relays of the
 -- sound that they pull in; and each who asks to hear a mount is given slices of these, or reads why not.
-pub record HearsSlices (settings : Settings) (lists : Lists) (deliveries : List Delivery) (text : List ℕ) (stop : Option ℕ) : Type 0 where
+pub record HearsSlices (web : WebAnswers) (settings : Settings) (lists : Lists) (deliveries : List Delivery) (text : List ℕ) (stop : Option ℕ) : Type 0 where
   pub course : List Happening
-  pub comes : ComesTo settings lists deliveries text stop course
+  pub comes : ComesTo web settings lists deliveries text stop course
   pub lawful : (past later : List Happening) (happening : Happening) → course ≡ past ++ happening ∷ later
       → IsLawful settings lists (events_in past) happening.event
   pub lines : List TranscriptLine
   pub is_written : IsWrittenBy text lines
-  pub listeners : ListenersAreGiven settings lists deliveries course lines
-  pub commands : CommandsAreAnswered settings lists deliveries course lines
+  pub listeners : ListenersAreGiven settings lists deliveries course web lines
+  pub commands : CommandsAreAnswered settings lists deliveries course web lines
   pub sources : SourcesDeliverTheirBodies settings lists deliveries course
   pub bodies : BodiesAreHeard
   -- what a relay pulls in is its own
   pub pulls : ItemsAreOfTheirRelay
-  pub answers : SourcesAreAnswered settings lists deliveries course lines
+  pub answers : SourcesAreAnswered settings lists deliveries course web lines
   pub relays : RelaysDeliverTheirSound settings lists deliveries course
 
 abbrev pub ListenersHearSlices : Type 0
-ListenersHearSlices = (settings : Settings) (lists : Lists) (deliveries : List Delivery) (text : List ℕ) (stop : Option ℕ)
-    → IsTranscriptOf settings lists deliveries text stop → HearsSlices settings lists deliveries text stop
+ListenersHearSlices = (web : WebAnswers) (settings : Settings) (lists : Lists) (deliveries : List Delivery) (text : List ℕ) (stop : Option ℕ)
+    → IsTranscriptOf web settings lists deliveries text stop → HearsSlices web settings lists deliveries text stop
 
 -- So it is with each script that is played to its end: what was written hears slices of what its lines have delivered.
 abbrev pub PlayedScriptsHearSlices : Type 0
-PlayedScriptsHearSlices = (settings : Settings) (lists : Lists) (script left text : List ℕ) (done : Unit {0}) (turns : ℕ)
-    → PlaysScript settings lists script left (Ok done) text turns → HearsSlices settings lists (deliveries_from 1 (lines_of script)) text None
+PlayedScriptsHearSlices = (web : WebAnswers) (settings : Settings) (lists : Lists) (script left text : List ℕ) (done : Unit {0}) (turns : ℕ)
+    → PlaysScript web settings lists script left (Ok done) text turns → HearsSlices web settings lists (deliveries_from 1 (lines_of script)) text None

@@ -19,6 +19,7 @@ use Rattle.radio_events.specs.declared.reply.Reply.TheVariants.{Arrived}
 use Rattle.radio_parts.specs.Sessions.{Session}
 use Rattle.radio_relay.specs.Laws.{sound_in}
 use Rattle.radio_relay.specs.Pulled.{IsPulled, Part, Pulled, ShownPart}
+use Rattle.radio_session.specs.declared.web_answers.WebAnswers.{WebAnswers}
 use Rattle.radio_session.specs.Conversation.{fresh}
 use Rattle.radio_session.specs.Hearing.{Heard, IsHeard}
 use Rattle.radio_deliveries.specs.declared.delivery.Delivery.{Delivery}
@@ -49,9 +50,10 @@ pushed events = flat_map pushed_by events
 
 -- these bytes, from the client of this number, are heard as a request and what comes behind it
 pub record IsRequest (bytes : List ℕ) (id : ℕ) (request : Event) (behind : List Event) : Type 0 where
+  pub web : WebAnswers
   pub peer : Peer
   pub heard : Heard
-  pub is_heard : IsHeard (fresh id peer) bytes heard
+  pub is_heard : IsHeard (fresh web id peer) bytes heard
   pub begins : heard.events ≡ request ∷ behind
 
 -- On the connection of the label a source's request comes, and all that it delivers through the course is a front of the data behind that, as the

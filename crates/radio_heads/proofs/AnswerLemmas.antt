@@ -158,7 +158,7 @@ challenge_is_short n = by_test (eqb n 401)
     by_test true = (omega arith, omega arith)
     by_test false = (omega arith, omega arith)
 
-pub sized_is_few : (n : ℕ) (type : List ℕ) (size : ℕ) → length (sized_parts n type size).headers ≤ 64
+pub sized_is_few : (n : ℕ) (type : List ℕ) (size : ℕ) → length (sized_parts n type size).headers ≤ 60
 sized_is_few n type size =
     omega (arith, length-append (challenge_header n) ((codes "Connection", codes "close") ∷ []), (challenge_is_short n).0)
 
@@ -184,7 +184,7 @@ pub length-six : (a b c d e f : List ℕ)
 length-six a b c d e f = simp length-append
 
 pub sized_is_short : (n : ℕ) (digits phrase type : List ℕ) (size : ℕ) → IsStatus n digits phrase → length type ≤ 30 → size < 2 ^ 64
-    → length (sized_head n type size) ≤ 8192
+    → length (sized_head n type size) ≤ 8000
 sized_is_short n digits phrase type size status type_short small =
     let whole = length-six (status_line (codes "HTTP/1.0") n) (header_line (codes "Content-Type") type)
     (header_line (codes "Content-Length") (decimal size)) (challenge_line n) (header_line (codes "Connection") (codes "close")) (line []) in
@@ -206,10 +206,10 @@ sized_is_read n digits phrase type body status clean type_short more small =
     let parts = sized_parts n type size in
     let same = sized_head_is n type size in
     let short : length (head_text n parts.headers) ≤ 8192
-    = subst (λ (xs : List ℕ). length xs ≤ 8192) same (sized_is_short n digits phrase type size status type_short small) in
+    = subst (λ (xs : List ℕ). length xs ≤ 8192) same (omega (arith, sized_is_short n digits phrase type size status type_short small)) in
     subst (λ (xs : List ℕ). IsHead ShowsResponse xs parts (length (sized_head n type size))) (sym (append_assoc (sized_head n type size) body more))
     (subst (λ (xs : List ℕ). IsHead ShowsResponse (xs ++ (body ++ more)) parts (length xs)) (sym same)
-    (head_is_read n digits phrase parts.headers (body ++ more) status (sized_is_clean n type size clean small) (sized_is_few n type size) short))
+    (head_is_read n digits phrase parts.headers (body ++ more) status (sized_is_clean n type size clean small) (omega (arith, sized_is_few n type size)) short))
 
 pub denial_is_read : DenialIsReadBack
 denial_is_read BadRequest rule = sized_is_read 400 _ _ (content_type Plain) (denial_body rule) status_400 (type_is_value Plain) (type_is_short Plain)

@@ -8,4 +8,6 @@ pub mod FoundLemmas
 pub mod ValueLemmas
 pub mod ReadBackLemmas
 pub mod AnswerLemmas
+pub mod AdditionLemmas
 mod WebLemmas
+mod AddedLemmas

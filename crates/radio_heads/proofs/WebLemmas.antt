@@ -79,7 +79,7 @@ six_lines f s l a b c d e g p q r t u v one two three four five six =
           flat_map-append f a b,
         ) (cc)
 
-stream_text_is : (origin : Option (List ℕ)) (w : Welcome) → stream_text origin w ≡ head_text 200 (stream_headers origin w)
+pub stream_text_is : (origin : Option (List ℕ)) (w : Welcome) → stream_text origin w ≡ head_text 200 (stream_headers origin w)
 stream_text_is origin w =
     six_lines header_text (status_line (codes "HTTP/1.0") 200) (line [])
     ((codes "Content-Type", w.content_type) ∷ []) (shown_header (codes "icy-name") w.name) (shown_header (codes "icy-genre") w.genre)
@@ -88,7 +88,7 @@ stream_text_is origin w =
     (one_line (codes "Content-Type") w.content_type) (shown_lines (codes "icy-name") w.name) (shown_lines (codes "icy-genre") w.genre)
     (interval_lines w.interval) (origin_lines origin) (one_line (codes "Connection") (codes "close"))
 
-stream_is_sound : (origin : Option (List ℕ)) (w : Welcome) → IsCleanOrigin origin → IsCleanWelcome w → IfSome w.interval (λ n. n < 2 ^ 32)
+pub stream_is_sound : (origin : Option (List ℕ)) (w : Welcome) → IsCleanOrigin origin → IsCleanWelcome w → IfSome w.interval (λ n. n < 2 ^ 32)
     → All IsSoundHeader (stream_headers origin w)
 unfolding is_token_byte
 stream_is_sound origin w clean_origin clean small =
@@ -113,8 +113,8 @@ length-eight a b c d e f g h = simp length-append
 first_is_short : length (status_line (codes "HTTP/1.0") 200) ≡ 17
 first_is_short = ap length status_200.line_is
 
-stream_is_short : (origin : Option (List ℕ)) (w : Welcome) → IsShortOrigin origin → IsShortWelcome w → IfSome w.interval (λ n. n < 2 ^ 32)
-    → length (stream_text origin w) ≤ 8192
+pub stream_is_short : (origin : Option (List ℕ)) (w : Welcome) → IsShortOrigin origin → IsShortWelcome w → IfSome w.interval (λ n. n < 2 ^ 32)
+    → length (stream_text origin w) ≤ 8000
 stream_is_short origin w short_origin short small =
     let whole = length-eight (status_line (codes "HTTP/1.0") 200) (header_line (codes "Content-Type") w.content_type)
     (shown_line (codes "icy-name") w.name) (shown_line (codes "icy-genre") w.genre) (interval_line w.interval) (origin_line origin)
@@ -128,24 +128,28 @@ stream_is_short origin w short_origin short small =
     = (short.content_type, short.name, short.genre) in
     omega (arith, whole, first_is_short, second, third, fourth, fifth, sixth, sizes)
 
-pub stream_is_read : (origin : Option (List ℕ)) (w : Welcome) (more : List ℕ)
-    → IsCleanOrigin origin → IsShortOrigin origin → IsCleanWelcome w → IsShortWelcome w → IfSome w.interval (λ n. n < 2 ^ 32)
-    → IsHead ShowsResponse (stream_text origin w ++ more) (parts_with (stream_headers origin w)) (length (stream_text origin w))
-stream_is_read origin w more clean_origin short_origin clean short small =
-    let same = stream_text_is origin w in
+pub stream_is_few : (origin : Option (List ℕ)) (w : Welcome) → length (stream_headers origin w) ≤ 60
+stream_is_few origin w =
     let few = length-groups ((codes "Content-Type", w.content_type) ∷ []) (shown_header (codes "icy-name") w.name)
     (shown_header (codes "icy-genre") w.genre) (interval_header w.interval) (origin_header origin) close in
-    subst (λ (xs : List ℕ). IsHead ShowsResponse (xs ++ more) (parts_with (stream_headers origin w)) (length xs)) (sym same)
-    (head_is_written 200 _ _ (stream_headers origin w) more status_200 (stream_is_sound origin w clean_origin clean small)
-    (omega (
+    omega (
       arith,
       few,
       shown_is_few (codes "icy-name") w.name,
       shown_is_few (codes "icy-genre") w.genre,
       interval_is_few w.interval,
       origin_is_few origin,
-    ))
-    (subst (λ (xs : List ℕ). length xs ≤ 8192) same (stream_is_short origin w short_origin short small)))
+    )
+
+pub stream_is_read : (origin : Option (List ℕ)) (w : Welcome) (more : List ℕ)
+    → IsCleanOrigin origin → IsShortOrigin origin → IsCleanWelcome w → IsShortWelcome w → IfSome w.interval (λ n. n < 2 ^ 32)
+    → IsHead ShowsResponse (stream_text origin w ++ more) (parts_with (stream_headers origin w)) (length (stream_text origin w))
+stream_is_read origin w more clean_origin short_origin clean short small =
+    let same = stream_text_is origin w in
+    subst (λ (xs : List ℕ). IsHead ShowsResponse (xs ++ more) (parts_with (stream_headers origin w)) (length xs)) (sym same)
+    (head_is_written 200 _ _ (stream_headers origin w) more status_200 (stream_is_sound origin w clean_origin clean small)
+    (omega (arith, stream_is_few origin w))
+    (subst (λ (xs : List ℕ). length xs ≤ 8192) same (omega (arith, stream_is_short origin w short_origin short small))))
 
 -- ---- answers with a body
 
@@ -162,7 +166,7 @@ size_is_sound : (size : ℕ) → size < 2 ^ 64 → All IsSoundHeader ((codes "Co
 unfolding is_token_byte
 size_is_sound size small = one_is_sound (codes "Content-Length") (decimal size) refl (decimal_is_value size small).bytes
 
-shared_head_is : (origin : Option (List ℕ)) (type : List ℕ) (size : ℕ) → shared_head origin type size ≡ head_text 200 (shared_headers origin type size)
+pub shared_head_is : (origin : Option (List ℕ)) (type : List ℕ) (size : ℕ) → shared_head origin type size ≡ head_text 200 (shared_headers origin type size)
 shared_head_is origin type size =
     four_lines header_text (status_line (codes "HTTP/1.0") 200) (line [])
     ((codes "Content-Type", type) ∷ []) ((codes "Content-Length", decimal size) ∷ []) (origin_header origin) close
@@ -170,7 +174,7 @@ shared_head_is origin type size =
     (one_line (codes "Content-Type") type) (one_line (codes "Content-Length") (decimal size)) (origin_lines origin)
     (one_line (codes "Connection") (codes "close"))
 
-shared_is_sound : (origin : Option (List ℕ)) (kind : TextKind) (size : ℕ) → IsCleanOrigin origin → size < 2 ^ 64
+pub shared_is_sound : (origin : Option (List ℕ)) (kind : TextKind) (size : ℕ) → IsCleanOrigin origin → size < 2 ^ 64
     → All IsSoundHeader (shared_headers origin (content_type kind) size)
 unfolding is_token_byte
 shared_is_sound origin kind size clean small =
@@ -178,14 +182,17 @@ shared_is_sound origin kind size clean small =
     (one_is_sound (codes "Content-Type") (content_type kind) refl (type_is_value kind).bytes)
     (size_is_sound size small) (origin_is_sound origin clean) (sound_from close close_is_clean)
 
-shared_is_short : (origin : Option (List ℕ)) (kind : TextKind) (size : ℕ) → IsShortOrigin origin → size < 2 ^ 64
-    → length (shared_head origin (content_type kind) size) ≤ 8192
+pub shared_is_short : (origin : Option (List ℕ)) (kind : TextKind) (size : ℕ) → IsShortOrigin origin → size < 2 ^ 64
+    → length (shared_head origin (content_type kind) size) ≤ 8000
 shared_is_short origin kind size short small =
     let whole = length-six (status_line (codes "HTTP/1.0") 200) (header_line (codes "Content-Type") (content_type kind))
     (header_line (codes "Content-Length") (decimal size)) (origin_line origin) (header_line (codes "Connection") (codes "close")) (line []) in
     let second = length-header_line (codes "Content-Type") (content_type kind) in
     let third = length-header_line (codes "Content-Length") (decimal size) in
     omega (arith, whole, first_is_short, second, third, type_is_short kind, length-decimal size small, origin_is_short origin short)
+
+pub shared_is_few : (origin : Option (List ℕ)) (type : List ℕ) (size : ℕ) → length (shared_headers origin type size) ≤ 60
+shared_is_few origin type size = omega (arith, length-append (origin_header origin) close, origin_is_few origin)
 
 pub text_is_read : (origin : Option (List ℕ)) (kind : TextKind) (body more : List ℕ)
     → IsCleanOrigin origin → IsShortOrigin origin → length body < 2 ^ 64
@@ -194,14 +201,13 @@ pub text_is_read : (origin : Option (List ℕ)) (kind : TextKind) (body more : L
     (length (shared_head origin (content_type kind) (length body)))
 text_is_read origin kind body more clean short small =
     let size : ℕ = length body in
-    let few = length-append (origin_header origin) close in
     head_and_body (shared_head origin (content_type kind) size) body more (shared_headers origin (content_type kind) size)
     (shared_head_is origin (content_type kind) size)
     (shared_is_sound origin kind size clean small)
-    (omega (arith, few, origin_is_few origin))
-    (shared_is_short origin kind size short small)
+    (omega (arith, shared_is_few origin (content_type kind) size))
+    (omega (arith, shared_is_short origin kind size short small))
 
-page_head_is : (origin : Option (List ℕ)) (policy : List ℕ) (size : ℕ) → page_head origin policy size ≡ head_text 200 (page_headers origin policy size)
+pub page_head_is : (origin : Option (List ℕ)) (policy : List ℕ) (size : ℕ) → page_head origin policy size ≡ head_text 200 (page_headers origin policy size)
 page_head_is origin policy size =
     five_lines header_text (status_line (codes "HTTP/1.0") 200) (line [])
     ((codes "Content-Type", html) ∷ []) ((codes "Content-Length", decimal size) ∷ []) ((codes "Content-Security-Policy", policy) ∷ [])
@@ -214,7 +220,7 @@ html_is_value : IsHeaderValue html
 unfolding trim_ows
 html_is_value = value_from html refl refl
 
-page_is_sound : (origin : Option (List ℕ)) (policy : List ℕ) (size : ℕ) → IsCleanOrigin origin → IsFieldText policy → size < 2 ^ 64
+pub page_is_sound : (origin : Option (List ℕ)) (policy : List ℕ) (size : ℕ) → IsCleanOrigin origin → IsFieldText policy → size < 2 ^ 64
     → All IsSoundHeader (page_headers origin policy size)
 unfolding is_token_byte
 page_is_sound origin policy size clean allowed small =
@@ -226,8 +232,8 @@ page_is_sound origin policy size clean allowed small =
     (origin_is_sound origin clean)
     (sound_from close close_is_clean)
 
-page_is_short : (origin : Option (List ℕ)) (policy : List ℕ) (size : ℕ) → IsShortOrigin origin → length policy ≤ 4096 → size < 2 ^ 64
-    → length (page_head origin policy size) ≤ 8192
+pub page_is_short : (origin : Option (List ℕ)) (policy : List ℕ) (size : ℕ) → IsShortOrigin origin → length policy ≤ 4096 → size < 2 ^ 64
+    → length (page_head origin policy size) ≤ 8000
 page_is_short origin policy size short few small =
     let whole = length-seven (status_line (codes "HTTP/1.0") 200) (header_line (codes "Content-Type") html)
     (header_line (codes "Content-Length") (decimal size)) (header_line (codes "Content-Security-Policy") policy) (origin_line origin)
@@ -236,6 +242,9 @@ page_is_short origin policy size short few small =
     let fourth = length-header_line (codes "Content-Security-Policy") policy in
     omega (arith, whole, first_is_short, third, fourth, few, length-decimal size small, origin_is_short origin short)
 
+pub page_is_few : (origin : Option (List ℕ)) (policy : List ℕ) (size : ℕ) → length (page_headers origin policy size) ≤ 60
+page_is_few origin policy size = omega (arith, length-append (origin_header origin) close, origin_is_few origin)
+
 pub page_is_read : (origin : Option (List ℕ)) (policy body more : List ℕ)
     → IsCleanOrigin origin → IsShortOrigin origin → IsFieldText policy → length policy ≤ 4096 → length body < 2 ^ 64
     → IsHead ShowsResponse (page_text origin policy body ++ more)
@@ -243,9 +252,8 @@ pub page_is_read : (origin : Option (List ℕ)) (policy body more : List ℕ)
     (length (page_head origin policy (length body)))
 page_is_read origin policy body more clean short allowed few small =
     let size : ℕ = length body in
-    let count = length-append (origin_header origin) close in
     head_and_body (page_head origin policy size) body more (page_headers origin policy size)
     (page_head_is origin policy size)
     (page_is_sound origin policy size clean allowed small)
-    (omega (arith, count, origin_is_few origin))
-    (page_is_short origin policy size short few small)
+    (omega (arith, page_is_few origin policy size))
+    (omega (arith, page_is_short origin policy size short few small))

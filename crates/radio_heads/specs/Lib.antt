@@ -1,3 +1,5 @@
+pub mod Additions
+pub mod AdditionLaws
 pub mod Answer
 pub mod FieldValue
 pub mod Head

@@ -2,6 +2,8 @@
 ghost use Rattle.radio_heads.specs.Head.{ShowsRequest};
 ghost use Rattle.radio_heads.specs.Response.{ShowsResponse};
 ghost use Rattle.radio_heads.specs.Laws.{ReadingsAgree, IsSettled, HeadsLieWithin, FrontsAreUnfinished, RequestsAreFound, ResponsesAreFound};
+ghost use Rattle.radio_heads.specs.declared.additions.Additions.{Additions};
+ghost use Rattle.radio_heads.specs.AdditionLaws.{AdditionsAreReadBack};
 ghost use Rattle.radio_heads.specs.WebLaws.{IsUnchanged, WebAnswersAreReadBack};
 ghost use Rattle.radio_heads.specs.Laws.{ListenerIsReadBack, ShortListenerIsReadBack, DenialIsReadBack, TextIsReadBack};
 
@@ -55,4 +57,10 @@ pub fn unsaid_origins_change_nothing()
 /// bytes and no other value more than 255; values come back without the white space at their ends.
 pub fn web_answers_read_back()
     ensures { WebAnswersAreReadBack }
+{}
+
+/// What `add_headers` makes of an answer is read back with the headers that were added, and its own behind them, whatever
+/// bytes follow it, with the same bounds.
+pub fn additions_read_back()
+    ensures { (additions : Additions) → AdditionsAreReadBack additions }
 {}

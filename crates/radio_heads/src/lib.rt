@@ -10,6 +10,7 @@
 //! - [`write_answer`]: the text of each answer that the server gives. Values from outside stand in its headers as
 //!   [`FieldValue`]s, which hold no line end.
 //! - [`write_web_answer`]: the text of each answer that the pages of web sites read.
+//! - [`add_headers`]: the text of an answer with the headers that the settings add to it.
 //!
 //! Laws for callers, which run no code:
 //!
@@ -17,10 +18,11 @@
 //! - [`settled`]: once a reading is not `More`, more bytes change nothing.
 //! - [`fronts_are_unfinished`]: what gives `More` gave `More` before its last bytes came.
 //! - [`heads_are_found`]: no head of the grammar is lost.
-//! - [`answers_read_back`], [`web_answers_read_back`]: what is written is read back.
+//! - [`answers_read_back`], [`web_answers_read_back`], [`additions_read_back`]: what is written is read back.
 //! - [`unsaid_origins_change_nothing`]: answers for web sites are the others', where nothing is said of origins.
 #![tactic(auto)]
 
+mod additions;
 mod answer;
 mod field_value;
 mod head;
@@ -33,13 +35,15 @@ mod search;
 mod web_answer;
 mod writing;
 
+pub use additions::{Additions, add_headers};
 pub use answer::{Answer, TextKind, Welcome};
 pub use field_value::FieldValue;
 pub use head::Head;
 pub use headers::MAX_HEADERS;
 pub use laws::{
-    answers_read_back, fronts_are_unfinished, heads_are_found, heads_lie_within, readings_agree,
-    settled, unsaid_origins_change_nothing, web_answers_read_back,
+    additions_read_back, answers_read_back, fronts_are_unfinished, heads_are_found,
+    heads_lie_within, readings_agree, settled, unsaid_origins_change_nothing,
+    web_answers_read_back,
 };
 pub use outcome::{HeadFault, Progress};
 pub use reading::{read_request, read_request_from, read_response, read_response_from};

@@ -3,7 +3,7 @@ use Rattle.std.specs.Prelude.{ℕ, List, [], codes}
 use Rattle.radio_keys.specs.declared.key.Key.{Key}
 use Rattle.radio_keys.specs.declared.key.Key.TheVariants.{SourcePassword, AdminUser, AdminPassword, RelayUser, RelayPassword, DenyIp, AllowIp, Listen}
 use Rattle.radio_keys.specs.declared.key.Key.TheVariants.{Address, Port, Workers, Limits, Clients, Sources, QueueSize, BurstSize, SourceTimeout}
-use Rattle.radio_keys.specs.declared.key.Key.TheVariants.{HeaderTimeout, Web, AllowOrigin, IcecastStatus, Page, Mount, MountName, Username, Password, MaxListeners, MaxListenerDuration}
+use Rattle.radio_keys.specs.declared.key.Key.TheVariants.{HeaderTimeout, Web, AllowOrigin, IcecastStatus, Page, CacheControl, BrowserCommands, LogPolls, Mount, MountName, Username, Password, MaxListeners, MaxListenerDuration}
 use Rattle.radio_keys.specs.declared.key.Key.TheVariants.{FallbackMount, FallbackOverride, FallbackWhenFull, Hidden, Mp3MetadataInterval, StreamName, Genre}
 use Rattle.radio_keys.specs.declared.key.Key.TheVariants.{Htpasswd, AllowDuplicateUsers, Relay, Server, LocalMount, OnDemand, Slave, MasterServer}
 use Rattle.radio_keys.specs.declared.key.Key.TheVariants.{MasterPort, MasterUsername, MasterPassword, MasterUpdateInterval}
@@ -61,4 +61,7 @@ word Web = codes "web"
 word AllowOrigin = codes "allow-origin"
 word IcecastStatus = codes "icecast-status"
 word Page = codes "page"
+word CacheControl = codes "cache-control"
+word BrowserCommands = codes "browser-commands"
+word LogPolls = codes "log-polls"
 word key = stream_word key

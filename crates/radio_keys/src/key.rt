@@ -29,6 +29,9 @@ pub enum Key {
     AllowOrigin,
     IcecastStatus,
     Page,
+    CacheControl,
+    BrowserCommands,
+    LogPolls,
     /// The list of mounts, and what a relay pulls.
     Mount,
     MountName,
@@ -86,6 +89,9 @@ impl Key {
             Key::AllowOrigin => "allow-origin",
             Key::IcecastStatus => "icecast-status",
             Key::Page => "page",
+            Key::CacheControl => "cache-control",
+            Key::BrowserCommands => "browser-commands",
+            Key::LogPolls => "log-polls",
             _ => self.stream_word(),
         }
     }

@@ -4,13 +4,15 @@
 //!   says how.
 //! - [`BindFault`], [`ServeFault`]: why nothing was bound, and why a server ends.
 //!
-//! What radiod needs of the crates below to call it is here too: the net as relays reach it ([`Reach`], [`SystemNet`]).
+//! What radiod needs of the crates below to call it is here too: the net as relays reach it ([`Reach`], [`SystemNet`]), and
+//! what the settings say of answers ([`WebAnswers`]).
 #![tactic(auto)]
 
 mod listening;
 
 pub use listening::{Listening, Service};
 pub use radio_lines::{Reach, SystemNet};
+pub use radio_serving::WebAnswers;
 pub use radio_sockets::{BindFault, ServeFault};
 
 /// What a call answers where memory was refused.

@@ -11,7 +11,7 @@ use radio_intake::{Intake, IntakePass};
 use radio_lines::{Reach, SocketLine, Sockets};
 use radio_outlet::LogQueue;
 use radio_pullers::{has_relays, keep_relays};
-use radio_serving::OpenGate;
+use radio_serving::{OpenGate, WebAnswers};
 use radio_settings::Settings;
 use radio_sockets::{Acceptor, Coming, Doors, SocketPost, open_desks, seats_of};
 use radio_workers::{Seat, Workplace, run_workers};
@@ -27,6 +27,10 @@ use std::time::Clock;
 pub struct Service {
     /// By how many workers, each in a thread of its own.
     pub workers: u32,
+    /// What the settings say of answers.
+    pub web: WebAnswers,
+    /// Whether the log has lines of clients who were only shown something of the station.
+    pub log_polls: bool,
     /// For how many seconds a connection may take nothing of what waits for it.
     pub patience_s: u32,
     /// How many may linger, whose conversation has ended and whose peer has not closed: of more, the oldest are closed.
@@ -365,6 +369,8 @@ where
         server: station.server,
         intake,
         gate: &OpenGate,
+        web: station.service.web,
+        log_polls: station.service.log_polls,
         patience_s: station.service.patience_s,
         turns: u64::MAX,
     };

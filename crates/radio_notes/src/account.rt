@@ -47,6 +47,8 @@ pub struct Account {
     /// Whether its head is still to be heard.
     is_asking: Cell<bool>,
     is_source_told: Cell<bool>,
+    /// Whether it was shown something of the station, and nothing else.
+    is_poll: Cell<bool>,
     is_told: Cell<bool>,
     end: Cell<Option<End>>,
     heard: Cell<Heard>,
@@ -65,6 +67,7 @@ impl Drop for Account {
             part,
             is_asking,
             is_source_told,
+            is_poll,
             is_told,
             end,
             heard,
@@ -76,6 +79,7 @@ impl Drop for Account {
         drop(part);
         drop(is_asking);
         drop(is_source_told);
+        drop(is_poll);
         drop(is_told);
         drop(end);
         drop(heard);
@@ -95,6 +99,7 @@ impl Account {
             part: Cell::new(Part::Neither),
             is_asking: Cell::new(true),
             is_source_told: Cell::new(false),
+            is_poll: Cell::new(false),
             is_told: Cell::new(false),
             end: Cell::new(None),
             heard: Cell::new(Heard::Nothing),
@@ -185,9 +190,16 @@ impl Account {
             Told::Seated => self.admit(Part::Listener),
             Told::Feeding => self.admit(Part::Source),
             Told::Text => self.answer(200),
+            Told::Shown => self.show(),
             Told::Denied(rule) => self.answer(code_of(rule)),
             Told::Nothing | Told::Noted => (),
         }
+    }
+
+    /// Something of the station is shown.
+    fn show(&self) {
+        self.is_poll.set(true);
+        self.answer(200);
     }
 
     fn admit(&self, part: Part) {
@@ -315,9 +327,10 @@ impl Account {
         self.heard.set(heard);
     }
 
-    /// Tells, once, of a client who is gone at this moment, in milliseconds.
+    /// Tells, once, of a client who is gone at this moment, in milliseconds. The log may leave out those who were only shown
+    /// something of the station.
     pub fn tell_client(&self, log: &Log, peer: Peer, ms: u64) {
-        if self.is_told.replace(true) {
+        if self.is_told.replace(true) || self.is_left_out(log) {
             return;
         }
         let heard = self.heard.replace(Heard::Nothing);
@@ -335,6 +348,10 @@ impl Account {
             agent: Text::of(heard.agent()),
         }));
         self.heard.set(heard);
+    }
+
+    fn is_left_out(&self, log: &Log) -> bool {
+        self.is_poll.get() && !log.has_polls()
     }
 
     /// The mount where he was last; it is the one that he asked for, if no other was noted. Empty where he was

@@ -17,6 +17,8 @@ pub struct Log {
     seconds: Cell<u64>,
     waiting: Cell<Vec<u8>>,
     lost: Cell<u64>,
+    /// Whether clients who were only shown something of the station have lines.
+    has_polls: Cell<bool>,
 }
 
 impl Log {
@@ -27,12 +29,23 @@ impl Log {
             seconds: Cell::new(0),
             waiting: Cell::new(Vec::new(alloc)),
             lost: Cell::new(0),
+            has_polls: Cell::new(true),
         }
     }
 
     /// From now on lines are of the moment so many seconds after the beginning of 1970.
     pub fn set_moment(&self, seconds: u64) {
         self.seconds.set(seconds);
+    }
+
+    /// From now on a client has no line if it was only shown the page, a status or a listing.
+    pub fn leave_out_polls(&self) {
+        self.has_polls.set(false);
+    }
+
+    /// Whether such a client has a line.
+    pub(crate) fn has_polls(&self) -> bool {
+        self.has_polls.get()
     }
 
     /// The lines that wait, one behind the other. None waits then.

@@ -34,7 +34,7 @@ impl Notice {
     /// Tells of it, where the server has replied that it is done.
     pub fn tell(self, log: &Log, account: &Account, told: Told) {
         match told {
-            Told::Feeding | Told::Text => self.write(log),
+            Told::Feeding | Told::Text | Told::Shown => self.write(log),
             Told::Noted => self.count(account),
             _ => (),
         }

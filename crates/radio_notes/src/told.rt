@@ -1,6 +1,6 @@
 //! What of a reply is noted.
 
-use radio_events::Reply;
+use radio_events::{Reply, Text};
 use radio_policy::Rule;
 
 /// What of a reply is noted.
@@ -16,6 +16,8 @@ pub enum Told {
     Seated,
     /// That there is an answer.
     Text,
+    /// That something of the station is shown: the page, a status or a listing.
+    Shown,
     /// That it is denied, by this rule.
     Denied(Rule),
 }
@@ -27,9 +29,16 @@ impl Told {
             Reply::Noted => Told::Noted,
             Reply::Feeding => Told::Feeding,
             Reply::Seated { .. } => Told::Seated,
-            Reply::Text(_) => Told::Text,
+            Reply::Text(text) => of_text(text),
             Reply::Deny(rule) => Told::Denied(*rule),
             _ => Told::Nothing,
         }
+    }
+}
+
+fn of_text(text: &Text) -> Told {
+    match text {
+        Text::Done | Text::Moved(_) | Text::Ended(_) => Told::Text,
+        Text::Json(_) | Text::Streams(_) | Text::Public { .. } | Text::Page { .. } => Told::Shown,
     }
 }

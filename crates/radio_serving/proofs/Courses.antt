@@ -10,8 +10,8 @@ use Rattle.radio_connections.specs.Serving.{Stands}
 
 -- no session fails on its course
 is_whole : HearingFailsNothing → (id : ℕ) (s : Standing) → Course id s → s.session.has_failed ≡ false
-is_whole kept id s (arrives peer) = refl
-is_whole kept id s (turned_away peer rule) = refl
+is_whole kept id s (arrives web peer) = refl
+is_whole kept id s (turned_away web peer rule) = refl
 is_whole kept id s (hears before course quiet bytes heard is) = kept before.session bytes heard is ∙ is_whole kept id before course
 is_whole kept id s (has_room before course quiet room) = is_whole kept id before course
 is_whole kept id s (applies before course goes event later some reply) = is_whole kept id before course

@@ -4,17 +4,19 @@ use Rattle.radio_addr.specs.declared.peer.Peer.{Peer}
 use Rattle.radio_events.specs.declared.event.Event.TheVariants.{Arrive}
 use Rattle.radio_events.specs.declared.reply.Reply.{Reply}
 use Rattle.radio_events.specs.Servers.{Steps}
+use Rattle.radio_session.specs.declared.web_answers.WebAnswers.{WebAnswers}
 use Rattle.radio_connections.specs.Connections.{Connection}
 use Rattle.radio_connections.specs.Admission.{IsTakenIn, LetsNobodyIn}
 
 -- the arrival was applied, and the connection is added behind the others
-pub record IsAdmission {S : Type 0} (steps : Steps S) (peer : Peer) (given taken : List ℕ) (from : S) (conns : List Connection) (to : S)
+pub record IsAdmission {S : Type 0} (steps : Steps S) (web : WebAnswers) (peer : Peer) (given taken : List ℕ) (from : S) (conns : List Connection) (to : S)
     (conns' : List Connection) : Type 0 where
   pub reply : Reply
   pub newcomer : Connection
   pub step : steps from (Arrive peer) reply to
   pub added : conns' ≡ conns ++ newcomer ∷ []
   pub taken_in : IsTakenIn peer reply given taken newcomer
+  pub answers : newcomer.session.says.web ≡ web
 
 -- the arrival was not applied, or its reply let nobody in
 abbrev pub IsTurnedOff : {S : Type 0} → Steps S → Peer → S → S → Type 0

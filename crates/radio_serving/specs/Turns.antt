@@ -31,7 +31,7 @@ module _ {S : Type 0} (steps : Steps S) where
   abbrev pub Ticks : (S → Event → Type 0) → ℕ → WorkerOf S → WorkerOf S → Type 0
   Ticks refuses ms before after =
       ((ms < before.told_ms + 50) × (after ≡ before))
-      ⊎ (((after.told_ms ≡ ms) × (after.patience_ms ≡ before.patience_ms) × HasApplied refuses true before.server (Clock ms) after.server)
+      ⊎ (((after.told_ms ≡ ms) × (after.patience_ms ≡ before.patience_ms) × (after.web ≡ before.web) × HasApplied refuses true before.server (Clock ms) after.server)
       ⊎ ((after ≡ before) × refuses before.server (Clock ms)))
 
   -- A turn at this moment, with news or without: the server is told the time if it is due, each connection is served, and those that are over are closed.
@@ -40,6 +40,6 @@ module _ {S : Type 0} (steps : Steps S) where
     pub mid : WorkerOf S
     pub served : List Connection
     pub ticks : Ticks refuses ms before mid
-    pub same : (after.told_ms ≡ mid.told_ms) × (after.patience_ms ≡ mid.patience_ms)
+    pub same : (after.told_ms ≡ mid.told_ms) × (after.patience_ms ≡ mid.patience_ms) × (after.web ≡ mid.web)
     pub serves : ServesEach ms mid.patience_ms news mid.server conns after.server served
     pub closes : conns' ≡ filter stays served

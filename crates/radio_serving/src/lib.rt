@@ -15,7 +15,7 @@ mod worker;
 pub use laws::open_sessions_have_not_failed;
 pub use radio_connections::{
     CallCount, Conn, Fate, Gate, History, Line, OpenGate, OutOfMemory, Received, Sent, Server,
-    Status, close_first_lingering, count_lingering,
+    Status, WebAnswers, close_first_lingering, count_lingering,
 };
 pub use turn::Turn;
 pub use watched::Watched;

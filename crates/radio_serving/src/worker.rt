@@ -8,7 +8,7 @@ ghost use Rattle.radio_connections.specs.Admission.{IsTakenIn};
 ghost use Rattle.radio_serving.specs.Admission.{IsAdmission, IsTurnedOff};
 
 use crate::round::serve_each;
-use crate::{Conn, Gate, Line, OutOfMemory, Server, Turn};
+use crate::{Conn, Gate, Line, OutOfMemory, Server, Turn, WebAnswers};
 use radio_addr::Peer;
 use radio_connections::{Now, Workspace};
 use radio_events::Event;
@@ -25,6 +25,7 @@ const TELL_AFTER_MS: u64 = 50;
 pub struct Worker<S: Server + Drop> {
     alloc: Global,
     server: S,
+    web: WebAnswers,
     told_ms: u64,
     patience_ms: u64,
     log: Log,
@@ -36,20 +37,22 @@ impl<S: Server + Drop> Model for Worker<S> {
 
     ghost Value = { WorkerOf S };
 
-    ghost view = { λ w. record { server = w.server; told_ms = w.told_ms; patience_ms = w.patience_ms } };
+    ghost view = { λ w. record { server = w.server; web = w.web; told_ms = w.told_ms; patience_ms = w.patience_ms } };
 }
 
 impl<S: Server + Drop> Worker<S> {
     /// A worker who asks this server, and gives up a line that takes nothing of what it is owed for
-    /// so many seconds (the settings' `source-timeout`).
-    pub fn new(alloc: Global, server: S, patience_s: u32) -> Worker<S>
+    /// so many seconds (the settings' `source-timeout`). Its connections are answered by what the settings say of the web.
+    pub fn new(alloc: Global, server: S, web: WebAnswers, patience_s: u32) -> Worker<S>
         ensures server { result.server ≡ server }
+        ensures web { result.web ≡ web }
         ensures told { result.told_ms ≡ 0 }
         ensures patience { result.patience_ms ≡ patience_s * 1000 }
     {
         Worker {
             alloc,
             server,
+            web,
             told_ms: 0,
             patience_ms: patience_s as u64 * 1000,
             log: Log::new(alloc),
@@ -88,10 +91,11 @@ impl<S: Server + Drop> Worker<S> {
         peer: Peer,
         ms: u64,
     ) -> Result<(), OutOfMemory>
-        ensures ok { OnOk result (IsAdmission S.steps peer (L.given line) (L.taken line) self.old.server conns.old.items self.new.server conns.new.items) }
+        ensures ok { OnOk result (IsAdmission S.steps self.old.web peer (L.given line) (L.taken line) self.old.server conns.old.items self.new.server conns.new.items) }
         ensures err { OnErr result (conns.new.items ≡ conns.old.items) }
         ensures nobody { OnErr result (IsTurnedOff S.steps peer self.old.server self.new.server) }
         ensures told { (self.new.told_ms ≡ self.old.told_ms) × (self.new.patience_ms ≡ self.old.patience_ms) }
+        ensures web { self.new.web ≡ self.old.web }
     {
         conns.reserve(1)?;
         let conn = self.arrival(line, peer, ms)?;
@@ -102,12 +106,13 @@ impl<S: Server + Drop> Worker<S> {
     /// The connection of a peer who has come, as the server replies to his arrival.
     fn arrival<L: Line>(&mut self, line: L, peer: Peer, ms: u64) -> Result<Conn<L>, OutOfMemory>
         ensures applied { IfOk result (λ conn. (reply : Reply) × S.steps self.old.server (Arrive peer) reply self.new.server
-            × IsTakenIn peer reply (L.given line) (L.taken line) conn) }
+            × IsTakenIn peer reply (L.given line) (L.taken line) conn × (conn.session.says.web ≡ self.old.web)) }
         ensures nobody { OnErr result (IsTurnedOff S.steps peer self.old.server self.new.server) }
         ensures told { (self.new.told_ms ≡ self.old.told_ms) × (self.new.patience_ms ≡ self.old.patience_ms) }
+        ensures web { self.new.web ≡ self.old.web }
     {
         let reply = self.server.apply(Event::Arrive { peer })?;
-        Conn::admitted(self.alloc, peer, line, reply, ms)
+        Conn::admitted(self.alloc, self.web, peer, line, reply, ms)
     }
 
     /// Serves each connection once, at the turn's moment, and closes those that are over. The server

@@ -16,38 +16,41 @@ use Rattle.radio_session.specs.Framing.{greeting_of, is_word, start_of}
 use Rattle.radio_session.specs.Greetings.{WaitsToGoOn, told_when_admitted, WhoWaitsIsToldToGoOn, NobodyElseIsToldToGoOn}
 use Rattle.radio_session.specs.Hearing.{Heard, delivered, greeted}
 use Rattle.radio_session.specs.Saying.{greeting_text}
+use Rattle.radio_session.specs.WebAnswers.{answered_by}
+use Rattle.radio_session.specs.declared.web_answers.WebAnswers.{WebAnswers}
 use Rattle.radio_session.proofs.BodyLemmas.{closes_at}
 use Rattle.radio_session.proofs.HeardBodyLemmas.{source_as}
 
 -- whatever closes it, it greets as it did
 greets_as : (conversation : Conversation) (events : List Event) (place : Place) (word : Option LastWord)
-    → (delivered conversation events place word).conversation.says.greeting ≡ conversation.says.greeting
+    → (let says = (delivered conversation events place word).conversation.says in greeting_text says.web says.greeting)
+    ≡ greeting_text conversation.says.web conversation.says.greeting
 greets_as conversation events place None = refl
 greets_as conversation events place (Some word) = refl
 
 -- a source is told by its greeting
 told_by : (conversation : Conversation) (request : RequestParts) (behind : List ℕ) (framing : Framing) → IsFramed request framing
-    → told_when_admitted conversation request behind ≡ greeting_text (greeting_of request)
+    → told_when_admitted conversation request behind ≡ greeting_text conversation.says.web (greeting_of request)
 told_by conversation request behind framing framed =
-    ap (λ (h : Heard). greeting_text h.conversation.says.greeting) (source_as conversation request behind framing framed)
-    ∙ ap greeting_text (greets_as (greeted conversation request) (feeds conversation.id request (data_of (start_of framing) behind))
-    (after (start_of framing) behind) (closes_at (after (start_of framing) behind)))
+    ap (λ (h : Heard). greeting_text h.conversation.says.web h.conversation.says.greeting) (source_as conversation request behind framing framed)
+    ∙ greets_as (greeted conversation request) (feeds conversation.id request (data_of (start_of framing) behind))
+    (after (start_of framing) behind) (closes_at (after (start_of framing) behind))
 
-module _ (request : RequestParts) where
+module _ (web : WebAnswers) (request : RequestParts) where
   word_is : (value : Option (List ℕ)) → value_of (codes "Expect") request.headers ≡ value → is_word (codes "100-continue") value ≡ true
       → (expected : List ℕ) × (value_of (codes "Expect") request.headers ≡ Some expected) × (is_same_name expected (codes "100-continue") ≡ true)
   word_is None e w = cc
   word_is (Some expected) e w = (expected, e, w)
 
   greets_by : (put asks : Bool) → bytes_eq request.method (codes "PUT") ≡ put → is_word (codes "100-continue") (value_of (codes "Expect") request.headers) ≡ asks
-      → (WaitsToGoOn request → ⊥) → greeting_text (if put && asks then Continue else Welcome) ≡ source_text
+      → (WaitsToGoOn request → ⊥) → greeting_text web (if put && asks then Continue else Welcome) ≡ answered_by web source_text
   greets_by true true p a other =
       let w = word_is (value_of (codes "Expect") request.headers) refl a in
       absurd (other (record { put = p; expected = w.0; expects = w.1; named = w.2 }))
   greets_by true false p a other = refl
   greets_by false asks p a other = refl
 
-  continues_by : (put asks : Bool) → put ≡ true → asks ≡ true → greeting_text (if put && asks then Continue else Welcome) ≡ continue_text
+  continues_by : (put asks : Bool) → put ≡ true → asks ≡ true → greeting_text web (if put && asks then Continue else Welcome) ≡ continue_text
   continues_by true true p a = refl
   continues_by true false p a = cc
   continues_by false asks p a = cc
@@ -55,9 +58,9 @@ module _ (request : RequestParts) where
 pub who_waits_is_told_to_go_on : WhoWaitsIsToldToGoOn
 who_waits_is_told_to_go_on conversation request behind framing framed waits =
     told_by conversation request behind framing framed
-    ∙ continues_by request (bytes_eq request.method (codes "PUT")) (is_word (codes "100-continue") (value_of (codes "Expect") request.headers)) waits.put
+    ∙ continues_by conversation.says.web request (bytes_eq request.method (codes "PUT")) (is_word (codes "100-continue") (value_of (codes "Expect") request.headers)) waits.put
     (ap (is_word (codes "100-continue")) waits.expects ∙ waits.named)
 
 pub nobody_else_is_told_to_go_on : NobodyElseIsToldToGoOn
 nobody_else_is_told_to_go_on conversation request behind framing framed other =
-    told_by conversation request behind framing framed ∙ greets_by request _ _ refl refl other
+    told_by conversation request behind framing framed ∙ greets_by conversation.says.web request _ _ refl refl other

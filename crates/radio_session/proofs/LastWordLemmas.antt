@@ -12,34 +12,36 @@ use Rattle.radio_session.specs.declared.session.LastWord.TheVariants.{Refusal, C
 use Rattle.radio_session.specs.declared.session.Greeting.{Greeting}
 use Rattle.radio_session.specs.declared.session.Greeting.TheVariants.{Welcome, Continue}
 use Rattle.radio_events.specs.declared.state.Ending.TheVariants.{By, Done, BadBody}
+use Rattle.radio_session.specs.WebAnswers.{answered_by}
+use Rattle.radio_session.specs.declared.web_answers.WebAnswers.{WebAnswers}
 use Rattle.radio_session.specs.Saying.{denial, denial_with, body_text, noted, text_answer}
 use Rattle.radio_session.specs.LastWords.{EndsWith, IsAbout, DenialsNameTheirRule, RulesWithoutStatusAreSilent, LateDenialsAreSilent}
 use Rattle.radio_session.specs.LastWords.{FinishesAreSilent, CommandsAreAnswered, RefusalsNameTheirRule, WholeBodiesAreDone, FaultyBodiesAreSilent}
 
 -- the text of a denial, by the rule's status
-denial_is : (rule : Rule) (status : Option Status) → status_of rule ≡ status → denial rule ≡ denial_with status rule
-denial_is rule status e = ap (λ (s : Option Status). denial_with s rule) e
+denial_is : (web : WebAnswers) (rule : Rule) (status : Option Status) → status_of rule ≡ status → denial web rule ≡ denial_with web status rule
+denial_is web rule status e = ap (λ (s : Option Status). denial_with web s rule) e
 
 pub denials_name_their_rule : DenialsNameTheirRule
 denials_name_their_rule says rule status early e = record {
   ending = By rule;
-  bytes_told = ap (λ (b : Bool). if b then [] else denial rule) early ∙ denial_is rule (Some status) e;
+  bytes_told = ap (λ (b : Bool). if b then [] else denial says.web rule) early ∙ denial_is says.web rule (Some status) e;
   shut = refl;
   last_word = refl;
 }
 
-silent_by : (is_admitted : Bool) (rule : Rule) → status_of rule ≡ None → (if is_admitted then [] else denial rule) ≡ []
-silent_by true rule e = refl
-silent_by false rule e = denial_is rule None e
+silent_by : (web : WebAnswers) (is_admitted : Bool) (rule : Rule) → status_of rule ≡ None → (if is_admitted then [] else denial web rule) ≡ []
+silent_by web true rule e = refl
+silent_by web false rule e = denial_is web rule None e
 
 pub rules_without_status_are_silent : RulesWithoutStatusAreSilent
 rules_without_status_are_silent says rule e =
-    record { ending = By rule; bytes_told = silent_by says.is_admitted rule e; shut = refl; last_word = refl }
+    record { ending = By rule; bytes_told = silent_by says.web says.is_admitted rule e; shut = refl; last_word = refl }
 
 pub late_denials_are_silent : LateDenialsAreSilent
 late_denials_are_silent says rule late = record {
   ending = By rule;
-  bytes_told = ap (λ (b : Bool). if b then [] else denial rule) late;
+  bytes_told = ap (λ (b : Bool). if b then [] else denial says.web rule) late;
   shut = refl;
   last_word = refl;
 }
@@ -50,7 +52,7 @@ finishes_are_silent says rule = record { ending = By rule; bytes_told = refl; sh
 pub commands_are_answered : CommandsAreAnswered
 commands_are_answered says text early = record {
   ending = Done;
-  bytes_told = ap (λ (b : Bool). if b then [] else text_answer text) early;
+  bytes_told = ap (λ (b : Bool). if b then [] else text_answer says.web text) early;
   shut = refl;
   last_word = refl;
 }
@@ -63,13 +65,13 @@ module _ (says : Says) (word : LastWord) (about : IsAbout says word) where
 
 pub refusals_name_their_rule : RefusalsNameTheirRule
 refusals_name_their_rule says rule status about e =
-    by_closing says (Refusal rule) about (denial_text status (word_of rule)) (word_of rule)
-    (record { ending = By rule; bytes_told = denial_is rule (Some status) e; shut = refl; last_word = refl })
+    by_closing says (Refusal rule) about (answered_by says.web (denial_text status (word_of rule))) (word_of rule)
+    (record { ending = By rule; bytes_told = denial_is says.web rule (Some status) e; shut = refl; last_word = refl })
 
 done_with : (says : Says) (greeting : Greeting) → IsAbout says Complete → says.greeting ≡ greeting
-    → EndsWith (noted says says.closing) (body_text greeting) (codes "done")
+    → EndsWith (noted says says.closing) (body_text says.web greeting) (codes "done")
 done_with says greeting about e =
-    by_closing says Complete about (body_text greeting) (codes "done") (record { ending = Done; bytes_told = ap body_text e; shut = refl; last_word = refl })
+    by_closing says Complete about (body_text says.web greeting) (codes "done") (record { ending = Done; bytes_told = ap (body_text says.web) e; shut = refl; last_word = refl })
 
 pub whole_bodies_are_done : WholeBodiesAreDone
 whole_bodies_are_done says about = (done_with says Welcome about, done_with says Continue about)

@@ -56,7 +56,7 @@ draws_follow says (Stray ∷ replies) a c n = draws_follow (said says Stray).say
 
 pub draws_follow_the_head : DrawsFollowTheHead
 draws_follow_the_head says interval head replies c n =
-    ap (λ (later : List ℕ). head_text interval head ++ later)
+    ap (λ (later : List ℕ). head_text says.web interval head ++ later)
     (draws_follow (seated says interval) replies refl (none_less says.closing c) n)
 
 pub plain_draws : PlainDrawsAreTheirData

@@ -1,5 +1,5 @@
 -- What a request asks of the server.
-use Rattle.std.specs.Prelude.{ℕ, nat_eq, Bool, ◌||◌, if◌then◌else◌, List, [], codes, Option, unwrap_or}
+use Rattle.std.specs.Prelude.{ℕ, nat_eq, Bool, ◌||◌, if◌then◌else◌, List, [], codes, Option, None, unwrap_or}
 use Rattle.std.specs.List.{starts_with}
 use Rattle.std.specs.Str.{bytes_eq}
 use Rattle.std.specs.Option.{option_and_then}
@@ -10,8 +10,11 @@ use Rattle.radio_values.specs.declared.field.Shown.{Shown}
 use Rattle.radio_values.specs.Shown.{shown_of}
 use Rattle.radio_heads.specs.Head.{RequestParts}
 use Rattle.radio_heads.specs.Headers.{value_of}
+use Rattle.radio_session.specs.declared.web_answers.WebAnswers.{WebAnswers}
+use Rattle.radio_session.specs.Browsers.{is_refused_pair}
 use Rattle.radio_session.specs.Framing.{is_word}
 use Rattle.radio_session.specs.Commands.{asked_in, is_status}
+use Rattle.radio_events.specs.declared.command.Asked.{Asked}
 use Rattle.radio_events.specs.declared.event.Event.{Event}
 use Rattle.radio_events.specs.declared.event.Event.TheVariants.{Source, Listen, Command}
 
@@ -59,11 +62,16 @@ abbrev pub asks_to_hear : ℕ → RequestParts → List ℕ → Event
 asks_to_hear id request path =
     Listen (record { id = id; mount = path; pair = pair_of request; wants_metadata = wants_metadata request; host = host_for path request })
 
+-- the pair that counts for a command
+abbrev pub pair_for : WebAnswers → RequestParts → Asked → Option Credentials
+pair_for web request asked = if is_refused_pair web request asked then None else pair_of request
+
 -- a client gives the command of this path
-abbrev pub gives_command : ℕ → RequestParts → List ℕ → Event
-gives_command id request path = Command (record { id = id; asked = asked_in path (query_in request); pair = pair_of request })
+abbrev pub gives_command : WebAnswers → ℕ → RequestParts → List ℕ → Event
+gives_command web id request path =
+    let asked = asked_in path (query_in request) in Command (record { id = id; asked = asked; pair = pair_for web request asked })
 
 -- what a GET asks for: a command where its path is one of commands, and else to hear the mount of its path
-abbrev pub asks_by_get : ℕ → RequestParts → Event
-asks_by_get id request =
-    let path = path_in request in if is_for_commands path then gives_command id request path else asks_to_hear id request path
+abbrev pub asks_by_get : WebAnswers → ℕ → RequestParts → Event
+asks_by_get web id request =
+    let path = path_in request in if is_for_commands path then gives_command web id request path else asks_to_hear id request path

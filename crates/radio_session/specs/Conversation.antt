@@ -6,6 +6,7 @@ use Rattle.radio_session.specs.declared.session.Hears.{Hears}
 use Rattle.radio_session.specs.declared.session.Hears.TheVariants.{Head, Body, Nothing}
 use Rattle.radio_session.specs.declared.session.Says.{Says}
 use Rattle.radio_session.specs.declared.session.Greeting.TheVariants.{Welcome}
+use Rattle.radio_session.specs.declared.web_answers.WebAnswers.{WebAnswers}
 
 -- the number of its client and its peer, the bytes of an unfinished head, how it goes on in both directions, and whether a call was refused for want of memory
 pub record Conversation : Type 0 where
@@ -23,12 +24,12 @@ IsOpen (Body body) = body ≡ unfed body.place
 IsOpen Nothing = Unit {0}
 
 -- nothing was admitted yet
-abbrev pub asking : Says
-asking = record { is_admitted = false; greeting = Welcome; closing = None; weaver = None }
+abbrev pub asking : WebAnswers → Says
+asking web = record { web = web; is_admitted = false; greeting = Welcome; closing = None; weaver = None }
 
 -- a conversation in which nothing was said yet
-abbrev pub fresh : ℕ → Peer → Conversation
-fresh id peer = record { id = id; peer = peer; held = []; hears = Head; says = asking; has_failed = false }
+abbrev pub fresh : WebAnswers → ℕ → Peer → Conversation
+fresh web id peer = record { id = id; peer = peer; held = []; hears = Head; says = asking web; has_failed = false }
 
 -- how replies are told from now on
 abbrev pub saying_now : Conversation → Says → Conversation

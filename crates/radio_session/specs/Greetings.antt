@@ -10,6 +10,7 @@ use Rattle.radio_session.specs.Bodies.{IsFramed}
 use Rattle.radio_session.specs.Conversation.{Conversation}
 use Rattle.radio_session.specs.Hearing.{request_heard}
 use Rattle.radio_session.specs.Saying.{said}
+use Rattle.radio_session.specs.WebAnswers.{answered_by}
 
 -- a PUT that waits for a first answer before it sends its data (RFC 9110, section 10.1.1)
 pub record WaitsToGoOn (request : RequestParts) : Type 0 where
@@ -30,4 +31,4 @@ WhoWaitsIsToldToGoOn = (conversation : Conversation) (request : RequestParts) (b
 -- No other source is: it is told that it was admitted.
 abbrev pub NobodyElseIsToldToGoOn : Type 0
 NobodyElseIsToldToGoOn = (conversation : Conversation) (request : RequestParts) (behind : List ℕ) (framing : Framing) → IsFramed request framing
-    → (WaitsToGoOn request → ⊥) → told_when_admitted conversation request behind ≡ source_text
+    → (WaitsToGoOn request → ⊥) → told_when_admitted conversation request behind ≡ answered_by conversation.says.web source_text

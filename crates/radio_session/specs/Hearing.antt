@@ -76,7 +76,7 @@ source_heard conversation request behind (Some framing) =
 
 -- a GET has come, by which a client asks to hear a mount, or gives a command
 abbrev pub get_heard : Conversation → RequestParts → Heard
-get_heard conversation request = record { events = asks_by_get conversation.id request ∷ []; conversation = going_on conversation Nothing }
+get_heard conversation request = record { events = asks_by_get conversation.says.web conversation.id request ∷ []; conversation = going_on conversation Nothing }
 
 -- a head has come, with these bytes behind it: SOURCE and PUT feed the mount of its path, GET hears it or gives a command
 abbrev pub request_heard : Conversation → RequestParts → List ℕ → Heard

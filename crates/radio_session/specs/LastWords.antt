@@ -14,6 +14,7 @@ use Rattle.radio_events.specs.declared.state.State.TheVariants.{Shut}
 use Rattle.radio_events.specs.declared.state.Ending.{Ending}
 use Rattle.radio_events.specs.Endings.{ending_word}
 use Rattle.radio_session.specs.Saying.{Said, said, text_answer}
+use Rattle.radio_session.specs.WebAnswers.{answered_by}
 
 -- these bytes are told, and the connection is shut with this word
 pub record EndsWith (told : Said) (bytes word : List ℕ) : Type 0 where
@@ -29,7 +30,7 @@ IsAsking says = says.is_admitted ≡ false
 -- The denial of what was asked is told in an answer of the rule's status that names the rule, and the word is the rule's.
 abbrev pub DenialsNameTheirRule : Type 0
 DenialsNameTheirRule = (says : Says) (rule : Rule) (status : Status) → IsAsking says → status_of rule ≡ Some status
-    → EndsWith (said says (Deny rule)) (denial_text status (word_of rule)) (word_of rule)
+    → EndsWith (said says (Deny rule)) (answered_by says.web (denial_text status (word_of rule))) (word_of rule)
 
 -- a rule without a status has no answer
 abbrev pub RulesWithoutStatusAreSilent : Type 0
@@ -45,7 +46,7 @@ FinishesAreSilent = (says : Says) (rule : Rule) → EndsWith (said says (Finishe
 
 -- A command that was done is told in an answer of its text, and then the connection is done.
 abbrev pub CommandsAreAnswered : Type 0
-CommandsAreAnswered = (says : Says) (text : CommandText) → IsAsking says → EndsWith (said says (Text text)) (text_answer text) (codes "done")
+CommandsAreAnswered = (says : Says) (text : CommandText) → IsAsking says → EndsWith (said says (Text text)) (text_answer says.web text) (codes "done")
 
 -- no other reply is awaited before the connection's own last word
 abbrev pub IsAbout : Says → LastWord → Type 0
@@ -54,13 +55,13 @@ IsAbout says word = says.closing ≡ Some (record { awaits = 0; word = word })
 -- the connection's own refusal is told as a denial, once the client has left
 abbrev pub RefusalsNameTheirRule : Type 0
 RefusalsNameTheirRule = (says : Says) (rule : Rule) (status : Status) → IsAbout says (Refusal rule) → status_of rule ≡ Some status
-    → EndsWith (said says Noted) (denial_text status (word_of rule)) (word_of rule)
+    → EndsWith (said says Noted) (answered_by says.web (denial_text status (word_of rule))) (word_of rule)
 
 -- a source whose body is whole is told that it was admitted, if it was not told before; then it is done
 abbrev pub WholeBodiesAreDone : Type 0
 WholeBodiesAreDone = (says : Says) → IsAbout says Complete →
     (says.greeting ≡ Welcome → EndsWith (said says Noted) [] (codes "done"))
-    × (says.greeting ≡ Continue → EndsWith (said says Noted) source_text (codes "done"))
+    × (says.greeting ≡ Continue → EndsWith (said says Noted) (answered_by says.web source_text) (codes "done"))
 
 -- a source in whose body there is a fault is told nothing
 abbrev pub FaultyBodiesAreSilent : Type 0

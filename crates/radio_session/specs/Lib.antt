@@ -1,6 +1,8 @@
 pub mod Conversation
 pub mod Pushes
 pub mod Commands
+pub mod WebAnswers
+pub mod Browsers
 pub mod Asking
 pub mod Hearing
 pub mod Draws

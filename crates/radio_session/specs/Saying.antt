@@ -13,6 +13,8 @@ use Rattle.radio_heads.specs.Answer.{source_text, continue_text, denial_text, si
 use Rattle.radio_heads.specs.declared.answer.TextKind.TheVariants.{Plain, Json as InJson}
 use Rattle.radio_heads.specs.WebAnswer.{shared_text, stream_text}
 use Rattle.radio_page.specs.Page.{page_answer}
+use Rattle.radio_session.specs.declared.web_answers.WebAnswers.{WebAnswers}
+use Rattle.radio_session.specs.WebAnswers.{answered_by, stream_by}
 use Rattle.radio_icy.specs.Weaving.{Call}
 use Rattle.radio_session.specs.Draws.{draw, interval_told, weaver_at, drawn, after_draw}
 use Rattle.radio_session.specs.declared.session.Says.{Says}
@@ -33,12 +35,12 @@ pub record Said : Type 0 where
   pub state : State
 
 -- the answer that names the rule; a rule without a status has none
-abbrev pub denial_with : Option Status → Rule → List ℕ
-denial_with None rule = []
-denial_with (Some status) rule = denial_text status (word_of rule)
+abbrev pub denial_with : WebAnswers → Option Status → Rule → List ℕ
+denial_with web None rule = []
+denial_with web (Some status) rule = answered_by web (denial_text status (word_of rule))
 
-abbrev pub denial : Rule → List ℕ
-denial rule = denial_with (status_of rule) rule
+abbrev pub denial : WebAnswers → Rule → List ℕ
+denial web rule = denial_with web (status_of rule) rule
 
 -- these bytes, and it goes on
 abbrev pub tells : List ℕ → Says → Said
@@ -68,48 +70,51 @@ abbrev pub drew : Says → Call → Says
 drew says draw = counted (record says { weaver = after_draw says.weaver draw })
 
 -- what a source is told that is admitted
-abbrev pub greeting_text : Greeting → List ℕ
-greeting_text Welcome = source_text
-greeting_text Continue = continue_text
+abbrev pub greeting_text : WebAnswers → Greeting → List ℕ
+greeting_text web Welcome = answered_by web source_text
+greeting_text web Continue = continue_text
 
 -- what a source is told whose body has come to its end: the answer, if it was only asked to go on before
-abbrev pub body_text : Greeting → List ℕ
-body_text Welcome = []
-body_text Continue = source_text
+abbrev pub body_text : WebAnswers → Greeting → List ℕ
+body_text web Welcome = []
+body_text web Continue = answered_by web source_text
 
 -- the policy denies: in an answer where nothing was admitted, else by closing alone
 abbrev pub denied : Says → Rule → Said
-denied says rule = ends (if says.is_admitted then [] else denial rule) says (By rule)
+denied says rule = ends (if says.is_admitted then [] else denial says.web rule) says (By rule)
 
 -- the head of a stream, with metadata blocks at this interval
-abbrev pub head_text : Option ℕ → StreamHead → List ℕ
-head_text interval head = stream_text head.allow_origin (record {
+abbrev pub head_text : WebAnswers → Option ℕ → StreamHead → List ℕ
+head_text web interval head = stream_by web head.shown.content_type (stream_text head.allow_origin (record {
   content_type = head.shown.content_type;
   name = head.shown.name;
   genre = head.shown.genre;
   interval = interval_told interval;
-})
+}))
 
 -- what is said of a command that was done, or shown of the station
-abbrev pub text_answer : CommandText → List ℕ
-text_answer CommandDone = sized_text 200 (content_type Plain) done_line
-text_answer (Moved count) = sized_text 200 (content_type Plain) (moved_line count)
-text_answer (ListenersEnded count) = sized_text 200 (content_type Plain) (ended_line count)
-text_answer (Json bytes) = sized_text 200 (content_type InJson) bytes
-text_answer (Streams bytes) = sized_text 200 (content_type Plain) bytes
-text_answer (Public bytes origin) = shared_text origin (content_type InJson) bytes
-text_answer (Page origin) = page_answer origin
+abbrev pub bare_answer : CommandText → List ℕ
+bare_answer CommandDone = sized_text 200 (content_type Plain) done_line
+bare_answer (Moved count) = sized_text 200 (content_type Plain) (moved_line count)
+bare_answer (ListenersEnded count) = sized_text 200 (content_type Plain) (ended_line count)
+bare_answer (Json bytes) = sized_text 200 (content_type InJson) bytes
+bare_answer (Streams bytes) = sized_text 200 (content_type Plain) bytes
+bare_answer (Public bytes origin) = shared_text origin (content_type InJson) bytes
+bare_answer (Page origin) = page_answer origin
+
+abbrev pub text_answer : WebAnswers → CommandText → List ℕ
+text_answer web text = answered_by web (bare_answer text)
 
 -- it is said in an answer where nothing was admitted, else by closing alone
 
 abbrev pub texted : Says → CommandText → Said
-texted says text = ends (if says.is_admitted then [] else text_answer text) says Done
+texted says text = ends (if says.is_admitted then [] else text_answer says.web text) says Done
 
 -- the last word of the connection itself: its bytes, and how the connection ends
-abbrev pub last_text : Greeting → LastWord → List ℕ
-last_text greeting (Refusal rule) = denial rule
-last_text greeting Complete = body_text greeting
-last_text greeting Faulty = []
+abbrev pub last_text : WebAnswers → Greeting → LastWord → List ℕ
+last_text web greeting (Refusal rule) = denial web rule
+last_text web greeting Complete = body_text web greeting
+last_text web greeting Faulty = []
 
 abbrev pub last_ending : LastWord → Ending
 last_ending (Refusal rule) = By rule
@@ -119,13 +124,14 @@ last_ending Faulty = BadBody
 -- nothing to say, but for the connection's own last word where no other reply is awaited before it
 abbrev pub noted : Says → Option Closing → Said
 noted says None = tells [] says
-noted says (Some closing) = if closing.awaits == 0 then ends (last_text says.greeting closing.word) says (last_ending closing.word) else tells [] (counted says)
+noted says (Some closing) =
+    if closing.awaits == 0 then ends (last_text says.web says.greeting closing.word) says (last_ending closing.word) else tells [] (counted says)
 
 -- what is told of a reply
 abbrev pub said : Says → Reply → Said
 said says (Arrived id) = tells [] (counted says)
-said says Feeding = tells (greeting_text says.greeting) (admitted says)
-said says (Seated interval head) = tells (head_text interval head) (seated says interval)
+said says Feeding = tells (greeting_text says.web says.greeting) (admitted says)
+said says (Seated interval head) = tells (head_text says.web interval head) (seated says interval)
 said says (Drawn bytes title) = tells (drawn says.weaver (draw bytes title)) (drew says (draw bytes title))
 said says Noted = noted says says.closing
 said says (Text text) = texted says text

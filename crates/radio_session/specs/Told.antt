@@ -45,7 +45,7 @@ abbrev pub DrawsFollowTheHead : Type 0
 DrawsFollowTheHead = (says : Says) (interval : Option ℕ) (head : StreamHead) (replies : List Reply) →
     says.closing ≡ None → AdmitNobody replies →
     told says (Seated interval head ∷ replies)
-    ≡ head_text interval head ++ joined_draws interval (draws_of replies)
+    ≡ head_text says.web interval head ++ joined_draws interval (draws_of replies)
 
 -- where it tells none, they are the data alone
 abbrev pub PlainDrawsAreTheirData : Type 0

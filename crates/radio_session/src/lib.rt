@@ -1,6 +1,7 @@
 //! One connection's conversation with the server: from the bytes that come on it to events, and
 //! from replies to the bytes that go out on it.
 //!
+//! - [`WebAnswers`]: what the settings say of answers, and of commands that browsers give.
 //! - [`Session`]: the connection. [`Session::take`] is given what comes, and answers the events that
 //!   it means; [`Session::give`] is given the reply to each, and tells it.
 //! - [`exchange`]: the events of a connection, applied one after another by whoever [`Server`]
@@ -14,6 +15,7 @@
 mod exchanging;
 mod laws;
 mod session;
+mod web_answers;
 
 pub use exchanging::exchange;
 pub use laws::{
@@ -23,6 +25,7 @@ pub use laws::{
 };
 pub use radio_events::{Ending, Server, State};
 pub use session::Session;
+pub use web_answers::WebAnswers;
 
 /// What a call answers where memory was refused.
 pub type OutOfMemory = std::alloc::AllocError;

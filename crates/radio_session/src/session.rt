@@ -3,6 +3,7 @@
 ghost use Rattle.std.specs.Prelude.{◌≡◌};
 ghost use Rattle.radio_session.specs.Conversation.{Conversation, fresh};
 
+use crate::WebAnswers;
 use feeding::KeptBody;
 use radio_addr::Peer;
 use radio_icy::Weaver;
@@ -12,6 +13,7 @@ use std::marker::Model;
 
 mod answers;
 mod asking;
+mod browsers;
 mod commands;
 mod feeding;
 mod framing;
@@ -61,6 +63,8 @@ pub(crate) struct Closing {
 /// How replies are told.
 #[derive(Drop)]
 pub(crate) struct Says {
+    /// What the settings say of it.
+    pub(crate) web: WebAnswers,
     pub(crate) closing: Option<Closing>,
     /// What puts metadata between a listener's data, if he is sent any.
     pub(crate) weaver: Option<Weaver>,
@@ -128,17 +132,18 @@ impl Model for Session {
 }
 
 impl Session {
-    /// The session of the client of this number, whose connection comes from this peer. It takes no
-    /// memory now, and keeps `alloc` for later. Where the server takes a connection not in, its
+    /// The session of the client of this number, whose connection comes from this peer, with what the settings say of its
+    /// answers. It takes no memory now, and keeps `alloc` for later. Where the server takes a connection not in, its
     /// denial is given to a session of number 0.
-    pub fn new(alloc: Global, id: u64, peer: Peer) -> Session
-        ensures { result ≡ fresh id peer }
+    pub fn new(alloc: Global, web: WebAnswers, id: u64, peer: Peer) -> Session
+        ensures { result ≡ fresh web id peer }
     {
         Session {
             alloc,
             id,
             has_failed: false,
             says: Says {
+                web,
                 is_admitted: false,
                 greeting: Greeting::Welcome,
                 closing: None,

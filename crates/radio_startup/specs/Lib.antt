@@ -1,2 +1,3 @@
 pub mod FaultLines
 pub mod Doubts
+pub mod Columns

@@ -1,13 +1,14 @@
 //! The settings file.
 
-ghost use Rattle.std.specs.Prelude.{◌≡◌, Ok, IfOk};
+ghost use Rattle.std.specs.Prelude.{◌≡◌, Ok, Some, IfOk};
 ghost use Rattle.radio_documents.specs.Document.{reading_of};
+ghost use Rattle.radio_documents.specs.Web.{answers_told};
 
 use crate::fault::FileFault;
 use crate::lists::read_lists;
 use crate::misreading::misread;
 use radio_access::Lists;
-use radio_documents::SettingsFault;
+use radio_documents::{AnswerSettings, SettingsFault};
 use radio_review::{UnknownKey, locate, unknown_keys};
 use radio_settings::Settings;
 use std::alloc::{AllocGlobal, Global};
@@ -19,6 +20,8 @@ use std::{fs, io};
 #[derive(Drop)]
 pub struct Station {
     pub settings: Settings,
+    /// What the settings say of requests and answers.
+    pub answers: AnswerSettings,
     pub lists: Lists,
 }
 
@@ -93,18 +96,34 @@ fn with_copy(
 
 /// The station whose settings these bytes say.
 fn station_of<R: Files + AllocGlobal>(rt: &R, bytes: &[u8]) -> Result<Station, FileFault>
-    ensures { IfOk result (λ station. reading_of bytes.now ≡ Ok station.settings) }
+    ensures settings { IfOk result (λ station. reading_of bytes.now ≡ Ok station.settings) }
+    ensures answers { IfOk result (λ station. answers_told bytes.now ≡ Some station.answers) }
 {
     let settings = settings_of(rt.alloc(), bytes)?;
-    with_lists(rt, settings)
+    match answers_of(rt.alloc(), bytes) {
+        Ok(answers) => with_lists(rt, settings, answers),
+        Err(fault) => {
+            drop(settings);
+            Err(fault)
+        }
+    }
 }
 
 /// The station of these settings.
-fn with_lists<R: Files + AllocGlobal>(rt: &R, settings: Settings) -> Result<Station, FileFault>
-    ensures { IfOk result (λ station. station.settings ≡ settings) }
+fn with_lists<R: Files + AllocGlobal>(
+    rt: &R,
+    settings: Settings,
+    answers: AnswerSettings,
+) -> Result<Station, FileFault>
+    ensures settings { IfOk result (λ station. station.settings ≡ settings) }
+    ensures answers { IfOk result (λ station. station.answers ≡ answers) }
 {
     match read_lists(rt, &settings) {
-        Ok(lists) => Ok(Station { settings, lists }),
+        Ok(lists) => Ok(Station {
+            settings,
+            answers,
+            lists,
+        }),
         Err(fault) => {
             drop(settings);
             Err(fault)
@@ -119,6 +138,19 @@ fn settings_of(alloc: Global, bytes: &[u8]) -> Result<Settings, FileFault>
     match str::from_utf8(bytes) {
         Ok(text) => settings_in(alloc, text),
         Err(error) => Err(misread(alloc, bytes, error.valid_up_to(), "not UTF-8")),
+    }
+}
+
+/// What these bytes say of requests and answers, where they are settings.
+fn answers_of(alloc: Global, bytes: &[u8]) -> Result<AnswerSettings, FileFault>
+    ensures { IfOk result (λ answers. answers_told bytes.now ≡ Some answers) }
+{
+    let Ok(text) = str::from_utf8(bytes) else {
+        return Err(misread(alloc, bytes, 0, "not UTF-8"));
+    };
+    match radio_documents::read_answers(alloc, text) {
+        Ok(answers) => Ok(answers),
+        Err(fault) => Err(FileFault::Settings { fault, at: None }),
     }
 }
 

@@ -1,5 +1,8 @@
 //! Where a text is not TOML.
 
+ghost use Rattle.std.specs.Prelude.{◌≡◌};
+ghost use Rattle.radio_startup.specs.Columns.{column_after};
+
 use crate::fault::FileFault;
 use std::alloc::Global;
 
@@ -45,7 +48,9 @@ fn column_behind(before: &[u8]) -> usize {
 }
 
 /// The column behind a byte of UTF-8 that stands at this one.
-fn next_column(column: usize, byte: u8) -> usize {
+fn next_column(column: usize, byte: u8) -> usize
+    ensures { result ≡ column_after column byte }
+{
     match byte {
         b'\n' => 1,
         0x80..=0xbf => column,

@@ -8,7 +8,8 @@ use crate::{Call, Post, Seat, Seen, Workplace};
 use radio_events::{Caller, SharedServer};
 use radio_intake::{Intake, IntakePass};
 use radio_serving::{
-    Conn, Gate, Line, Server, Turn, Watched, Worker, close_first_lingering, count_lingering,
+    Conn, Gate, Line, Server, Turn, Watched, WebAnswers, Worker, close_first_lingering,
+    count_lingering,
 };
 use std::alloc::Global;
 use std::sync::Wait;
@@ -81,17 +82,20 @@ where
     requires own { hand.old.intake ≡ place.now.intake.now }
     ensures taken { HasTakenMore hand.old hand.new }
 {
-    let mut shift: Shift<S, L> = Shift::new(alloc, server, place.patience_s);
+    let mut shift: Shift<S, L> = Shift::new(alloc, server, place.web, place.patience_s);
+    if !place.log_polls {
+        shift.worker.log().leave_out_polls();
+    }
     shift.make_turns(rt, place, post, hand);
     shift.end()
 }
 
 impl<S: Server + Drop, L: Line> Shift<S, L> {
     /// A worker who applies to this server and has this patience, without connections.
-    fn new(alloc: Global, server: S, patience_s: u32) -> Shift<S, L> {
+    fn new(alloc: Global, server: S, web: WebAnswers, patience_s: u32) -> Shift<S, L> {
         let watched = Watched::new(alloc, server);
         Shift {
-            worker: Worker::new(alloc, watched, patience_s),
+            worker: Worker::new(alloc, watched, web, patience_s),
             sources: Vec::new(alloc),
             conns: Vec::new(alloc),
         }

@@ -4,7 +4,7 @@ ghost use Rattle.std.specs.Prelude.{◌≡◌, ◌-◌, ◌<◌, All, OnOk, OnEr
 
 use crate::OutOfMemory;
 use radio_intake::{Intake, IntakePass};
-use radio_serving::Gate;
+use radio_serving::{Gate, WebAnswers};
 
 /// What all workers share.
 #[derive(Drop)]
@@ -15,6 +15,10 @@ pub struct Workplace<'a, S, T, G: Gate> {
     pub intake: &'a Intake<T>,
     /// Whom each tells of his writes.
     pub gate: &'a G,
+    /// What the settings say of answers.
+    pub web: WebAnswers,
+    /// Whether the log has lines of clients who were only shown something of the station.
+    pub log_polls: bool,
     /// For how many seconds a line is kept that takes nothing of what it is owed.
     pub patience_s: u32,
     /// How many turns each makes at most.

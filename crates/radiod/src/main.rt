@@ -16,7 +16,7 @@ mod words;
 use crate::fault::Fault;
 use crate::help::{write_help, write_version};
 use crate::log::{ProgramLog, say, say_unknown};
-use crate::serving::serve_station;
+use crate::serving::{serve_station, web_of};
 use crate::words::{Call, read_words};
 use radio_floor::{Tally, play};
 use radio_startup::{FileFault, SettingsText, Station, read_station, read_text, warn};
@@ -177,8 +177,13 @@ fn play_in(rt: &HostRuntime, station: Station) -> Result<(), Fault> {
     };
     let mut reader = Tally::new(input);
     let mut writer = Tally::new(rt.stdout());
-    let Station { settings, lists } = station;
-    let played = play(rt.alloc(), settings, lists, &mut reader, &mut writer);
+    let Station {
+        settings,
+        answers,
+        lists,
+    } = station;
+    let web = web_of(answers);
+    let played = play(rt.alloc(), web, settings, lists, &mut reader, &mut writer);
     drop(reader);
     drop(writer);
     match played {

@@ -6,8 +6,9 @@ ghost use Rattle.radio_house.specs.World.{opening};
 use crate::fault::{Fault, NotBound};
 use crate::log::{ProgramLog, say_unknown};
 use radio_book::{House, PASSES, Unkept};
+use radio_documents::AnswerSettings;
 use radio_hall::Hall;
-use radio_listening::{BindFault, Listening, ServeFault, Service, SystemNet};
+use radio_listening::{BindFault, Listening, ServeFault, Service, SystemNet, WebAnswers};
 use radio_outlet::LogQueue;
 use radio_review::UnknownKey;
 use radio_settings::Settings;
@@ -113,9 +114,14 @@ fn serve_in<W: Clock + Threads + Wait + Sync, H: House + Send + Sync>(
     requires opening { H.opening ≡ opening station.settings station.lists }
     requires ledger { (blank.name ≡ H.name) × (blank.parts ≡ H.parts) × (blank.parts ≡ 2 ^ 32) }
 {
-    let Station { settings, lists } = station;
+    let Station {
+        settings,
+        answers,
+        lists,
+    } = station;
     let hall: Hall<Unkept, H> = Hall::new(rt.alloc(), settings, lists, blank);
-    let fault = serve_through(rt, waits, &hall, again, listening, log);
+    let service = service_of(again, answers);
+    let fault = serve_through(rt, waits, &hall, again, service, listening, log);
     drop(hall);
     fault
 }
@@ -126,20 +132,44 @@ fn serve_through<W: Clock + Threads + Wait + Sync, H: House + Send + Sync>(
     waits: &W,
     hall: &Hall<Unkept, H>,
     settings: &Settings,
+    service: Service,
     listening: Listening,
     log: Arc<LogQueue>,
 ) -> ServeFault {
-    let service = service_of(settings);
     let net = SystemNet::new(rt);
     listening.serve(waits, &net, hall, settings, service, log)
 }
 
 /// What the settings say of the service: as many may linger as may be clients.
-fn service_of(settings: &Settings) -> Service {
+fn service_of(settings: &Settings, answers: AnswerSettings) -> Service
+    ensures commands { result.web.browser_commands ≡ answers.browser_commands }
+    ensures caches { result.web.cache_control ≡ answers.cache_control }
+    ensures sandbox { result.web.sandbox ≡ answers.has_table }
+    ensures polls { result.log_polls ≡ answers.log_polls }
+    ensures workers { result.workers ≡ settings.now.listen.workers }
+    ensures patience { result.patience_s ≡ settings.now.limits.source_timeout }
+    ensures lingering { result.most_lingering ≡ settings.now.limits.clients }
+    ensures queue { result.queue_size ≡ settings.now.limits.queue_size }
+{
     Service {
+        web: web_of(answers),
+        log_polls: answers.log_polls,
         workers: settings.listen.workers.get(),
         patience_s: settings.limits.source_timeout.get(),
         most_lingering: settings.limits.clients.get() as usize,
         queue_size: settings.limits.queue_size.get() as u64,
+    }
+}
+
+/// What the settings say of answers, as connections take it.
+pub fn web_of(answers: AnswerSettings) -> WebAnswers
+    ensures commands { result.browser_commands ≡ answers.browser_commands }
+    ensures caches { result.cache_control ≡ answers.cache_control }
+    ensures sandbox { result.sandbox ≡ answers.has_table }
+{
+    WebAnswers {
+        browser_commands: answers.browser_commands,
+        cache_control: answers.cache_control,
+        sandbox: answers.has_table,
     }
 }

@@ -7,7 +7,7 @@ use radio_addr::Peer;
 use radio_core::{Core, OutOfMemory};
 use radio_documents::{SettingsFault, read_settings};
 use radio_events::{Event, Reply};
-use radio_serving::{Conn, Gate, OpenGate, Server, Turn, Worker};
+use radio_serving::{Conn, Gate, OpenGate, Server, Turn, WebAnswers, Worker};
 use radio_settings::Settings;
 use radio_values::MountName;
 use std::alloc::{AllocError, Global};
@@ -181,7 +181,7 @@ impl<S: Server + Drop> Station<S> {
     pub fn new(alloc: Global, server: S) -> Station<S> {
         Station {
             alloc,
-            worker: Worker::new(alloc, server, PATIENCE_S),
+            worker: Worker::new(alloc, server, WebAnswers::none(), PATIENCE_S),
             conns: Vec::new(alloc),
         }
     }

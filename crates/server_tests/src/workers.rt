@@ -13,7 +13,7 @@ use radio_book::{Entry, House, Kept, Pass};
 use radio_events::{Event, Reply};
 use radio_hall::Hall;
 use radio_intake::{Intake, IntakePass, ROOM};
-use radio_serving::Gate;
+use radio_serving::{Gate, WebAnswers};
 use radio_workers::{Seat, Workplace, run_workers};
 use std::alloc::Global;
 use std::sync::Wait;
@@ -220,6 +220,8 @@ fn work<H: House + Send + Sync, R: Threads + Wait + Sync>(
         server: hall,
         intake,
         gate: &gate,
+        web: WebAnswers::none(),
+        log_polls: true,
         patience_s: 10,
         turns: rush.turns,
     };

@@ -1,6 +1,6 @@
 //! Every key given once and read back, and every default.
 
-use radio_documents::read_settings;
+use radio_documents::{AnswerSettings, read_answers, read_settings};
 use radio_settings::{
     Login, MountOptions, RelaySetting, Settings, SlaveSetting, WebPath, WebSettings,
 };
@@ -30,6 +30,9 @@ header-timeout = 8
 allow-origin = \"*\"
 icecast-status = true
 page = true
+cache-control = true
+browser-commands = true
+log-polls = false
 [[mount]]
 mount-name = \"/a\"
 username = \"mu\"
@@ -86,6 +89,7 @@ struct Station {
     /// Whose pages may read, and what `/status-json.xsl` and `/` name.
     origin: &'static [u8],
     paths: [Option<WebPath>; 2],
+    answers: AnswerSettings,
     mount: Mount,
     other_mount: Mount,
     relay: [&'static str; 5],
@@ -107,6 +111,12 @@ const EVERY_KEY_SET: Station = Station {
     numbers: [1, 2, 3, 4, 5, 6, 7, 8],
     origin: b"*",
     paths: [Some(WebPath::IcecastStatus), Some(WebPath::Page)],
+    answers: AnswerSettings {
+        has_table: true,
+        cache_control: true,
+        browser_commands: true,
+        log_polls: false,
+    },
     mount: Mount {
         texts: ["mu", "mp", "/b", "Night", "Talk", "h"],
         numbers: [9, 10, 11, 12],
@@ -135,6 +145,12 @@ const DEFAULTS: Station = Station {
     numbers: [8000, 4, 100, 2, 524_288, 65_536, 10, 15],
     origin: b"-",
     paths: [None, None],
+    answers: AnswerSettings {
+        has_table: false,
+        cache_control: false,
+        browser_commands: false,
+        log_polls: true,
+    },
     mount: DEFAULT_MOUNT,
     other_mount: DEFAULT_MOUNT,
     relay: ["s", "/e", "/e", "-", "-"],
@@ -341,6 +357,14 @@ fn is_station(settings: &Settings, want: &Station) -> bool {
         && has_slave(settings, want)
 }
 
+/// Whether a text says of answers what is wanted.
+fn has_answers(alloc: Global, text: &str, want: &Station) -> bool {
+    match read_answers(alloc, text) {
+        Ok(answers) => answers == want.answers,
+        Err(_) => false,
+    }
+}
+
 /// Whether a text sets this station.
 fn sets(alloc: Global, text: &str, want: &Station) -> bool {
     let Ok(settings) = read_settings(alloc, text) else {
@@ -348,7 +372,7 @@ fn sets(alloc: Global, text: &str, want: &Station) -> bool {
     };
     let is_wanted = is_station(&settings, want);
     drop(settings);
-    is_wanted
+    is_wanted && has_answers(alloc, text, want)
 }
 
 /// Texts, and what they set.

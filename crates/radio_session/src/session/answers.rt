@@ -9,9 +9,10 @@ ghost use Rattle.radio_events.specs.declared.text.Text.{Text as TextOf};
 ghost use Rattle.radio_events.specs.Texts.{moved_line, ended_line};
 ghost use Rattle.std.specs.String.{string_bytes};
 ghost use Rattle.radio_session.specs.Saying.{text_answer};
+ghost use Rattle.radio_session.specs.WebAnswers.{answered_by};
 
-use crate::OutOfMemory;
 use crate::session::saying::{tell, tell_pages};
+use crate::{OutOfMemory, WebAnswers};
 use radio_events::Text;
 use radio_heads::{Answer, TextKind, WebAnswer};
 use radio_page::page;
@@ -19,57 +20,70 @@ use radio_values::AllowedOrigin;
 use std::alloc::Global;
 
 /// Appends the answer to a command, or to one who is shown something of the station.
-pub(super) fn tell_answer(alloc: Global, text: &Text, out: &mut Vec<u8>) -> Result<(), OutOfMemory>
-    ensures ok { OnOk result (out.new.items ≡ out.old.items ++ text_answer text.now) }
+pub(super) fn tell_answer(
+    alloc: Global,
+    web: WebAnswers,
+    text: &Text,
+    out: &mut Vec<u8>,
+) -> Result<(), OutOfMemory>
+    ensures ok { OnOk result (out.new.items ≡ out.old.items ++ text_answer web text.now) }
     ensures err { OnErr result (out.new.items ≡ out.old.items) }
 {
     match text {
-        Text::Done => tell_body(alloc, TextKind::Plain, b"done\n", out),
-        Text::Moved(count) => tell_moved(alloc, *count, out),
-        Text::Ended(count) => tell_ended(alloc, *count, out),
-        Text::Json(bytes) => tell_body(alloc, TextKind::Json, bytes.as_slice(), out),
-        Text::Streams(bytes) => tell_body(alloc, TextKind::Plain, bytes.as_slice(), out),
+        Text::Done => tell_body(alloc, web, TextKind::Plain, b"done\n", out),
+        Text::Moved(count) => tell_moved(alloc, web, *count, out),
+        Text::Ended(count) => tell_ended(alloc, web, *count, out),
+        Text::Json(bytes) => tell_body(alloc, web, TextKind::Json, bytes.as_slice(), out),
+        Text::Streams(bytes) => tell_body(alloc, web, TextKind::Plain, bytes.as_slice(), out),
         Text::Public {
             bytes,
             allow_origin,
-        } => tell_everybody(alloc, bytes.as_slice(), allow_origin, out),
-        Text::Page { allow_origin } => tell_page(alloc, allow_origin, out),
+        } => tell_everybody(alloc, web, bytes.as_slice(), allow_origin, out),
+        Text::Page { allow_origin } => tell_page(alloc, web, allow_origin, out),
     }
 }
 
 /// Appends what everybody may see of the station.
 fn tell_everybody(
     alloc: Global,
+    web: WebAnswers,
     body: &[u8],
     allow_origin: &Option<AllowedOrigin>,
     out: &mut Vec<u8>,
 ) -> Result<(), OutOfMemory>
-    ensures ok { OnOk result (out.new.items ≡ out.old.items ++ shared_text allow_origin.now (content_type TextKind.Json) body.now) }
+    ensures ok { OnOk result (out.new.items ≡ out.old.items ++ answered_by web (shared_text allow_origin.now (content_type TextKind.Json) body.now)) }
     ensures err { OnErr result (out.new.items ≡ out.old.items) }
 {
     let kind = TextKind::Json;
-    tell_pages(alloc, &WebAnswer::Text { kind, body }, allow_origin, out)
+    let answer = WebAnswer::Text { kind, body };
+    tell_pages(alloc, web.additions(), &answer, allow_origin, out)
 }
 
 /// Appends the page of what is on air.
 fn tell_page(
     alloc: Global,
+    web: WebAnswers,
     allow_origin: &Option<AllowedOrigin>,
     out: &mut Vec<u8>,
 ) -> Result<(), OutOfMemory>
-    ensures ok { OnOk result (out.new.items ≡ out.old.items ++ page_answer allow_origin.now) }
+    ensures ok { OnOk result (out.new.items ≡ out.old.items ++ answered_by web (page_answer allow_origin.now)) }
     ensures err { OnErr result (out.new.items ≡ out.old.items) }
 {
-    tell_pages(alloc, &page(), allow_origin, out)
+    tell_pages(alloc, web.additions(), &page(), allow_origin, out)
 }
 
 /// Appends how many listeners went to another mount.
-fn tell_moved(alloc: Global, count: u64, out: &mut Vec<u8>) -> Result<(), OutOfMemory>
-    ensures ok { OnOk result (out.new.items ≡ out.old.items ++ text_answer (TextOf.Moved count)) }
+fn tell_moved(
+    alloc: Global,
+    web: WebAnswers,
+    count: u64,
+    out: &mut Vec<u8>,
+) -> Result<(), OutOfMemory>
+    ensures ok { OnOk result (out.new.items ≡ out.old.items ++ text_answer web (TextOf.Moved count)) }
     ensures err { OnErr result (out.new.items ≡ out.old.items) }
 {
     let line = moved_line(alloc, count)?;
-    tell_body(alloc, TextKind::Plain, line.as_bytes(), out)
+    tell_body(alloc, web, TextKind::Plain, line.as_bytes(), out)
 }
 
 fn moved_line(alloc: Global, count: u64) -> Result<String, OutOfMemory>
@@ -79,12 +93,17 @@ fn moved_line(alloc: Global, count: u64) -> Result<String, OutOfMemory>
 }
 
 /// Appends how many listeners have finished.
-fn tell_ended(alloc: Global, count: u64, out: &mut Vec<u8>) -> Result<(), OutOfMemory>
-    ensures ok { OnOk result (out.new.items ≡ out.old.items ++ text_answer (TextOf.Ended count)) }
+fn tell_ended(
+    alloc: Global,
+    web: WebAnswers,
+    count: u64,
+    out: &mut Vec<u8>,
+) -> Result<(), OutOfMemory>
+    ensures ok { OnOk result (out.new.items ≡ out.old.items ++ text_answer web (TextOf.Ended count)) }
     ensures err { OnErr result (out.new.items ≡ out.old.items) }
 {
     let line = ended_line(alloc, count)?;
-    tell_body(alloc, TextKind::Plain, line.as_bytes(), out)
+    tell_body(alloc, web, TextKind::Plain, line.as_bytes(), out)
 }
 
 fn ended_line(alloc: Global, count: u64) -> Result<String, OutOfMemory>
@@ -96,12 +115,13 @@ fn ended_line(alloc: Global, count: u64) -> Result<String, OutOfMemory>
 /// Appends an answer with this body.
 fn tell_body(
     alloc: Global,
+    web: WebAnswers,
     kind: TextKind,
     body: &[u8],
     out: &mut Vec<u8>,
 ) -> Result<(), OutOfMemory>
-    ensures ok { OnOk result (out.new.items ≡ out.old.items ++ sized_text 200 (content_type kind) body.now) }
+    ensures ok { OnOk result (out.new.items ≡ out.old.items ++ answered_by web (sized_text 200 (content_type kind) body.now)) }
     ensures err { OnErr result (out.new.items ≡ out.old.items) }
 {
-    tell(alloc, &Answer::Text { kind, body }, out)
+    tell(alloc, web, &Answer::Text { kind, body }, out)
 }

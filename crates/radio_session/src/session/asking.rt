@@ -2,15 +2,16 @@
 
 ghost use Rattle.std.specs.Prelude.{◌≡◌, IfOk};
 ghost use Rattle.radio_session.specs.Asking.{pair_of, value_or, shown_by, wants_metadata, path_in, query_in};
-ghost use Rattle.radio_session.specs.Asking.{asks_to_feed, asks_by_get, asks_to_hear, gives_command, host_for, is_for_commands};
+ghost use Rattle.radio_session.specs.Asking.{asks_to_feed, asks_by_get, asks_to_hear, gives_command, host_for, is_for_commands, pair_for};
 
-use crate::OutOfMemory;
+use crate::session::browsers::is_refused_pair;
 use crate::session::commands::{STATUS, asked_in};
 use crate::session::framing::is_word;
+use crate::{OutOfMemory, WebAnswers};
 use bytes::Bytes;
 use radio_admin::read_path;
 use radio_creds::{Pair, basic};
-use radio_events::{Boxed, CommandRequest, Event, ListenRequest, SourceRequest};
+use radio_events::{Asked, Boxed, CommandRequest, Event, ListenRequest, SourceRequest};
 use radio_heads::Head;
 use radio_values::Shown;
 use std::alloc::Global;
@@ -43,12 +44,17 @@ pub(crate) fn asks_to_feed(alloc: Global, id: u64, head: &Head) -> Result<Event,
 
 /// The event of a client who asks by GET: for a command where his head's path begins with `/admin/`,
 /// or is that of the status, and else to hear the mount of it. `OutOfMemory` where memory was refused.
-pub(crate) fn asks_by_get(alloc: Global, id: u64, head: &Head) -> Result<Event, OutOfMemory>
-    ensures { IfOk result (λ event. event ≡ asks_by_get id head.now) }
+pub(crate) fn asks_by_get(
+    alloc: Global,
+    web: WebAnswers,
+    id: u64,
+    head: &Head,
+) -> Result<Event, OutOfMemory>
+    ensures { IfOk result (λ event. event ≡ asks_by_get web id head.now) }
 {
     let path = path_in(alloc, head)?;
     if is_for_commands(path.as_slice()) {
-        gives_command(alloc, id, head, &path)
+        gives_command(alloc, web, id, head, &path)
     } else {
         asks_to_hear(alloc, id, head, path)
     }
@@ -90,13 +96,35 @@ fn host_for<'b>(path: &[u8], head: &Head<'b>) -> &'b [u8]
 }
 
 /// The event of a client who gives the command of this path. `OutOfMemory` where memory was refused.
-fn gives_command(alloc: Global, id: u64, head: &Head, path: &Bytes) -> Result<Event, OutOfMemory>
-    ensures { IfOk result (λ event. event ≡ gives_command id head.now path.now) }
+fn gives_command(
+    alloc: Global,
+    web: WebAnswers,
+    id: u64,
+    head: &Head,
+    path: &Bytes,
+) -> Result<Event, OutOfMemory>
+    ensures { IfOk result (λ event. event ≡ gives_command web id head.now path.now) }
 {
-    let pair = pair_of(alloc, head)?;
     let asked = asked_in(alloc, path.as_slice(), query_in(head))?;
+    let pair = pair_for(alloc, web, head, &asked)?;
     let request = CommandRequest { id, asked, pair };
     Ok(Event::Command(Boxed::new(alloc, request)?))
+}
+
+/// The pair that counts for what is asked: none where a page of another site may have sent a change. `OutOfMemory` where
+/// memory was refused.
+fn pair_for(
+    alloc: Global,
+    web: WebAnswers,
+    head: &Head,
+    asked: &Asked,
+) -> Result<Option<Pair>, OutOfMemory>
+    ensures { IfOk result (λ pair. pair ≡ pair_for web head.now asked.now) }
+{
+    if is_refused_pair(web, head, asked) {
+        return Ok(None);
+    }
+    pair_of(alloc, head)
 }
 
 /// The path that a head's target stands for, percent decoded. `OutOfMemory` where memory was refused.

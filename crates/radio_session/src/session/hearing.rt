@@ -113,7 +113,7 @@ impl Session {
     fn take_get(&mut self, head: &Head) -> Result<Vec<Event>, OutOfMemory>
         ensures { IfOk result (λ events. get_heard self.old head.now ≡ record { events = events.items; conversation = self.new }) }
     {
-        let event = asks_by_get(self.alloc, self.id, head)?;
+        let event = asks_by_get(self.alloc, self.says.web, self.id, head)?;
         let mut events = Vec::new(self.alloc);
         events.push(event)?;
         self.go_on(Hears::Nothing);

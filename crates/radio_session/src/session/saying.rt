@@ -1,20 +1,23 @@
 ghost use Rattle.std.specs.Prelude.{◌≡◌, ◌≤◌, ◌++◌, length, true, Some, option_copied, option_map, IfOk, IfSome, IsErr, OnOk, OnErr};
-ghost use Rattle.radio_heads.specs.Answer.{answer_text};
+ghost use Rattle.radio_heads.specs.Additions.{with_additions};
+ghost use Rattle.radio_heads.specs.Answer.{answer_text, continue_text};
 ghost use Rattle.radio_heads.specs.WebAnswer.{shared_text, web_answer_text};
 ghost use Rattle.radio_session.specs.Conversation.{saying_now};
 ghost use Rattle.radio_session.specs.Saying.{said, texted, denied, noted, counted, one_less, admitted, seated, drew, last_text, last_ending, greeting_text, text_answer, head_text, denial};
+ghost use Rattle.radio_session.specs.WebAnswers.{answered_by};
 ghost use Rattle.radio_session.specs.Draws.{draw, drawn, weaver_at};
 ghost use Rattle.radio_values.specs.Limits.{max_title};
 ghost use Rattle.radio_events.specs.declared.state.State.TheVariants.{Running, Shut};
 
-use crate::OutOfMemory;
 use crate::session::answers::tell_answer;
 use crate::session::weaving::{interval_told, tell_draw, text_of, weaver_at};
 use crate::session::{Closing, Greeting, LastWord, Session};
+use crate::{OutOfMemory, WebAnswers};
 use radio_blocks::Pieces;
 use radio_events::{Ending, Reply, State, StreamHead, Text};
 use radio_heads::{
-    Answer, FieldValue, TextKind, WebAnswer, Welcome, write_answer, write_web_answer,
+    Additions, Answer, FieldValue, TextKind, WebAnswer, Welcome, add_headers, write_answer,
+    write_web_answer,
 };
 use radio_policy::Rule;
 use radio_values::AllowedOrigin;
@@ -84,12 +87,12 @@ impl Session {
 
     /// A source is admitted.
     fn admit_source(&mut self, out: &mut Vec<u8>) -> Result<State, OutOfMemory>
-        ensures bytes { IfOk result (λ _. out.new.items ≡ out.old.items ++ greeting_text self.old.says.greeting) }
+        ensures bytes { IfOk result (λ _. out.new.items ≡ out.old.items ++ greeting_text self.old.says.web self.old.says.greeting) }
         ensures state { IfOk result (λ state. state ≡ Running) }
         ensures says { IfOk result (λ _. self.new ≡ saying_now self.old (admitted self.old.says)) }
         ensures silent { OnErr result (out.new.items ≡ out.old.items) }
     {
-        greet(self.alloc, self.says.greeting, out)?;
+        greet(self.alloc, self.says.web, self.says.greeting, out)?;
         self.admit();
         Ok(State::Running)
     }
@@ -101,12 +104,12 @@ impl Session {
         head: &StreamHead,
         out: &mut Vec<u8>,
     ) -> Result<State, OutOfMemory>
-        ensures bytes { IfOk result (λ _. out.new.items ≡ out.old.items ++ head_text interval head.now) }
+        ensures bytes { IfOk result (λ _. out.new.items ≡ out.old.items ++ head_text self.old.says.web interval head.now) }
         ensures state { IfOk result (λ state. state ≡ Running) }
         ensures says { IfOk result (λ _. self.new ≡ saying_now self.old (seated self.old.says interval)) }
         ensures silent { OnErr result (out.new.items ≡ out.old.items) }
     {
-        welcome(self.alloc, interval, head, out)?;
+        welcome(self.alloc, self.says.web, interval, head, out)?;
         self.says.weaver = weaver_at(self.alloc, interval);
         self.admit();
         Ok(State::Running)
@@ -137,7 +140,7 @@ impl Session {
         ensures silent { OnErr result (out.new.items ≡ out.old.items) }
     {
         if !self.says.is_admitted {
-            tell_answer(self.alloc, text, out)?;
+            tell_answer(self.alloc, self.says.web, text, out)?;
         }
         Ok(State::Shut(Ending::Done))
     }
@@ -149,7 +152,7 @@ impl Session {
         ensures silent { OnErr result (out.new.items ≡ out.old.items) }
     {
         if !self.says.is_admitted {
-            tell_denial(self.alloc, rule, out)?;
+            tell_denial(self.alloc, self.says.web, rule, out)?;
         }
         Ok(State::Shut(Ending::By(rule)))
     }
@@ -175,7 +178,13 @@ impl Session {
         ensures silent { OnErr result (out.new.items ≡ out.old.items) }
     {
         if closing.awaits == 0 {
-            return tell_last(self.alloc, self.says.greeting, closing.word, out);
+            return tell_last(
+                self.alloc,
+                self.says.web,
+                self.says.greeting,
+                closing.word,
+                out,
+            );
         }
         self.count();
         Ok(State::Running)
@@ -211,22 +220,23 @@ fn counted(closing: Option<Closing>) -> Option<Closing>
 /// The last word of the connection itself.
 fn tell_last(
     alloc: Global,
+    web: WebAnswers,
     greeting: Greeting,
     word: LastWord,
     out: &mut Vec<u8>,
 ) -> Result<State, OutOfMemory>
-    ensures bytes { IfOk result (λ _. out.new.items ≡ out.old.items ++ last_text greeting word) }
+    ensures bytes { IfOk result (λ _. out.new.items ≡ out.old.items ++ last_text web greeting word) }
     ensures state { IfOk result (λ state. state ≡ Shut (last_ending word)) }
     ensures silent { OnErr result (out.new.items ≡ out.old.items) }
 {
     match word {
         LastWord::Refusal(rule) => {
-            tell_denial(alloc, rule, out)?;
+            tell_denial(alloc, web, rule, out)?;
             Ok(State::Shut(Ending::By(rule)))
         }
         LastWord::Complete => {
             if greeting == Greeting::Continue {
-                tell(alloc, &Answer::Source, out)?;
+                tell(alloc, web, &Answer::Source, out)?;
             }
             Ok(State::Shut(Ending::Done))
         }
@@ -235,38 +245,60 @@ fn tell_last(
 }
 
 /// Appends what a source is told that is admitted.
-fn greet(alloc: Global, greeting: Greeting, out: &mut Vec<u8>) -> Result<(), OutOfMemory>
-    ensures ok { OnOk result (out.new.items ≡ out.old.items ++ greeting_text greeting) }
+fn greet(
+    alloc: Global,
+    web: WebAnswers,
+    greeting: Greeting,
+    out: &mut Vec<u8>,
+) -> Result<(), OutOfMemory>
+    ensures ok { OnOk result (out.new.items ≡ out.old.items ++ greeting_text web greeting) }
     ensures err { OnErr result (out.new.items ≡ out.old.items) }
 {
     match greeting {
-        Greeting::Welcome => tell(alloc, &Answer::Source, out),
-        Greeting::Continue => tell(alloc, &Answer::Continue, out),
+        Greeting::Welcome => tell(alloc, web, &Answer::Source, out),
+        Greeting::Continue => tell_interim(alloc, out),
     }
 }
 
-/// Appends an answer's text. `OutOfMemory` where memory was refused: nothing was appended then.
-pub(super) fn tell(alloc: Global, answer: &Answer, out: &mut Vec<u8>) -> Result<(), OutOfMemory>
-    ensures ok { OnOk result (out.new.items ≡ out.old.items ++ answer_text answer.now) }
+/// Appends that a source may send its body. `OutOfMemory` where memory was refused: nothing was appended then.
+fn tell_interim(alloc: Global, out: &mut Vec<u8>) -> Result<(), OutOfMemory>
+    ensures ok { OnOk result (out.new.items ≡ out.old.items ++ continue_text) }
     ensures err { OnErr result (out.new.items ≡ out.old.items) }
 {
-    let text = write_answer(alloc, answer)?;
+    let text = write_answer(alloc, &Answer::Continue)?;
     out.extend_from_slice(text.as_slice())
 }
 
-/// Appends an answer that the pages of web sites read, of the origin where one is given.
+/// Appends an answer's text, as the settings say. `OutOfMemory` where memory was refused: nothing was appended then.
+pub(super) fn tell(
+    alloc: Global,
+    web: WebAnswers,
+    answer: &Answer,
+    out: &mut Vec<u8>,
+) -> Result<(), OutOfMemory>
+    ensures ok { OnOk result (out.new.items ≡ out.old.items ++ answered_by web (answer_text answer.now)) }
+    ensures err { OnErr result (out.new.items ≡ out.old.items) }
+{
+    let text = write_answer(alloc, answer)?;
+    let whole = add_headers(alloc, web.additions(), text)?;
+    out.extend_from_slice(whole.as_slice())
+}
+
+/// Appends an answer that the pages of web sites read, of the origin where one is given, with these headers in addition.
 /// `OutOfMemory` where memory was refused: nothing was appended then.
 pub(super) fn tell_pages(
     alloc: Global,
+    additions: Additions,
     answer: &WebAnswer,
     allow_origin: &Option<AllowedOrigin>,
     out: &mut Vec<u8>,
 ) -> Result<(), OutOfMemory>
-    ensures ok { OnOk result (out.new.items ≡ out.old.items ++ web_answer_text allow_origin.now answer.now) }
+    ensures ok { OnOk result (out.new.items ≡ out.old.items ++ with_additions additions (web_answer_text allow_origin.now answer.now)) }
     ensures err { OnErr result (out.new.items ≡ out.old.items) }
 {
     let text = write_web_answer(alloc, answer, &readers(allow_origin))?;
-    out.extend_from_slice(text.as_slice())
+    let whole = add_headers(alloc, additions, text)?;
+    out.extend_from_slice(whole.as_slice())
 }
 
 /// Whose pages may read an answer, as its header has it.
@@ -284,11 +316,12 @@ fn readers(allow_origin: &Option<AllowedOrigin>) -> Option<FieldValue<'_>>
 #[tactic(auto, using(crate::proofs::FieldLemmas::shown_is_field_text))]
 fn welcome(
     alloc: Global,
+    web: WebAnswers,
     interval: Option<u32>,
     head: &StreamHead,
     out: &mut Vec<u8>,
 ) -> Result<(), OutOfMemory>
-    ensures ok { OnOk result (out.new.items ≡ out.old.items ++ head_text interval head.now) }
+    ensures ok { OnOk result (out.new.items ≡ out.old.items ++ head_text web interval head.now) }
     ensures err { OnErr result (out.new.items ≡ out.old.items) }
 {
     let shown = &head.shown;
@@ -298,12 +331,18 @@ fn welcome(
         genre: FieldValue::new(shown.genre.as_bytes()),
         interval: interval_told(interval),
     });
-    tell_pages(alloc, &answer, &head.allow_origin, out)
+    let additions = web.stream_additions(shown.content_type.as_bytes());
+    tell_pages(alloc, additions, &answer, &head.allow_origin, out)
 }
 
 /// Appends the answer that names the rule, if the rule has one.
-fn tell_denial(alloc: Global, rule: Rule, out: &mut Vec<u8>) -> Result<(), OutOfMemory>
-    ensures ok { OnOk result (out.new.items ≡ out.old.items ++ denial rule) }
+fn tell_denial(
+    alloc: Global,
+    web: WebAnswers,
+    rule: Rule,
+    out: &mut Vec<u8>,
+) -> Result<(), OutOfMemory>
+    ensures ok { OnOk result (out.new.items ≡ out.old.items ++ denial web rule) }
     ensures err { OnErr result (out.new.items ≡ out.old.items) }
 {
     let Some(status) = rule.status() else {
@@ -313,5 +352,5 @@ fn tell_denial(alloc: Global, rule: Rule, out: &mut Vec<u8>) -> Result<(), OutOf
         status,
         rule: rule.word(),
     };
-    tell(alloc, &answer, out)
+    tell(alloc, web, &answer, out)
 }

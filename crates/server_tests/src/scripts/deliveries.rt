@@ -5,6 +5,7 @@ use radio_core::OutOfMemory;
 use radio_documents::{SettingsFault, read_settings};
 use radio_floor::{Delivery, RunFault, Transcript, run};
 use radio_script::read_delivery;
+use radio_session::WebAnswers;
 use std::alloc::Global;
 
 const EIGHT_BYTES: &[u8] = b"open 1 10.0.0.1\n\
@@ -43,7 +44,7 @@ pub fn run_at_station(
     all: &[Delivery],
 ) -> Result<Result<Transcript, RunFault>, SettingsFault> {
     let settings = read_settings(alloc, SETTINGS)?;
-    Ok(run(alloc, settings, Lists::new(alloc), all))
+    Ok(run(alloc, WebAnswers::none(), settings, Lists::new(alloc), all))
 }
 
 // What the deliveries of a script's lines come to.

@@ -4,10 +4,10 @@ use Rattle.radio_floor.proofs.OneTranscript.{is_determined}
 use Rattle.radio_floor.proofs.laws.the_transcript_is_one.Goals as goal
 
 pub returns-clause-determined : goal.returns-clause-determined
-returns-clause-determined c = is_determined c.hearing_is_one.ensures c.pulling_is_one.ensures.takes c.pulling_is_one.ensures.asks c.pulling_is_one.ensures.goes
+returns-clause-determined c web = is_determined c.hearing_is_one.ensures c.pulling_is_one.ensures.takes c.pulling_is_one.ensures.asks c.pulling_is_one.ensures.goes web
 
 pub returns-clause-one : goal.returns-clause-one
-returns-clause-one c = one_transcript conduct (is_determined c.hearing_is_one.ensures c.pulling_is_one.ensures.takes c.pulling_is_one.ensures.asks c.pulling_is_one.ensures.goes)
+returns-clause-one c web = one_transcript (conduct web) (is_determined c.hearing_is_one.ensures c.pulling_is_one.ensures.takes c.pulling_is_one.ensures.asks c.pulling_is_one.ensures.goes web)
 
 pub returns-clause-goes_on : goal.returns-clause-goes_on
-returns-clause-goes_on c = goes_on_as_it_began conduct (is_determined c.hearing_is_one.ensures c.pulling_is_one.ensures.takes c.pulling_is_one.ensures.asks c.pulling_is_one.ensures.goes)
+returns-clause-goes_on c web = goes_on_as_it_began (conduct web) (is_determined c.hearing_is_one.ensures c.pulling_is_one.ensures.takes c.pulling_is_one.ensures.asks c.pulling_is_one.ensures.goes web)

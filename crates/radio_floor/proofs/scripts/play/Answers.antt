@@ -17,10 +17,10 @@ returns-clause-plays g c =
     (λ script left. Writes (contents old) (contents new) (calls old) (calls new)
     (λ written turns. Plays server_conduct server 1 script left result written turns last))
     (λ script left. Writes (contents old) (contents new) (calls old) (calls new)
-    (λ written turns. PlaysScript c.args.settings c.args.lists script left result written turns))
+    (λ written turns. PlaysScript c.args.web c.args.settings c.args.lists script left result written turns))
     (λ script left. writes-weaker (contents old) (contents new) (calls old) (calls new)
     (λ written turns. Plays server_conduct server 1 script left result written turns last)
-    (λ written turns. PlaysScript c.args.settings c.args.lists script left result written turns)
-    (λ written turns. server_plays server last c.args.settings c.args.lists script left result written turns c.new-server.ensures.core
+    (λ written turns. PlaysScript c.args.web c.args.settings c.args.lists script left result written turns)
+    (λ written turns. server_plays c.args.web server last c.args.settings c.args.lists script left result written turns c.new-server.ensures.web c.new-server.ensures.core
     c.new-server.ensures.connections))
     c.play_with-played.ensures.plays

@@ -9,7 +9,7 @@ use Rattle.radio_headline.proofs.SoundLemmas.{delivers_sound}
 use Rattle.radio_headline.proofs.laws.listeners_hear_slices.Goals as goal
 
 pub returns : goal.returns
-returns c settings lists deliveries text stop transcript =
+returns c web settings lists deliveries text stop transcript =
     let settled = c.settled.ensures.requests in
     let within = c.heads_lie_within.ensures.requests in
     let joined = c.blocks_are_the_data.ensures.joined in
@@ -31,12 +31,12 @@ returns c settings lists deliveries text stop transcript =
     let none_blocks = c.blocks_are_the_data.ensures.none in
     let in_pieces = c.cut_streams.ensures.heard in
     let afters = c.cut_streams.ensures.after in
-    let came = comes settings lists settled within settled_answers within_answers none_blocks in_pieces afters joined places found deliveries [] (opening_script settings lists) transcript.0 [] [] 1 text stop
-    (nothing_stands settings lists settled within settled_answers within_answers none_blocks in_pieces afters joined places found) transcript.1 in
+    let came = comes web settings lists settled within settled_answers within_answers none_blocks in_pieces afters joined places found deliveries [] (opening_script settings lists) transcript.0 [] [] 1 text stop
+    (nothing_stands web settings lists settled within settled_answers within_answers none_blocks in_pieces afters joined places found) transcript.1 in
     let stands = came.stands in
-    let bodies = delivers_body settled within joined places found settings lists fits adds steps deliveries came.performed came.rest came.parts transcript.0
+    let bodies = delivers_body web settled within joined places found settings lists fits adds steps deliveries came.performed came.rest came.parts transcript.0
     came.course came.told stands.each stands.nowhere in
-    let sounds = delivers_sound settled_answers within_answers joined none_blocks in_pieces afters settings lists fits adds steps deliveries came.performed came.rest
+    let sounds = delivers_sound web settled_answers within_answers joined none_blocks in_pieces afters settings lists fits adds steps deliveries came.performed came.rest
     came.parts transcript.0 came.course came.told stands.each stands.nowhere in
     record {
       course = came.course;
@@ -48,9 +48,9 @@ returns c settings lists deliveries text stop transcript =
         by_no_others = λ these others those e. c.transcripts_are_read_one_way.ensures others came.told those these (e ∙ sym came.is_written);
       };
       listeners = λ label asked past later parts. record {
-        is_request = listens_so settled within joined places found settings lists fits adds steps deliveries came.performed came.rest came.parts transcript.0
+        is_request = listens_so web settled within joined places found settings lists fits adds steps deliveries came.performed came.rest came.parts transcript.0
             came.course came.told stands.each stands.nowhere label asked past later parts;
-        is_given = given_by settings lists fits adds steps access served (λ rows. (c.denials_name_the_first_rule.ensures.allows rows).0) denied seated
+        is_given = given_by web settings lists fits adds steps access served (λ rows. (c.denials_name_the_first_rule.ensures.allows rows).0) denied seated
             (c.draws_are_stretches.ensures.slices settings lists) c.listeners_are_told_what_they_draw.ensures.joined c.listeners_are_told_what_they_draw.ensures.plain
             c.listeners_are_told_what_they_draw.ensures.woven c.listeners_are_told_what_they_draw.ensures.taken_out came.performed transcript.0 came.course came.told
             stands.world stands.each stands.nowhere deliveries
@@ -58,7 +58,7 @@ returns c settings lists deliveries text stop transcript =
             (sit_with_sources settings lists sessions mounts keeps nobody deliveries came.course bodies sounds stands.nowhere) label asked past later parts;
       };
       commands = λ label asked past later parts.
-          answered_by settings lists fits adds steps access served (λ rows. (c.denials_name_the_first_rule.ensures.allows rows).0) denied seated
+          answered_by web settings lists fits adds steps access served (λ rows. (c.denials_name_the_first_rule.ensures.allows rows).0) denied seated
           (c.draws_are_stretches.ensures.slices settings lists) c.listeners_are_told_what_they_draw.ensures.joined c.listeners_are_told_what_they_draw.ensures.plain
           c.listeners_are_told_what_they_draw.ensures.woven c.listeners_are_told_what_they_draw.ensures.taken_out came.performed transcript.0 came.course came.told
           stands.world stands.each stands.nowhere deliveries
@@ -73,7 +73,7 @@ returns c settings lists deliveries text stop transcript =
       };
       pulls = c.items_are_of_their_relay.ensures;
       answers = λ label asked past later parts.
-          source_answered settled within joined places found settings lists fits adds steps deliveries came.performed came.rest came.parts transcript.0
+          source_answered web settled within joined places found settings lists fits adds steps deliveries came.performed came.rest came.parts transcript.0
           came.course came.told stands.each stands.nowhere label asked past later parts denied;
       relays = sounds;
     }

@@ -1,6 +1,9 @@
-use Rattle.std.proofs.Common.{Result, Ok, Err, IfOk, OnErr, sym, subst}
+use Rattle.std.proofs.Common.{◌≡◌, ◌∙◌, Result, Ok, Err, IfOk, OnErr, ap, sym, subst}
 use Rattle.radio_events.specs.declared.reply.Reply.{Reply}
-use Rattle.radio_events.specs.declared.reply.Reply.TheVariants.{Arrived}
+use Rattle.radio_events.specs.declared.reply.Reply.TheVariants.{Arrived, Deny}
+use Rattle.radio_policy.specs.declared.rule.Rule.{Rule}
+use Rattle.radio_session.specs.Conversation.{asking}
+use Rattle.radio_session.specs.Saying.{said}
 use Rattle.radio_connections.specs.Connections.{Connection, IsTurnedAway}
 use Rattle.radio_connections.specs.Admission.{IsTakenIn}
 use Rattle.radio_connections.proofs.Comings.{comes_in, is_told_away, lets_nobody_in}
@@ -20,14 +23,35 @@ returns-in-Arrived-clause-taken_in g c =
     let taken = g.L.Line.taken c.args.line in
     subst (λ (r : Reply). IsTakenIn c.args.peer r given taken c.new.result) (sym c.in-Arrived.is)
     (subst (λ (x : Connection). IsTakenIn c.args.peer (Arrived c.in-Arrived.id) given taken x) (sym c.new.ensures)
-    (comes_in c.args.peer c.in-Arrived.id given taken (g.L.Line.calls c.args.line) c.args.ms))
+    (comes_in c.args.web c.args.peer c.in-Arrived.id given taken (g.L.Line.calls c.args.line) c.args.ms))
 
 pub returns-in_default-clause-taken_in : goal.returns-in_default-clause-taken_in
 returns-in_default-clause-taken_in g c =
     let given = g.L.Line.given c.args.line in
     let taken = g.L.Line.taken c.args.line in
-    if_ok_more (λ (x : Connection). IsTurnedAway c.args.reply given taken c.args.ms x) (λ (x : Connection). IsTakenIn c.args.peer c.args.reply given taken x)
-    (λ x away. is_told_away c.args.peer given taken c.args.ms x c.args.reply c.in_default.not-Arrived away) c.turned_away.result c.turned_away.ensures
+    if_ok_more (λ (x : Connection). IsTurnedAway c.args.web c.args.reply given taken c.args.ms x) (λ (x : Connection). IsTakenIn c.args.peer c.args.reply given taken x)
+    (λ x away. is_told_away c.args.web c.args.peer given taken c.args.ms x c.args.reply c.in_default.not-Arrived away) c.turned_away.result c.turned_away.ensures
 
 pub returns-in_default-clause-err : goal.returns-in_default-clause-err
 returns-in_default-clause-err g c = on_err_by _ (lets_nobody_in c.args.reply c.in_default.not-Arrived) c.turned_away.result
+
+pub returns-in-Arrived-clause-answers : goal.returns-in-Arrived-clause-answers
+returns-in-Arrived-clause-answers g c = ap (λ (x : Connection). x.session.says.web) c.new.ensures
+
+pub returns-in-Arrived-clause-denial : goal.returns-in-Arrived-clause-denial
+returns-in-Arrived-clause-denial g c rule denied = let never : Arrived c.in-Arrived.id ≡ Deny rule = sym c.in-Arrived.is ∙ denied in absurd (cc)
+
+pub returns-in_default-clause-answers : goal.returns-in_default-clause-answers
+returns-in_default-clause-answers g c =
+    let given = g.L.Line.given c.args.line in
+    let taken = g.L.Line.taken c.args.line in
+    if_ok_more (λ (x : Connection). IsTurnedAway c.args.web c.args.reply given taken c.args.ms x) (λ (x : Connection). x.session.says.web ≡ c.args.web)
+    (λ x away. away.web_of_it) c.turned_away.result c.turned_away.ensures
+
+pub returns-in_default-clause-denial : goal.returns-in_default-clause-denial
+returns-in_default-clause-denial g c =
+    let given = g.L.Line.given c.args.line in
+    let taken = g.L.Line.taken c.args.line in
+    if_ok_more (λ (x : Connection). IsTurnedAway c.args.web c.args.reply given taken c.args.ms x)
+    (λ (x : Connection). (rule : Rule) → c.args.reply ≡ Deny rule → x.owed ≡ (said (asking c.args.web) (Deny rule)).bytes)
+    (λ x away rule denied. away.owed ∙ ap (λ (r : Reply). (said (asking c.args.web) r).bytes) denied) c.turned_away.result c.turned_away.ensures

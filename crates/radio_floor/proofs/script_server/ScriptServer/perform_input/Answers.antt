@@ -21,8 +21,8 @@ abbrev Visits : Handler → Input → Labelled → Answer → Handler → Labell
 Visits handler input row answer handler' row' = AnswersUnder handler.core input row answer handler'.core row'
 
 -- its connection was shut
-pub returns-in-Some-Ok-None : goal.returns-in-Some-Ok-None
-returns-in-Some-Ok-None c =
+pub returns-in-Some-Ok-None-clause-performs : goal.returns-in-Some-Ok-None-clause-performs
+returns-in-Some-Ok-None-clause-performs c =
     let old = c.args.self.now in
     let label = c.args.label in
     let input = c.args.input.now in
@@ -36,8 +36,8 @@ returns-in-Some-Ok-None c =
     ([], sym (append-nil c.args.lines.now.items), λ w stands. (w, subst (λ (core : World). Represents core w) (sym shut.0) stands, shut.1 w))
 
 -- its connection is there
-pub returns-in-Some-Ok-Some : goal.returns-in-Some-Ok-Some
-returns-in-Some-Ok-Some c =
+pub returns-in-Some-Ok-Some-clause-performs : goal.returns-in-Some-Ok-Some-clause-performs
+returns-in-Some-Ok-Some-clause-performs c =
     let old = c.args.self.now in
     let label = c.args.label in
     let input = c.args.input.now in
@@ -47,7 +47,7 @@ returns-in-Some-Ok-Some c =
     let visited = was_visited Visits (has_label label) old.handler input old.connections c.visit.new.visitor c.visit.new.self (Ok (Some told))
     (subst (λ (a : Option Answer). IsVisited Visits (has_label label) old.handler input old.connections a c.visit.new.visitor c.visit.new.self)
     is c.visit.ensures) in
-    performs-written c.write_told.result old.handler.core old.connections (To label input) c.args.lines.now.items c.write_told.new.lines.items
+    performs-written old.web c.write_told.result old.handler.core old.connections (To label input) c.args.lines.now.items c.write_told.new.lines.items
     (told_lines label told.bytes.items told.state) c.visit.new.visitor.core c.visit.new.self c.write_told.ensures
     (answered-label label input old.connections c.visit.new.self old.handler.core c.visit.new.visitor.core visited.0 visited.1 visited.2 visited.3
     told visited.4)

@@ -6,8 +6,8 @@ use Rattle.radio_floor.specs.ScriptServer.{script_state_of, performed_as}
 use Rattle.radio_floor.proofs.ScriptStateLemmas.{new-label}
 use Rattle.radio_floor.proofs.script_server.ScriptServer.perform_pull.Goals as goal
 
-pub returns-in-Ok-true : goal.returns-in-Ok-true
-returns-in-Ok-true c =
+pub returns-in-Ok-true-clause-performs : goal.returns-in-Ok-true-clause-performs
+returns-in-Ok-true-clause-performs c =
     let old = c.args.self.now in
     let new = c.connect.new.self in
     let label = c.args.label in

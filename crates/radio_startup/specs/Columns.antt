@@ -1,0 +1,10 @@
+-- Columns of a text in UTF-8.
+use Rattle.std.specs.Prelude.{ℕ, Bool, ◌&&◌, ◌==◌, ◌+◌, nat_le, min, if◌then◌else◌}
+
+-- the byte goes on a character that another one began (RFC 3629, section 3)
+abbrev pub goes_on_character : ℕ → Bool
+goes_on_character byte = nat_le 128 byte && nat_le byte 191
+
+-- the column behind a byte that stands at this one; columns count characters from 1, and a program counts to its largest number
+abbrev pub column_after : ℕ → ℕ → ℕ
+column_after column byte = if byte == 10 then 1 else if goes_on_character byte then column else min (column + 1) 18446744073709551615
