@@ -104,6 +104,10 @@ impl Ord for MountName {
     ghost matches_eq = { Prim.search (comparing, rules) };
 
     fn cmp(&self, other: &MountName) -> Ordering {
+        // most look-ups end at an equal name, and that names are equal is found sooner than their order
+        if self == other {
+            return Ordering::Equal;
+        }
         self.as_bytes().cmp(other.as_bytes())
     }
 }
