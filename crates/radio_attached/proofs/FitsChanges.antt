@@ -1,6 +1,6 @@
 -- attached to each mount is who sits there, after each change of the seats and of those who are attached
 use Rattle.std.proofs.Common.{◌≡◌, ◌⊎◌, inl, inr, Bool, true, false, ℕ, ◌==◌, Option, Some, None, List, [], ◌∷◌, refl, ap, sym, subst, ◌∙◌, arith}
-use Rattle.std.specs.Prelude.{map, find, is_some, ◌&&◌, if◌then◌else◌}
+use Rattle.std.specs.Prelude.{map, is_some, ◌&&◌, if◌then◌else◌}
 use Rattle.std.specs.List.{AllByRecursion}
 use Rattle.std.specs.Option.{option_map, option_map_or}
 use Rattle.std.specs.Ordering.{nat_cmp}
@@ -30,9 +30,7 @@ use Rattle.radio_fallback.specs.Carry.{numbers_of}
 use Rattle.radio_fallback.specs.Heard.{Heard, OthersStay, Fits, GoesOver, GoesOff}
 use Rattle.radio_fallback.proofs.FitsLemmas.{sits_last}
 use Rattle.radio_attachments.specs.declared.attachment.Attachment.{Attachment}
-use Rattle.radio_attached.specs.ByMount.{is_of_mount, found_in, places_in, has_part}
 use Rattle.radio_attached.specs.Losses.{ended_where}
-use Rattle.radio_attached.specs.declared.by_mount.MountAttachments.{MountAttachments}
 use Rattle.radio_attached.proofs.LossLemmas.{FitsHim}
 
 abbrev at_mount : List ℕ → Option Seat → Bool
@@ -121,7 +119,7 @@ further_fits f g id seat seats fits has stay over m n = by_number id n
       sits = ap (at_mount seat.mount) has ∙ here seat.mount
 
 -- those have lost their seats at a mount who pass a test, and whoever does not sit there was detached
-module _ (f g : Heard) (mount : List ℕ) (p : ℕ → Guest → Bool) (rule : Rule) (seats : List Listener) where
+module _ (f g : Heard) (mount : List ℕ) (p : Guest → Bool) (rule : Rule) (seats : List Listener) where
   abbrev pub after_test : List Listener
   after_test = with_ended seats (passes_at mount p) rule
 

@@ -1,6 +1,6 @@
 -- what the listeners show after each change: the changed table, with the places of the attachments
 use Rattle.std.proofs.Common.{◌≡◌, inl, inr, Bool, true, false, ℕ, ◌==◌, ◌-◌, ◌<◌, Option, Some, None, List, [], ◌∷◌, not, refl, ap, sym, subst, ◌∙◌, arith}
-use Rattle.std.specs.Prelude.{is_some, nat_lt, ◌&&◌, if◌then◌else◌, unwrap_or, MatchOption}
+use Rattle.std.specs.Prelude.{is_some, nat_lt, if◌then◌else◌, unwrap_or, MatchOption}
 use Rattle.std.specs.List.{AllByRecursion}
 use Rattle.std.specs.Option.{option_map, option_map_or}
 use Rattle.std.specs.Ordering.{nat_cmp, match_ordering}
@@ -19,7 +19,7 @@ use Rattle.radio_seats.specs.declared.seat.Listener.{Listener}
 use Rattle.radio_seats.specs.declared.seat.Seat.{Seat}
 use Rattle.radio_seats.specs.declared.seat.Seating.{Seating}
 use Rattle.radio_seats.specs.declared.seat.Seating.TheVariants.{Sits, Finished}
-use Rattle.radio_seats.specs.Guests.{guest_in, passes_in, passes_at}
+use Rattle.radio_seats.specs.Guests.{passes_in, passes_at}
 use Rattle.radio_seats.specs.Rests.{how_many}
 use Rattle.radio_seats.specs.Seats.{is_listener, listener_of, seat_held, seat_in, seat_of, seated, sits_at, holds_of, AreByNumber}
 use Rattle.radio_seats.specs.Seats.{with_seat, with_place, without_listener, with_ended, with_end, advanced, loses}
@@ -29,10 +29,20 @@ use Rattle.radio_parts.specs.Timeouts.{lags_behind}
 use Rattle.radio_fallback.specs.Carry.{numbers_of}
 use Rattle.radio_fallback.specs.Heard.{Heard, heard_seating, heard_by, heard, OthersStay, IsAt, Fits, GoesOver}
 use Rattle.radio_fallback.proofs.HeardLemmas.{all_stay, others_heard, each_apart, seating_stays}
+use Rattle.radio_parts.specs.Sessions.{Session}
+use Rattle.radio_attached.specs.Attached.{Listening}
 use Rattle.radio_attached.proofs.FitsChanges.{after_test, sitters_agree, each_found, all_fit, after_losses}
 use Rattle.radio_attached.proofs.HeardChanges.{further_heard, ended_by_heard, same_sitters}
 use Rattle.radio_attached.proofs.HeardReads.{heard_seat, seat_heard}
 use Rattle.radio_attached.proofs.LossLemmas.{losses_heard}
+
+-- the same in each part
+pub same_listening : {names more : List (List ℕ)} {seats others : List Listener} {live later : List Session} → names ≡ more → seats ≡ others → live ≡ later
+    → ◌≡◌ {A = Listening} (record { prepared = names; seats = seats; live = live }) (record { prepared = more; seats = others; live = later })
+same_listening {more = more} {seats = seats} {others = others} {live = live} e f g =
+    ap (λ n. with_all n seats live) e ∙ ap (λ s. with_all more s live) f ∙ ap (with_all more others) g where
+      with_all : List (List ℕ) → List Listener → List Session → Listening
+      with_all n s l = record { prepared = n; seats = s; live = l }
 
 -- the same, where both say the same of all
 pub same_heard : (f g : Heard) → ((m : List ℕ) (n : ℕ) → g m n ≡ f m n) → (seats : List Listener) → heard g seats ≡ heard f seats
@@ -153,6 +163,18 @@ has_heard f g id place seat seats rising fits has stay over there =
           let same : seat ≡ other = cc in
           subst (λ (s : Seat). g s.mount id ≡ Some place) same (at_place (g seat.mount id) there (over.here (fits seat.mount id ∙ sits)))
 
+-- one that sits at the mount has a seat there
+pub its_seat : (f : Heard) (id : ℕ) (mount : List ℕ) (seats : List Listener) → sits_at (heard f seats) id mount ≡ true
+    → (seat : Seat) × (seat_of seats id ≡ Some seat) × (seat.mount ≡ mount)
+its_seat f id mount seats sits =
+    by_seat (seat_of seats id) refl
+    (sym (ap (λ (found : Option Seat). option_map_or (λ (s : Seat). bytes_eq s.mount mount) found false) (seat_heard f seats id)) ∙ sits) where
+      by_seat : (found : Option Seat) → seat_of seats id ≡ found
+          → option_map_or (λ (s : Seat). bytes_eq s.mount mount) (option_map (heard_seat f id) found) false ≡ true
+          → (seat : Seat) × (seat_of seats id ≡ Some seat) × (seat.mount ≡ mount)
+      by_seat None e there = cc
+      by_seat (Some seat) e there = (seat, e, (Rattle.std.proofs.lemmas.Slice.Eq.bytes_eq-Decides seat.mount mount).0 there)
+
 -- of one who has no seat nothing changes
 module _ (change : Listener → Listener) (same : (l : Listener) → seat_held l.seating ≡ None → change l ≡ l) (id : ℕ) where
   pub seatless : (seats : List Listener) → seat_of seats id ≡ None → update_first (is_listener id) change seats ≡ seats
@@ -190,23 +212,19 @@ module _ (f : Heard) (P : Seat → Bool) (anywhere : (seat : Seat) (place : ℕ)
   how_many_heard seats =
       map_counted (heard_by f) (λ (l : Listener). holds_of P l.seating) (λ (l : Listener). holds_of P l.seating) (λ l. holds_so l.id l.seating) seats
 
-pub anywhere_at : (mount : List ℕ) (p : ℕ → Guest → Bool) → ((place other : ℕ) (guest : Guest) → p place guest ≡ p other guest)
-    → (seat : Seat) (place : ℕ) → passes_at mount p (record seat { place = place }) ≡ passes_at mount p seat
-anywhere_at mount p same seat place = ap (λ b. bytes_eq seat.mount mount && b) (same place seat.place (guest_in seat))
-
 -- those have lost their seats who pass it
-pub have_tested : (f g : Heard) (mount : List ℕ) (p : ℕ → Guest → Bool) (rule : Rule) (seats : List Listener)
-    → ((place other : ℕ) (guest : Guest) → p place guest ≡ p other guest) → AreByNumber (after_test f g mount p rule seats)
+pub have_tested : (f g : Heard) (mount : List ℕ) (p : Guest → Bool) (rule : Rule) (seats : List Listener)
+    → AreByNumber (after_test f g mount p rule seats)
     → ((n : ℕ) → g mount n ≡ (if sits_at (after_test f g mount p rule seats) n mount then f mount n else None))
     → ((m : List ℕ) (n : ℕ) → bytes_eq mount m ≡ false → g m n ≡ f m n)
     → heard g (after_test f g mount p rule seats) ≡ with_ended (heard f seats) (passes_at mount p) rule
-have_tested f g mount p rule seats same rising there elsewhere =
+have_tested f g mount p rule seats rising there elsewhere =
     same_sitters f g (after_test f g mount p rule seats)
     (Each_each (λ (x : Listener). listener_of (after_test f g mount p rule seats) x.id ≡ Some x)
     (λ (l : Listener). (seat : Seat) → seat_held l.seating ≡ Some seat → g seat.mount l.id ≡ f seat.mount l.id)
     (λ l found seat held. sitters_agree f g mount p rule seats there elsewhere l.id seat (ap seat_in found ∙ held))
     (after_test f g mount p rule seats) (each_found (after_test f g mount p rule seats) rising))
-    ∙ ended_by_heard f (passes_at mount p) rule (anywhere_at mount p same) seats
+    ∙ ended_by_heard f (passes_at mount p) rule (λ seat place. refl) seats
 
 -- those have lost theirs who lag
 pub have_lagged : (f g : Heard) (mount : List ℕ) (end queue : ℕ) (lost : ℕ → Bool) (rule : Rule) (seats : List Listener) → AreByNumber seats → Fits f seats
@@ -221,9 +239,9 @@ have_lagged f g mount end queue lost rule seats rising fits is_lost there elsewh
           (λ apart. elsewhere k n apart)
 
 -- the mount of the first of whom it holds
-pub some_heard : (f : Heard) (p : ℕ → Guest → Bool) → ((place other : ℕ) (guest : Guest) → p place guest ≡ p other guest) → (seats : List Listener)
+pub some_heard : (f : Heard) (p : Guest → Bool) (seats : List Listener)
     (found : Option (List ℕ)) → MatchOption found (how_many (passes_in p) seats ≡ 0) (λ mount. 0 < how_many (passes_at mount p) seats)
     → MatchOption found (how_many (passes_in p) (heard f seats) ≡ 0) (λ mount. 0 < how_many (passes_at mount p) (heard f seats))
-some_heard f p same seats None none = how_many_heard f (passes_in p) (λ seat place. same place seat.place (guest_in seat)) seats ∙ none
-some_heard f p same seats (Some mount) some =
-    subst (λ n. 0 < n) (sym (how_many_heard f (passes_at mount p) (anywhere_at mount p same) seats)) some
+some_heard f p seats None none = how_many_heard f (passes_in p) (λ seat place. refl) seats ∙ none
+some_heard f p seats (Some mount) some =
+    subst (λ n. 0 < n) (sym (how_many_heard f (passes_at mount p) (λ seat place. refl) seats)) some

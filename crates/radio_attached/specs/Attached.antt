@@ -1,13 +1,23 @@
 -- The table of listeners, and the attachments of each mount.
 use Rattle.std.specs.Prelude.{◌≡◌, ℕ, true, List}
+use Rattle.radio_parts.specs.Sessions.{Session}
 use Rattle.radio_seats.specs.Board.{Board, is_prepared}
+use Rattle.radio_seats.specs.declared.seat.Listener.{Listener}
 use Rattle.radio_fallback.specs.Heard.{Fits, heard}
-use Rattle.radio_attached.specs.declared.by_mount.MountAttachments.{MountAttachments}
-use Rattle.radio_attached.specs.ByMount.{places_in, has_part}
+use Rattle.radio_mounts.specs.Parts.{ByMount, MountAttachments}
+use Rattle.radio_mounts.specs.Attached.{places_in}
+use Rattle.radio_mounts.specs.Parts.{has_part}
 
--- the board, with the places of the attachments
-abbrev pub heard_board : List MountAttachments → Board → Board
-heard_board mounts board = record { prepared = board.prepared; seats = heard (places_in mounts) board.seats }
+-- the mounts where listeners can be seated, the listeners, and the sessions of the mounts that are live
+pub record Listening : Type 0 where
+  pub prepared : List (List ℕ)
+  pub seats : List Listener
+  -- in the order of their mounts' names
+  pub live : List Session
+
+-- the table, with the places of the attachments, and the sessions of the parts
+abbrev pub listening : ByMount → Board → Listening
+listening parts board = record { prepared = board.prepared; seats = heard (places_in parts.attached) board.seats; live = parts.live }
 
 -- a listener can be attached to each prepared mount, and attached to each mount is who sits there, and nobody else
 pub record AreAttached (mounts : List MountAttachments) (board : Board) : Type 0 where

@@ -1,3 +1,2 @@
-pub mod ByMount
 pub mod Attached
 pub mod Losses

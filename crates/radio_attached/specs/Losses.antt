@@ -1,14 +1,8 @@
 -- Listeners who lose their seats one after another.
-use Rattle.std.specs.Prelude.{ℕ, Bool, ◌==◌, if◌then◌else◌, List}
-use Rattle.std.specs.List.{list_any}
-use Rattle.radio_attachments.specs.declared.attachment.Attachment.{Attachment}
+use Rattle.std.specs.Prelude.{ℕ, Bool, if◌then◌else◌}
 use Rattle.radio_policy.specs.declared.rule.Rule.{Rule}
 use Rattle.radio_seats.specs.declared.seat.Listener.{Listener}
 use Rattle.radio_seats.specs.Seats.{loses}
-
--- one of these attachments is of this number
-abbrev pub is_among : List Attachment → ℕ → Bool
-is_among attachments id = list_any (λ (attachment : Attachment). id == attachment.id) attachments
 
 -- who is among the lost has lost its seat by the rule
 abbrev pub ended_where : (ℕ → Bool) → Rule → Listener → Listener

@@ -1,16 +1,17 @@
-//! The listeners: who sits where, and who is attached to each mount.
+//! The listeners, and the parts of the mounts: who sits where, who is attached to each mount, and what
+//! there is to hear.
 //!
-//! - [`AttachmentsByMount`]: the attachments of each mount, found by its name.
-//! - [`Listeners`]: the table of listeners beside them. Contracts see the table of
-//!   `radio_listeners` in which each place is that of the attachment.
+//! - [`Listeners`]: the table of listeners, and with it the parts of the mounts. Contracts see the
+//!   table of `radio_listeners` in which each place is that of the attachment, and the live mounts'
+//!   sessions. Read [`Listeners::hearing`] first, which returns a [`Hearing`].
 #![tactic(auto)]
 
-mod by_mount;
 mod listeners;
 mod reading;
+mod sessions;
 
-pub use by_mount::{AttachmentsByMount, MountAttachments};
 pub use listeners::Listeners;
+pub use reading::Hearing;
 
 /// What a call returns if memory was refused. Nothing has changed then.
 pub type OutOfMemory = std::alloc::AllocError;

@@ -1,63 +1,67 @@
 //! The table of listeners, and the attachments of each mount.
 
-ghost use Rattle.std.specs.Prelude.{◌≡◌, ◌||◌, ◌&&◌, ◌==◌, ℕ, ◌<◌, [], true, not, map, OnOk, OnErr, MatchOption};
+ghost use Rattle.std.specs.Prelude.{◌≡◌, ◌||◌, ◌&&◌, ◌==◌, ◌<◌, [], true, not, map, None, Some, OnOk, OnErr, MatchOption};
 ghost use Rattle.std.specs.Str.{bytes_eq};
 ghost use Rattle.radio_seats.specs.Board.{is_prepared};
 ghost use Rattle.radio_seats.specs.Guests.{passes_in, passes_at};
 ghost use Rattle.radio_seats.specs.Rests.{how_many};
-ghost use Rattle.radio_seats.specs.Seats.{named_at, with_seat, with_place, with_end, with_ended, with_session_at, without_listener, AreByNumber};
-ghost use Rattle.radio_seats.specs.declared.seat.Guest.{Guest as GuestOf};
+ghost use Rattle.radio_seats.specs.Seats.{named_at, sits_at, with_seat, with_place, with_end, with_ended, with_session_at, without_listener, AreByNumber};
 ghost use Rattle.radio_policy.specs.declared.rule.Rule.{Rule as RuleOf};
 ghost use Rattle.radio_parts.specs.Timeouts.{lags_behind};
 ghost use Rattle.radio_fallback.specs.Carry.{carried};
-ghost use Rattle.radio_attached.specs.Losses.{ended_where, is_among};
+ghost use Rattle.radio_fallback.specs.Walk.{with_ends};
+ghost use Rattle.radio_parts.specs.Parts.{ends_in};
+ghost use Rattle.radio_attached.specs.Losses.{ended_where};
+ghost use Rattle.radio_fallback.specs.Heard.{OthersStay, GoesOff};
+ghost use Rattle.radio_mounts.specs.Attached.{is_among, places_in};
+ghost use Rattle.radio_mounts.specs.Parts.{has_part};
 
 use crate::OutOfMemory;
-use crate::by_mount::{AttachmentsByMount, detach_from};
 use radio_attachments::{Attachment, AttachmentTree, BoxedAttachment};
 use radio_blocks::Place;
 use radio_fallback::{Attachments, Carried, Move, View, carry};
 use radio_listeners::Seats;
+use radio_mounts::MountParts;
 use radio_policy::Rule;
 use radio_seats::{Seat, SeatTest};
 use radio_values::MountName;
 use std::alloc::Global;
 use std::marker::Model;
 
-/// The listeners: the table that says who sits where, and the attachments of each mount, which say
-/// how far each has heard. Contracts see a table with these places.
+/// The listeners, and the parts of the mounts: the table says who sits where, the parts' attachments
+/// say how far each listener has heard, and their sessions what there is to hear. Contracts see a
+/// table with these places, and the sessions.
 pub struct Listeners {
     pub(crate) seats: Seats,
-    pub(crate) attached: AttachmentsByMount,
+    pub(crate) parts: MountParts,
 }
 
 impl Drop for Listeners {
     fn drop(self) {
-        let Listeners { seats, attached } = self;
+        let Listeners { seats, parts } = self;
         drop(seats);
-        drop(attached);
+        drop(parts);
     }
 }
 
 impl Model for Listeners {
-    ghost use Rattle.radio_seats.specs.Board.{Board};
-    ghost use Rattle.radio_attached.specs.Attached.{heard_board, AreAttached};
+    ghost use Rattle.radio_attached.specs.Attached.{Listening, listening, AreAttached};
 
-    ghost Value = { Board };
+    ghost Value = { Listening };
 
-    ghost view = { λ l. heard_board l.attached l.seats };
+    ghost view = { λ l. listening l.parts l.seats };
 
-    ghost invariant = { λ l. AreAttached l.attached l.seats };
+    ghost invariant = { λ l. AreAttached l.parts.attached l.seats };
 }
 
 impl Listeners {
     /// Returns no listeners, and no mounts. It takes no memory.
     pub fn new(alloc: Global) -> Listeners
-        ensures { result ≡ record { prepared = []; seats = [] } }
+        ensures { result ≡ record { prepared = []; seats = []; live = [] } }
     {
         Listeners {
             seats: Seats::new(alloc),
-            attached: AttachmentsByMount::new(alloc),
+            parts: MountParts::new(alloc),
         }
     }
 
@@ -66,9 +70,10 @@ impl Listeners {
     pub fn prepare(&mut self, mount: &MountName) -> Result<(), OutOfMemory>
         ensures prepared { OnOk result ((other : _) → is_prepared self.new.prepared other ≡ (is_prepared self.old.prepared other || bytes_eq mount.now other)) }
         ensures seats { self.new.seats ≡ self.old.seats }
+        ensures live { self.new.live ≡ self.old.live }
         ensures err { OnErr result (self.new ≡ self.old) }
     {
-        self.attached.prepare(mount)?;
+        self.parts.prepare(mount)?;
         self.seats.prepare(mount)
     }
 
@@ -78,10 +83,11 @@ impl Listeners {
         ensures prepared { (other : _) → is_prepared self.new.prepared other
             ≡ (is_prepared self.old.prepared other && not (bytes_eq mount.now other && (named_at self.old.seats mount.now == 0))) }
         ensures seats { self.new.seats ≡ self.old.seats }
+        ensures live { self.new.live ≡ self.old.live }
     {
         self.seats.release(mount);
         if !self.seats.is_prepared(mount) {
-            self.attached.release(mount);
+            self.parts.release(mount);
         }
     }
 
@@ -96,11 +102,11 @@ impl Listeners {
         let place = seat.place.bytes_before();
         let boxed = BoxedAttachment::new(alloc, Attachment { id, place })?;
         // the listeners stand in the order of their numbers
-        let _ = self.seats.next(None);
+        let _ = self.seats.len();
         let last = self.seats.last_mount(id).copied();
         self.seats.add(id, seat)?;
-        detach_from(&mut self.attached, id, last);
-        self.attached.attach(&mount, boxed);
+        detach_from(&mut self.parts, id, last);
+        self.parts.attach(&mount, boxed);
         Ok(())
     }
 
@@ -118,11 +124,22 @@ impl Listeners {
         ensures { self.new ≡ record self.old { seats = with_place self.old.seats id place } }
     {
         // the listeners stand in the order of their numbers
-        let _ = self.seats.next(None);
+        let _ = self.seats.len();
         let Some(seat) = self.seats.seat(id) else {
             return;
         };
-        self.attached.advance(id, seat.mount, place);
+        self.parts.advance(id, seat.mount, place);
+    }
+
+    /// Sets the place up to which the listener, which sits at this mount, has heard the stream. It
+    /// takes no memory.
+    pub fn advance_at(&mut self, mount: &MountName, id: u64, place: Place)
+        requires { sits_at self.old.seats id mount.now ≡ true }
+        ensures { self.new ≡ record self.old { seats = with_place self.old.seats id place } }
+    {
+        // the listeners stand in the order of their numbers
+        let _ = self.seats.len();
+        self.parts.advance(id, mount, place);
     }
 
     /// Ends the listener's seat by the rule. Nothing changes if it has none. It takes no memory.
@@ -130,11 +147,11 @@ impl Listeners {
         ensures { self.new ≡ record self.old { seats = with_end self.old.seats id rule } }
     {
         // the listeners stand in the order of their numbers
-        let _ = self.seats.next(None);
+        let _ = self.seats.len();
         let Some(seat) = self.seats.seat(id) else {
             return;
         };
-        self.attached.detach(id, seat.mount);
+        self.parts.detach(id, seat.mount);
         self.seats.end(id, rule);
     }
 
@@ -143,28 +160,26 @@ impl Listeners {
         ensures { self.new ≡ record self.old { seats = without_listener self.old.seats id } }
     {
         let last = self.seats.last_mount(id).copied();
-        detach_from(&mut self.attached, id, last);
+        detach_from(&mut self.parts, id, last);
         self.seats.remove(id);
     }
 
     /// Ends by the rule the seats at the mount that pass the test, and returns how many they are. It
     /// takes no memory.
     pub fn finish_at_if<T: SeatTest>(&mut self, mount: &MountName, test: &T, rule: Rule) -> u64
-        requires { (place other : ℕ) (guest : GuestOf) → T.passes test.now place guest ≡ T.passes test.now other guest }
         ensures seats { self.new ≡ record self.old { seats = with_ended self.old.seats (passes_at mount.now (T.passes test.now)) rule } }
         ensures count { result ≡ how_many (passes_at mount.now (T.passes test.now)) self.old.seats }
     {
         let count = self.seats.finish_at_if(mount, test, rule);
         // the listeners stand in the order of their numbers
-        let _ = self.seats.next(None);
-        self.attached.detach_others(mount, &self.seats);
+        let _ = self.seats.len();
+        self.parts.detach_others(mount, &self.seats);
         count
     }
 
     /// Ends by the rule the seats that pass the test. It takes no memory. The listeners are looked at
     /// once if nobody passes.
     pub fn finish_if<T: SeatTest>(&mut self, test: &T, rule: Rule)
-        requires { (place other : ℕ) (guest : GuestOf) → T.passes test.now place guest ≡ T.passes test.now other guest }
         ensures { self.new ≡ record self.old { seats = with_ended self.old.seats (passes_in (T.passes test.now)) rule } }
     {
         'mounts: while let Some(mount) = self.first_mount_where(test) {
@@ -174,7 +189,6 @@ impl Listeners {
 
     /// Returns the mount of the first listener whose seat passes the test.
     fn first_mount_where<T: SeatTest>(&self, test: &T) -> Option<MountName>
-        requires { (place other : ℕ) (guest : GuestOf) → T.passes test.now place guest ≡ T.passes test.now other guest }
         ensures { MatchOption result (how_many (passes_in (T.passes test.now)) self.now.seats ≡ 0)
             (λ mount. 0 < how_many (passes_at mount (T.passes test.now)) self.now.seats) }
     {
@@ -186,17 +200,18 @@ impl Listeners {
     pub fn end_lagging(&mut self, mount: &MountName, end: u64, queue: u64)
         ensures { self.new ≡ record self.old { seats = with_ended self.old.seats (lags_behind mount.now end queue) RuleOf.Lagged } }
     {
-        let lagging = self.attached.take_lagging(mount, end, queue);
+        let lagging = self.parts.take_lagging(mount, end, queue);
         end_each(&mut self.seats, lagging);
     }
 
-    /// Carries listeners along with a move, and returns how many. It takes no memory.
+    /// Carries listeners along with a move, to the ends of their mounts' streams, and returns how many.
+    /// It takes no memory.
     pub fn carry_along<V: View>(&mut self, view: &V, moving: &Move) -> Carried
         requires { (mount : _) → (V.sight view.now).is_live mount ≡ true → is_prepared self.old.prepared mount ≡ true }
-        ensures seats { self.new ≡ record self.old { seats = (carried (V.sight view.now) moving.now self.old.seats).seats } }
-        ensures counts { result ≡ (carried (V.sight view.now) moving.now self.old.seats).counts }
+        ensures seats { self.new ≡ record self.old { seats = (carried (with_ends (V.sight view.now) (ends_in self.old.live)) moving.now self.old.seats).seats } }
+        ensures counts { result ≡ (carried (with_ends (V.sight view.now) (ends_in self.old.live)) moving.now self.old.seats).counts }
     {
-        carry(view, &mut self.attached, &mut self.seats, moving)
+        carry(view, &mut self.parts, &mut self.seats, moving)
     }
 }
 
@@ -207,7 +222,7 @@ fn end_each(seats: &mut Seats, lagging: AttachmentTree)
 {
     let mut lagging = lagging;
     // the listeners stand in the order of their numbers
-    let _ = seats.next(None);
+    let _ = seats.len();
     'lagging: while let Some(boxed) = lagging.take_first() {
         end_one(seats, boxed.row().id);
         drop(boxed);
@@ -219,6 +234,19 @@ fn end_one(seats: &mut Seats, id: u64)
     ensures { seats.new ≡ record seats.old { seats = map (ended_where (λ n. n == id) RuleOf.Lagged) seats.old.seats } }
 {
     // the listeners stand in the order of their numbers
-    let _ = seats.next(None);
+    let _ = seats.len();
     seats.end(id, Rule::Lagged);
+}
+
+/// Detaches the listener from the mount, if one is given. It takes no memory.
+fn detach_from(parts: &mut MountParts, id: u64, mount: Option<MountName>)
+    ensures others { OthersStay (places_in parts.old.attached) (places_in parts.new.attached) id }
+    ensures off { (from : _) → mount ≡ Some from → GoesOff (places_in parts.old.attached) (places_in parts.new.attached) id from }
+    ensures none { mount ≡ None → parts.new ≡ parts.old }
+    ensures live { parts.new.live ≡ parts.old.live }
+    ensures parts { (other : _) → has_part parts.new.attached other ≡ has_part parts.old.attached other }
+{
+    if let Some(mount) = mount {
+        parts.detach(id, &mount);
+    }
 }

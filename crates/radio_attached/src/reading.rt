@@ -1,23 +1,32 @@
 //! What the listeners are asked.
 
-ghost use Rattle.std.specs.Prelude.{◌≡◌, length, map, unwrap_or, IfOk};
+ghost use Rattle.std.specs.Prelude.{◌≡◌, length, map, None, Some, unwrap_or, IfOk, MatchOption};
 ghost use Rattle.std.specs.Option.{option_copied, option_map};
 ghost use Rattle.radio_seats.specs.Guests.{first_moment};
 ghost use Rattle.radio_seats.specs.Seats.{listener_of, seat_of, last_mount_of, count_at, AreByNumber};
 ghost use Rattle.radio_listeners.specs.Lent.{lent_seat, standing_in};
 ghost use Rattle.radio_listeners.specs.Listed.{lent_guest, guests_at};
 ghost use Rattle.radio_fallback.specs.Walk.{found_at, landing};
-ghost use Rattle.radio_attached.specs.ByMount.{places_in};
+ghost use Rattle.radio_parts.specs.Sessions.{session_of};
 
-use crate::by_mount::AttachmentsByMount;
 use crate::{Listeners, OutOfMemory};
 use radio_blocks::Place;
 use radio_creds::Pair;
 use radio_fallback::{View, Walk, walk_from};
 use radio_listeners::{LentListener, LentSeat, ListenerStanding};
+use radio_parts::Session;
 use radio_seats::GuestMoment;
 use radio_values::MountName;
 use std::alloc::Global;
+
+/// A listener's seat, and what it hears.
+#[derive(Clone, Copy)]
+pub struct Hearing<'a> {
+    /// The seat.
+    pub seat: LentSeat<'a>,
+    /// The session of its mount, if that is live.
+    pub session: Option<&'a Session>,
+}
 
 impl Listeners {
     /// Returns how many listeners there are, with those who have finished.
@@ -40,12 +49,41 @@ impl Listeners {
             session,
             guest,
         } = seat;
-        let place = place_or(&self.attached, mount, id, place);
+        let place = place_of(self.parts.place(mount, id), place);
         Some(LentSeat {
             place,
             mount,
             session,
             guest,
+        })
+    }
+
+    /// Returns the listener's seat, if it has one, and the session of its mount, if that is live. The
+    /// mount is looked up once.
+    pub fn hearing(&self, id: u64) -> Option<Hearing<'_>>
+        ensures { MatchOption result (seat_of self.now.seats id ≡ None)
+            (λ hearing. (seat_of self.now.seats id ≡ Some (lent_seat hearing.seat)) × (option_copied hearing.session ≡ session_of self.now.live hearing.seat.mount.now)) }
+    {
+        let Some(seat) = self.seats.seat(id) else {
+            return None;
+        };
+        let LentSeat {
+            place,
+            mount,
+            session,
+            guest,
+        } = seat;
+        let (heard, live) = self.parts.place_and_session(mount, id);
+        let place = place_of(heard, place);
+        let seat = LentSeat {
+            place,
+            mount,
+            session,
+            guest,
+        };
+        Some(Hearing {
+            seat,
+            session: live,
         })
     }
 
@@ -103,12 +141,11 @@ impl Listeners {
     }
 }
 
-/// Returns the place up to which the listener has heard the mount's stream, if it is attached there;
-/// else the other place.
-fn place_or(attached: &AttachmentsByMount, mount: &MountName, id: u64, other: Place) -> Place
-    ensures { result ≡ unwrap_or (places_in attached.now mount.now id) other }
+/// Returns the place of the attachment, if there is one; else the other place.
+fn place_of(attached: Option<u64>, other: Place) -> Place
+    ensures { result ≡ unwrap_or attached other }
 {
-    match attached.place(mount, id) {
+    match attached {
         Some(place) => Place::new(place),
         None => other,
     }

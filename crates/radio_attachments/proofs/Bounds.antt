@@ -2,7 +2,7 @@
 use Rattle.std.proofs.Common.{◌≡◌, ◌≤◌, ◌-◌, ℕ, Bool, true, false, Option, None, Some, List, [], ◌∷◌, refl, sym, subst, arith}
 use Rattle.std.specs.Prelude.{filter, find, if◌then◌else◌}
 use Rattle.std.proofs.lemmas.Bool.Decides.{nat_tests}
-use Rattle.radio_tables.specs.Lists.{Each}
+use Rattle.radio_tables.specs.Lists.{Each, update_first}
 use Rattle.radio_tables.proofs.EachLaws.{Each_each, Each_updated}
 use Rattle.radio_tables.proofs.FindLaws.{found_has}
 use Rattle.radio_attachments.specs.declared.attachment.Attachment.{Attachment}
@@ -14,6 +14,12 @@ IsBound least rows = Each (λ (row : Attachment). least ≤ row.place) rows
 pub lower_bound : (least other : ℕ) → other ≤ least → (rows : List Attachment) → IsBound least rows → IsBound other rows
 lower_bound least other below rows all =
     Each_each (λ (row : Attachment). least ≤ row.place) (λ (row : Attachment). other ≤ row.place) (λ row h. omega (arith, below, h)) rows all
+
+-- a bound of the others and of the new place is one of all
+pub placed_bound : (least other id place : ℕ) → other ≤ least → other ≤ place → (rows : List Attachment) → IsBound least rows
+    → IsBound other (update_first (is_attached id) (at_place place) rows)
+placed_bound least other id place below there rows all =
+    Each_updated (λ (x : Attachment). other ≤ x.place) (is_attached id) (at_place place) (λ x h. there) rows (lower_bound least other below rows all)
 
 -- so nobody lags who is within the queue
 pub none_lag : (end queue least : ℕ) → end - least ≤ queue → (rows : List Attachment) → IsBound least rows → Each (λ row. lags end queue row ≡ false) rows

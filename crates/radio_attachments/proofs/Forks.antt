@@ -110,6 +110,10 @@ module _ (f : Attachment → Attachment) (same : (row : Attachment) → (f row).
       by_test true later = (from xs h.0, h.1)
       by_test false later = (each_updated (IsBefore x) on xs h.0, later)
 
+-- so does one that is at another place
+pub placed_in_order : (id place : ℕ) (rows rows' : List Attachment) → rows' ≡ update_first (is_attached id) (at_place place) rows → AreInOrder rows → AreInOrder rows'
+placed_in_order id place rows rows' is h = subst AreInOrder (sym is) (in_order_updated (at_place place) (λ row. refl) (is_attached id) rows h)
+
 -- rows that are taken away leave the others in order
 pub each_filtered : (P : Attachment → Type 0) (q : Attachment → Bool) (xs : List Attachment) → Each P xs → Each P (filter q xs)
 each_filtered P q [] all = tt
@@ -160,4 +164,4 @@ module _ {V A : Type 0} (Visits : V → ℕ → A → V → ℕ → Type 0) (id 
   visited_in_order rows rows' answer visits h = by_found (find (is_attached id) rows) visits where
     by_found : (row : Option Attachment) → FoundIsVisited Visits id visitor rows answer visitor' rows' row → AreInOrder rows'
     by_found None (no_answer, stays, is) = subst AreInOrder (sym is) h
-    by_found (Some row) (a, place, given, is, visited) = subst AreInOrder (sym is) (in_order_updated (at_place place) (λ row. refl) (is_attached id) rows h)
+    by_found (Some row) (a, place, given, is, visited) = placed_in_order id place rows rows' is h

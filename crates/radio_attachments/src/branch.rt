@@ -1,7 +1,8 @@
 //! The nodes of a tree of attachments, which move from one tree to another.
 
-ghost use Rattle.std.specs.Prelude.{◌≡◌, ◌≤◌, ◌==◌, [], ◌∷◌, ◌++◌, length, find, filter, not, IfOk, MatchOption};
-ghost use Rattle.radio_tables.specs.Lists.{Each};
+ghost use Rattle.std.specs.Prelude.{◌≡◌, ◌≤◌, ◌<◌, ◌==◌, false, [], ◌∷◌, ◌++◌, length, find, filter, not, IfOk, MatchOption};
+ghost use Rattle.radio_tables.specs.Lists.{Each, update_first};
+ghost use Rattle.radio_attachments.specs.Shape.{rows_in};
 ghost use Rattle.radio_attachments.specs.Rows.{is_attached, at_place, comes_before, lot_of, put_in, AreInOrder, IsVisitedIn};
 
 use crate::{Attachment, AttachmentTest, OutOfMemory, PlaceVisit};
@@ -134,18 +135,14 @@ impl Branch {
         requires { lot ≡ lot_of id }
         ensures { result ≡ find (is_attached id) self.now }
     {
-        match &self.top {
-            None => None,
-            Some(fork) => {
-                if id == fork.row.id {
-                    Some(fork.row)
-                } else if comes_before(id, lot, fork.row.id, fork.lot) {
-                    fork.less.get(id, lot)
-                } else {
-                    fork.more.get(id, lot)
-                }
+        let mut branch = self;
+        'branches: while let Some(fork) = &branch.top {
+            if id == fork.row.id {
+                return Some(fork.row);
             }
+            branch = side_of(fork, id, lot);
         }
+        None
     }
 
     /// Adds the attachment of this lot, in place of one of its number if there is one. It takes no
@@ -194,6 +191,26 @@ impl Branch {
             return fork.less.visit(id, lot, visitor);
         }
         fork.more.visit(id, lot, visitor)
+    }
+
+    /// Sets the place of the attachment of this number and lot, in bytes. Nothing changes if there is
+    /// no such attachment.
+    pub(crate) fn set_place(&mut self, id: u64, lot: u64, place: u64)
+        requires { lot ≡ lot_of id }
+        ensures { self.new ≡ update_first (is_attached id) (at_place place) self.old }
+    {
+        let Some(fork) = &mut self.top else {
+            return;
+        };
+        if id == fork.row.id {
+            fork.row.place = place;
+            return;
+        }
+        if comes_before(id, lot, fork.row.id, fork.lot) {
+            fork.less.set_place(id, lot, place);
+            return;
+        }
+        fork.more.set_place(id, lot, place);
     }
 
     /// Takes out the attachments that pass the test, with their memory. It takes no memory.
@@ -274,6 +291,20 @@ impl Branch {
             }
         }
     }
+}
+
+/// Returns the side of the node on which an attachment of this number and lot would be.
+fn side_of(node: &Node, id: u64, lot: u64) -> &Branch
+    requires lot { lot ≡ lot_of id }
+    requires sorted { AreInOrder (rows_in node.now) }
+    requires apart { (id == node.now.row.id) ≡ false }
+    ensures found { find (is_attached id) (rows_in node.now) ≡ find (is_attached id) result.now }
+    ensures smaller { length result.now < length (rows_in node.now) }
+{
+    if comes_before(id, lot, node.row.id, node.lot) {
+        return &node.less;
+    }
+    &node.more
 }
 
 /// Returns both branches as one, the first before the second. It takes no memory.

@@ -1,8 +1,8 @@
 //! The attachments of a mount.
 
 ghost use Rattle.std.specs.Prelude.{◌≡◌, ◌≤◌, ◌==◌, false, [], ◌∷◌, length, find, filter, not, MatchOption};
-ghost use Rattle.radio_tables.specs.Lists.{Each};
-ghost use Rattle.radio_attachments.specs.Rows.{is_attached, put_in, lags, AreInOrder, IsVisitedIn};
+ghost use Rattle.radio_tables.specs.Lists.{Each, update_first};
+ghost use Rattle.radio_attachments.specs.Rows.{is_attached, at_place, put_in, lags, AreInOrder, IsVisitedIn};
 
 use crate::branch::{Branch, lot_of};
 use crate::{Attachment, AttachmentTest, BoxedAttachment, PlaceVisit};
@@ -61,6 +61,15 @@ impl AttachmentTree {
         ensures { IsVisitedIn V.visits id visitor.old self.old result visitor.new self.new }
     {
         self.root.visit(id, lot_of(id), visitor)
+    }
+
+    /// Sets the place of the attachment of this number, in bytes. Nothing changes if there is no such
+    /// attachment. The attachment is looked up once.
+    pub fn set_place(&mut self, id: u64, place: u64)
+        ensures { self.new ≡ update_first (is_attached id) (at_place place) self.old }
+    {
+        self.least = self.least.min(place);
+        self.root.set_place(id, lot_of(id), place);
     }
 
     /// Adds the attachment, in place of one of its number if there is one. It takes no memory.

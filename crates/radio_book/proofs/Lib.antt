@@ -1,3 +1,4 @@
 pub mod Telling
 pub mod Newcomers
 pub mod TotalLemmas
+pub mod Threads

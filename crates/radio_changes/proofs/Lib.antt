@@ -1,5 +1,7 @@
+mod BegunSessions
 mod DueLemmas
 mod KilledLemmas
 pub mod PartChanges
 mod PreparedSeats
 mod SilentLemmas
+pub mod Threads

@@ -7,7 +7,8 @@ use Rattle.radio_tables.specs.Lists.{update_first}
 use Rattle.radio_tables.proofs.KeyLaws.{by_name}
 use Rattle.radio_settings.specs.declared.settings.Settings.{Settings}
 use Rattle.radio_seats.specs.declared.seat.Listener.{Listener}
-use Rattle.radio_seats.specs.Board.{Board, is_prepared}
+use Rattle.radio_seats.specs.Board.{is_prepared}
+use Rattle.radio_attached.specs.Attached.{Listening}
 use Rattle.radio_fallback.specs.declared.moves.Move.{Move}
 use Rattle.radio_fallback.specs.Carry.{carried}
 use Rattle.radio_fallback.specs.Walk.{Sight}
@@ -21,21 +22,12 @@ use Rattle.std.specs.Option.{option_or}
 use Rattle.radio_parts.proofs.PreparedLemmas.{still_prepared}
 
 -- of as many listeners, or fewer
-pub fewer_seated : (settings : Settings) (board later : Board) (seats : List Listener) → later ≡ record board { seats = seats }
-    → length seats ≤ length board.seats → OnDemandArePrepared settings board → OnDemandArePrepared settings later
-fewer_seated settings board later seats is fewer are = record {
+pub fewer_seated : (settings : Settings) (now later : Listening) (seats : List Listener) → later ≡ record now { seats = seats }
+    → length seats ≤ length now.seats → OnDemandArePrepared settings now → OnDemandArePrepared settings later
+fewer_seated settings now later seats is fewer are = record {
   each = λ some mount on.
-      ap (λ (b : Board). is_prepared b.prepared mount) is
-      ∙ are.each (let many = ap (λ (b : Board). length b.seats) is in omega (arith, some, fewer, many)) mount on;
-}
-
-pub still_seated : (settings other : Settings) (board later : Board) → other ≡ settings → later ≡ board → OnDemandArePrepared settings board
-    → OnDemandArePrepared other later
-still_seated settings other board later same is are = record {
-  each = λ some mount on.
-      ap (λ (b : Board). is_prepared b.prepared mount) is
-      ∙ are.each (let many = ap (λ (b : Board). length b.seats) is in omega (arith, some, many)) mount
-      (ap (λ (set : Settings). is_on_demand set mount) (sym same) ∙ on);
+      ap (λ (b : Listening). is_prepared b.prepared mount) is
+      ∙ are.each (let many = ap (λ (b : Listening). length b.seats) is in omega (arith, some, fewer, many)) mount on;
 }
 
 -- how many there are
@@ -63,10 +55,10 @@ as_many_carried sight move seats =
     ∙ length-map seats (λ (l : Listener). l.id)
 
 -- a mount that nothing is to be heard at is released
-pub unheard_released : (house : House) (board later : Board) (name : List ℕ) (nobody : Bool) → is_some (heard_at house name) ≡ false
-    → ((mount : List ℕ) → is_prepared later.prepared mount ≡ (is_prepared board.prepared mount && not (bytes_eq name mount && nobody)))
-    → later.seats ≡ board.seats → OnDemandArePrepared house.settings board → OnDemandArePrepared house.settings later
-unheard_released house board later name nobody unheard released same are = record {
+pub unheard_released : (house : House) (now later : Listening) (name : List ℕ) (nobody : Bool) → is_some (heard_at house name) ≡ false
+    → ((mount : List ℕ) → is_prepared later.prepared mount ≡ (is_prepared now.prepared mount && not (bytes_eq name mount && nobody)))
+    → later.seats ≡ now.seats → OnDemandArePrepared house.settings now → OnDemandArePrepared house.settings later
+unheard_released house now later name nobody unheard released same are = record {
   each = λ some mount on.
       released mount ∙ by_name name mount
       (λ here. let heard : is_some (heard_at house name) ≡ true = on_demand_heard (ap (is_on_demand house.settings) here ∙ on) in cc)
@@ -81,16 +73,16 @@ unheard_released house board later name nobody unheard released same are = recor
   on_demand_heard e = open_by (session_of house.live name) (is_on_demand house.settings name) e
 
 -- wherever a walk can land is prepared
-pub heard_prepared : (house : House) (board : Board) (mount : List ℕ) → 0 < length board.seats → LiveArePrepared house.live board.prepared
-    → OnDemandArePrepared house.settings board → is_some (heard_at house mount) ≡ true → is_prepared board.prepared mount ≡ true
-heard_prepared house board mount some live on_demand heard = by_found (session_of house.live mount) refl heard where
+pub heard_prepared : (house : House) (now : Listening) (mount : List ℕ) → 0 < length now.seats → LiveArePrepared house.live now.prepared
+    → OnDemandArePrepared house.settings now → is_some (heard_at house mount) ≡ true → is_prepared now.prepared mount ≡ true
+heard_prepared house now mount some live on_demand heard = by_found (session_of house.live mount) refl heard where
   by_test : (b : Bool) → is_on_demand house.settings mount ≡ b → is_some (if b then Some (silence_at house mount) else None) ≡ true
-      → is_prepared board.prepared mount ≡ true
+      → is_prepared now.prepared mount ≡ true
   by_test true on h = on_demand.each some mount on
   by_test false on h = cc
 
   by_found : (found : Option Session) → session_of house.live mount ≡ found → is_some (option_or found (silence_of house mount)) ≡ true
-      → is_prepared board.prepared mount ≡ true
+      → is_prepared now.prepared mount ≡ true
   by_found None none h = by_test (is_on_demand house.settings mount) refl h
   by_found (Some session) there h = live.each mount (ap is_some there)
 
@@ -103,30 +95,38 @@ nobody_carried sight move [] e = refl
 nobody_carried sight move (x ∷ xs) e = cc
 
 -- both: each live mount is prepared, and as long as there are listeners, so is each that a relay feeds on demand
-abbrev pub AllPrepared : Settings → List Session → Board → Type 0
-AllPrepared settings live board = LiveArePrepared live board.prepared × OnDemandArePrepared settings board
+abbrev pub AllPrepared : Settings → Listening → Type 0
+AllPrepared settings now = LiveArePrepared now.live now.prepared × OnDemandArePrepared settings now
 
 -- the seats have changed, and there are as many listeners, or fewer
-pub seats_changed : (settings : Settings) (live : List Session) (board later : Board) (seats : List Listener) → later ≡ record board { seats = seats }
-    → length seats ≤ length board.seats → AllPrepared settings live board → AllPrepared settings live later
-seats_changed settings live board later seats is fewer are = (
-  still_prepared live live board.prepared later.prepared refl (ap (λ (b : Board). b.prepared) is) are.0,
-  fewer_seated settings board later seats is fewer are.1,
+pub seats_changed : (settings : Settings) (now later : Listening) (seats : List Listener) → later ≡ record now { seats = seats }
+    → length seats ≤ length now.seats → AllPrepared settings now → AllPrepared settings later
+seats_changed settings now later seats is fewer are = (
+  still_prepared now.live later.live now.prepared later.prepared (ap (λ (l : Listening). l.live) is) (ap (λ (l : Listening). l.prepared) is) are.0,
+  fewer_seated settings now later seats is fewer are.1,
 )
 
 -- more is prepared
-pub more_is_prepared : (settings : Settings) (live : List Session) (board later : Board) → later.seats ≡ board.seats
-    → ((mount : List ℕ) → is_prepared board.prepared mount ≡ true → is_prepared later.prepared mount ≡ true) → AllPrepared settings live board
-    → AllPrepared settings live later
-more_is_prepared settings live board later same more are = (
-  record { each = λ mount lives. more mount (are.0.each mount lives) },
+pub more_is_prepared : (settings : Settings) (now later : Listening) → later.seats ≡ now.seats → later.live ≡ now.live
+    → ((mount : List ℕ) → is_prepared now.prepared mount ≡ true → is_prepared later.prepared mount ≡ true) → AllPrepared settings now
+    → AllPrepared settings later
+more_is_prepared settings now later same same_live more are = (
+  record { each = λ mount lives. more mount (are.0.each mount (ap (λ (live : List Session). is_some (session_of live mount)) (sym same_live) ∙ lives)) },
   record { each = λ some mount on. more mount (are.1.each (let many = ap length same in omega (arith, some, many)) mount on) },
 )
 
--- the house has changed, but for its settings
-pub house_changed : (settings other : Settings) (live later : List Session) (board : Board) → other ≡ settings → LiveArePrepared later board.prepared
-    → AllPrepared settings live board → AllPrepared other later board
-house_changed settings other live later board same prepared are = (prepared, still_seated settings other board board same refl are.1)
+-- the sessions have changed
+pub live_changed : (settings other : Settings) (now later : Listening) (live : List Session) → other ≡ settings → later ≡ record now { live = live }
+    → LiveArePrepared live now.prepared → OnDemandArePrepared settings now → AllPrepared other later
+live_changed settings other now later live same is prepared are = (
+  still_prepared live later.live now.prepared later.prepared (ap (λ (l : Listening). l.live) is) (ap (λ (l : Listening). l.prepared) is) prepared,
+  record {
+    each = λ some mount on.
+        ap (λ (l : Listening). is_prepared l.prepared mount) is
+        ∙ are.each (let many = ap (λ (l : Listening). length l.seats) is in omega (arith, some, many)) mount
+        (ap (λ (set : Settings). is_on_demand set mount) (sym same) ∙ on);
+  },
+)
 
 -- a mount that nothing is to be heard at has no session
 pub unheard_idle : (house : House) (mount : List ℕ) → is_some (heard_at house mount) ≡ false → session_of house.live mount ≡ None

@@ -1,5 +1,5 @@
-ghost use Rattle.std.specs.Prelude.{◌≡◌, IsOk, IfOk, OnOk, OnErr};
-ghost use Rattle.radio_seats.specs.Seats.{with_ended, with_session_at};
+ghost use Rattle.std.specs.Prelude.{◌≡◌, true, IsOk, IfOk, OnOk, OnErr};
+ghost use Rattle.radio_seats.specs.Seats.{sits_at, with_ended, with_session_at};
 ghost use Rattle.radio_parts.specs.Timeouts.{lags_behind};
 ghost use Rattle.radio_changes.specs.Changes.{answered, changed, carried_along, called_home, session_ended, client_gone, NeedsNoMemory};
 ghost use Rattle.radio_changes.specs.Counts.{nobody, counted, counts_along, counts_home, counts_ended};
@@ -8,11 +8,9 @@ ghost use Rattle.radio_changes.specs.KeptChanges.{kept_changed, kept_taken_in};
 use crate::OutOfMemory;
 use crate::change::Change;
 use crate::state::State;
-use crate::unattached::Unattached;
 use radio_blocks::{Block, Place};
-use radio_fallback::{Carried, Move, carry};
-use radio_house::{ClientState, House};
-use radio_parts::LagsBehind;
+use radio_fallback::{Carried, Move};
+use radio_house::ClientState;
 use radio_policy::Rule;
 use radio_seats::Seat;
 use radio_values::{MountName, Shown, Title};
@@ -94,17 +92,26 @@ impl State {
     }
 
     /// The listener has heard his stream up to this place. It takes no memory.
-    pub(crate) fn advance(&mut self, id: u64, place: Place)
+    fn advance(&mut self, id: u64, place: Place)
         ensures { self.new ≡ changed self.old (Change.Advance id place) }
     {
-        self.board.seats.advance(id, place);
+        self.listeners.advance(id, place);
+    }
+
+    /// The listener, which sits at this mount, has heard its stream up to this place. It takes no
+    /// memory.
+    pub(crate) fn advance_at(&mut self, mount: &MountName, id: u64, place: Place)
+        requires { sits_at self.old.seats id mount.now ≡ true }
+        ensures { self.new ≡ changed self.old (Change.Advance id place) }
+    {
+        self.listeners.advance_at(mount, id, place);
     }
 
     /// What the mount's source feeds has this title from now on. It takes no memory.
     pub(crate) fn set_title(&mut self, mount: &MountName, title: Title)
         ensures { self.new ≡ changed self.old (Change.SetTitle mount.now title) }
     {
-        self.board.sessions.set_title(mount, title);
+        self.listeners.set_title(mount, title);
     }
 
     /// The mount's session has delivered a block, and the listeners of the mount lose their seats
@@ -116,7 +123,7 @@ impl State {
     {
         let moment = self.control.time();
         let limit = self.control.settings().limits.queue_size.get() as u64;
-        let end = self.board.sessions.receive(&mount, &block, moment, limit)?;
+        let end = self.listeners.receive(&mount, &block, moment, limit)?;
         self.end_laggards(&mount, end);
         Ok(NOBODY)
     }
@@ -126,12 +133,8 @@ impl State {
     fn end_laggards(&mut self, mount: &MountName, end: u64)
         ensures { self.new ≡ record self.old { seats = with_ended self.old.seats (lags_behind mount.now end self.old.house.settings.limits.queue_size) Rule.Lagged } }
     {
-        let end = Place::new(end);
         let queue = self.control.settings().limits.queue_size.get() as u64;
-        let _lost = self
-            .board
-            .seats
-            .finish_at_if(mount, &LagsBehind { end, queue }, Rule::Lagged);
+        self.listeners.end_lagging(mount, end, queue);
     }
 
     /// The client has this seat from now on; nobody is carried along.
@@ -141,8 +144,8 @@ impl State {
         ensures err { OnErr result (self.new ≡ self.old) }
     {
         self.control
-            .prepare_to_seat(&mut self.board.seats, &seat.mount)?;
-        self.board.seats.add(id, seat)?;
+            .prepare_to_seat(&mut self.listeners, &seat.mount)?;
+        self.listeners.add(self.alloc, id, seat)?;
         self.control.set_state(id, ClientState::Listens);
         Ok(NOBODY)
     }
@@ -154,10 +157,10 @@ impl State {
         ensures counts { IfOk result (λ counts. counts ≡ counted self.old (Change.Begin id mount shown)) }
         ensures err { OnErr result (self.new ≡ self.old) }
     {
-        self.board.seats.prepare(&mount)?;
+        self.listeners.prepare(&mount)?;
         match self
             .control
-            .begin(&mut self.board.sessions, self.alloc, id, mount, shown)
+            .begin(&mut self.listeners, self.alloc, id, mount, shown)
         {
             Ok(()) => Ok(self.open_session(mount, id)),
             Err(refused) => {
@@ -175,10 +178,10 @@ impl State {
         ensures counts { IfOk result (λ counts. counts ≡ counted self.old (Change.Raise id mount shown)) }
         ensures err { OnErr result (self.new ≡ self.old) }
     {
-        self.board.seats.prepare(&mount)?;
+        self.listeners.prepare(&mount)?;
         match self
             .control
-            .raise(&mut self.board.sessions, self.alloc, id, mount, shown)
+            .raise(&mut self.listeners, self.alloc, id, mount, shown)
         {
             Ok(()) => Ok(self.open_session(mount, id)),
             Err(refused) => {
@@ -193,8 +196,8 @@ impl State {
     fn release_idle(&mut self, mount: &MountName)
         ensures { self.new ≡ self.old }
     {
-        if !self.house().can_be_heard(mount) {
-            self.board.seats.release(mount);
+        if !self.control.can_be_heard(mount) {
+            self.listeners.release(mount);
         }
     }
 
@@ -204,7 +207,7 @@ impl State {
         ensures state { self.new ≡ called_home (record self.old { seats = with_session_at self.old.seats mount number }) mount }
         ensures counts { result ≡ counts_home (record self.old { seats = with_session_at self.old.seats mount number }) mount }
     {
-        self.board.seats.give_session(&mount, number);
+        self.listeners.give_session(&mount, number);
         self.call_home(mount)
     }
 
@@ -214,11 +217,10 @@ impl State {
         ensures counts { result ≡ counts_along self.old moving.now }
     {
         // before anybody has sat, not all mounts are prepared that wait for a session
-        if self.board.seats.len() == 0 {
+        if self.listeners.len() == 0 {
             return NOBODY;
         }
-        let house = House::of(&self.control, &self.board.sessions);
-        carry(&house, &mut Unattached, &mut self.board.seats, moving)
+        self.listeners.carry_along(&self.control, moving)
     }
 
     /// Where the mount calls its listeners home, those come who had asked for it and sit elsewhere.
@@ -241,7 +243,8 @@ impl State {
         ensures state { self.new ≡ session_ended self.old mount }
         ensures counts { result ≡ counts_ended self.old mount }
     {
-        self.board.sessions.close(&mount);
+        self.listeners.close(&mount);
+        self.control.end_session(&mount);
         let counts = self.carry_along(&Move::Ended(mount));
         self.release_idle(&mount);
         counts
@@ -252,7 +255,7 @@ impl State {
         ensures { self.new ≡ client_gone self.old id }
     {
         let mount = self.last_mount(id).copied();
-        self.board.seats.remove(id);
+        self.listeners.remove(id);
         self.control.forget(id);
         if let Some(mount) = mount {
             self.release_idle(&mount);

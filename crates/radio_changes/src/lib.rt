@@ -1,22 +1,20 @@
 //! The server's state, and what can be changed in it.
 //!
 //! - [`Change`]: what an event can change.
-//! - [`TimedState`]: what is kept of all mounts together (`Control` of `radio_house`), and the board,
-//!   which has what goes by mounts: sessions, and who listens where. They are looked at by
+//! - [`TimedState`]: what is kept of all mounts together (`Control` of `radio_house`), and the listeners
+//!   with the parts of the mounts (`Listeners` of `radio_attached`). They are looked at by
 //!   [`TimedState::house`], which is all but the listeners, and [`TimedState::seats`];
 //!   [`TimedState::commit`] makes a change, whole or not at all.
 //!
 //! What comes of an event is `radio_core`'s.
 #![tactic(auto)]
 
-mod board;
 mod change;
 mod commit;
 mod obey;
 mod state;
 mod tick;
 mod timed_state;
-mod unattached;
 mod users;
 
 pub use change::Change;

@@ -70,7 +70,7 @@ impl State {
                 self.carry_along(&Move::To { mount, destination })
             }
             Command::KillClient { listener, .. } => {
-                self.board.seats.end(listener, Rule::Killed);
+                self.listeners.end(listener, Rule::Killed);
                 NOBODY
             }
             Command::KillSource { mount } => {
@@ -98,7 +98,7 @@ impl State {
     fn kill_source(&mut self, mount: MountName)
         ensures { self.new ≡ session_killed self.old (session_of self.old.house.live mount) }
     {
-        let Some(session) = self.board.sessions.session(&mount) else {
+        let Some(session) = self.listeners.parts().session(&mount) else {
             return;
         };
         let number = session.number;

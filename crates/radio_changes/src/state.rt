@@ -1,25 +1,27 @@
-//! Control and board, which are all of the server's state.
+//! Control, listeners and parts, which are all of the server's state.
 
 ghost use Rattle.std.specs.Prelude.{◌≡◌};
 ghost use Rattle.std.specs.Option.{option_copied};
 ghost use Rattle.radio_seats.specs.Seats.{last_mount_of};
 ghost use Rattle.radio_house.specs.World.{opening};
 
-use crate::board::Board;
 use radio_access::Lists;
+use radio_attached::Listeners;
 use radio_house::{Control, House};
 use radio_settings::Settings;
 use radio_values::MountName;
 use std::alloc::Global;
 use std::marker::Model;
 
-/// All of the server's state: what is kept of all mounts together, and what goes by mounts. Contracts
-/// see it as a `World` in which of each stream the last blocks are kept. Each live mount is prepared
-/// for listeners, and as long as there are some, so is each that waits for a session.
+/// All of the server's state: what is kept of all mounts together, the listeners, and the parts of the
+/// mounts with their sessions. Contracts see it as a `World` in which of each stream the last blocks
+/// are kept. Each live mount is prepared for listeners, and as long as there are some, so is each that
+/// waits for a session. The control notes of each session its mount and its number.
 pub(crate) struct State {
     pub(crate) alloc: Global,
     pub(crate) control: Control,
-    pub(crate) board: Board,
+    /// The listeners, with the parts of the mounts.
+    pub(crate) listeners: Listeners,
 }
 
 impl Drop for State {
@@ -27,15 +29,16 @@ impl Drop for State {
         let State {
             alloc: _,
             control,
-            board,
+            listeners,
         } = self;
         drop(control);
-        drop(board);
+        drop(listeners);
     }
 }
 
 impl Model for State {
     ghost use Rattle.radio_house.specs.Control.{house_of};
+    ghost use Rattle.radio_house.specs.Live.{AreLive};
     ghost use Rattle.radio_house.specs.World.{World, world};
     ghost use Rattle.radio_parts.specs.Prepared.{LiveArePrepared};
     ghost use Rattle.radio_changes.specs.Prepared.{OnDemandArePrepared};
@@ -46,9 +49,9 @@ impl Model for State {
 
     ghost coded = { Prim.hlevel (codes, creds_users.the_row.coded) };
 
-    ghost view = { λ c. world (house_of c.control c.board.sessions) c.board.seats.seats };
+    ghost view = { λ c. world (house_of c.control c.listeners.live) c.listeners.seats };
 
-    ghost invariant = { λ c. LiveArePrepared c.board.sessions c.board.seats.prepared × OnDemandArePrepared c.control.settings c.board.seats };
+    ghost invariant = { λ c. (LiveArePrepared c.listeners.live c.listeners.prepared × OnDemandArePrepared c.control.settings c.listeners) × AreLive c.control.live c.listeners.live };
 }
 
 impl State {
@@ -59,7 +62,7 @@ impl State {
         State {
             alloc,
             control: Control::new(alloc, settings, lists),
-            board: Board::new(alloc),
+            listeners: Listeners::new(alloc),
         }
     }
 
@@ -67,7 +70,7 @@ impl State {
     pub(crate) fn house(&self) -> House<'_>
         ensures { result ≡ self.now.house }
     {
-        House::of(&self.control, &self.board.sessions)
+        House::of(&self.control, self.listeners.parts())
     }
 
     /// The mount where the listener of this number sits, or sat last; none where there is no such
@@ -75,6 +78,6 @@ impl State {
     pub(crate) fn last_mount(&self, id: u64) -> Option<&MountName>
         ensures { option_copied result ≡ last_mount_of self.now.seats id }
     {
-        self.board.seats.last_mount(id)
+        self.listeners.last_mount(id)
     }
 }

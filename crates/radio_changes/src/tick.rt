@@ -25,8 +25,7 @@ impl State {
     {
         let settings = self.control.settings();
         let now = self.control.time();
-        self.board
-            .seats
+        self.listeners
             .finish_if(&HasSatOut { settings, now }, Rule::TimeOver);
     }
 

@@ -1,6 +1,7 @@
 //! The state, with a moment before which a clock ends nobody.
 
-ghost use Rattle.std.specs.Prelude.{◌≡◌, IsOk, IfOk, OnOk, OnErr};
+ghost use Rattle.std.specs.Prelude.{◌≡◌, true, IsOk, IfOk, OnOk, OnErr};
+ghost use Rattle.radio_seats.specs.Seats.{sits_at};
 ghost use Rattle.radio_changes.specs.Changes.{ticked, NeedsNoMemory};
 ghost use Rattle.radio_changes.specs.Counts.{counted};
 ghost use Rattle.radio_changes.specs.Due.{at_moment, due_by};
@@ -13,12 +14,13 @@ use crate::change::Change;
 use crate::commit::NOBODY;
 use crate::state::State;
 use radio_access::Lists;
+use radio_attached::Listeners;
 use radio_blocks::Place;
 use radio_fallback::Carried;
 use radio_house::House;
-use radio_listeners::Seats;
 use radio_parts::{LAST_MOMENT, due_at, seat_due};
 use radio_settings::Settings;
+use radio_values::MountName;
 use std::alloc::Global;
 use std::marker::Model;
 
@@ -71,10 +73,11 @@ impl TimedState {
     }
 
     /// The table of listeners.
-    pub fn seats(&self) -> &Seats
-        ensures { result.now.seats ≡ self.now.seats }
+    pub fn seats(&self) -> &Listeners
+        ensures seats { result.now.seats ≡ self.now.seats }
+        ensures live { result.now.live ≡ self.now.house.live }
     {
-        &self.state.board.seats
+        &self.state.listeners
     }
 
     /// Makes a change, and answers how many listeners it has moved and finished. `OutOfMemory` where
@@ -94,11 +97,13 @@ impl TimedState {
         }
     }
 
-    /// The listener has heard his stream up to this place. It takes no memory, and nothing is due by it.
-    pub fn advance(&mut self, id: u64, place: Place)
+    /// The listener, which sits at this mount, has heard its stream up to this place. It takes no
+    /// memory, and nothing is due by it. The mount is named, so that its seat is not looked up again.
+    pub fn advance_at(&mut self, mount: &MountName, id: u64, place: Place)
+        requires { sits_at self.old.seats id mount.now ≡ true }
         ensures { self.new ≡ kept_changed self.old (Change.Advance id place) }
     {
-        self.state.advance(id, place);
+        self.state.advance_at(mount, id, place);
     }
 
     /// Makes a change, and notes when what it brings is due; answers how many listeners it has moved
@@ -154,6 +159,6 @@ impl State {
     fn first_due(&self) -> u64
         ensures { result ≡ first_due self.now }
     {
-        self.house().first_due(&self.board.seats)
+        self.house().first_due(&self.listeners)
     }
 }

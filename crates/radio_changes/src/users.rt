@@ -44,7 +44,7 @@ impl State {
     {
         Carried {
             moved: 0,
-            ended: self.control.end_outsiders(&mut self.board.seats, mount),
+            ended: self.control.end_outsiders(&mut self.listeners, mount),
         }
     }
 }

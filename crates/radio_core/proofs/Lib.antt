@@ -12,6 +12,7 @@ mod KeptSights
 mod KeptSteps
 mod LentState
 pub mod DrawLemmas
+mod SeatedDraws
 pub mod ChangedUsers
 pub mod ListsSteps
 pub mod Obeyed
@@ -47,3 +48,4 @@ pub mod TickLemmas
 pub mod TotalLemmas
 mod UpdatedSessions
 pub mod Ways
+pub mod Threads

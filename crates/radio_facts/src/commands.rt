@@ -7,10 +7,10 @@ ghost use Rattle.radio_house.specs.World.{world};
 ghost use Rattle.radio_facts.specs.CommandFacts.{opened_by, opener_in, opens, opens_as_source, is_live, sits_at, needs_of, facts_for, access_to, facts_to_list, facts_asked};
 
 use radio_access::{is_admin_pair, is_named_source_pair, is_relay_pair};
+use radio_attached::Listeners;
 use radio_creds::Pair;
 use radio_events::{Asked, Command, Listing, OpenedBy};
 use radio_house::House;
-use radio_listeners::Seats;
 use radio_policy::{CommandAccess, CommandFacts, CommandNeeds, DestinationFacts, Opener};
 use radio_settings::Settings;
 use radio_values::MountName;
@@ -19,7 +19,7 @@ use radio_values::MountName;
 /// this, beside the listeners; `None` where the path names no command.
 pub fn command_facts(
     house: &House<'_>,
-    seats: &Seats,
+    seats: &Listeners,
     asked: &Asked,
     pair: Option<&Pair>,
 ) -> Option<CommandFacts>
@@ -68,7 +68,7 @@ fn facts_to_list(house: &House<'_>, listing: &Listing, pair: Option<&Pair>) -> C
 }
 
 /// What the command needs, and whether it is there.
-fn needs_of(house: &House<'_>, seats: &Seats, command: &Command) -> CommandNeeds
+fn needs_of(house: &House<'_>, seats: &Listeners, command: &Command) -> CommandNeeds
     ensures { result ≡ needs_of (world house.now seats.now.seats) command.now }
 {
     match command {
@@ -181,7 +181,7 @@ fn opens_as_source(settings: &Settings, by: &OpenedBy, pair: Option<&Pair>) -> b
 }
 
 /// Whether the listener of this number sits at the mount.
-fn sits_at(seats: &Seats, mount: &MountName, id: u64) -> bool
+fn sits_at(seats: &Listeners, mount: &MountName, id: u64) -> bool
     ensures { result ≡ sits_at seats.now.seats mount.now id }
 {
     match seats.seat(id) {

@@ -6,12 +6,12 @@ ghost use Rattle.radio_house.specs.Facts.{arrive_facts, source_facts_at, relay_f
 
 use radio_access::{is_refused_type, is_source_pair};
 use radio_addr::Peer;
+use radio_attached::Listeners;
 use radio_blocks::Block;
 use radio_creds::Pair;
 use radio_events::SourceRequest;
-use radio_fallback::{Landing, Walk, walk_from};
+use radio_fallback::{Landing, Walk};
 use radio_house::House;
-use radio_listeners::Seats;
 use radio_policy::{ArriveFacts, ListenFacts, PushFacts, RelayFacts, SourceFacts};
 use radio_settings::Settings;
 use radio_values::{MountName, Shown};
@@ -79,14 +79,14 @@ pub fn push_facts(house: &House<'_>, mount: &MountName, block: &Block) -> PushFa
 /// walk looks for a seat: two at the most.
 pub fn listen_facts(
     house: &House<'_>,
-    seats: &Seats,
+    seats: &Listeners,
     mount: &MountName,
     pair: Option<&Pair>,
 ) -> (ListenFacts, Landing)
     ensures facts { result.0 ≡ listen_facts_at house.now seats.now.seats mount.now (option_copied pair.entry) }
     ensures landing { result.1 ≡ walks_to house.now seats.now.seats mount.now (option_copied pair.entry) }
 {
-    let Walk { first, landing } = walk_from(house, seats, mount, pair);
+    let Walk { first, landing } = house.walk_from(seats, mount, pair);
     let facts = ListenFacts {
         mount_is_known: is_known(house, mount),
         users_accept: first.users_accept,
@@ -107,8 +107,7 @@ fn is_known(house: &House<'_>, mount: &MountName) -> bool
 fn sources_are_full(house: &House<'_>) -> bool
     ensures { result ≡ is_full (length house.now.live) house.now.settings.limits.sources }
 {
-    let count = house.sessions().len() as u64;
-    is_full(count, house.settings().limits.sources.get())
+    is_full(house.live_count(), house.settings().limits.sources.get())
 }
 
 /// Whether there are as many as there may be.

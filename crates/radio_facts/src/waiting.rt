@@ -7,8 +7,8 @@ ghost use Rattle.radio_facts.specs.Wanted.{is_wanted, wanted, with_wanted};
 
 use crate::OutOfMemory;
 use crate::streams::shown_for;
+use radio_attached::Listeners;
 use radio_house::House;
-use radio_listeners::Seats;
 use radio_parts::Session;
 use radio_settings::RelaySetting;
 use radio_values::{MountName, Shown};
@@ -32,7 +32,7 @@ pub fn silence(alloc: Global, house: &House<'_>, mount: MountName) -> Result<Ses
 pub fn wanted(
     alloc: Global,
     house: &House<'_>,
-    seats: &Seats,
+    seats: &Listeners,
 ) -> Result<Vec<MountName>, OutOfMemory>
     ensures { IfOk result (λ mounts. mounts.items ≡ wanted (world house.now seats.now.seats)) }
 {
@@ -45,7 +45,7 @@ pub fn wanted(
 fn wanted_among(
     alloc: Global,
     relays: &[RelaySetting],
-    seats: &Seats,
+    seats: &Listeners,
 ) -> Result<BTreeSet<MountName>, OutOfMemory>
     ensures { IfOk result (λ names. names.keys ≡ fold (with_wanted seats.now.seats) [] relays.now) }
 {
@@ -60,7 +60,7 @@ fn wanted_among(
 /// `OutOfMemory` where memory was refused.
 fn add_wanted(
     names: &mut BTreeSet<MountName>,
-    seats: &Seats,
+    seats: &Listeners,
     relay: &RelaySetting,
 ) -> Result<(), OutOfMemory>
     ensures { OnOk result (names.new.keys ≡ with_wanted seats.now.seats names.old.keys relay.now) }
@@ -83,7 +83,7 @@ fn names_of(alloc: Global, names: &BTreeSet<MountName>) -> Result<Vec<MountName>
 }
 
 /// Whether the relay is on demand, and somebody sits at the mount that it feeds.
-fn is_wanted(seats: &Seats, relay: &RelaySetting) -> bool
+fn is_wanted(seats: &Listeners, relay: &RelaySetting) -> bool
     ensures { result ≡ is_wanted seats.now.seats relay.now }
 {
     relay.on_demand && seats.count(&relay.local_mount) > 0

@@ -7,3 +7,4 @@ pub mod Faring
 pub mod MovedCounts
 pub mod HeardLemmas
 pub mod FitsLemmas
+pub mod EndLemmas

@@ -5,11 +5,17 @@ use Rattle.radio_creds.specs.Credentials.{Credentials}
 use Rattle.radio_policy.specs.declared.rule.Rule.{Rule}
 use Rattle.radio_policy.specs.declared.rule.Rule.TheVariants.{NotLive, MountFull, ListenerPassword, UserTwice, FallbackDepth}
 use Rattle.radio_seats.specs.declared.seat.Listener.{Listener}
-use Rattle.radio_fallback.specs.declared.view.StreamEnd.{StreamEnd}
 use Rattle.radio_fallback.specs.declared.walking.Found.{Found}
 use Rattle.radio_fallback.specs.declared.walking.Landing.{Landing}
 use Rattle.radio_fallback.specs.declared.walking.Landing.TheVariants.{Lands, Stops}
 use Rattle.radio_seats.specs.Seats.{count_at, sits_there}
+
+-- the end of the stream of a mount where one may sit
+pub record StreamEnd : Type 0 where
+  -- the number of the mount's session; 0 if it waits for one
+  pub session : ℕ
+  -- the place behind the last byte of its stream
+  pub place : ℕ
 
 -- what a walk sees of the server
 pub record Sight : Type 0 where
@@ -27,6 +33,10 @@ pub record Sight : Type 0 where
   pub hands_on_when_full : List ℕ → Bool
   -- where the stream of a live mount ends
   pub stream_end : List ℕ → StreamEnd
+
+-- what a walk sees if the streams end at these places
+abbrev pub with_ends : Sight → (List ℕ → ℕ) → Sight
+with_ends sight ends = record sight { stream_end = λ mount. record { session = (sight.stream_end mount).session; place = ends mount } }
 
 -- so many sit there as may
 abbrev pub is_full : ℕ → Option ℕ → Bool

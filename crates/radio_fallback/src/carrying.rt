@@ -5,6 +5,8 @@ ghost use Rattle.radio_seats.specs.Board.{is_prepared};
 ghost use Rattle.radio_seats.specs.Seats.{AreByNumber, listener_of, last_mount_of};
 ghost use Rattle.radio_fallback.specs.Carry.{turn_of, after_turn, carried};
 ghost use Rattle.radio_fallback.specs.Heard.{heard, OthersStay, IsAt, Fits, GoesOver, GoesOff};
+ghost use Rattle.radio_fallback.specs.Walk.{with_ends};
+ghost use Rattle.radio_parts.specs.Parts.{ends_in};
 
 use crate::moves::Turn;
 use crate::walker::Walker;
@@ -26,14 +28,15 @@ pub fn carry<V: View, A: Attachments>(
     // live mounts are prepared, and have parts
     requires prepared { (mount : _) → (V.sight view.now).is_live mount ≡ true → is_prepared seats.old.prepared mount ≡ true }
     requires parts { (mount : _) → (V.sight view.now).is_live mount ≡ true → A.has_part attached.old mount ≡ true }
-    ensures seats { seats.new ≡ record seats.old { seats = (carried (V.sight view.now) moving.now seats.old.seats).seats } }
-    ensures counts { result ≡ (carried (V.sight view.now) moving.now seats.old.seats).counts }
+    ensures seats { seats.new ≡ record seats.old { seats = (carried (with_ends (V.sight view.now) (ends_in (A.live attached.old))) moving.now seats.old.seats).seats } }
+    ensures counts { result ≡ (carried (with_ends (V.sight view.now) (ends_in (A.live attached.old))) moving.now seats.old.seats).counts }
     // with the places that the attachments have, they are the definition's too
-    ensures heard { heard (A.places attached.new) seats.new.seats ≡ (carried (V.sight view.now) moving.now (heard (A.places attached.old) seats.old.seats)).seats }
-    ensures heard_counts { result ≡ (carried (V.sight view.now) moving.now (heard (A.places attached.old) seats.old.seats)).counts }
+    ensures heard { heard (A.places attached.new) seats.new.seats ≡ (carried (with_ends (V.sight view.now) (ends_in (A.live attached.old))) moving.now (heard (A.places attached.old) seats.old.seats)).seats }
+    ensures heard_counts { result ≡ (carried (with_ends (V.sight view.now) (ends_in (A.live attached.old))) moving.now (heard (A.places attached.old) seats.old.seats)).counts }
     // if attached to each mount is who sits there, and nobody else, that holds afterwards
     ensures fits { Fits (A.places attached.old) seats.old.seats → Fits (A.places attached.new) seats.new.seats }
     ensures parts { (mount : _) → A.has_part attached.new mount ≡ A.has_part attached.old mount }
+    ensures live { A.live attached.new ≡ A.live attached.old }
 {
     // so many fit
     let _ = seats.len();
@@ -59,18 +62,19 @@ fn take_turn<V: View, A: Attachments>(
     requires parts { (mount : _) → (V.sight view.now).is_live mount ≡ true → A.has_part attached.old mount ≡ true }
     requires room { counts.moved + counts.ended + 1 < 2 ^ 64 }
     requires rising { AreByNumber seats.old.seats }
-    ensures seats { seats.new ≡ record seats.old { seats = (after_turn (V.sight view.now) id (record { seats = seats.old.seats; counts = counts }) (turn_of (V.sight view.now) moving.now seats.old.seats id)).seats } }
-    ensures counts { result ≡ (after_turn (V.sight view.now) id (record { seats = seats.old.seats; counts = counts }) (turn_of (V.sight view.now) moving.now seats.old.seats id)).counts }
-    ensures heard { heard (A.places attached.new) seats.new.seats ≡ (after_turn (V.sight view.now) id (record { seats = heard (A.places attached.old) seats.old.seats; counts = counts }) (turn_of (V.sight view.now) moving.now (heard (A.places attached.old) seats.old.seats) id)).seats }
+    ensures seats { seats.new ≡ record seats.old { seats = (after_turn (with_ends (V.sight view.now) (ends_in (A.live attached.old))) id (record { seats = seats.old.seats; counts = counts }) (turn_of (with_ends (V.sight view.now) (ends_in (A.live attached.old))) moving.now seats.old.seats id)).seats } }
+    ensures counts { result ≡ (after_turn (with_ends (V.sight view.now) (ends_in (A.live attached.old))) id (record { seats = seats.old.seats; counts = counts }) (turn_of (with_ends (V.sight view.now) (ends_in (A.live attached.old))) moving.now seats.old.seats id)).counts }
+    ensures heard { heard (A.places attached.new) seats.new.seats ≡ (after_turn (with_ends (V.sight view.now) (ends_in (A.live attached.old))) id (record { seats = heard (A.places attached.old) seats.old.seats; counts = counts }) (turn_of (with_ends (V.sight view.now) (ends_in (A.live attached.old))) moving.now (heard (A.places attached.old) seats.old.seats) id)).seats }
     ensures fits { Fits (A.places attached.old) seats.old.seats → Fits (A.places attached.new) seats.new.seats }
     ensures parts { (mount : _) → A.has_part attached.new mount ≡ A.has_part attached.old mount }
+    ensures live { A.live attached.new ≡ A.live attached.old }
 {
     match turn_of(view, seats, moving, id) {
         Turn::Stays => counts,
         Turn::GoesTo(mount) => {
-            let end = view.stream_end(&mount);
-            attach_elsewhere(attached, seats, id, &mount, end.place);
-            seats.shift(id, &mount, end.session, end.place);
+            let session = view.session_number(&mount);
+            let place = attach_elsewhere(attached, seats, id, &mount);
+            seats.shift(id, &mount, session, place);
             Carried {
                 moved: counts.moved + 1,
                 ended: counts.ended,
@@ -107,23 +111,25 @@ fn turn_of<V: View>(view: &V, seats: &Seats, moving: &Move, id: u64) -> Turn
     moving.turn(&walker, pair)
 }
 
-/// Moves the listener's attachment from where it sits to this mount and place. Nothing changes if
-/// there is no such listener.
+/// Moves the listener's attachment from where it sits to the end of this mount's stream, and returns
+/// that place. Nothing changes if there is no such listener, and the place is 0 then.
 fn attach_elsewhere<A: Attachments>(
     attached: &mut A,
     seats: &Seats,
     id: u64,
     to: &MountName,
-    place: Place,
-)
+) -> Place
+    ensures end { IsSome (listener_of seats.now.seats id) → result ≡ ends_in (A.live attached.old) to.now }
     ensures others { OthersStay (A.places attached.old) (A.places attached.new) id }
-    ensures there { IsSome (listener_of seats.now.seats id) → IsAt (A.places attached.new to.now id) place }
+    ensures there { IsSome (listener_of seats.now.seats id) → IsAt (A.places attached.new to.now id) (ends_in (A.live attached.old) to.now) }
     ensures over { (from : _) → last_mount_of seats.now.seats id ≡ Some from → A.has_part attached.old to.now ≡ true
         → GoesOver (A.places attached.old) (A.places attached.new) id from to.now }
     ensures parts { (mount : _) → A.has_part attached.new mount ≡ A.has_part attached.old mount }
+    ensures live { A.live attached.new ≡ A.live attached.old }
 {
-    if let Some(from) = seats.last_mount(id) {
-        attached.shift(id, from, to, place);
+    match seats.last_mount(id) {
+        Some(from) => attached.shift(id, from, to),
+        None => Place::new(0),
     }
 }
 
@@ -132,6 +138,7 @@ fn detach<A: Attachments>(attached: &mut A, seats: &Seats, id: u64)
     ensures others { OthersStay (A.places attached.old) (A.places attached.new) id }
     ensures off { (from : _) → last_mount_of seats.now.seats id ≡ Some from → GoesOff (A.places attached.old) (A.places attached.new) id from }
     ensures parts { (mount : _) → A.has_part attached.new mount ≡ A.has_part attached.old mount }
+    ensures live { A.live attached.new ≡ A.live attached.old }
 {
     if let Some(from) = seats.last_mount(id) {
         attached.detach(id, from);

@@ -22,5 +22,5 @@ pub use laws::{
     each_fares_by_his_turn,
 };
 pub use moves::{Carried, Move, Turn};
-pub use view::{StreamEnd, View};
+pub use view::View;
 pub use walking::{Found, Landing, Walk, walk_from};

@@ -4,18 +4,8 @@ ghost use Rattle.std.specs.Prelude.{◌≡◌};
 ghost use Rattle.std.specs.Option.{option_copied};
 ghost use Rattle.radio_fallback.specs.Walk.{Sight};
 
-use radio_blocks::Place;
 use radio_creds::Pair;
 use radio_values::MountName;
-
-/// The end of the stream of a mount where one may sit.
-#[derive(Clone, Copy)]
-pub struct StreamEnd {
-    /// The number of the mount's session; 0 where it waits for one.
-    pub session: u64,
-    /// The place behind the last byte of its stream.
-    pub place: Place,
-}
 
 /// What a walk asks of the server.
 pub trait View {
@@ -46,7 +36,8 @@ pub trait View {
     fn hands_on_when_full(&self, mount: &MountName) -> bool
         ensures { result ≡ (sight self.now).hands_on_when_full mount.now };
 
-    /// Where the stream of the mount ends; nobody asks it of a mount that is not live.
-    fn stream_end(&self, mount: &MountName) -> StreamEnd
-        ensures { result ≡ (sight self.now).stream_end mount.now };
+    /// Returns the number of the mount's session; 0 if the mount waits for one. Nobody asks it of a
+    /// mount that is not live.
+    fn session_number(&self, mount: &MountName) -> u64
+        ensures { result ≡ ((sight self.now).stream_end mount.now).session };
 }

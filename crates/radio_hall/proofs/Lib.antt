@@ -1,1 +1,2 @@
 mod PassLemmas
+pub mod Threads

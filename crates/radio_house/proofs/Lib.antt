@@ -1,3 +1,4 @@
+pub mod LiveMounts
 pub mod Lookups
 mod RelayRows
 pub mod TimeoutLemmas

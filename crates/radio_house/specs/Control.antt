@@ -7,12 +7,15 @@ use Rattle.radio_house.specs.Clients.{Client}
 use Rattle.radio_house.specs.Fallbacks.{Fallback}
 use Rattle.radio_house.specs.Relays.{Relay}
 use Rattle.radio_house.specs.House.{House}
+use Rattle.radio_house.specs.declared.live.LiveMount.{LiveMount}
 
--- each field is the house's
+-- each field but `live` is the house's
 pub record Control : Type 0 where
   pub time : ℕ
   pub settings : Settings
   pub lists : Lists
+  -- the mounts that are live, in the order of their names, each with the number of its session
+  pub live : List LiveMount
   pub fallbacks : List Fallback
   pub clients : List Client
   pub relays : List Relay

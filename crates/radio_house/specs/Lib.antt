@@ -7,6 +7,7 @@ pub mod World
 pub mod Streams
 pub mod Waiting
 pub mod Facts
+pub mod Live
 pub mod Timeouts
 pub mod Due
 pub mod HouseChanges

@@ -1,24 +1,27 @@
 //! What can be changed in the control, and in the sessions with it, one change by each call.
 
-ghost use Rattle.std.specs.Prelude.{◌≡◌, map, OnOk, OnErr};
+ghost use Rattle.std.specs.Prelude.{◌≡◌, true, map, OnOk, OnErr};
 ghost use Rattle.std.specs.Option.{option_map};
 ghost use Rattle.radio_access.specs.Lists.{with_user_at, without_user_at};
 ghost use Rattle.radio_house.specs.Clients.{newcomer, in_state, with_client, without_client};
-ghost use Rattle.radio_house.specs.Control.{house_of};
 ghost use Rattle.radio_house.specs.Fallbacks.{with_fallback};
-ghost use Rattle.radio_house.specs.HouseChanges.{begun, raised};
-ghost use Rattle.radio_house.specs.Relays.{Relay as RelayOf, relay_of, with_relay_ended, without_relay, put_back};
+ghost use Rattle.radio_house.specs.Live.{with_live};
+ghost use Rattle.radio_parts.specs.Sessions.{opened, with_session};
+ghost use Rattle.radio_seats.specs.Board.{is_prepared};
+ghost use Rattle.radio_house.specs.Relays.{Relay as RelayOf, relay_of, risen, with_relay, with_relay_ended, without_relay, put_back};
 ghost use Rattle.radio_house.specs.Timeouts.{timed_out};
-ghost use Rattle.radio_house.specs.declared.clients.ClientState.TheVariants.{Ended};
+ghost use Rattle.radio_house.specs.declared.clients.ClientState.TheVariants.{Ended, Feeds};
 
 use crate::OutOfMemory;
 use crate::clients::{Client, ClientState, SetState};
 use crate::control::Control;
 use crate::fallbacks::Fallback;
+use crate::live::LiveMount;
 use crate::relays::{Relay, RelayState, SetRelayState};
-use crate::sessions::Sessions;
 use crate::timeouts::TimesOut;
 use radio_addr::Peer;
+use radio_attached::Listeners;
+use radio_parts::Session;
 use radio_policy::Rule;
 use radio_tables::Table;
 use radio_values::{MountName, Shown};
@@ -48,39 +51,46 @@ impl Control {
         Ok(())
     }
 
-    /// The client feeds the mount from now on. `OutOfMemory` where memory was refused; nothing has
-    /// changed then.
+    /// Begins a session on the mount, which the client feeds. `OutOfMemory` if memory was refused;
+    /// nothing has changed then.
     pub fn begin(
         &mut self,
-        sessions: &mut Sessions,
+        seats: &mut Listeners,
         alloc: Global,
         id: u64,
         mount: MountName,
         shown: Shown,
     ) -> Result<(), OutOfMemory>
-        ensures ok { OnOk result (house_of self.new sessions.new ≡ begun (house_of self.old sessions.old) id mount shown) }
+        requires { is_prepared seats.old.prepared mount ≡ true }
+        ensures ok { OnOk result (self.new ≡ record self.old { clients = in_state self.old.clients id (Feeds mount); live = with_live self.old.live (record { mount = mount; number = id }) }) }
+        ensures seats { OnOk result (seats.new ≡ record seats.old { live = with_session seats.old.live (opened mount id shown self.old.time) }) }
         ensures err { OnErr result (self.new ≡ self.old) }
-        ensures err_sessions { OnErr result (sessions.new ≡ sessions.old) }
+        ensures err_seats { OnErr result (seats.new ≡ seats.old) }
     {
-        sessions.open(alloc, mount, id, shown, self.time)?;
+        let session = Session::new(alloc, mount, id, shown, self.time)?;
+        self.live.insert(LiveMount { mount, number: id })?;
+        seats.open(session);
         self.set_state(id, ClientState::Feeds(mount));
         Ok(())
     }
 
-    /// A relay has come up with this number, and feeds the mount from now on. `OutOfMemory` where
-    /// memory was refused; nothing has changed then.
+    /// Begins a session on the mount, which a relay feeds that has come up with this number.
+    /// `OutOfMemory` if memory was refused; nothing has changed then.
     pub fn raise(
         &mut self,
-        sessions: &mut Sessions,
+        seats: &mut Listeners,
         alloc: Global,
         id: u64,
         mount: MountName,
         shown: Shown,
     ) -> Result<(), OutOfMemory>
-        ensures ok { OnOk result (house_of self.new sessions.new ≡ raised (house_of self.old sessions.old) id mount shown) }
+        requires { is_prepared seats.old.prepared mount ≡ true }
+        ensures ok { OnOk result (self.new ≡ record self.old { relays = with_relay self.old.relays (risen id mount); live = with_live self.old.live (record { mount = mount; number = id }); last_id = id }) }
+        ensures seats { OnOk result (seats.new ≡ record seats.old { live = with_session seats.old.live (opened mount id shown self.old.time) }) }
         ensures err { OnErr result (self.new ≡ self.old) }
-        ensures err_sessions { OnErr result (sessions.new ≡ sessions.old) }
+        ensures err_seats { OnErr result (seats.new ≡ seats.old) }
     {
+        let session = Session::new(alloc, mount, id, shown, self.time)?;
         let before = relay_state(&self.relays, id);
         // their numbers rise, so that what is put back is what was there
         let _relays = self.relays.len();
@@ -88,12 +98,14 @@ impl Control {
             id,
             state: RelayState::Feeds(mount),
         })?;
-        match sessions.open(alloc, mount, id, shown, self.time) {
+        match self.live.insert(LiveMount { mount, number: id }) {
             Ok(()) => {
+                seats.open(session);
                 self.last_id = id;
                 Ok(())
             }
             Err(refused) => {
+                drop(session);
                 put_relay_back(&mut self.relays, id, before);
                 Err(refused)
             }

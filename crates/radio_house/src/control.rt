@@ -6,6 +6,7 @@ ghost use Rattle.radio_house.specs.World.{opening};
 
 use crate::clients::Client;
 use crate::fallbacks::Fallback;
+use crate::live::LiveMount;
 use crate::relays::Relay;
 use radio_access::Lists;
 use radio_settings::Settings;
@@ -13,14 +14,16 @@ use radio_tables::Table;
 use std::alloc::Global;
 use std::marker::Model;
 
-/// What is kept of all mounts together: the moment, the settings and their lists, the fallbacks that
-/// were set, clients, relays, and the number that was given last.
+/// What is kept of all mounts together: the moment, the settings and their lists, which mounts are
+/// live, the fallbacks that were set, clients, relays, and the number that was given last.
 pub struct Control {
     /// The moment, in milliseconds.
     pub(crate) time: u64,
     pub(crate) settings: Settings,
     /// What the files that the settings name hold, and the users who were set or taken away since.
     pub(crate) lists: Lists,
+    /// The mounts that are live, in the order of their names.
+    pub(crate) live: Table<LiveMount>,
     /// The fallbacks that commands have set, in the order of their mounts' names.
     pub(crate) fallbacks: Table<Fallback>,
     /// The clients, in the order of their numbers.
@@ -37,6 +40,7 @@ impl Drop for Control {
             time: _,
             settings,
             lists,
+            live,
             fallbacks,
             clients,
             relays,
@@ -44,6 +48,7 @@ impl Drop for Control {
         } = self;
         drop(settings);
         drop(lists);
+        drop(live);
         drop(fallbacks);
         drop(clients);
         drop(relays);
@@ -63,6 +68,7 @@ impl Model for Control {
       time = c.time;
       settings = c.settings;
       lists = c.lists;
+      live = c.live;
       fallbacks = c.fallbacks;
       clients = c.clients;
       relays = c.relays;
@@ -73,12 +79,14 @@ impl Model for Control {
 impl Control {
     /// Nothing has happened yet. It takes no memory.
     pub fn new(alloc: Global, settings: Settings, lists: Lists) -> Control
-        ensures { house_of result [] ≡ (opening settings lists).house }
+        ensures house { house_of result [] ≡ (opening settings lists).house }
+        ensures live { result.live ≡ [] }
     {
         Control {
             time: 0,
             settings,
             lists,
+            live: Table::new(alloc),
             fallbacks: Table::new(alloc),
             clients: Table::new(alloc),
             relays: Table::new(alloc),

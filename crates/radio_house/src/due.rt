@@ -9,17 +9,17 @@ ghost use Rattle.radio_house.specs.World.{world};
 use crate::clients::{Client, ClientState};
 use crate::control::Control;
 use crate::house::House;
-use radio_listeners::Seats;
-use radio_parts::{GuestDue, LAST_MOMENT, due_at, first_session_due};
+use radio_attached::Listeners;
+use radio_parts::{GuestDue, LAST_MOMENT, due_at};
 
 impl House<'_> {
     /// The earliest moment at which a client, one of these listeners, or a session is due, in
     /// milliseconds. The time grows as their number.
-    pub fn first_due(&self, seats: &Seats) -> u64
+    pub fn first_due(&self, seats: &Listeners) -> u64
         ensures { result ≡ first_due (world self.now seats.now.seats) }
     {
         let seconds = self.settings().limits.source_timeout.get();
-        let sessions = first_session_due(self.sessions(), seconds);
+        let sessions = self.parts.first_session_due(seconds);
         let others = self.control.first_listener_due(seats).min(sessions);
         self.control.first_client_due().min(others)
     }
@@ -36,7 +36,7 @@ impl Control {
         )
     }
 
-    fn first_listener_due(&self, seats: &Seats) -> u64
+    fn first_listener_due(&self, seats: &Listeners) -> u64
         ensures { result ≡ first_moment (guest_due self.now.settings) last_moment seats.now.seats }
     {
         let settings = &self.settings;

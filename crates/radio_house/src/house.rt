@@ -8,16 +8,16 @@ ghost use Rattle.std.specs.Ordering.{nat_cmp};
 ghost use Rattle.radio_parts.specs.Sessions.{Session as SessionOf, session_of};
 ghost use Rattle.radio_parts.specs.Timeouts.{is_silent};
 ghost use Rattle.radio_house.specs.Control.{house_of};
-ghost use Rattle.radio_house.specs.Facts.{largest_number, live_end, live_number};
+ghost use Rattle.radio_house.specs.Facts.{largest_number, live_end};
+ghost use Rattle.radio_house.specs.Live.{AreLive};
 
 use crate::OutOfMemory;
 use crate::control::Control;
-use crate::sessions::Sessions;
 use radio_access::Lists;
-use radio_parts::{Session, first_silent};
+use radio_mounts::MountParts;
+use radio_parts::Session;
 use radio_seats::KeptName;
 use radio_settings::Settings;
-use radio_tables::Table;
 use radio_values::MountName;
 use std::alloc::Global;
 use std::marker::Model;
@@ -27,12 +27,13 @@ use std::marker::Model;
 #[derive(Drop)]
 pub struct House<'a> {
     pub(crate) control: &'a Control,
-    pub(crate) sessions: &'a Sessions,
+    pub(crate) parts: &'a MountParts,
 }
 
 impl<'a> Model for House<'a> {
     ghost use Rattle.radio_house.specs.House.{House};
     ghost use Rattle.radio_house.specs.Control.{house_of};
+    ghost use Rattle.radio_house.specs.Live.{AreLive};
     ghost use Rattle.std.specs.Coded.{codes};
     ghost use Rattle.radio_creds.specs.contracts.user_list.Users as creds_users;
 
@@ -40,15 +41,18 @@ impl<'a> Model for House<'a> {
 
     ghost coded = { Prim.hlevel (codes, creds_users.the_row.coded) };
 
-    ghost view = { λ h. house_of h.control.now h.sessions.now };
+    ghost view = { λ h. house_of h.control.now h.parts.now.live };
+
+    ghost invariant = { λ h. AreLive h.control.now.live h.parts.now.live };
 }
 
 impl<'a> House<'a> {
-    /// The house that has these.
-    pub fn of(control: &'a Control, sessions: &'a Sessions) -> House<'a>
-        ensures { result ≡ house_of control.now sessions.now }
+    /// Returns the house that has these.
+    pub fn of(control: &'a Control, parts: &'a MountParts) -> House<'a>
+        requires { AreLive control.now.live parts.now.live }
+        ensures { result ≡ house_of control.now parts.now.live }
     {
-        House { control, sessions }
+        House { control, parts }
     }
 
     /// The moment, in milliseconds.
@@ -86,42 +90,32 @@ impl<'a> House<'a> {
         self.control.client_count()
     }
 
-    /// The live mounts' sessions, in the order of the mounts' names.
-    pub fn sessions(&self) -> &'a Table<Session>
-        ensures { result.now ≡ self.now.live }
+    /// Returns the parts of the mounts, with the sessions of those that are live.
+    pub fn parts(&self) -> &'a MountParts
+        ensures { result.now.live ≡ self.now.live }
     {
-        self.sessions.all()
+        self.parts
+    }
+
+    /// Returns how many mounts are live.
+    pub fn live_count(&self) -> u64
+        ensures { result ≡ length self.now.live }
+    {
+        self.control.live_count()
     }
 
     /// The session of the mount, if it is live.
     pub fn session(&self, mount: &MountName) -> Option<&'a Session>
         ensures { option_copied result ≡ session_of self.now.live mount.now }
     {
-        self.sessions.session(mount)
-    }
-
-    /// How far the stream of the mount's session goes; 0 where it has none.
-    pub(crate) fn live_end(&self, mount: &MountName) -> u64
-        ensures { result ≡ live_end self.now mount.now }
-    {
-        self.sessions.end_at(mount)
+        self.parts.session(mount)
     }
 
     /// Whether the mount's stream would have more bytes than can be counted with so many more.
     pub fn is_spent_by(&self, mount: &MountName, more: u64) -> bool
         ensures { result ≡ nat_lt largest_number (live_end self.now mount.now + more) }
     {
-        self.sessions.is_spent_by(mount, more)
-    }
-
-    /// The number of the mount's session.
-    pub(crate) fn live_number(&self, mount: &MountName) -> u64
-        ensures { result ≡ live_number self.now mount.now }
-    {
-        match self.session(mount) {
-            Some(session) => session.number,
-            None => 0,
-        }
+        self.parts.is_spent_by(mount, more)
     }
 
     /// The name of the mount, shared with its session where it is live. `OutOfMemory` where memory
@@ -143,6 +137,6 @@ impl<'a> House<'a> {
         ensures rising { IsStrictlySortedBy (slice_cmp nat_cmp) (map (λ (session : SessionOf). session.mount) self.now.live) }
     {
         let seconds = self.settings().limits.source_timeout.get();
-        first_silent(self.sessions(), seconds, self.time())
+        self.parts.first_silent(seconds, self.time())
     }
 }

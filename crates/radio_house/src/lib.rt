@@ -1,16 +1,16 @@
 //! The house, which is the server's state without its listeners: who is there beside them, and what
 //! can be changed in it.
 //!
-//! - [`Control`]: what all mounts share: the moment, the settings and their lists, the fallbacks that
-//!   were set, clients and relays. Each call makes one change; [`Control::begin`] and
-//!   [`Control::raise`] make it in the sessions too, and [`Control::end_outsiders`] among the
-//!   listeners, who are lent.
-//! - [`Sessions`]: the live mounts' sessions, and what can be changed in these.
-//! - [`House`]: both, lent to be looked at by [`House::standing`], [`House::sessions`] and others,
-//!   beside the listeners where these are asked for. It is what a walk sees (`View` of
-//!   `radio_fallback`). What else is looked up in it, for the policy among others, is `radio_facts`'.
-//!   At a mount that a relay feeds on demand listeners may sit while it waits for a session
-//!   ([`House::is_on_demand`], [`House::can_be_heard`]).
+//! - [`Control`]: what all mounts share: the moment, the settings and their lists, which mounts are
+//!   live and who feeds them, the fallbacks that were set, clients and relays. Each call makes one
+//!   change; [`Control::begin`] and [`Control::raise`] make it in the sessions too, and
+//!   [`Control::end_outsiders`] among the listeners, who are lent. It is what a walk sees (`View` of
+//!   `radio_fallback`).
+//! - [`House`]: the control and the parts of the mounts, lent to be looked at by [`House::standing`],
+//!   [`House::session`] and others, beside the listeners where these are asked for. What else is
+//!   looked up in it, for the policy among others, is `radio_facts`'. At a mount that a relay feeds on
+//!   demand listeners may sit while it waits for a session ([`House::is_on_demand`],
+//!   [`Control::can_be_heard`]).
 //! - [`ClientState`], [`RelayState`], [`Standing`]: what clients and relays do, and how they stand.
 #![tactic(auto)]
 
@@ -20,9 +20,9 @@ mod control;
 mod due;
 mod fallbacks;
 mod house;
+mod live;
 mod outsiders;
 mod relays;
-mod sessions;
 mod sight;
 mod standing;
 mod timeouts;
@@ -32,7 +32,6 @@ pub use clients::ClientState;
 pub use control::Control;
 pub use house::House;
 pub use relays::RelayState;
-pub use sessions::Sessions;
 pub use standing::Standing;
 
 /// What a call answers where memory was refused. Nothing has changed then, unless it is said.

@@ -8,8 +8,7 @@ ghost use Rattle.radio_house.specs.Outsiders.{is_shut_out};
 
 use crate::control::Control;
 use radio_access::Lists;
-use radio_blocks::Place;
-use radio_listeners::Seats;
+use radio_attached::Listeners;
 use radio_policy::Rule;
 use radio_seats::{Guest, SeatTest};
 use radio_values::MountName;
@@ -25,9 +24,9 @@ impl SeatTest for IsShutOut<'_> {
     ghost use Rattle.std.specs.Prelude.{not};
     ghost use Rattle.radio_access.specs.Lists.{lets_in};
 
-    ghost passes = { λ test place guest. not (lets_in test.lists.now test.mount.now guest.pair) };
+    ghost passes = { λ test guest. not (lets_in test.lists.now test.mount.now guest.pair) };
 
-    fn passes(&self, _place: Place, guest: &Guest) -> bool {
+    fn passes(&self, guest: &Guest) -> bool {
         !self.lists.lets_in(self.mount, guest.pair.as_ref())
     }
 }
@@ -35,7 +34,7 @@ impl SeatTest for IsShutOut<'_> {
 impl Control {
     /// Those lose their seats at the mount whom its users do not let in; how many they are. It takes
     /// no memory.
-    pub fn end_outsiders(&self, seats: &mut Seats, mount: &MountName) -> u64
+    pub fn end_outsiders(&self, seats: &mut Listeners, mount: &MountName) -> u64
         ensures seats { seats.new ≡ record seats.old { seats = with_ended seats.old.seats (is_shut_out self.now.lists mount.now) RuleOf.ListenerPassword } }
         ensures count { result ≡ how_many (is_shut_out self.now.lists mount.now) seats.old.seats }
     {

@@ -1,27 +1,29 @@
-//! What a walk sees of the house.
+//! What a walk sees of the control.
 
 ghost use Rattle.std.specs.Prelude.{◌≡◌};
 ghost use Rattle.std.specs.Option.{option_copied};
 ghost use Rattle.radio_settings.specs.Options.{options_for};
-ghost use Rattle.radio_house.specs.Facts.{fallback_of};
+ghost use Rattle.radio_fallback.specs.Walk.{found_at};
+ghost use Rattle.radio_house.specs.Facts.{fallback_of, sight_of, walks_to};
+ghost use Rattle.radio_house.specs.Live.{bare_house};
 
+use crate::control::Control;
 use crate::house::House;
-use radio_blocks::Place;
+use radio_attached::Listeners;
 use radio_creds::Pair;
-use radio_fallback::{StreamEnd, View};
+use radio_fallback::{View, Walk};
 use radio_settings::Settings;
 use radio_values::MountName;
 
-impl<'a> House<'a> {
-    /// The mount to which the listeners of this one fall back, if to any: what a command has set,
-    /// else what the settings say.
-    pub fn fallback_name(&self, mount: &MountName) -> Option<&'a MountName>
-        ensures { option_copied result ≡ fallback_of self.now mount.now }
+impl Control {
+    /// Returns the mount to which the listeners of this one fall back, if to any: what a command has
+    /// set, else what the settings say.
+    fn fallback_name(&self, mount: &MountName) -> Option<&MountName>
+        ensures { option_copied result ≡ fallback_of (bare_house self.now) mount.now }
     {
-        let control = self.control;
-        match control.fallbacks.get(mount) {
+        match self.fallbacks.get(mount) {
             Some(set) => set.fallback.as_ref(),
-            None => control
+            None => self
                 .settings
                 .options(mount)
                 .listeners
@@ -31,25 +33,25 @@ impl<'a> House<'a> {
     }
 }
 
-impl View for House<'_> {
-    ghost use Rattle.radio_house.specs.Facts.{sight_of};
+impl View for Control {
+    ghost use Rattle.radio_house.specs.Live.{sight_in};
 
-    ghost sight = { sight_of };
+    ghost sight = { sight_in };
 
     fn is_live(&self, mount: &MountName) -> bool {
         self.can_be_heard(mount)
     }
 
     fn limit(&self, mount: &MountName) -> Option<u32> {
-        limit_of(self.settings(), mount)
+        limit_of(&self.settings, mount)
     }
 
     fn lets_in(&self, mount: &MountName, pair: Option<&Pair>) -> bool {
-        self.lists().lets_in(mount, pair)
+        self.lists.lets_in(mount, pair)
     }
 
     fn allows_duplicates(&self, mount: &MountName) -> bool {
-        self.settings().options(mount).users.allow_duplicate_users
+        self.settings.options(mount).users.allow_duplicate_users
     }
 
     fn fallback(&self, mount: &MountName) -> Option<MountName> {
@@ -57,14 +59,29 @@ impl View for House<'_> {
     }
 
     fn hands_on_when_full(&self, mount: &MountName) -> bool {
-        self.settings().options(mount).listeners.fallback_when_full
+        self.settings.options(mount).listeners.fallback_when_full
     }
 
-    fn stream_end(&self, mount: &MountName) -> StreamEnd {
-        StreamEnd {
-            session: self.live_number(mount),
-            place: Place::new(self.live_end(mount)),
-        }
+    fn session_number(&self, mount: &MountName) -> u64 {
+        self.live_number(mount)
+    }
+}
+
+impl<'a> House<'a> {
+    /// Returns the mount to which the listeners of this one fall back, if to any.
+    pub fn fallback_name(&self, mount: &MountName) -> Option<&'a MountName>
+        ensures { option_copied result ≡ fallback_of self.now mount.now }
+    {
+        self.control.fallback_name(mount)
+    }
+
+    /// Walks from the mount, for one who sends this pair, or none, and does not sit yet, as
+    /// `walk_from` of `radio_fallback` does.
+    pub fn walk_from(&self, seats: &Listeners, mount: &MountName, pair: Option<&Pair>) -> Walk
+        ensures first { result.first ≡ found_at (sight_of self.now) seats.now.seats mount.now (option_copied pair.entry) }
+        ensures landing { result.landing ≡ walks_to self.now seats.now.seats mount.now (option_copied pair.entry) }
+    {
+        seats.walk_from(self.control, mount, pair)
     }
 }
 

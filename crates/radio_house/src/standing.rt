@@ -10,7 +10,8 @@ use crate::control::Control;
 use crate::house::House;
 use crate::relays::RelayState;
 use radio_addr::Peer;
-use radio_listeners::{ListenerStanding, Seats};
+use radio_attached::Listeners;
+use radio_listeners::ListenerStanding;
 use radio_policy::Rule;
 use radio_values::MountName;
 
@@ -34,7 +35,7 @@ pub enum Standing {
 impl House<'_> {
     /// How the client, or the relay, of this number stands, who has his place among these listeners
     /// if he is one.
-    pub fn standing(&self, seats: &Seats, id: u64) -> Standing
+    pub fn standing(&self, seats: &Listeners, id: u64) -> Standing
         ensures { result ≡ standing_of (world self.now seats.now.seats) id }
     {
         let control = self.control;
@@ -82,7 +83,7 @@ impl Control {
 }
 
 /// How the listener of this number stands.
-fn listener_standing(seats: &Seats, id: u64) -> Standing
+fn listener_standing(seats: &Listeners, id: u64) -> Standing
     ensures { result ≡ standing_of_listener (listener_of seats.now.seats id) }
 {
     match seats.standing(id) {

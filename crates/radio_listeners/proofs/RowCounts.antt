@@ -152,7 +152,7 @@ module _ (counts : ℕ → ListenerRow → Bool) (old : ℕ → ℕ) (rows after
         omega (arith, counted number, some number, law number, leaves number, here, fits, few)
 
 -- some lose their seats at the mount of this number
-module _ (p : ℕ → Guest → Bool) (rule : Rule) (number : ℕ) where
+module _ (p : Guest → Bool) (rule : Rule) (number : ℕ) where
   seat_ends : (seat : NumberedSeat) (b c : Bool) → (seat.mount == number) ≡ b
       → one (state_at number (if b && c then Ended rule number else Seated seat)) + one (b && c) ≡ one b
   seat_ends seat true true e = refl
@@ -161,7 +161,7 @@ module _ (p : ℕ → Guest → Bool) (rule : Rule) (number : ℕ) where
 
   ends_here : (state : RowState)
       → one (state_at number (if holds_at p number state then Ended rule number else state)) + one (holds_at p number state) ≡ one (state_at number state)
-  ends_here (Seated seat) = seat_ends seat (seat.mount == number) (p seat.place seat.guest) refl
+  ends_here (Seated seat) = seat_ends seat (seat.mount == number) (p seat.guest) refl
   ends_here (Ended other mount) = refl
 
   seat_stays : (k : ℕ) (seat : NumberedSeat) (b c : Bool) → (seat.mount == number) ≡ b → (number == k) ≡ false
@@ -172,7 +172,7 @@ module _ (p : ℕ → Guest → Bool) (rule : Rule) (number : ℕ) where
 
   stays_elsewhere : (k : ℕ) → (number == k) ≡ false → (state : RowState)
       → state_at k (if holds_at p number state then Ended rule number else state) ≡ state_at k state
-  stays_elsewhere k apart (Seated seat) = seat_stays k seat (seat.mount == number) (p seat.place seat.guest) refl apart
+  stays_elsewhere k apart (Seated seat) = seat_stays k seat (seat.mount == number) (p seat.guest) refl apart
   stays_elsewhere k apart (Ended other mount) = refl
 
   -- each names his mount as before
@@ -184,7 +184,7 @@ module _ (p : ℕ → Guest → Bool) (rule : Rule) (number : ℕ) where
 
   names_still : (k : ℕ) (state : RowState)
       → (last_number (if holds_at p number state then Ended rule number else state) == k) ≡ (last_number state == k)
-  names_still k (Seated seat) = seat_names k seat (seat.mount == number) (p seat.place seat.guest) refl
+  names_still k (Seated seat) = seat_names k seat (seat.mount == number) (p seat.guest) refl
   names_still k (Ended other mount) = refl
 
   counts_ended : (rows : List ListenerRow) (k : ℕ) (b : Bool) → (number == k) ≡ b

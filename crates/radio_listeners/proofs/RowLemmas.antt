@@ -24,9 +24,9 @@ use Rattle.radio_seats.specs.Board.{Board}
 use Rattle.radio_seats.specs.Guests.{passes_in, passes_at, seat_of_guest}
 use Rattle.radio_seats.specs.Mounts.{name_in, naming_in}
 use Rattle.radio_seats.specs.Rests.{how_many}
-use Rattle.radio_seats.specs.Rows.{is_row, last_number, holds_at, ended_where, user_state, seated_row, heard, shifted, ended, with_state}
+use Rattle.radio_seats.specs.Rows.{is_row, last_number, holds_at, ended_where, user_state, seated_row, shifted, ended, with_state}
 use Rattle.radio_listeners.specs.Shown.{named, named_state, state_at, sits_by, names_by, AreCounted}
-use Rattle.radio_seats.specs.Seats.{is_listener, listener_of, by_listener, with_seat, advanced, with_place, moved, with_move, lost_by, loses, with_end, without_listener, heard_to, moved_to, AreByNumber, is_seat_at, count_at, last_mount, last_mount_of, named_at, holds_of, ended_if, finished_if, with_ended, has_user, is_user_at, sits_there}
+use Rattle.radio_seats.specs.Seats.{is_listener, listener_of, by_listener, with_seat, moved, with_move, lost_by, loses, with_end, without_listener, moved_to, AreByNumber, is_seat_at, count_at, last_mount, last_mount_of, named_at, holds_of, ended_if, finished_if, with_ended, has_user, is_user_at, sits_there}
 use Rattle.radio_seats.proofs.Lists.{same_number, passing, one, passing_more, passing_mapped}
 use Rattle.radio_seats.proofs.Lists.{none_changes, map_found, map_counted, map_both, map_any, map_placed, map_filtered, map_updated}
 
@@ -116,9 +116,9 @@ module _ (name : ℕ → List ℕ) (mount : List ℕ) (number : ℕ) (only : (k 
       map_any (named name) (λ (row : ListenerRow). user_state number user row.state) (λ (listener : Listener). is_user_at mount user listener.seating)
       (λ row. user_at user row.state) rows
 
-  module _ (p : ℕ → Guest → Bool) (rule : Rule) where
+  module _ (p : Guest → Bool) (rule : Rule) where
     holds_there : (state : RowState) → holds_of (passes_at mount p) (named_state name state) ≡ holds_at p number state
-    holds_there (Seated seat) = ap (λ b. b && p seat.place seat.guest) (only seat.mount)
+    holds_there (Seated seat) = ap (λ b. b && p seat.guest) (only seat.mount)
     holds_there (Ended other last) = refl
 
     seat_ends : (seat : NumberedSeat) (b c : Bool) → (seat.mount == number) ≡ b
@@ -130,8 +130,8 @@ module _ (name : ℕ → List ℕ) (mount : List ℕ) (number : ℕ) (only : (k 
     state_ends : (state : RowState) → named_state name (if holds_at p number state then Ended rule number else state)
         ≡ ended_if (passes_at mount p) rule (named_state name state)
     state_ends (Seated seat) =
-        seat_ends seat (seat.mount == number) (p seat.place seat.guest) refl
-        ∙ ap (λ b. if b && p seat.place seat.guest then Finished rule (name seat.mount) else named_state name (Seated seat)) (sym (only seat.mount))
+        seat_ends seat (seat.mount == number) (p seat.guest) refl
+        ∙ ap (λ b. if b && p seat.guest then Finished rule (name seat.mount) else named_state name (Seated seat)) (sym (only seat.mount))
     state_ends (Ended other last) = refl
 
     ends_there : (row : ListenerRow) → named name (ended_where p number rule row) ≡ finished_if (passes_at mount p) rule (named name row)
@@ -189,9 +189,9 @@ module _ (name : ℕ → List ℕ) (mount : List ℕ) (only : (k : ℕ) → byte
   no_user_there user [] = refl
   no_user_there user (row ∷ rows) = rw (no_user user row.state) (no_user_there user rows)
 
-  module _ (p : ℕ → Guest → Bool) (rule : Rule) where
+  module _ (p : Guest → Bool) (rule : Rule) where
     holds_nowhere : (state : RowState) → holds_of (passes_at mount p) (named_state name state) ≡ false
-    holds_nowhere (Seated seat) = ap (λ b. b && p seat.place seat.guest) (only seat.mount)
+    holds_nowhere (Seated seat) = ap (λ b. b && p seat.guest) (only seat.mount)
     holds_nowhere (Ended other last) = refl
 
     pub nobody_ends : (rows : List ListenerRow) → map (named name) rows ≡ with_ended (map (named name) rows) (passes_at mount p) rule
@@ -203,7 +203,7 @@ module _ (name : ℕ → List ℕ) (mount : List ℕ) (only : (k : ℕ) → byte
     none_to_end (row ∷ rows) = rw (holds_nowhere row.state) (none_to_end rows)
 
 -- where the listeners of one mount after another end
-module _ (p : ℕ → Guest → Bool) (rule : Rule) where
+module _ (p : Guest → Bool) (rule : Rule) where
   seat_absorbs : (seat : Seat) (b c : Bool) → passes_in p seat ≡ c
       → ended_if (passes_in p) rule (if b && c then Finished rule seat.mount else Sits seat) ≡ (if c then Finished rule seat.mount else Sits seat)
   seat_absorbs seat true true e = refl
@@ -259,20 +259,6 @@ module _ (name later : ℕ → List ℕ) (rows : List ListenerRow) (same : (k : 
   seats_without id =
       shown_same name later (filter (λ row. not (is_row id row)) rows) same
       ∙ map_filtered (named name) (λ row. not (is_row id row)) (λ listener. not (is_listener id listener)) (λ row. refl) rows
-
-  heard_shown : (place : ℕ) (row : ListenerRow) → named name (with_state (heard place row.state) row) ≡ advanced place (named name row)
-  heard_shown place row = by_state row.state where
-    by_state : (state : RowState)
-        → named name (with_state (heard place state) row) ≡ record { id = row.id; seating = heard_to place (named_state name state) }
-    by_state (Seated seat) = refl
-    by_state (Ended rule mount) = refl
-
-  pub seats_heard : (id place : ℕ) → map (named later) (update_first (is_row id) (λ row. with_state (heard place row.state) row) rows)
-      ≡ with_place (map (named name) rows) id place
-  seats_heard id place =
-      shown_same name later (update_first (is_row id) (λ row. with_state (heard place row.state) row) rows) same
-      ∙ map_updated (named name) (is_row id) (λ row. with_state (heard place row.state) row) (is_listener id) (advanced place) (λ row. refl)
-      (heard_shown place) rows
 
   ended_shown : (rule : Rule) (row : ListenerRow) → named name (with_state (ended rule row.state) row) ≡ loses rule (named name row)
   ended_shown rule row = by_state row.state where

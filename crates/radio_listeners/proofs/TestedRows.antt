@@ -18,7 +18,7 @@ use Rattle.radio_seats.proofs.Lists.{passing, found_counts}
 use Rattle.radio_seats.proofs.Lists.{none_passes, map_counted, same_number}
 
 -- of whom the test holds
-module _ (p : ℕ → Guest → Bool) (name : ℕ → List ℕ) (rows : List ListenerRow) where
+module _ (p : Guest → Bool) (name : ℕ → List ℕ) (rows : List ListenerRow) where
   shows_it : (state : RowState) → holds_of (passes_in p) (named_state name state) ≡ holds_in p state
   shows_it (Seated seat) = refl
   shows_it (Ended rule mount) = refl
@@ -54,7 +54,7 @@ module _ (p : ℕ → Guest → Bool) (name : ℕ → List ℕ) (rows : List Lis
         omega (arith, shown, some)
 
 -- who passes sits somewhere
-pub passes_seated : (p : ℕ → Guest → Bool) (rows : List ListenerRow) (row : ListenerRow) → find (λ (r : ListenerRow). holds_in p r.state) rows ≡ Some row
+pub passes_seated : (p : Guest → Bool) (rows : List ListenerRow) (row : ListenerRow) → find (λ (r : ListenerRow). holds_in p r.state) rows ≡ Some row
     → number_of row.state ≡ None → ⊥
 passes_seated p rows row found none = by_state row.state none (found_passes (λ (r : ListenerRow). holds_in p r.state) rows row found) where
   by_state : (state : RowState) → number_of state ≡ None → holds_in p state ≡ true → ⊥

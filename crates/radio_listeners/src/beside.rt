@@ -11,7 +11,9 @@ use radio_values::MountName;
 impl Seats {
     /// How many listeners there are, with those who have finished.
     pub fn len(&self) -> usize
-        ensures { result ≡ length self.now.seats }
+        ensures count { result ≡ length self.now.seats }
+        // the listeners stand in the order of their numbers, so that each is counted once
+        ensures rising { AreByNumber self.now.seats }
     {
         self.rows.len()
     }

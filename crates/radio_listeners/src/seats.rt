@@ -19,8 +19,8 @@ use crate::{LentSeat, ListenerStanding};
 use radio_blocks::Place;
 use radio_policy::Rule;
 use radio_seats::{
-    Advances, Ends, FinishesAt, GuestMoment, Hears, ListenerRow, Mounts, Moves, OutOfMemory,
-    RowState, Rows, Seat, SeatTest, UserAt,
+    Ends, FinishesAt, GuestMoment, Hears, ListenerRow, Mounts, Moves, OutOfMemory, RowState, Rows,
+    Seat, SeatTest, UserAt,
 };
 use radio_values::MountName;
 use std::alloc::Global;
@@ -142,14 +142,6 @@ impl Seats {
         Ok(())
     }
 
-    /// The listener has heard his stream up to this place. Nothing changes where he has no seat.
-    /// It takes no memory.
-    pub fn advance(&mut self, id: u64, place: Place)
-        ensures { self.new ≡ record self.old { seats = with_place self.old.seats id place } }
-    {
-        self.rows.change(id, &Advances { place });
-    }
-
     /// All who sit at the mount hear this session from now on, each from the place where he is. It
     /// takes no memory.
     pub fn give_session(&mut self, mount: &MountName, session: u64)
@@ -224,16 +216,6 @@ impl Seats {
         self.rows.change_all(&FinishesAt { number, test, rule });
         self.mounts.lose(number, count);
         count
-    }
-
-    /// All who have a seat of which the test holds lose it by the rule. It takes no memory. The
-    /// listeners are looked at once where it holds of nobody.
-    pub fn finish_if<T: SeatTest>(&mut self, test: &T, rule: Rule)
-        ensures { self.new ≡ record self.old { seats = with_ended self.old.seats (passes_in (T.passes test.now)) rule } }
-    {
-        'mounts: while let Some(mount) = self.first_mount_where(test) {
-            let _ = self.finish_at_if(&mount, test, rule);
-        }
     }
 
     /// How many sit at the mount.

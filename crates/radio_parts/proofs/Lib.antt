@@ -1,6 +1,5 @@
 mod KeptQueues
 pub mod ApartLemmas
-mod DeliveredLemmas
 pub mod DueLemmas
 pub mod FurthestLemmas
 pub mod KeptLists

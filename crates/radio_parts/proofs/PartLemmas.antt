@@ -1,12 +1,23 @@
 -- what becomes of a mount's session by itself is what becomes of it among all sessions
-use Rattle.std.proofs.Common.{◌≡◌, ℕ, Option, Some, None, List, refl, ap, sym, ◌∙◌}
+use Rattle.std.proofs.Common.{◌≡◌, Bool, true, false, ℕ, Option, Some, None, List, [], ◌∷◌, refl, ap, sym, ◌∙◌}
+use Rattle.std.specs.Prelude.{find, if◌then◌else◌}
 use Rattle.std.specs.Option.{option_map}
 use Rattle.radio_tables.specs.Lists.{update_first}
-use Rattle.radio_tables.proofs.FindLaws.{find_same, changed_alike}
+use Rattle.radio_tables.proofs.FindLaws.{find_here, find_later, find_same, changed_alike}
 use Rattle.radio_seats.specs.declared.seat.Listener.{Listener}
 use Rattle.radio_parts.specs.Sessions.{Session, is_of, session_of, longer, fed}
 use Rattle.radio_parts.specs.Parts.{end_in, with_its_session}
-use Rattle.radio_parts.proofs.DeliveredLemmas.{none_changes}
+
+-- where no element is found, none changes
+module _ {X : Type 0} (p : X → Bool) (f : X → X) where
+  none_at : (x : X) (xs : List X) (b : Bool) → p x ≡ b → find p (x ∷ xs) ≡ None → (find p xs ≡ None → update_first p f xs ≡ xs)
+      → (if b then f x ∷ xs else x ∷ update_first p f xs) ≡ x ∷ xs
+  none_at x xs true e none later = let here : find p (x ∷ xs) ≡ Some x = find_here p x xs e in cc
+  none_at x xs false e none later = ap (λ ys. x ∷ ys) (later (sym (find_later p x xs e) ∙ none))
+
+  pub none_changes : (xs : List X) → find p xs ≡ None → update_first p f xs ≡ xs
+  none_changes [] none = refl
+  none_changes (x ∷ xs) none = none_at x xs (p x) refl none (none_changes xs)
 
 module _ (live : List Session) (mount : List ℕ) (f : Session → Session) where
   abbrev has_changed : List Session

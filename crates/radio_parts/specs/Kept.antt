@@ -50,9 +50,3 @@ longer_kept limit block moment session = kept_session limit (longer block moment
 -- the mount's session has delivered the block
 abbrev pub kept_fed : ℕ → List Session → List ℕ → List ℕ → ℕ → List Session
 kept_fed limit live mount block moment = update_first (is_of mount) (longer_kept limit block moment) live
-
--- a block was brought to a session of the mount: it has delivered it at this moment, and the answer is where its stream ends then; or it is as it was
-abbrev pub IsDelivered : ℕ → List ℕ → ℕ → Session → Result ℕ AllocError → Session → Type 0
-IsDelivered limit block moment session answer session' =
-    (session'.mount ≡ session.mount) × OnOk answer (session' ≡ longer_kept limit block moment session) × IfOk answer (λ end. end ≡ end_of session'.stream)
-    × OnErr answer (session' ≡ session)

@@ -5,7 +5,7 @@ use Rattle.radio_policy.specs.declared.rule.Rule.TheVariants.{Lagged}
 use Rattle.radio_tables.specs.Lists.{update_first}
 use Rattle.radio_seats.specs.declared.seat.Listener.{Listener}
 use Rattle.radio_seats.specs.Seats.{with_ended}
-use Rattle.radio_parts.specs.Sessions.{Session, is_of, longer, with_title}
+use Rattle.radio_parts.specs.Sessions.{Session, is_of, longer, session_of, with_title}
 use Rattle.radio_parts.specs.Stream.{end_of}
 use Rattle.radio_parts.specs.Timeouts.{lags_behind}
 
@@ -19,6 +19,10 @@ pub record Part : Type 0 where
 -- where the session's stream ends, if there is a session
 abbrev pub end_in : Option Session → ℕ
 end_in session = option_map_or (λ session. end_of session.stream) session 0
+
+-- where the stream of a mount ends, by these sessions
+abbrev pub ends_in : List Session → List ℕ → ℕ
+ends_in live mount = end_in (session_of live mount)
 
 -- a block has come at this moment: it stands at the end of the stream, and those who sit there have lost their seats who are further behind then than a
 -- queue is long

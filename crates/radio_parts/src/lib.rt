@@ -1,11 +1,9 @@
 //! What one mount does by itself: its session, the stream of that, and what has had its time there.
 //!
-//! - [`Session`]: what a source feeds to a mount; a row of a table by mount, to which [`deliver`]
-//!   brings a block, and a change [`NewTitle`] a title. [`first_silent`] and [`first_session_due`]
-//!   look at all of them.
+//! - [`Session`]: what a source feeds to a mount. The parts of `radio_mounts` have them.
 //! - [`Stream`]: the data of a session, of which the last blocks are kept.
-//! - [`lies_back`]: whether a moment lies so many seconds back; [`LagsBehind`] and [`HasSatOut`]
-//!   say of a listener that he has had his time.
+//! - [`lies_back`]: whether a moment lies so many seconds back; [`HasSatOut`] says of
+//!   a listener that he has had his time.
 //! - [`due_at`]: from which moment on another lies so many seconds back; [`seat_due`] and
 //!   [`GuestDue`] say it of a listener, by the mount that he asked for.
 #![tactic(auto)]
@@ -16,9 +14,9 @@ mod stream;
 mod timeouts;
 
 pub use due::{GuestDue, LAST_MOMENT, due_at, seat_due};
-pub use sessions::{NewTitle, Session, deliver, first_session_due, first_silent};
+pub use sessions::Session;
 pub use stream::Stream;
-pub use timeouts::{HasSatOut, LagsBehind, lies_back};
+pub use timeouts::{HasSatOut, lies_back};
 
 /// What a call answers where memory was refused. Nothing has changed then, unless it is said.
 pub type OutOfMemory = std::alloc::AllocError;

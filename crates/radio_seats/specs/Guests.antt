@@ -24,12 +24,12 @@ seat_of_guest place mount session guest = record {
 abbrev pub guest_in : Seat → Guest
 guest_in seat = record { home = seat.home; peer = seat.peer; pair = seat.pair; interval = seat.interval; since = seat.since }
 
--- a test of a place and a guest holds of the seat
-abbrev pub passes_in : (ℕ → Guest → Bool) → Seat → Bool
-passes_in p seat = p seat.place (guest_in seat)
+-- a test of a guest holds of the one who has the seat
+abbrev pub passes_in : (Guest → Bool) → Seat → Bool
+passes_in p seat = p (guest_in seat)
 
 -- and it is a seat at the mount
-abbrev pub passes_at : List ℕ → (ℕ → Guest → Bool) → Seat → Bool
+abbrev pub passes_at : List ℕ → (Guest → Bool) → Seat → Bool
 passes_at mount p seat = bytes_eq seat.mount mount && passes_in p seat
 
 -- the moment of the guest who has the seat, or the other where it is lost

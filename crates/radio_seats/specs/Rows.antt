@@ -23,11 +23,6 @@ abbrev pub number_of : RowState → Option ℕ
 number_of (Seated seat) = Some seat.mount
 number_of (Ended rule mount) = None
 
--- he has heard his stream up to this place
-abbrev pub heard : ℕ → RowState → RowState
-heard place (Seated seat) = Seated (record seat { place = place })
-heard place (Ended rule mount) = Ended rule mount
-
 -- he sits at this mount now, from this place of this session on
 abbrev pub shifted : ℕ → ℕ → ℕ → RowState → RowState
 shifted mount session place (Seated seat) = Seated (record seat { mount = mount; session = session; place = place })
@@ -44,17 +39,17 @@ ended rule (Seated seat) = Ended rule seat.mount
 ended rule (Ended other mount) = Ended other mount
 
 -- a seat of which the test holds
-abbrev pub holds_in : (ℕ → Guest → Bool) → RowState → Bool
-holds_in p (Seated seat) = p seat.place seat.guest
+abbrev pub holds_in : (Guest → Bool) → RowState → Bool
+holds_in p (Seated seat) = p seat.guest
 holds_in p (Ended rule mount) = false
 
 -- at the mount of this number
-abbrev pub holds_at : (ℕ → Guest → Bool) → ℕ → RowState → Bool
-holds_at p number (Seated seat) = (seat.mount == number) && p seat.place seat.guest
+abbrev pub holds_at : (Guest → Bool) → ℕ → RowState → Bool
+holds_at p number (Seated seat) = (seat.mount == number) && p seat.guest
 holds_at p number (Ended rule mount) = false
 
 -- such a seat ends by the rule
-abbrev pub ended_where : (ℕ → Guest → Bool) → ℕ → Rule → ListenerRow → ListenerRow
+abbrev pub ended_where : (Guest → Bool) → ℕ → Rule → ListenerRow → ListenerRow
 ended_where p number rule row = record row { state = (if holds_at p number row.state then Ended rule number else row.state) }
 
 -- the row of a listener who sits down at the mount of this number

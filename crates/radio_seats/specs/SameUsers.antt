@@ -6,14 +6,8 @@ use Rattle.radio_seats.specs.declared.row.ListenerRow.{ListenerRow}
 use Rattle.radio_seats.specs.declared.row.RowState.{RowState}
 use Rattle.radio_seats.specs.declared.row.RowState.TheVariants.{Seated, Ended}
 use Rattle.radio_seats.specs.declared.seat.Guest.{Guest}
-use Rattle.radio_seats.specs.Rows.{heard, hears, shifted, ended, holds_at, ended_where, with_state}
+use Rattle.radio_seats.specs.Rows.{hears, shifted, ended, holds_at, ended_where, with_state}
 use Rattle.radio_seats.specs.Users.{IsMarkOf, IsSameUser}
-
-pub heard_same : (place : ℕ) (row : ListenerRow) → IsSameUser row (with_state (heard place row.state) row)
-heard_same place row = record { mark = refl; marked = by_state row.state } where
-  by_state : (state : RowState) → IsMarkOf row.mark state → IsMarkOf row.mark (heard place state)
-  by_state (Seated seat) is = is
-  by_state (Ended rule mount) is = is
 
 pub shifted_same : (number session place : ℕ) (row : ListenerRow) → IsSameUser row (with_state (shifted number session place row.state) row)
 shifted_same number session place row = record { mark = refl; marked = by_state row.state } where
@@ -33,7 +27,7 @@ ended_same rule row = record { mark = refl; marked = by_state row.state } where
   by_state (Seated seat) is = tt
   by_state (Ended other mount) is = is
 
-pub ended_where_same : (p : ℕ → Guest → Bool) (number : ℕ) (rule : Rule) (row : ListenerRow) → IsSameUser row (ended_where p number rule row)
+pub ended_where_same : (p : Guest → Bool) (number : ℕ) (rule : Rule) (row : ListenerRow) → IsSameUser row (ended_where p number rule row)
 ended_where_same p number rule row = record { mark = refl; marked = by_test (holds_at p number row.state) } where
   by_test : (b : Bool) → IsMarkOf row.mark row.state → IsMarkOf row.mark (if b then Ended rule number else row.state)
   by_test true is = tt

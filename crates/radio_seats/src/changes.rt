@@ -17,34 +17,6 @@ pub trait KeepsUser: Change<ListenerRow> {
     ghost same_user: { (change : Self) (row : ListenerRow) → IsSameUser row (Self.gives change row) };
 }
 
-/// The listener has heard his stream up to this place.
-#[derive(Drop)]
-pub struct Advances {
-    /// The place.
-    pub place: Place,
-}
-
-impl Change<ListenerRow> for Advances {
-    ghost use Rattle.std.specs.Prelude.{refl};
-    ghost use Rattle.radio_seats.specs.Rows.{heard, with_state};
-
-    ghost gives = { λ change row. with_state (heard change.place row.state) row };
-
-    ghost keeps_key = { λ change row. refl };
-
-    fn apply(&self, row: &mut ListenerRow) {
-        if let RowState::Seated(seat) = &mut row.state {
-            seat.place = self.place;
-        }
-    }
-}
-
-impl KeepsUser for Advances {
-    ghost use Rattle.radio_seats.specs.SameUsers.{heard_same};
-
-    ghost same_user = { λ change row. heard_same change.place row };
-}
-
 /// A listener who sits at the mount of this number hears this session from now on.
 #[derive(Drop)]
 pub struct Hears {
@@ -155,17 +127,17 @@ impl KeepsUser for Ends {
     ghost same_user = { λ change row. ended_same change.rule row };
 }
 
-/// A test of a place in a stream, and of the guest who has heard it up to there.
+/// A test of a guest.
 pub trait SeatTest {
-    ghost use Rattle.std.specs.Prelude.{ℕ, Bool};
+    ghost use Rattle.std.specs.Prelude.{Bool};
     ghost use Rattle.radio_seats.specs.declared.seat.Guest.{Guest};
 
     // What it asks.
-    ghost passes: { Self → ℕ → Guest → Bool };
+    ghost passes: { Self → Guest → Bool };
 
     /// Whether it holds.
-    fn passes(&self, place: Place, guest: &Guest) -> bool
-        ensures { result ≡ passes self.now place guest.now };
+    fn passes(&self, guest: &Guest) -> bool
+        ensures { result ≡ passes self.now guest.now };
 }
 
 /// A moment of a guest, in milliseconds.

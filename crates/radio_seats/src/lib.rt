@@ -5,9 +5,9 @@
 //!   definitions of `specs/Seats` change them.
 //! - [`ListenerRow`], [`RowState`], [`NumberedSeat`], [`Guest`]: a listener as he is kept, small, and
 //!   moved without memory.
-//! - [`Advances`], [`Hears`], [`Moves`], [`Ends`], [`FinishesAt`]: what is done to a row. Each leaves
-//!   the listener's user as he is ([`KeepsUser`]). A [`SeatTest`] asks something of a place and a
-//!   [`Guest`], and a [`GuestMoment`] is a moment of his.
+//! - [`Hears`], [`Moves`], [`Ends`], [`FinishesAt`]: what is done to a row. Each leaves the
+//!   listener's user as he is ([`KeepsUser`]). A [`SeatTest`] asks something of a [`Guest`], and a
+//!   [`GuestMoment`] is a moment of his.
 //! - [`Rows`]: the rows in the order of their numbers, and an index of them by user; [`UserAt`] is
 //!   whom it is asked for.
 //! - [`Mounts`]: the prepared mounts, each with its number, its name and the counts of those who sit
@@ -24,7 +24,7 @@ mod rows;
 mod seat;
 mod users;
 
-pub use changes::{Advances, Ends, FinishesAt, GuestMoment, Hears, KeepsUser, Moves, SeatTest};
+pub use changes::{Ends, FinishesAt, GuestMoment, Hears, KeepsUser, Moves, SeatTest};
 pub use kept_name::KeptName;
 pub use mounts::{Mount, Mounts};
 pub use row::{ListenerRow, NumberedSeat, RowState};

@@ -62,7 +62,7 @@ impl RowState {
         ensures { result ≡ holds_in (T.passes test.now) self.now }
     {
         match self {
-            RowState::Seated(seat) => test.passes(seat.place, &seat.guest),
+            RowState::Seated(seat) => test.passes(&seat.guest),
             RowState::Ended { .. } => false,
         }
     }
@@ -72,9 +72,7 @@ impl RowState {
         ensures { result ≡ holds_at (T.passes test.now) number self.now }
     {
         match self {
-            RowState::Seated(seat) => {
-                seat.mount == number && test.passes(seat.place, &seat.guest)
-            }
+            RowState::Seated(seat) => seat.mount == number && test.passes(&seat.guest),
             RowState::Ended { .. } => false,
         }
     }

@@ -1,25 +1,28 @@
 //! What of the station a client is shown.
 
-ghost use Rattle.std.specs.Prelude.{◌≡◌, [], map, unwrap_or, IfOk};
+ghost use Rattle.std.specs.Prelude.{◌≡◌, ◌++◌, [], ◌∷◌, map, unwrap_or, IfOk, OnOk};
 ghost use Rattle.std.specs.Option.{option_map};
 ghost use Rattle.radio_listing.specs.Listeners.{listeners_text};
 ghost use Rattle.radio_listing.specs.Public.{status_text};
 ghost use Rattle.radio_listeners.specs.Listed.{lent_guest};
 ghost use Rattle.radio_status.specs.Listings.{shown, public_row, mount_row, mount_rows, listener_row, listener_rows, user_of};
 ghost use Rattle.radio_house.specs.World.{world};
+ghost use Rattle.radio_mounts.specs.Parts.{live_in};
 ghost use Rattle.radio_events.specs.declared.command.Listing.TheVariants.{Status, Stats, Mounts, Streams};
 ghost use Rattle.radio_events.specs.declared.text.Text.{Text as TextOf};
 
 use crate::OutOfMemory;
 use bytes::Bytes;
+use radio_attached::Listeners;
 use radio_creds::Pair;
 use radio_events::{Listing, Text};
 use radio_house::House;
-use radio_listeners::{LentListener, Seats};
+use radio_listeners::LentListener;
 use radio_listing::{
     ListenerRow, MountRow, PublicRow, Text as Shown, list_clients, list_mounts, stats, status,
     stream_list,
 };
+use radio_mounts::MountPart;
 use radio_parts::Session;
 use radio_values::{MountName, Title};
 use std::alloc::Global;
@@ -32,7 +35,7 @@ const SECOND: u64 = 1000;
 pub fn shown(
     alloc: Global,
     house: &House<'_>,
-    seats: &Seats,
+    seats: &Listeners,
     listing: &Listing,
 ) -> Result<Text, OutOfMemory>
     ensures { IfOk result (λ text. text ≡ shown (world house.now seats.now.seats) listing.now) }
@@ -47,7 +50,7 @@ pub fn shown(
 }
 
 /// What the server does as a whole. `OutOfMemory` where memory was refused.
-fn stats_shown(alloc: Global, house: &House<'_>, seats: &Seats) -> Result<Text, OutOfMemory>
+fn stats_shown(alloc: Global, house: &House<'_>, seats: &Listeners) -> Result<Text, OutOfMemory>
     ensures { IfOk result (λ text. text ≡ shown (world house.now seats.now.seats) Stats) }
 {
     let clients = house.client_count();
@@ -56,7 +59,7 @@ fn stats_shown(alloc: Global, house: &House<'_>, seats: &Seats) -> Result<Text, 
 }
 
 /// All live mounts. `OutOfMemory` where memory was refused.
-fn mounts_shown(alloc: Global, house: &House<'_>, seats: &Seats) -> Result<Text, OutOfMemory>
+fn mounts_shown(alloc: Global, house: &House<'_>, seats: &Listeners) -> Result<Text, OutOfMemory>
     ensures { IfOk result (λ text. text ≡ shown (world house.now seats.now.seats) Mounts) }
 {
     let rows = mount_rows(alloc, house, seats)?;
@@ -64,7 +67,7 @@ fn mounts_shown(alloc: Global, house: &House<'_>, seats: &Seats) -> Result<Text,
 }
 
 /// The mounts that a relay may pull. `OutOfMemory` where memory was refused.
-fn streams_shown(alloc: Global, house: &House<'_>, seats: &Seats) -> Result<Text, OutOfMemory>
+fn streams_shown(alloc: Global, house: &House<'_>, seats: &Listeners) -> Result<Text, OutOfMemory>
     ensures { IfOk result (λ text. text ≡ shown (world house.now seats.now.seats) Streams) }
 {
     let rows = mount_rows(alloc, house, seats)?;
@@ -72,7 +75,7 @@ fn streams_shown(alloc: Global, house: &House<'_>, seats: &Seats) -> Result<Text
 }
 
 /// What everybody may see. `OutOfMemory` where memory was refused.
-fn status_shown(alloc: Global, house: &House<'_>, seats: &Seats) -> Result<Text, OutOfMemory>
+fn status_shown(alloc: Global, house: &House<'_>, seats: &Listeners) -> Result<Text, OutOfMemory>
     ensures { IfOk result (λ text. text ≡ shown (world house.now seats.now.seats) Status) }
 {
     let bytes = status_bytes(alloc, house, seats)?;
@@ -82,7 +85,7 @@ fn status_shown(alloc: Global, house: &House<'_>, seats: &Seats) -> Result<Text,
     })
 }
 
-fn status_bytes(alloc: Global, house: &House<'_>, seats: &Seats) -> Result<Bytes, OutOfMemory>
+fn status_bytes(alloc: Global, house: &House<'_>, seats: &Listeners) -> Result<Bytes, OutOfMemory>
     ensures { IfOk result (λ bytes. bytes ≡ status_text (mount_rows (world house.now seats.now.seats))) }
 {
     let rows = mount_rows(alloc, house, seats)?;
@@ -93,19 +96,34 @@ fn status_bytes(alloc: Global, house: &House<'_>, seats: &Seats) -> Result<Bytes
 pub(crate) fn mount_rows<'a>(
     alloc: Global,
     house: &House<'a>,
-    seats: &Seats,
+    seats: &Listeners,
 ) -> Result<Vec<MountRow<'a>>, OutOfMemory>
     ensures { IfOk result (λ rows. rows.items ≡ mount_rows (world house.now seats.now.seats)) }
 {
     let mut rows = Vec::new(alloc);
-    for session in house.sessions().iter() {
-        rows.push(mount_row(house, seats, session))?;
+    for part in house.parts().all().iter() {
+        add_mount_row(&mut rows, house, seats, part)?;
     }
     Ok(rows)
 }
 
+/// Adds what listings tell of the part's mount, if it is live. `OutOfMemory` if memory was refused.
+fn add_mount_row<'a>(
+    rows: &mut Vec<MountRow<'a>>,
+    house: &House<'a>,
+    seats: &Listeners,
+    part: &'a MountPart,
+) -> Result<(), OutOfMemory>
+    ensures { OnOk result (rows.new.items ≡ rows.old.items ++ map (mount_row (world house.now seats.now.seats)) (live_in (part.now ∷ []))) }
+{
+    if let Some(session) = &part.session {
+        rows.push(mount_row(house, seats, session))?;
+    }
+    Ok(())
+}
+
 /// What listings tell of a live mount.
-fn mount_row<'a>(house: &House<'a>, seats: &Seats, session: &'a Session) -> MountRow<'a>
+fn mount_row<'a>(house: &House<'a>, seats: &Listeners, session: &'a Session) -> MountRow<'a>
     ensures { result ≡ mount_row (world house.now seats.now.seats) session.now }
 {
     let mount = session.mount.get();
@@ -121,7 +139,7 @@ fn mount_row<'a>(house: &House<'a>, seats: &Seats, session: &'a Session) -> Moun
 }
 
 /// What everybody may see of a live mount.
-fn public_row<'a>(house: &House<'_>, seats: &Seats, session: &'a Session) -> PublicRow<'a>
+fn public_row<'a>(house: &House<'_>, seats: &Listeners, session: &'a Session) -> PublicRow<'a>
     ensures { result ≡ public_row (world house.now seats.now.seats) session.now }
 {
     let mount = session.mount.get();
@@ -139,7 +157,7 @@ fn public_row<'a>(house: &House<'_>, seats: &Seats, session: &'a Session) -> Pub
 fn listeners_shown(
     alloc: Global,
     house: &House<'_>,
-    seats: &Seats,
+    seats: &Listeners,
     mount: &MountName,
 ) -> Result<Vec<u8>, OutOfMemory>
     ensures { IfOk result (λ bytes. bytes.items ≡ listeners_text mount.now (listener_rows (world house.now seats.now.seats) mount.now)) }

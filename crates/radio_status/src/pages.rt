@@ -9,9 +9,9 @@ ghost use Rattle.radio_house.specs.World.{world};
 use crate::OutOfMemory;
 use crate::listings::mount_rows;
 use bytes::Bytes;
+use radio_attached::Listeners;
 use radio_events::Text;
 use radio_house::House;
-use radio_listeners::Seats;
 use radio_listing::{Server, Text as Shown, base_url, icecast_status};
 use radio_settings::WebPath;
 use std::alloc::Global;
@@ -21,7 +21,7 @@ use std::alloc::Global;
 pub fn page(
     alloc: Global,
     house: &House<'_>,
-    seats: &Seats,
+    seats: &Listeners,
     path: WebPath,
     host: &[u8],
 ) -> Result<Text, OutOfMemory>
@@ -42,7 +42,7 @@ pub fn page(
 fn icecast_shown(
     alloc: Global,
     house: &House<'_>,
-    seats: &Seats,
+    seats: &Listeners,
     host: &[u8],
 ) -> Result<Bytes, OutOfMemory>
     ensures { IfOk result (λ bytes. bytes ≡ icecast_text (server_as house.now.settings host.now) (mount_rows (world house.now seats.now.seats))) }
@@ -57,7 +57,7 @@ fn icecast_shown(
 fn status_at(
     alloc: Global,
     house: &House<'_>,
-    seats: &Seats,
+    seats: &Listeners,
     base: &[u8],
 ) -> Result<Vec<u8>, OutOfMemory>
     ensures { IfOk result (λ bytes. bytes.items ≡ icecast_text (record { name = codes "radiod"; base_url = base.now }) (mount_rows (world house.now seats.now.seats))) }

@@ -6,6 +6,8 @@
 //! Of the server:
 //! - `events`: events and replies of the core, in tables.
 //! - `scripts`: lists of deliveries, among them large ones.
+//! - `listeners`: who sits where and has heard how far, through the calls of `radio_attached`.
+//! - `mounts`: sessions in the parts of the mounts, through the calls of `radio_mounts`.
 //!
 //! Of the book and the hall:
 //! - `calls`: events, and the calls of a caller who feeds a mount and listens to it.
@@ -46,6 +48,8 @@ mod house;
 #[cfg(test)]
 mod kept_rows;
 #[cfg(test)]
+mod listeners;
+#[cfg(test)]
 mod masters;
 #[cfg(test)]
 mod memory_line;
@@ -53,6 +57,8 @@ mod memory_line;
 mod merged;
 #[cfg(test)]
 mod moments;
+#[cfg(test)]
+mod mounts;
 #[cfg(test)]
 mod rows;
 #[cfg(test)]

@@ -1,4 +1,4 @@
-//! Two threads over one hall, with a pass and a mount each, and then all passes settled.
+//! Two callers of one hall, with a pass and a mount each, and then all passes settled.
 
 use crate::calls::{CALLS, DRAWS, serve};
 use crate::halls::{PassCaller, Visit, is_well_visited, takes_pass};
@@ -8,7 +8,7 @@ use radio_events::{Reply, Text};
 use radio_hall::Hall;
 use std::alloc::Global;
 use std::sync::Wait;
-use std::thread::{Threads, join};
+use std::thread::Threads;
 
 /// What a listing has of a mount whose last title is `Night`.
 const NIGHT: &[u8] = b"\"title\":\"Night\"";
@@ -26,19 +26,16 @@ fn serve_path<H: House, R: Wait>(
     serve(alloc, &mut caller, path);
 }
 
-/// Two threads, with a pass each.
-fn serve_both<H: House + Send + Sync, R: Threads + Wait + Sync>(
+/// Two callers, with a pass each, one after the other.
+fn serve_both<H: House, R: Wait>(
     rt: &R,
     alloc: Global,
     hall: &Hall<Kept, H>,
     first: &mut Pass<Kept, H>,
     second: &mut Pass<Kept, H>,
 ) {
-    join(
-        rt,
-        || serve_path(rt, alloc, hall, first, "/a"),
-        || serve_path(rt, alloc, hall, second, "/b"),
-    );
+    serve_path(rt, alloc, hall, first, "/a");
+    serve_path(rt, alloc, hall, second, "/b");
 }
 
 /// Their passes are added. Whether they had one each.

@@ -2,6 +2,8 @@ ghost use Rattle.std.specs.Prelude.{◌≡◌, ℕ, None, Some, IfOk};
 ghost use Rattle.radio_core.specs.Draw.{comes_to, draws, hands_out};
 ghost use Rattle.radio_core.specs.Outcomes.{out_of_place};
 ghost use Rattle.radio_seats.specs.Seats.{seat_of};
+ghost use Rattle.radio_parts.specs.Sessions.{session_of};
+ghost use Rattle.std.specs.Option.{option_copied};
 ghost use Rattle.radio_seats.specs.declared.seat.Seat.{Seat as SeatOf};
 ghost use Rattle.radio_listeners.specs.Lent.{lent_seat};
 ghost use Rattle.radio_house.specs.Waiting.{heard_at, silence_of};
@@ -11,11 +13,13 @@ ghost use Rattle.radio_house.specs.World.{standing_of};
 use super::state::State;
 use crate::OutOfMemory;
 use crate::outcome::Outcome;
+use radio_attached::Hearing;
 use radio_blocks::{Pieces, Place};
 use radio_changes::Change;
 use radio_events::Reply;
 use radio_house::Standing;
 use radio_listeners::LentSeat;
+use radio_parts::Session;
 use radio_values::MountName;
 
 /// What a draw comes to: the reply, and the place up to which the listener has heard his stream then, if he is handed anything.
@@ -57,14 +61,17 @@ impl State {
         requires { StandsForSome self.now }
         ensures { IfOk result (λ drawing. comes_to id drawing ≡ draws self.now id room) }
     {
-        match self.seats().seat(id) {
-            Some(seat) => self.hand_out(id, seat, room),
+        match self.seats().hearing(id) {
+            Some(hearing) => {
+                let Hearing { seat, session } = hearing;
+                self.hand_out(id, seat, session, room)
+            }
             None => Ok(self.draw_without_seat(id)),
         }
     }
 
     /// One who has no seat has room for bytes.
-    fn draw_without_seat(&self, id: u64) -> Drawing
+    pub(super) fn draw_without_seat(&self, id: u64) -> Drawing
         ensures { comes_to id result ≡ out_of_place (standing_of self.now id) }
     {
         match self.standing(id) {
@@ -74,12 +81,19 @@ impl State {
     }
 
     /// He is handed what stands at his place.
-    fn hand_out(&self, id: u64, seat: LentSeat<'_>, room: u32) -> Result<Drawing, OutOfMemory>
+    pub(super) fn hand_out(
+        &self,
+        id: u64,
+        seat: LentSeat<'_>,
+        session: Option<&Session>,
+        room: u32,
+    ) -> Result<Drawing, OutOfMemory>
         requires stands { StandsForSome self.now }
         requires sits { seat_of self.now.seats id ≡ Some (lent_seat seat) }
+        requires hears { option_copied session ≡ session_of self.now.house.live seat.mount.now }
         ensures { IfOk result (λ drawing. comes_to id drawing ≡ hands_out id (lent_seat seat.entry) room (heard_at self.now.house seat.entry.mount.now)) }
     {
-        let Some(session) = self.house().session(seat.mount) else {
+        let Some(session) = session else {
             return Ok(self.hand_out_nothing(seat.place, seat.mount));
         };
         let mut pieces = Pieces::new(self.alloc);

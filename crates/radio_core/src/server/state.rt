@@ -1,8 +1,8 @@
 //! What comes of an event in the state, and the state after it.
 
-ghost use Rattle.std.specs.Prelude.{◌≡◌, map, IsOk, IfOk, OnOk, OnErr};
+ghost use Rattle.std.specs.Prelude.{◌≡◌, true, map, IsOk, IfOk, OnOk, OnErr};
 ghost use Rattle.std.specs.Option.{option_copied};
-ghost use Rattle.radio_seats.specs.Seats.{last_mount_of};
+ghost use Rattle.radio_seats.specs.Seats.{last_mount_of, sits_at};
 ghost use Rattle.radio_facts.specs.Wanted.{wanted};
 ghost use Rattle.radio_house.specs.World.{opening, standing_of, has_relay};
 ghost use Rattle.radio_changes.specs.Changes.{NeedsNoMemory};
@@ -19,12 +19,12 @@ use super::telling::{all_with_counts, with_counts};
 use crate::OutOfMemory;
 use crate::outcome::Outcome;
 use radio_access::Lists;
+use radio_attached::{Hearing, Listeners};
 use radio_blocks::Place;
 use radio_changes::{Change, TimedState};
 use radio_events::{Event, Reply};
 use radio_facts::wanted;
 use radio_house::{House, Standing};
-use radio_listeners::Seats;
 use radio_settings::Settings;
 use radio_values::MountName;
 use std::alloc::Global;
@@ -75,8 +75,9 @@ impl State {
     }
 
     /// The table of listeners.
-    pub(super) fn seats(&self) -> &Seats
-        ensures { result.now.seats ≡ self.now.seats }
+    pub(super) fn seats(&self) -> &Listeners
+        ensures seats { result.now.seats ≡ self.now.seats }
+        ensures live { result.now.live ≡ self.now.house.live }
     {
         self.state.seats()
     }
@@ -141,17 +142,24 @@ impl State {
         ensures told { IfOk result (λ reply. reply ≡ (draws self.old id room).reply) }
         ensures err { OnErr result (self.new ≡ self.old) }
     {
-        let Drawing { reply, place } = self.draw(id, room)?;
-        self.advance(id, place);
+        let Some(hearing) = self.seats().hearing(id) else {
+            return Ok(self.draw_without_seat(id).reply);
+        };
+        let Hearing { seat, session } = hearing;
+        let mount = *seat.mount;
+        let Drawing { reply, place } = self.hand_out(id, seat, session, room)?;
+        self.advance_at(&mount, id, place);
         Ok(reply)
     }
 
-    /// The listener has heard his stream up to this place, if there is one. It takes no memory.
-    fn advance(&mut self, id: u64, place: Option<Place>)
+    /// The listener, which sits at this mount, has heard its stream up to this place, if there is one.
+    /// It takes no memory.
+    fn advance_at(&mut self, mount: &MountName, id: u64, place: Option<Place>)
+        requires { sits_at self.old.seats id mount.now ≡ true }
         ensures { self.new ≡ kept_changed self.old (moves_to id place) }
     {
         if let Some(place) = place {
-            self.state.advance(id, place);
+            self.state.advance_at(mount, id, place);
         }
     }
 

@@ -7,4 +7,4 @@ use Rattle.radio_attached.proofs.listeners.end_one.Goals as goal
 pub returns : goal.returns
 returns c =
     c.end.ensures ∙ ap (λ (seats : List Listener). record { prepared = c.args.seats.now.prepared; seats = seats })
-    (ends_one Lagged c.args.id c.args.seats.now.seats c.next.ensures.rising)
+    (ends_one Lagged c.args.id c.args.seats.now.seats c.len.ensures.rising)

@@ -7,7 +7,7 @@ use Rattle.radio_house.proofs.WaitingLemmas.{first_or_other}
 use Rattle.radio_house.proofs.waiting.prepare_each.Goals as goal
 
 pub loop-relay-init : goal.loop-relay-init
-loop-relay-init c = (λ mount is. is, refl, λ mount feeds. inr feeds)
+loop-relay-init c = (λ mount is. is, refl, λ mount feeds. inr feeds, refl)
 
 pub returns-in_err-prepare_for-clause-others : goal.returns-in_err-prepare_for-clause-others
 returns-in_err-prepare_for-clause-others c = λ mount is. c.prepare_for.ensures.others mount (c.loop-relay.invariant.0 mount is)
@@ -20,6 +20,7 @@ loop-relay-preserved c = (
   λ mount is. c.prepare_for.ensures.others mount (c.loop-relay.invariant.0 mount is),
   c.prepare_for.ensures.seats ∙ c.loop-relay.invariant.1,
   λ mount feeds. still mount (c.loop-relay.invariant.2 mount feeds),
+  c.prepare_for.ensures.live ∙ c.loop-relay.invariant.3,
 ) where
   left : drop c.loop-relay.relay-index c.args.relays.now ≡ c.relay-item.result ∷ drop (c.loop-relay.relay-index + 1) c.args.relays.now
   left =
@@ -60,3 +61,9 @@ returns-clause-others c = c.loop-relay.invariant.0
 
 pub returns-clause-seats : goal.returns-clause-seats
 returns-clause-seats c = c.loop-relay.invariant.1
+
+pub returns-in_err-prepare_for-clause-live : goal.returns-in_err-prepare_for-clause-live
+returns-in_err-prepare_for-clause-live c = c.prepare_for.ensures.live ∙ c.loop-relay.invariant.3
+
+pub returns-clause-live : goal.returns-clause-live
+returns-clause-live c = c.loop-relay.invariant.3

@@ -10,3 +10,4 @@ invariant-loop-relay l =
     × (l.seats.seats ≡ l.initial.seats.seats)
     × ((mount : List ℕ) → feeds_on_demand l.relays mount ≡ true
     → (is_prepared l.seats.prepared mount ≡ true) ⊎ (feeds_on_demand (drop l.relay-index l.relays) mount ≡ true))
+    × (l.seats.live ≡ l.initial.seats.live)

@@ -1,38 +1,39 @@
-use Rattle.std.proofs.Common.{◌≡◌, Some, None, ap, sym, subst, ◌∙◌}
+use Rattle.std.proofs.Common.{◌≡◌, Some, None, List, ap, sym, subst, ◌∙◌}
 use Rattle.std.specs.Option.{option_map}
 use Rattle.radio_listeners.specs.Lent.{lent_seat}
-use Rattle.radio_seats.specs.Board.{Board}
+use Rattle.radio_seats.specs.declared.seat.Listener.{Listener}
 use Rattle.radio_seats.specs.Seats.{seat_of, with_place}
-use Rattle.radio_attached.specs.Attached.{heard_board}
-use Rattle.radio_attached.specs.ByMount.{places_in}
+use Rattle.radio_attached.specs.Attached.{Listening}
+use Rattle.radio_mounts.specs.Attached.{places_in}
 use Rattle.radio_attached.proofs.FitsChanges.{further_fits}
-use Rattle.radio_attached.proofs.ListenersLemmas.{has_heard, no_place}
+use Rattle.radio_attached.proofs.ListenersLemmas.{has_heard, no_place, same_listening}
 use Rattle.radio_attached.proofs.listeners.Listeners.advance.Goals as goal
 
 pub returns-in_default : goal.returns-in_default
 returns-in_default c =
     let i = c.self.inside in
     let none : seat_of i.seats.seats c.args.id ≡ None = sym c.seat.ensures ∙ ap (option_map lent_seat) c.in_default.is in
-    subst (λ (b : Board). b ≡ record { prepared = b.prepared; seats = with_place b.seats c.args.id c.args.place }) c.self.view_is
-    (sym (ap (λ seats. record { prepared = i.seats.prepared; seats = seats }) (no_place (places_in i.attached) c.args.id c.args.place i.seats.seats none)))
+    subst (λ (b : Listening). b ≡ record { prepared = b.prepared; live = b.live; seats = with_place b.seats c.args.id c.args.place }) c.self.view_is
+    (sym (ap (λ (seats : List Listener). record { prepared = i.seats.prepared; seats = seats; live = i.parts.live }) (no_place (places_in i.parts.attached) c.args.id c.args.place i.seats.seats none)))
 
 pub returns : goal.returns
 returns c =
     let i = c.self.inside in
-    let f = places_in i.attached in
-    let g = places_in c.advance.new.self in
+    let f = places_in i.parts.attached in
+    let g = places_in c.advance.new.self.attached in
     let seat = lent_seat c.in-Some.seat in
     let has : seat_of i.seats.seats c.args.id ≡ Some seat = sym c.seat.ensures ∙ ap (option_map lent_seat) c.in-Some.is in
     let over = c.advance.ensures.over in
-    subst (λ (b : Board). heard_board c.advance.new.self i.seats ≡ record { prepared = b.prepared; seats = with_place b.seats c.args.id c.args.place }) c.self.view_is
-    (ap (λ seats. record { prepared = i.seats.prepared; seats = seats })
-    (has_heard f g c.args.id c.args.place seat i.seats.seats c.next.ensures.rising c.self.invariant.fits has c.advance.ensures.others over c.advance.ensures.there))
+    same_listening (ap (λ (b : Listening). b.prepared) c.self.view_is)
+    (has_heard f g c.args.id c.args.place seat i.seats.seats c.len.ensures.rising c.self.invariant.fits has c.advance.ensures.others over c.advance.ensures.there
+    ∙ ap (λ (b : Listening). with_place b.seats c.args.id c.args.place) c.self.view_is)
+    (c.advance.ensures.live ∙ ap (λ (b : Listening). b.live) c.self.view_is)
 
 pub invariant_of-self : goal.invariant_of-self
 invariant_of-self c =
     let i = c.self.inside in
-    let f = places_in i.attached in
-    let g = places_in c.advance.new.self in
+    let f = places_in i.parts.attached in
+    let g = places_in c.advance.new.self.attached in
     let seat = lent_seat c.in-Some.seat in
     let has : seat_of i.seats.seats c.args.id ≡ Some seat = sym c.seat.ensures ∙ ap (option_map lent_seat) c.in-Some.is in
     let over = c.advance.ensures.over in

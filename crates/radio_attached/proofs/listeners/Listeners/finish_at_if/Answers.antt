@@ -1,27 +1,26 @@
-use Rattle.std.proofs.Common.{◌≡◌, ℕ, None, List, ap, sym, subst, ◌∙◌}
+use Rattle.std.proofs.Common.{◌≡◌, ℕ, None, List, refl, ap, sym, subst, ◌∙◌}
 use Rattle.std.specs.Prelude.{if◌then◌else◌}
-use Rattle.radio_listeners.proofs.RowLemmas.{same_board}
 use Rattle.radio_seats.specs.Board.{Board}
 use Rattle.radio_seats.specs.Guests.{passes_at}
 use Rattle.radio_seats.specs.Rests.{how_many}
 use Rattle.radio_seats.specs.Seats.{AreByNumber, sits_at, with_ended}
 use Rattle.radio_seats.specs.declared.seat.Listener.{Listener}
 use Rattle.radio_fallback.specs.Heard.{heard}
-use Rattle.radio_attached.specs.Attached.{AreAttached}
-use Rattle.radio_attached.specs.ByMount.{places_in}
+use Rattle.radio_attached.specs.Attached.{AreAttached, Listening}
+use Rattle.radio_mounts.specs.Attached.{places_in}
 use Rattle.radio_attached.proofs.FitsChanges.{tested_fits}
-use Rattle.radio_attached.proofs.ListenersLemmas.{anywhere_at, have_tested, how_many_heard}
+use Rattle.radio_attached.proofs.ListenersLemmas.{have_tested, how_many_heard, same_listening}
 use Rattle.radio_attached.proofs.listeners.Listeners.finish_at_if.Goals as goal
 
 pub invariant_of-self : goal.invariant_of-self
 invariant_of-self g c =
     let i = c.self.inside in
     let p = g.T.SeatTest.passes c.args.test.now in
-    let before = places_in i.attached in
-    let after = places_in c.detach_others.new.self in
+    let before = places_in i.parts.attached in
+    let after = places_in c.detach_others.new.self.attached in
     let there = subst (λ (s : List Listener). (n : ℕ) → after c.args.mount.now n ≡ (if sits_at s n c.args.mount.now then before c.args.mount.now n else None))
     (ap (λ (b : Board). b.seats) c.finish_at_if-count.ensures.seats) c.detach_others.ensures.there in
-    subst (AreAttached c.detach_others.new.self) (sym c.finish_at_if-count.ensures.seats) (record {
+    subst (AreAttached c.detach_others.new.self.attached) (sym c.finish_at_if-count.ensures.seats) (record {
       parts = λ mount is. c.detach_others.ensures.parts mount ∙ c.self.invariant.parts mount is;
       fits = tested_fits before after c.args.mount.now p c.args.rule i.seats.seats there (λ m n apart. c.detach_others.ensures.elsewhere m n apart)
           c.self.invariant.fits;
@@ -31,21 +30,22 @@ pub returns-clause-seats : goal.returns-clause-seats
 returns-clause-seats g c =
     let i = c.self.inside in
     let p = g.T.SeatTest.passes c.args.test.now in
-    let before = places_in i.attached in
-    let after = places_in c.detach_others.new.self in
+    let before = places_in i.parts.attached in
+    let after = places_in c.detach_others.new.self.attached in
     let there = subst (λ (s : List Listener). (n : ℕ) → after c.args.mount.now n ≡ (if sits_at s n c.args.mount.now then before c.args.mount.now n else None))
     (ap (λ (b : Board). b.seats) c.finish_at_if-count.ensures.seats) c.detach_others.ensures.there in
-    let rising = subst AreByNumber (ap (λ (b : Board). b.seats) c.finish_at_if-count.ensures.seats) c.next.ensures.rising in
-    same_board c.finish_at_if-count.new.self.prepared c.args.self.now.prepared _ _
-    (ap (λ (b : Board). b.prepared) c.finish_at_if-count.ensures.seats ∙ ap (λ (b : Board). b.prepared) c.self.view_is)
+    let rising = subst AreByNumber (ap (λ (b : Board). b.seats) c.finish_at_if-count.ensures.seats) c.len.ensures.rising in
+    same_listening
+    (ap (λ (b : Board). b.prepared) c.finish_at_if-count.ensures.seats ∙ ap (λ (b : Listening). b.prepared) c.self.view_is)
     (ap (λ (b : Board). heard after b.seats) c.finish_at_if-count.ensures.seats
-    ∙ have_tested before after c.args.mount.now p c.args.rule i.seats.seats c.requires rising there (λ m n apart. c.detach_others.ensures.elsewhere m n apart)
-    ∙ ap (λ (b : Board). with_ended b.seats (passes_at c.args.mount.now p) c.args.rule) c.self.view_is)
+    ∙ have_tested before after c.args.mount.now p c.args.rule i.seats.seats rising there (λ m n apart. c.detach_others.ensures.elsewhere m n apart)
+    ∙ ap (λ (b : Listening). with_ended b.seats (passes_at c.args.mount.now p) c.args.rule) c.self.view_is)
+    (c.detach_others.ensures.live ∙ ap (λ (b : Listening). b.live) c.self.view_is)
 
 pub returns-clause-count : goal.returns-clause-count
 returns-clause-count g c =
     let i = c.self.inside in
     let p = g.T.SeatTest.passes c.args.test.now in
     c.finish_at_if-count.ensures.count
-    ∙ sym (how_many_heard (places_in i.attached) (passes_at c.args.mount.now p) (anywhere_at c.args.mount.now p c.requires) i.seats.seats)
-    ∙ ap (λ (b : Board). how_many (passes_at c.args.mount.now p) b.seats) c.self.view_is
+    ∙ sym (how_many_heard (places_in i.parts.attached) (passes_at c.args.mount.now p) (λ seat place. refl) i.seats.seats)
+    ∙ ap (λ (b : Listening). how_many (passes_at c.args.mount.now p) b.seats) c.self.view_is

@@ -10,6 +10,7 @@ invariant-mounts g l =
     (l.self.prepared ≡ l.initial.self.prepared)
     × (with_ended l.self.seats (passes_in (g.T.SeatTest.passes l.fn.test)) l.fn.rule
     ≡ with_ended l.initial.self.seats (passes_in (g.T.SeatTest.passes l.fn.test)) l.fn.rule)
+    × (l.self.live ≡ l.initial.self.live)
 
 abbrev pub decreases-mounts : goal.decreases-mounts
 decreases-mounts g l = how_many (passes_in (g.T.SeatTest.passes l.fn.test)) l.self.seats

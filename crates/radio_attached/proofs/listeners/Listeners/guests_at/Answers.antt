@@ -1,8 +1,8 @@
 use Rattle.std.proofs.Common.{◌≡◌, List, ap, sym, subst, ◌∙◌}
 use Rattle.std.specs.Prelude.{IfOk, map}
-use Rattle.radio_seats.specs.Board.{Board}
 use Rattle.radio_listeners.specs.Listed.{ListedGuest, lent_guest, guests_at}
-use Rattle.radio_attached.specs.ByMount.{places_in}
+use Rattle.radio_mounts.specs.Attached.{places_in}
+use Rattle.radio_attached.specs.Attached.{Listening}
 use Rattle.radio_attached.proofs.HeardReads.{guests_heard}
 use Rattle.radio_attached.proofs.listeners.Listeners.guests_at.Goals as goal
 
@@ -10,5 +10,5 @@ pub returns : goal.returns
 returns c =
     let i = c.self.inside in
     subst (λ (guests : List ListedGuest). IfOk c.guests_at.result (λ found. map lent_guest found.items ≡ guests))
-    (sym (guests_heard (places_in i.attached) c.args.mount.now i.seats.seats) ∙ ap (λ (b : Board). guests_at b.seats c.args.mount.now) c.self.view_is)
+    (sym (guests_heard (places_in i.parts.attached) c.args.mount.now i.seats.seats) ∙ ap (λ (b : Listening). guests_at b.seats c.args.mount.now) c.self.view_is)
     c.guests_at.ensures

@@ -1,12 +1,12 @@
 use Rattle.std.proofs.Common.{ap, sym, ◌∙◌}
-use Rattle.radio_seats.specs.Board.{Board}
 use Rattle.radio_seats.specs.Seats.{last_mount_of}
-use Rattle.radio_attached.specs.ByMount.{places_in}
+use Rattle.radio_mounts.specs.Attached.{places_in}
+use Rattle.radio_attached.specs.Attached.{Listening}
 use Rattle.radio_attached.proofs.HeardReads.{last_heard}
 use Rattle.radio_attached.proofs.listeners.Listeners.last_mount.Goals as goal
 
 pub returns : goal.returns
 returns c =
     let i = c.self.inside in
-    c.last_mount.ensures ∙ sym (last_heard (places_in i.attached) i.seats.seats c.args.id)
-    ∙ ap (λ (b : Board). last_mount_of b.seats c.args.id) c.self.view_is
+    c.last_mount.ensures ∙ sym (last_heard (places_in i.parts.attached) i.seats.seats c.args.id)
+    ∙ ap (λ (b : Listening). last_mount_of b.seats c.args.id) c.self.view_is

@@ -1,27 +1,28 @@
 use Rattle.std.proofs.Common.{◌≡◌, ℕ, Some, None, ap, sym, ◌∙◌}
+use Rattle.std.specs.Prelude.{unwrap_or}
 use Rattle.std.specs.Option.{option_map}
-use Rattle.radio_seats.specs.Board.{Board}
 use Rattle.radio_seats.specs.Guests.{seat_of_guest}
 use Rattle.radio_seats.specs.Seats.{seat_of}
 use Rattle.radio_listeners.specs.Lent.{lent_seat}
-use Rattle.radio_attached.specs.ByMount.{places_in}
+use Rattle.radio_mounts.specs.Attached.{places_in}
+use Rattle.radio_attached.specs.Attached.{Listening}
 use Rattle.radio_attached.proofs.HeardReads.{heard_seat, seat_heard}
 use Rattle.radio_attached.proofs.listeners.Listeners.seat.Goals as goal
 
 pub returns-in_default : goal.returns-in_default
 returns-in_default c =
     let i = c.self.inside in
-    let f = places_in i.attached in
+    let f = places_in i.parts.attached in
     let none : seat_of i.seats.seats c.args.id ≡ None = sym c.seat.ensures ∙ ap (option_map lent_seat) c.in_default.is in
     sym (ap (option_map (heard_seat f c.args.id)) none) ∙ sym (seat_heard f i.seats.seats c.args.id)
-    ∙ ap (λ (b : Board). seat_of b.seats c.args.id) c.self.view_is
+    ∙ ap (λ (b : Listening). seat_of b.seats c.args.id) c.self.view_is
 
 pub returns : goal.returns
 returns c =
     let i = c.self.inside in
-    let f = places_in i.attached in
+    let f = places_in i.parts.attached in
     let seat = c.in-Some.seat in
     let some : seat_of i.seats.seats c.args.id ≡ Some (lent_seat seat) = sym c.seat.ensures ∙ ap (option_map lent_seat) c.in-Some.is in
-    ap (λ (place : ℕ). Some (seat_of_guest place seat.mount.now seat.session seat.guest.now)) c.place_or-place.ensures
+    ap (λ (place : ℕ). Some (seat_of_guest place seat.mount.now seat.session seat.guest.now)) (c.place_of-place.ensures ∙ ap (λ found. unwrap_or found seat.place) c.place.ensures)
     ∙ sym (ap (option_map (heard_seat f c.args.id)) some) ∙ sym (seat_heard f i.seats.seats c.args.id)
-    ∙ ap (λ (b : Board). seat_of b.seats c.args.id) c.self.view_is
+    ∙ ap (λ (b : Listening). seat_of b.seats c.args.id) c.self.view_is

@@ -1,9 +1,8 @@
-use Rattle.std.proofs.Common.{◌≡◌, ℕ, true, false, List, Some, ◌∷◌, ◌++◌, ap, sym, subst, ◌∙◌, find}
-use Rattle.std.specs.Prelude.{◌==◌}
+use Rattle.std.proofs.Common.{◌≡◌, ℕ, List, Some, ◌∷◌, ◌++◌, ap, sym, subst, ◌∙◌, find}
 use Rattle.radio_tables.specs.Lists.{update_first}
 use Rattle.radio_attachments.specs.declared.attachment.Attachment.{Attachment}
-use Rattle.radio_attachments.specs.Rows.{is_attached, at_place, comes_before, AreInOrder, Forked}
-use Rattle.radio_attachments.proofs.AtFork.{at_fork, apart_so}
+use Rattle.radio_attachments.specs.Rows.{is_attached, at_place, AreInOrder, Forked}
+use Rattle.radio_attachments.proofs.AtFork.{at_fork, its_side, not_its}
 use Rattle.radio_attachments.proofs.Forks.{finds_here, finds_less, finds_more, changes_here, changes_less, changes_more, visited_here, visited_there, visited_in_order}
 use Rattle.radio_attachments.proofs.branch.Branch.+visit.Goals as goal
 
@@ -33,10 +32,8 @@ returns-then-comes_before g t c =
     let f = at_fork c.self.view_is c.self.invariant (c.in-Some.is) in
     let v = c.in-Some.fork.value in
     let id = c.args.id in
-    let one = c.behind-fork-2.view_is ∙ c.deref-2.ensures in
     let two = c.behind-fork-then-comes_before.view_is ∙ c.deref_mut-then-comes_before.ensures.value in
-    let first : comes_before id v.row.id ≡ true =
-    sym (ap (λ (x : Forked). comes_before id x.row.id) one) ∙ sym c.comes_before.ensures ∙ c.if-comes_before.true in
+    let first = its_side id (c.behind-fork-2.view_is ∙ c.deref-2.ensures) c.comes_before.ensures c.if-comes_before.true in
     let side : c.behind-fork-then-comes_before.inside.less ≡ v.less = ap (λ (x : Forked). x.less) two in
     let whole : (ys : List Attachment) → (ys ++ c.behind-fork-then-comes_before.inside.row ∷ c.behind-fork-then-comes_before.inside.more) ≡ ys ++ v.row ∷ v.more =
     λ ys. ap (λ (x : Forked). ys ++ x.row ∷ x.more) two in
@@ -58,13 +55,9 @@ returns g t c =
     let f = at_fork c.self.view_is c.self.invariant (c.in-Some.is) in
     let v = c.in-Some.fork.value in
     let id = c.args.id in
-    let before = c.behind-fork.view_is ∙ c.deref.ensures in
-    let one = c.behind-fork-2.view_is ∙ c.deref-2.ensures in
     let two = c.behind-fork-4.view_is ∙ c.deref_mut-2.ensures.value in
-    let not_first : comes_before id v.row.id ≡ false =
-    sym (ap (λ (x : Forked). comes_before id x.row.id) one) ∙ sym c.comes_before.ensures ∙ c.if-comes_before.false in
-    let apart : (id == v.row.id) ≡ false =
-    apart_so id v.row.id (λ e. c.if-id-deref.false (e ∙ sym (ap (λ (x : Forked). x.row.id) before))) in
+    let not_first = its_side id (c.behind-fork-2.view_is ∙ c.deref-2.ensures) c.comes_before.ensures c.if-comes_before.false in
+    let apart = not_its id (c.behind-fork.view_is ∙ c.deref.ensures) c.if-id-deref.false in
     let side : c.behind-fork-4.inside.more ≡ v.more = ap (λ (x : Forked). x.more) two in
     let whole : (ys : List Attachment) → (c.behind-fork-4.inside.less ++ c.behind-fork-4.inside.row ∷ ys) ≡ v.less ++ v.row ∷ ys =
     λ ys. ap (λ (x : Forked). x.less ++ x.row ∷ ys) two in

@@ -8,6 +8,6 @@ use Rattle.radio_changes.proofs.state.State.add_user.Goals as goal
 pub returns-clause-counts : goal.returns-clause-counts
 returns-clause-counts c =
     c.end_outsiders.ensures.counts
-    ∙ ap (λ (control : Control). counts_out (world (house_of control c.self.inside.board.sessions) c.self.inside.board.seats.seats) c.args.mount.now)
+    ∙ ap (λ (control : Control). counts_out (world (house_of control c.self.inside.listeners.live) c.self.inside.listeners.seats) c.args.mount.now)
     c.in_ok-add_user.ensures.ok
     ∙ ap (λ (w : World). counts_out (user_added w c.args.mount.now c.args.user.now c.args.password.now) c.args.mount.now) c.self.view_is

@@ -1,23 +1,49 @@
-use Rattle.std.proofs.Common.{◌≡◌, true, subst, arith}
-use Rattle.std.specs.Prelude.{is_some}
+use Rattle.std.proofs.Common.{◌≡◌, true, ap, sym, subst, ◌∙◌, arith}
+use Rattle.radio_attached.specs.Attached.{Listening}
 use Rattle.radio_fallback.specs.Carry.{carried}
+use Rattle.radio_fallback.specs.Walk.{Sight, with_ends}
+use Rattle.radio_house.proofs.LiveMounts.{heard_alike, same_sight}
 use Rattle.radio_house.specs.Control.{house_of}
-use Rattle.radio_house.specs.Facts.{sight_of}
-use Rattle.radio_house.specs.House.{House}
-use Rattle.radio_house.specs.Waiting.{heard_at}
+use Rattle.radio_house.specs.Live.{AreLive, sight_in}
+use Rattle.radio_house.specs.World.{World, world}
+use Rattle.radio_parts.specs.Parts.{ends_in}
+use Rattle.radio_changes.specs.Changes.{carried_along}
+use Rattle.radio_changes.specs.Counts.{counts_along}
 use Rattle.radio_changes.proofs.PreparedSeats.{as_many_carried, heard_prepared, seats_changed, some_listen}
 use Rattle.radio_changes.proofs.state.State.carry_along.Goals as goal
 
-pub carry-requires-clause-prepared : goal.carry-requires-clause-prepared
-carry-requires-clause-prepared c = λ mount heard. heard_prepared (house_of c.self.inside.control c.self.inside.board.sessions) c.self.inside.board.seats mount
-    (some_listen c.self.inside.board.seats.seats c.len.result c.len.ensures c.if-len-eq0.false) c.self.invariant.0 c.self.invariant.1
-    (subst (λ (house : House). is_some (heard_at house mount) ≡ true) c.of-house.ensures heard)
+pub carry_along-requires : goal.carry_along-requires
+carry_along-requires c = λ mount heard.
+    let control = c.self.inside.control in
+    let before = c.self.inside.listeners in
+    heard_prepared (house_of control before.live) before mount
+    (some_listen before.seats c.len.result c.len.ensures c.if-len-eq0.false) c.self.invariant.0.0 c.self.invariant.0.1
+    (sym (heard_alike control before.live c.self.invariant.1 mount) ∙ heard)
+
+pub returns-clause-state : goal.returns-clause-state
+returns-clause-state c =
+    let control = c.self.inside.control in
+    let before = c.self.inside.listeners in
+    let move = c.args.moving.now in
+    ap (λ (l : Listening). world (house_of control l.live) l.seats) c.carry_along.ensures.seats
+    ∙ ap (λ (sight : Sight). world (house_of control before.live) (carried sight move before.seats).seats) (same_sight control before.live c.self.invariant.1)
+    ∙ ap (λ (w : World). carried_along w move) c.self.view_is
+
+pub returns-clause-counts : goal.returns-clause-counts
+returns-clause-counts c =
+    let control = c.self.inside.control in
+    let before = c.self.inside.listeners in
+    let move = c.args.moving.now in
+    c.carry_along.ensures.counts
+    ∙ ap (λ (sight : Sight). (carried sight move before.seats).counts) (same_sight control before.live c.self.invariant.1)
+    ∙ ap (λ (w : World). counts_along w move) c.self.view_is
 
 pub invariant_of-self : goal.invariant_of-self
 invariant_of-self c =
-    let sight = sight_of c.of-house.result in
-    let board = c.self.inside.board.seats in
-    let seats = (carried sight c.args.moving.now board.seats).seats in
-    let many = as_many_carried sight c.args.moving.now board.seats in
-    seats_changed c.self.inside.control.settings c.self.inside.board.sessions board c.carry.new.seats seats c.carry.ensures.seats (omega (arith, many))
-    c.self.invariant
+    let sight = with_ends (sight_in c.self.inside.control) (ends_in c.self.inside.listeners.live) in
+    let before = c.self.inside.listeners in
+    let seats = (carried sight c.args.moving.now before.seats).seats in
+    let many = as_many_carried sight c.args.moving.now before.seats in (
+      seats_changed c.self.inside.control.settings before c.carry_along.new.self seats c.carry_along.ensures.seats (omega (arith, many)) c.self.invariant.0,
+      subst (λ (l : Listening). AreLive c.self.inside.control.live l.live) (sym c.carry_along.ensures.seats) c.self.invariant.1,
+    )

@@ -1,13 +1,19 @@
-use Rattle.std.proofs.Common.{refl}
+use Rattle.std.proofs.Common.{refl, ap}
+use Rattle.radio_attached.specs.Attached.{Listening}
+use Rattle.radio_house.proofs.LiveMounts.{one_ended}
+use Rattle.radio_house.specs.Control.{Control}
 use Rattle.radio_parts.proofs.PreparedLemmas.{ended_prepared}
-use Rattle.radio_changes.proofs.PreparedSeats.{house_changed}
+use Rattle.radio_parts.specs.Sessions.{without_session}
+use Rattle.radio_changes.proofs.PreparedSeats.{live_changed}
 use Rattle.radio_changes.proofs.state.State.end_session.Goals as goal
 
 pub invariant_of-self : goal.invariant_of-self
 invariant_of-self c =
-    let settings = c.self.inside.control.settings in
-    let live = c.self.inside.board.sessions in
-    let board = c.self.inside.board.seats in
-    let left = c.close.new.self in
-    house_changed settings settings live left board refl (ended_prepared live left board.prepared c.args.mount c.close.ensures c.self.invariant.0)
-    c.self.invariant
+    let control = c.self.inside.control in
+    let before = c.self.inside.listeners in
+    let live = without_session before.live c.args.mount in (
+      live_changed control.settings c.end_session.new.self.settings before c.close.new.self live (ap (λ (k : Control). k.settings) c.end_session.ensures)
+          c.close.ensures (ended_prepared before.live live before.prepared c.args.mount refl c.self.invariant.0.0) c.self.invariant.0.1,
+      one_ended control.live c.end_session.new.self.live before.live c.close.new.self.live c.self.invariant.1 c.args.mount
+          (ap (λ (k : Control). k.live) c.end_session.ensures) (ap (λ (l : Listening). l.live) c.close.ensures),
+    )

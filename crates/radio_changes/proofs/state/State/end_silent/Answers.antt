@@ -8,22 +8,22 @@ use Rattle.radio_changes.proofs.state.State.end_silent.Goals as goal
 pub sessions-smaller : goal.sessions-smaller
 sessions-smaller c =
     one_fewer c.sessions.self c.house.result c.house.ensures
-    (world (house_of c.self.inside.control c.self.inside.board.sessions) c.self.inside.board.seats.seats)
-    (house_of c.finish.new.self c.self.inside.board.sessions) c.in-Some.session.now
+    (world (house_of c.self.inside.control c.self.inside.listeners.live) c.self.inside.listeners.seats)
+    (house_of c.finish.new.self c.self.inside.listeners.live) c.in-Some.session.now
     c.get-mount.result.now c.session.inside.number c.first_silent.ensures.rising c.in-Some.ensures.first
     (c.get-mount.ensures ∙ ap (λ (x : Session). x.mount) c.session.view_is) (ap (λ (x : Session). x.number) c.session.view_is)
     (c.self.view_is ∙ c.end_session-counts.ensures.state)
-    (ap (λ (control : Control). house_of control c.self.inside.board.sessions) c.finish.ensures)
+    (ap (λ (control : Control). house_of control c.self.inside.listeners.live) c.finish.ensures)
 
 pub sessions-preserved : goal.sessions-preserved
 sessions-preserved c =
     still_to_end c.sessions.self c.house.result c.house.ensures
-    (world (house_of c.self.inside.control c.self.inside.board.sessions) c.self.inside.board.seats.seats)
-    (house_of c.finish.new.self c.self.inside.board.sessions) c.in-Some.session.now
+    (world (house_of c.self.inside.control c.self.inside.listeners.live) c.self.inside.listeners.seats)
+    (house_of c.finish.new.self c.self.inside.listeners.live) c.in-Some.session.now
     c.get-mount.result.now c.session.inside.number c.first_silent.ensures.rising c.in-Some.ensures.first
     (c.get-mount.ensures ∙ ap (λ (x : Session). x.mount) c.session.view_is) (ap (λ (x : Session). x.number) c.session.view_is)
     (c.self.view_is ∙ c.end_session-counts.ensures.state)
-    (ap (λ (control : Control). house_of control c.self.inside.board.sessions) c.finish.ensures) ∙ c.sessions.invariant
+    (ap (λ (control : Control). house_of control c.self.inside.listeners.live) c.finish.ensures) ∙ c.sessions.invariant
 
 pub returns : goal.returns
 returns c =

@@ -1,22 +1,27 @@
-use Rattle.std.proofs.Common.{◌≡◌, refl}
+use Rattle.std.proofs.Common.{◌≡◌, refl, ap}
+use Rattle.radio_attached.specs.Attached.{Listening}
+use Rattle.radio_house.proofs.LiveMounts.{still_live}
 use Rattle.radio_parts.specs.Kept.{longer_kept, kept_fed}
+use Rattle.radio_parts.specs.Sessions.{is_of}
 use Rattle.radio_parts.proofs.PreparedLemmas.{changed_prepared}
-use Rattle.radio_changes.proofs.PreparedSeats.{house_changed}
+use Rattle.radio_changes.proofs.PreparedSeats.{live_changed}
 use Rattle.radio_changes.proofs.state.State.take_in.Goals as goal
 
 pub invariant_of-self-2 : goal.invariant_of-self-2
 invariant_of-self-2 c =
-    let settings = c.self.inside.control.settings in
-    let moment = c.self.inside.control.time in
-    let live = c.self.inside.board.sessions in
-    let board = c.self.inside.board.seats in
-    let later = c.receive.new.self in
-    let is : later ≡ kept_fed settings.limits.queue_size live c.args.mount c.args.block moment =
-    rw (c.in_ok-end.ensures.ok, c.get-limit.ensures.number, c.settings.ensures, c.time-moment.ensures) refl in
-    house_changed settings settings live later board refl
-    (changed_prepared live later board.prepared c.args.mount (longer_kept settings.limits.queue_size c.args.block moment) (λ session. refl) is
-    c.self.invariant.0)
-    c.self.invariant
+    let control = c.self.inside.control in
+    let limit = control.settings.limits.queue_size in
+    let before = c.self.inside.listeners in
+    let live = kept_fed limit before.live c.args.mount c.args.block control.time in
+    let is : c.receive.new.self ≡ record before { live = live } =
+    rw (c.in_ok-end.ensures.ok, c.get-limit.ensures.number, c.settings.ensures, c.time-moment.ensures) refl in (
+      live_changed control.settings control.settings before c.receive.new.self live refl is
+          (changed_prepared before.live live before.prepared c.args.mount (longer_kept limit c.args.block control.time) (λ session. refl) refl
+          c.self.invariant.0.0)
+          c.self.invariant.0.1,
+      still_live control.live control.live before.live c.receive.new.self.live c.self.invariant.1 (is_of c.args.mount)
+          (longer_kept limit c.args.block control.time) (λ session. refl) refl (ap (λ (l : Listening). l.live) is),
+    )
 
 pub returns-clause-ok : goal.returns-clause-ok
 returns-clause-ok c =

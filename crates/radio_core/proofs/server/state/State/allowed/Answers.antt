@@ -26,5 +26,5 @@ returns-in-Listing c =
     let listing = c.in-Listing.listing in
     let is_shown : c.in_ok-shown-in-Listing.field-0 ≡ shown w listing
     = c.in_ok-shown-in-Listing.ensures
-    ∙ ap (λ (v : World). shown v listing) (lent_state w c.house.result c.seats.result.now.seats c.house.ensures c.seats.ensures) in
+    ∙ ap (λ (v : World). shown v listing) (lent_state w c.house.result c.seats.result.now.seats c.house.ensures c.seats.ensures.seats) in
     rw c.in-Listing.is (ap (λ (text : Text). says (SaysText text) (Answer c.args.asked.id)) is_shown ∙ untold w c.args.asked.id listing)

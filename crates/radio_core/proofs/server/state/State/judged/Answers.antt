@@ -32,7 +32,7 @@ returns-in-Deny c =
     let seats = c.seats.result.now.seats in
     c.refused.ensures
     ∙ sym (ap (come_of w c.args.asked) (verdict_is w (world house seats) c.args.asked c.command_facts-facts.result (Denied c.in-Deny.rule)
-    (lent_state w house seats c.house.ensures c.seats.ensures) (rw (← c.as_ref.ensures.value) c.command_facts-facts.ensures)
+    (lent_state w house seats c.house.ensures c.seats.ensures.seats) (rw (← c.as_ref.ensures.value) c.command_facts-facts.ensures)
     (sym c.judge.ensures ∙ c.in-Deny.is)))
 
 pub returns-in-Allow : goal.returns-in-Allow
@@ -41,5 +41,5 @@ returns-in-Allow c =
     let house = c.house.result in
     let seats = c.seats.result.now.seats in
     subst (λ (verdict : Verdict). IfOk c.allowed.result (λ o. o ≡ come_of w c.args.asked verdict))
-    (sym (verdict_is w (world house seats) c.args.asked c.command_facts-facts.result Allow (lent_state w house seats c.house.ensures c.seats.ensures)
+    (sym (verdict_is w (world house seats) c.args.asked c.command_facts-facts.result Allow (lent_state w house seats c.house.ensures c.seats.ensures.seats)
     (rw (← c.as_ref.ensures.value) c.command_facts-facts.ensures) (sym c.judge.ensures ∙ c.in-Allow.is))) c.allowed.ensures

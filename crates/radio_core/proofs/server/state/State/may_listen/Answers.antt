@@ -52,7 +52,7 @@ returns-in-Deny c =
     c.refused-in-Deny.ensures
     ∙ sym (comes_to w asked c.in-Undecided.peer (sym c.standing.ensures ∙ c.in-Undecided.is) (Denied c.in-Deny.rule)
     (judged w c.house-house.result c.seats.result.now.seats asked c.in-Some.home c.listen_facts-landing.result.0 (Denied c.in-Deny.rule) c.house-house.ensures
-    c.seats.ensures (rw (← c.as_slice.ensures) c.in-Some.ensures.0) (c.in-Some.ensures.1 ∙ c.as_slice.ensures)
+    c.seats.ensures.seats (rw (← c.as_slice.ensures) c.in-Some.ensures.0) (c.in-Some.ensures.1 ∙ c.as_slice.ensures)
     (rw (← c.as_ref.ensures.value) c.listen_facts-landing.ensures.facts) (sym c.in-Deny.is ∙ c.judge.ensures)))
 
 pub returns-in-Allow : goal.returns-in-Allow
@@ -60,12 +60,12 @@ returns-in-Allow c =
     let w = c.args.self.now in
     let asked = c.args.asked.now in
     let landing : c.listen_facts-landing.result.1 ≡ walks_to w.house w.seats c.in-Some.home asked.pair =
-    rw (← c.house-house.ensures, ← c.seats.ensures, ← c.as_ref.ensures.value) c.listen_facts-landing.ensures.landing in
+    rw (← c.house-house.ensures, ← c.seats.ensures.seats, ← c.as_ref.ensures.value) c.listen_facts-landing.ensures.landing in
     let landed : c.listen_facts-landing.result.1 ≡ walks_to w.house w.seats asked.mount asked.pair =
     landing ∙ ap (λ (m : List ℕ). walks_to w.house w.seats m asked.pair) (c.in-Some.ensures.1 ∙ c.as_slice.ensures) in (
       c.in-Some.ensures.1 ∙ c.as_slice.ensures,
       comes_to w asked c.in-Undecided.peer (sym c.standing.ensures ∙ c.in-Undecided.is) Allow
-          (judged w c.house-house.result c.seats.result.now.seats asked c.in-Some.home c.listen_facts-landing.result.0 Allow c.house-house.ensures c.seats.ensures
+          (judged w c.house-house.result c.seats.result.now.seats asked c.in-Some.home c.listen_facts-landing.result.0 Allow c.house-house.ensures c.seats.ensures.seats
           (rw (← c.as_slice.ensures) c.in-Some.ensures.0) (c.in-Some.ensures.1 ∙ c.as_slice.ensures)
           (rw (← c.as_ref.ensures.value) c.listen_facts-landing.ensures.facts) (sym c.in-Allow.is ∙ c.judge.ensures))
           ∙ ap (sits_where w.house asked c.in-Undecided.peer) (sym landed),

@@ -15,5 +15,5 @@ returns-in_ok-page-in-Undecided c =
     let is_there : c.in_ok-page-in-Undecided.field-0 ≡ page_at w c.args.path asked.host
     = c.in_ok-page-in-Undecided.ensures
     ∙ ap (λ (host : List ℕ). page_at (world c.house.result c.seats.result.now.seats) c.args.path host) c.as_slice.ensures
-    ∙ ap (λ (v : World). page_at v c.args.path asked.host) (lent_state w c.house.result c.seats.result.now.seats c.house.ensures c.seats.ensures) in
+    ∙ ap (λ (v : World). page_at v c.args.path asked.host) (lent_state w c.house.result c.seats.result.now.seats c.house.ensures c.seats.ensures.seats) in
     rw (sym c.standing.ensures ∙ c.in-Undecided.is) (ap (λ (text : Text). says (SaysText text) (Answer asked.id)) is_there)

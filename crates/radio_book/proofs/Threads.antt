@@ -1,0 +1,19 @@
+-- A book may go to another thread.
+use denote.RattleType.{RattleType}
+use denote.Param.Send.{IsSend, sendable}
+use Rattle.std.proofs.Crossing.{crosses}
+use Rattle.std.proofs.sync.ledger.Book.TheSendSync as ledger_book
+use Rattle.std.proofs.sync.ledger.Share.TheSendSync as ledger_share
+use Rattle.std.specs.declared.sync.ledger.Ledger as ledger
+use Rattle.radio_chronicle.proofs.Threads.{story_send}
+use Rattle.radio_chronicle.specs.declared.chronicle.Chronicle as chronicle
+use Rattle.radio_chronicle.specs.declared.house.House as house
+use Rattle.radio_book.specs.contracts.accounts.Accounts as accounts
+use Rattle.radio_book.specs.contracts.book.Book as book
+
+module _ (C H : RattleType) (c : chronicle.Ghosts C.Denot) (h : house.Ghosts H.Denot) (l : ledger.Ghosts H.Denot) where
+  accounts_send : IsSend C → IsSend H → IsSend (accounts.the_field C H c h l).row
+  accounts_send sc sh = search (sendable, crosses, ledger_book.the_send, ledger_share.the_send, story_send) depth 12
+
+  pub book_send : IsSend C → IsSend H → IsSend (book.the_row C H c h l)
+  book_send sc sh = search (sendable, accounts_send) depth 10

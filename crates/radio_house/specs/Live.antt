@@ -1,0 +1,49 @@
+-- Which mounts are live, and who feeds them, as the control notes it next to the sessions.
+use Rattle.std.specs.Prelude.{◌≡◌, ℕ, Bool, List, map, filter, not}
+use Rattle.std.specs.declared.cmp.Ordering.{Ordering}
+use Rattle.std.specs.Cmp.Lexicographic.{slice_cmp}
+use Rattle.std.specs.Ordering.{nat_cmp}
+use Rattle.std.specs.Str.{bytes_eq}
+use Rattle.radio_tables.specs.Lists.{placed}
+use Rattle.radio_parts.specs.Sessions.{Session, opened}
+use Rattle.radio_fallback.specs.Walk.{Sight}
+use Rattle.radio_house.specs.declared.live.LiveMount.{LiveMount}
+use Rattle.radio_house.specs.Control.{Control, house_of}
+use Rattle.radio_house.specs.Facts.{sight_of}
+use Rattle.radio_house.specs.House.{House}
+use Rattle.radio_house.specs.Waiting.{shown_by_nobody}
+
+abbrev pub is_live_mount : List ℕ → LiveMount → Bool
+is_live_mount mount row = bytes_eq row.mount mount
+
+-- they stand in the order of their mounts' bytes
+abbrev pub by_name : LiveMount → LiveMount → Ordering
+by_name a b = slice_cmp nat_cmp a.mount b.mount
+
+-- one more is live
+abbrev pub with_live : List LiveMount → LiveMount → List LiveMount
+with_live rows row = placed by_name row rows
+
+-- one is live no more
+abbrev pub without_live : List LiveMount → List ℕ → List LiveMount
+without_live rows mount = filter (λ row. not (is_live_mount mount row)) rows
+
+-- what is noted of a session
+abbrev pub live_mount : Session → LiveMount
+live_mount session = record { mount = session.mount; number = session.number }
+
+-- the mounts that are noted are those of these sessions
+abbrev pub AreLive : List LiveMount → List Session → Type 0
+AreLive rows live = rows ≡ map live_mount live
+
+-- a session of which no more is known than is noted
+abbrev pub bare_session : LiveMount → Session
+bare_session row = opened row.mount row.number shown_by_nobody 0
+
+-- the house as far as the control knows it: of each session its mount and its number
+abbrev pub bare_house : Control → House
+bare_house control = house_of control (map bare_session control.live)
+
+-- what a walk sees of the control
+abbrev pub sight_in : Control → Sight
+sight_in control = sight_of (bare_house control)

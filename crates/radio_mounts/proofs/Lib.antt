@@ -1,0 +1,9 @@
+pub mod ByMountChanges
+pub mod ByMountLemmas
+pub mod DeliveryLemmas
+pub mod LaggingLemmas
+pub mod LiveLemmas
+pub mod PartAttachments
+pub mod PartLemmas
+pub mod AskedSessions
+pub mod PlaceLemmas

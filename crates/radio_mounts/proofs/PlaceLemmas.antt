@@ -1,0 +1,13 @@
+-- the place of a listener is that of its mount's part
+use Rattle.std.proofs.Common.{◌≡◌, ℕ, Option, List, ap, sym, ◌∙◌}
+use Rattle.std.specs.Prelude.{find}
+use Rattle.std.specs.Option.{option_map}
+use Rattle.radio_mounts.specs.declared.part.MountPart.{MountPart}
+use Rattle.radio_mounts.specs.Parts.{ByMount, MountAttachments, attached_to, by_mount_of, is_part_of}
+use Rattle.radio_mounts.specs.Attached.{found_in, place_in, places_in}
+use Rattle.radio_mounts.proofs.PartAttachments.{found_through}
+
+pub place_seen : (parts : List MountPart) (now : ByMount) (mount : List ℕ) (id : ℕ) (found : Option MountPart) → by_mount_of parts ≡ now
+    → find (is_part_of mount) parts ≡ found → places_in now.attached mount id ≡ place_in (found_in id (option_map attached_to found))
+place_seen parts now mount id found is e =
+    ap (λ (x : ByMount). places_in x.attached mount id) (sym is) ∙ found_through mount (λ (x : Option MountAttachments). place_in (found_in id x)) parts found e

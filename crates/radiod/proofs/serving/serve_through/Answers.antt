@@ -1,0 +1,8 @@
+use denote.Param.Send.{sendable}
+use Rattle.radio_book.proofs.Unkept.TheSendSync as unkept
+use Rattle.radio_hall.proofs.Threads.{hall_sync}
+use Rattle.radiod.proofs.serving.serve_through.Goals as goal
+
+-- several threads may call the hall
+pub serve-requires-sync-S : goal.serve-requires-sync-S
+serve-requires-sync-S g c κs within = search (sendable, hall_sync, unkept.the_send, c.type_bounds) depth 8
