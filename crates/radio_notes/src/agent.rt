@@ -1,31 +1,43 @@
 //! The user agent that a head names.
 
-use memchr::memchr_iter;
-use radio_texts::{without_blanks, without_return};
+ghost use Rattle.std.specs.Prelude.{◌≡◌};
+ghost use Rattle.std.specs.Option.{option_copied};
+ghost use Rattle.radio_texts.specs.Cuts.{fields_at};
+ghost use Rattle.radio_notes.specs.Agents.{agent_among, agent_of_line};
+
+use radio_texts::{cut, without_blanks, without_return};
 
 /// What its line begins with.
 const NAME: &[u8] = b"user-agent:";
 
 /// The user agent that a head names which a session has read (RFC 9110, section 10.1.5): the first counts, and it is empty
-/// where there is none. It is a tenth of the work of reading the head once more.
-pub(crate) fn agent_in(head: &[u8]) -> &[u8] {
-    let mut start = 0;
-    for end in memchr_iter(b'\n', head) {
-        if let Some(value) = value_in(head, start, end) {
-            return value;
+/// if there is none.
+pub(crate) fn agent_in(head: &[u8]) -> &[u8]
+    ensures { result.now ≡ agent_among (fields_at 10 head.now) }
+{
+    let mut rest = head;
+    'lines: while let Some((line, later)) = cut(rest, b'\n') {
+        if let Some(agent) = agent_of_line(line) {
+            return agent;
         }
-        start = end.saturating_add(1);
+        rest = later;
     }
-    b""
+    match agent_of_line(rest) {
+        Some(agent) => agent,
+        None => b"",
+    }
 }
 
-/// The value of the line from one place to another, if it is the one.
-fn value_in(head: &[u8], start: usize, end: usize) -> Option<&[u8]> {
-    let line = head.get(start..end)?;
-    let name = line.get(..NAME.len())?;
+/// The user agent that a line names.
+fn agent_of_line(line: &[u8]) -> Option<&[u8]>
+    ensures { option_copied result ≡ agent_of_line line.now }
+{
+    if line.len() < NAME.len() {
+        return None;
+    }
+    let (name, value) = line.split_at(NAME.len());
     if !name.eq_ignore_ascii_case(NAME) {
         return None;
     }
-    let value = line.get(NAME.len()..)?;
     Some(without_blanks(without_return(value)))
 }

@@ -1,11 +1,14 @@
-//! What is heard on a connection, as far as the log tells it.
+//! What is heard on a connection, as far as the log says it.
+
+ghost use Rattle.std.specs.Prelude.{◌≡◌};
+ghost use Rattle.radio_notes.specs.Requests.{kept_of};
 
 use crate::request::Request;
 
 /// What is heard on a connection.
 #[derive(Drop)]
-pub(crate) enum Heard {
-    /// These first bytes of a head.
+pub enum Heard {
+    /// These first bytes of a head, which may be none.
     Part(Vec<u8>),
     /// A request.
     Request(Request),
@@ -14,35 +17,43 @@ pub(crate) enum Heard {
 }
 
 impl Heard {
-    /// The method that it asks by, empty where none is known.
-    pub(crate) fn method(&self) -> &[u8] {
+    /// The method that it asks by, empty if none is known.
+    pub(crate) fn method(&self) -> &[u8]
+        ensures { result.now ≡ (kept_of self.now).method }
+    {
         match self {
             Heard::Request(request) => request.method(),
-            _ => b"",
+            Heard::Part(_) | Heard::Nothing => b"",
         }
     }
 
-    /// The path that it asks for, up to a `?`, empty where none is known.
-    pub(crate) fn path(&self) -> &[u8] {
+    /// The path that it asks for, up to a `?`, empty if none is known.
+    pub(crate) fn path(&self) -> &[u8]
+        ensures { result.now ≡ (kept_of self.now).path }
+    {
         match self {
             Heard::Request(request) => request.path(),
-            _ => b"",
+            Heard::Part(_) | Heard::Nothing => b"",
         }
     }
 
-    /// The user that it names, empty where it names none.
-    pub(crate) fn user(&self) -> &[u8] {
+    /// The user that it names, empty if it names none.
+    pub(crate) fn user(&self) -> &[u8]
+        ensures { result.now ≡ (kept_of self.now).user }
+    {
         match self {
             Heard::Request(request) => request.user(),
-            _ => b"",
+            Heard::Part(_) | Heard::Nothing => b"",
         }
     }
 
-    /// What it says of itself, empty where it says nothing.
-    pub(crate) fn agent(&self) -> &[u8] {
+    /// What it says of itself, empty if it says nothing.
+    pub(crate) fn agent(&self) -> &[u8]
+        ensures { result.now ≡ (kept_of self.now).agent }
+    {
         match self {
             Heard::Request(request) => request.agent(),
-            _ => b"",
+            Heard::Part(_) | Heard::Nothing => b"",
         }
     }
 }

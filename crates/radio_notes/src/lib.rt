@@ -1,26 +1,37 @@
 //! What is noted of connections, and the lines of the log that are made of it.
 //!
+//! - [`Visit`]: what has happened on a connection, after each [`Happening`]; [`laws`] says what it then holds.
 //! - [`Account`]: what is noted of one connection, from its coming to its end.
 //! - [`Notice`]: what is to be told of an event, if it is done.
 //! - [`Told`]: what of a reply is noted.
 //! - [`Log`]: the lines that wait to be written, as many as there is room for.
 //!
-//! Nothing here answers a caller's question: contracts say that every call is safe and returns, and a connection goes on
-//! alike whatever is noted of it. The lines are those of `radio_log`.
+//! What is noted, told, written and lost is decided by functions of plain values, whose contracts say it. `Account` and `Log`
+//! keep these values in cells, which no contract can name. A connection goes on alike whatever is noted of it. The lines are
+//! those of `radio_log`.
 #![tactic(auto)]
 
 mod account;
 mod agent;
+mod ends;
+mod facts;
 mod heard;
+mod hearing;
+pub mod laws;
+mod lines;
 mod log;
 mod notice;
 mod request;
 mod told;
+mod visit;
 
 pub use account::Account;
-pub use log::{Log, MOST_WAITING};
+pub use ends::End;
+pub use lines::MOST_WAITING;
+pub use log::Log;
 pub use notice::Notice;
 pub use told::Told;
+pub use visit::{Happening, Part, Visit};
 
 /// What a call answers where memory was refused.
 pub type OutOfMemory = std::alloc::AllocError;

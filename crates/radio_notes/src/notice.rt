@@ -1,10 +1,17 @@
 //! What is to be told of an event.
 
-use crate::{Account, Log, OutOfMemory, Told};
+ghost use Rattle.std.specs.Prelude.{◌≡◌, MatchResult};
+ghost use Rattle.radio_notes.specs.Facts.{facts_of_asked, facts_of_command, facts_of_source};
+ghost use Rattle.radio_notes.specs.Requests.{user_in};
+ghost use Rattle.radio_notes.specs.Notices.{IsMadeAt, IsNoticeAt, IsToldAt, due, if_answered, if_taken};
+ghost use Rattle.radio_notes.specs.declared.notice.Notice.TheVariants.{Lines as LinesOf, Lost as LostOf};
+
+use crate::facts::{command_lines, count_of_command, source_lines};
+use crate::request::user_of;
+use crate::{OutOfMemory, Told};
 use radio_addr::Peer;
 use radio_events::{Asked, Command, CommandRequest, Event, SourceRequest};
-use radio_log::{Command as CommandTold, Fact, Text, Title};
-use radio_values::MountName;
+use radio_log::Moment;
 use std::alloc::Global;
 
 /// What is to be told of an event, if the server does what it asks for.
@@ -21,161 +28,96 @@ pub enum Notice {
 }
 
 impl Notice {
-    /// What is to be told of this event of a client, of whom so much was noted.
-    pub fn of(alloc: Global, log: &Log, account: &Account, peer: Peer, event: &Event) -> Notice {
+    /// What is to be told of this event of a client, who has named this agent: so many seconds after the beginning of 1970.
+    pub(crate) fn of(alloc: Global, seconds: u64, peer: Peer, agent: &[u8], event: &Event) -> Notice
+        ensures { IsNoticeAt seconds peer agent.now event.now result }
+    {
         match event {
             Event::Push { block, .. } => Notice::Block(block.len() as u64),
-            Event::Source(request) => Notice::made(2, source_lines(log, account, peer, request)),
-            Event::Command(request) => of_command(alloc, log, peer, request),
-            _ => Notice::Nothing,
+            Event::Source(request) => of_source(alloc, seconds, peer, agent, request),
+            Event::Command(request) => of_request(alloc, seconds, peer, request),
+            Event::Arrive { .. }
+            | Event::SourceEnd { .. }
+            | Event::Title { .. }
+            | Event::Listen(_)
+            | Event::Draw { .. }
+            | Event::Leave { .. }
+            | Event::RelayUp { .. }
+            | Event::RelayDown { .. }
+            | Event::Clock { .. } => Notice::Nothing,
         }
     }
 
-    /// Tells of it, where the server has replied that it is done.
-    pub fn tell(self, log: &Log, account: &Account, told: Told) {
+    /// What of it is to be told, if this is noted of the server's reply: lines of what was answered as done, and the block
+    /// that was taken.
+    pub(crate) fn due(self, told: Told) -> Notice
+        ensures { result ≡ due told self }
+    {
         match told {
-            Told::Feeding | Told::Text | Told::Shown => self.write(log),
-            Told::Noted => self.count(account),
-            _ => (),
+            Told::Feeding | Told::Text | Told::Shown => self.lines(),
+            Told::Noted => self.block(),
+            Told::Nothing | Told::Seated | Told::Denied(_) => Notice::Nothing,
         }
     }
 
-    fn write(self, log: &Log) {
+    fn lines(self) -> Notice
+        ensures { result ≡ if_answered self }
+    {
         match self {
-            Notice::Lines { lines, count } => log.push(lines.as_slice(), count),
-            Notice::Lost(count) => log.lose(count),
-            Notice::Nothing | Notice::Block(_) => (),
+            Notice::Block(_) => Notice::Nothing,
+            Notice::Nothing | Notice::Lines { .. } | Notice::Lost(_) => self,
         }
     }
 
-    fn count(self, account: &Account) {
-        if let Notice::Block(bytes) = self {
-            account.note_fed(bytes);
-        }
-    }
-
-    fn made(count: u64, lines: Result<Vec<u8>, OutOfMemory>) -> Notice {
-        match lines {
-            Ok(lines) => Notice::Lines { lines, count },
-            Err(_) => Notice::Lost(count),
+    fn block(self) -> Notice
+        ensures { result ≡ if_taken self }
+    {
+        match self {
+            Notice::Block(count) => Notice::Block(count),
+            Notice::Nothing | Notice::Lines { .. } | Notice::Lost(_) => Notice::Nothing,
         }
     }
 }
 
-/// That a source feeds a mount, and that the mount is live.
-fn source_lines(
-    log: &Log,
-    account: &Account,
-    peer: Peer,
-    request: &SourceRequest,
-) -> Result<Vec<u8>, OutOfMemory> {
-    let mount = request.mount.as_slice();
-    let content_type = request.shown.content_type.as_bytes();
-    let mut lines = account.line_of_source(log, peer, mount, content_type)?;
-    let up = log.line_of(Fact::MountUp {
-        mount: Text::of(mount),
-    })?;
-    lines.extend_from_slice(up.as_slice())?;
-    Ok(lines)
-}
-
-/// What is to be told of a command: that it was given, and the title that it sets.
-fn of_command(alloc: Global, log: &Log, peer: Peer, request: &CommandRequest) -> Notice {
-    let Asked::Command(command) = &request.asked else {
-        return Notice::Nothing;
-    };
-    let user = match &request.pair {
-        Some(pair) => pair.user(),
-        None => b"",
-    };
-    let given = command_line(alloc, log, peer, command, user);
-    match command {
-        Command::SetTitle { mount, title } => {
-            Notice::made(2, with_title(given, log, mount, title.as_slice()))
-        }
-        _ => Notice::made(1, given),
-    }
-}
-
-fn command_line(
+fn of_source(
     alloc: Global,
-    log: &Log,
+    seconds: u64,
     peer: Peer,
-    command: &Command,
-    user: &[u8],
-) -> Result<Vec<u8>, OutOfMemory> {
-    let argument = argument_of(alloc, command)?;
-    log.line_of(Fact::Command(CommandTold {
-        name: Text::of(name_of(command).as_bytes()),
-        mount: Text::of(mount_of(command).as_bytes()),
-        argument: Text::of(argument.as_slice()),
-        user: Text::of(user),
-        peer,
-    }))
+    agent: &[u8],
+    request: &SourceRequest,
+) -> Notice
+    ensures { IsMadeAt seconds (facts_of_source peer agent.now request.now) result }
+{
+    let moment = Moment::at(seconds);
+    made(2, source_lines(alloc, moment, peer, agent, request))
 }
 
-/// A line, and behind it that of a title.
-fn with_title(
-    line: Result<Vec<u8>, OutOfMemory>,
-    log: &Log,
-    mount: &MountName,
-    title: &[u8],
-) -> Result<Vec<u8>, OutOfMemory> {
-    let mut lines = line?;
-    let told = log.line_of(Fact::Title(Title {
-        mount: Text::of(mount.as_bytes()),
-        title: Text::of(title),
-    }))?;
-    lines.extend_from_slice(told.as_slice())?;
-    Ok(lines)
-}
-
-/// The name of a command, as the last part of its path.
-fn name_of(command: &Command) -> &'static str {
-    match command {
-        Command::MoveClients { .. } => "moveclients",
-        Command::KillClient { .. } => "killclient",
-        Command::KillSource { .. } => "killsource",
-        Command::SetTitle { .. } => "metadata",
-        Command::SetFallback { .. } => "fallbacks",
-        Command::AddUser { .. } | Command::DeleteUser { .. } => "users",
-    }
-}
-
-/// The mount that a command is said of.
-fn mount_of(command: &Command) -> &MountName {
-    match command {
-        Command::MoveClients { mount, .. }
-        | Command::KillClient { mount, .. }
-        | Command::KillSource { mount }
-        | Command::SetTitle { mount, .. }
-        | Command::SetFallback { mount, .. }
-        | Command::AddUser { mount, .. }
-        | Command::DeleteUser { mount, .. } => mount,
-    }
-}
-
-/// What else a command is told; a title has a line of its own, and a password is not written.
-fn argument_of(alloc: Global, command: &Command) -> Result<Vec<u8>, OutOfMemory> {
-    match command {
-        Command::MoveClients { destination, .. } => Vec::from_slice(alloc, destination.as_bytes()),
-        Command::KillClient { listener, .. } => {
-            let digits = listener.to_string(alloc)?;
-            Vec::from_slice(alloc, digits.as_bytes())
+/// What is to be told of what is asked: of a command alone there is something.
+fn of_request(alloc: Global, seconds: u64, peer: Peer, request: &CommandRequest) -> Notice
+    ensures { IsToldAt seconds (facts_of_asked peer (user_in request.now.pair) request.now.asked) result }
+{
+    match &request.asked {
+        Asked::Command(command) => {
+            of_command(alloc, seconds, peer, user_of(&request.pair), command)
         }
-        Command::SetFallback {
-            fallback: Some(fallback),
-            ..
-        } => Vec::from_slice(alloc, fallback.as_bytes()),
-        Command::AddUser { user, .. } => action_on(alloc, b"add ", user.as_slice()),
-        Command::DeleteUser { user, .. } => action_on(alloc, b"delete ", user.as_slice()),
-        _ => Ok(Vec::new(alloc)),
+        Asked::NoCommand | Asked::MissingArgument(_) | Asked::Listing(_) => Notice::Nothing,
     }
 }
 
-/// What is done to a user, and his name.
-fn action_on(alloc: Global, action: &[u8], user: &[u8]) -> Result<Vec<u8>, OutOfMemory> {
-    let mut argument = Vec::from_slice(alloc, action)?;
-    argument.extend_from_slice(user)?;
-    Ok(argument)
+fn of_command(alloc: Global, seconds: u64, peer: Peer, user: &[u8], command: &Command) -> Notice
+    ensures { IsMadeAt seconds (facts_of_command peer user.now command.now) result }
+{
+    let moment = Moment::at(seconds);
+    let count = count_of_command(command);
+    made(count, command_lines(alloc, moment, peer, user, command))
+}
+
+/// These lines, so many of them, if memory was not refused.
+fn made(count: u64, lines: Result<Vec<u8>, OutOfMemory>) -> Notice
+    ensures { MatchResult lines (λ made. result ≡ LinesOf made count) (λ _. result ≡ LostOf count) }
+{
+    match lines {
+        Ok(lines) => Notice::Lines { lines, count },
+        Err(_) => Notice::Lost(count),
+    }
 }

@@ -1,5 +1,8 @@
 //! What of a reply is noted.
 
+ghost use Rattle.std.specs.Prelude.{◌≡◌};
+ghost use Rattle.radio_notes.specs.Replies.{told_of, told_of_text};
+
 use radio_events::{Reply, Text};
 use radio_policy::Rule;
 
@@ -24,19 +27,25 @@ pub enum Told {
 
 impl Told {
     /// Of this reply.
-    pub fn of(reply: &Reply) -> Told {
+    pub fn of(reply: &Reply) -> Told
+        ensures { result ≡ told_of reply.now }
+    {
         match reply {
             Reply::Noted => Told::Noted,
             Reply::Feeding => Told::Feeding,
             Reply::Seated { .. } => Told::Seated,
             Reply::Text(text) => of_text(text),
             Reply::Deny(rule) => Told::Denied(*rule),
-            _ => Told::Nothing,
+            Reply::Arrived(_) | Reply::Drawn { .. } | Reply::Finished(_) | Reply::Stray => {
+                Told::Nothing
+            }
         }
     }
 }
 
-fn of_text(text: &Text) -> Told {
+fn of_text(text: &Text) -> Told
+    ensures { result ≡ told_of_text text.now }
+{
     match text {
         Text::Done | Text::Moved(_) | Text::Ended(_) => Told::Text,
         Text::Json(_) | Text::Streams(_) | Text::Public { .. } | Text::Page { .. } => Told::Shown,

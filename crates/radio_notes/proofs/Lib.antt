@@ -1,0 +1,2 @@
+mod AgentLemmas
+mod VisitLemmas

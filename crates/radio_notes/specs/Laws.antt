@@ -1,0 +1,56 @@
+-- What the record of a connection has after all that has happened on it, in the order in which it has happened.
+use Rattle.std.specs.Prelude.{ℕ, Bool, false, List, [], ◌∷◌, fold, Option, None, Some}
+use Rattle.radio_notes.specs.declared.ends.End.{End}
+use Rattle.radio_notes.specs.declared.visit.Happening.{Happening}
+use Rattle.radio_notes.specs.declared.visit.Happening.TheVariants.{Replied, Handed, Fed, Ended}
+use Rattle.radio_notes.specs.declared.visit.Part.{Part}
+use Rattle.radio_notes.specs.declared.visit.Visit.{Visit}
+use Rattle.radio_notes.specs.Ends.{code_of_end}
+use Rattle.radio_notes.specs.Visits.{after, begun, first_of, is_shown, part_given, status_told}
+
+-- what has happened on a connection that came at this moment
+abbrev pub visit_of : ℕ → List Happening → Visit
+visit_of ms happenings = fold after (begun ms) happenings
+
+-- the end that comes first
+abbrev pub first_end_of : List Happening → Option End
+first_end_of [] = None
+first_end_of (Replied told ∷ later) = first_end_of later
+first_end_of (Handed count ∷ later) = first_end_of later
+first_end_of (Fed count ∷ later) = first_end_of later
+first_end_of (Ended end ∷ later) = Some end
+
+-- the status that a happening has, if it has one
+abbrev pub status_in : Happening → ℕ
+status_in (Replied told) = status_told told
+status_in (Handed count) = 0
+status_in (Fed count) = 0
+status_in (Ended end) = code_of_end end
+
+-- the status that comes first
+abbrev pub first_status_of : List Happening → ℕ
+first_status_of [] = 0
+first_status_of (happening ∷ later) = first_of (status_in happening) (first_status_of later)
+
+-- how many bytes the line takes by it
+abbrev pub handed_in : Happening → ℕ
+handed_in (Handed count) = count
+handed_in happening = 0
+
+-- how many bytes of a stream come by it
+abbrev pub fed_in : Happening → ℕ
+fed_in (Fed count) = count
+fed_in happening = 0
+
+-- something of the station is shown by it
+abbrev pub shows : Happening → Bool
+shows (Replied told) = is_shown told
+shows happening = false
+
+-- the part of the reply that gave one last
+abbrev pub last_part_of : Part → List Happening → Part
+last_part_of part [] = part
+last_part_of part (Replied told ∷ later) = last_part_of (part_given told part) later
+last_part_of part (Handed count ∷ later) = last_part_of part later
+last_part_of part (Fed count ∷ later) = last_part_of part later
+last_part_of part (Ended end ∷ later) = last_part_of part later

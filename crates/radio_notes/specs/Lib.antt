@@ -1,0 +1,12 @@
+pub mod Counts
+pub mod Ends
+pub mod Agents
+pub mod Kept
+pub mod Requests
+pub mod Replies
+pub mod Visits
+pub mod Waiting
+pub mod Lines
+pub mod Facts
+pub mod Notices
+pub mod Laws

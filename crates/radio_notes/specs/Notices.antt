@@ -1,0 +1,57 @@
+-- What is to be told of an event, and what of it is told once the server has replied.
+use Rattle.std.specs.Prelude.{◌≡◌, ℕ, List, [], ◌∷◌, length, min}
+use Rattle.radio_addr.specs.declared.peer.Peer.{Peer}
+use Rattle.radio_events.specs.declared.event.Event.{Event}
+use Rattle.radio_events.specs.declared.event.Event.TheVariants.{Push}
+use Rattle.radio_log.specs.declared.facts.Fact.{Fact}
+use Rattle.radio_log.specs.declared.moment.Moment.{Moment}
+use Rattle.radio_log.specs.Moments.{IsSecond}
+use Rattle.radio_notes.specs.declared.notice.Notice.{Notice}
+use Rattle.radio_notes.specs.declared.notice.Notice.TheVariants.{Nothing, Block, Lines, Lost}
+use Rattle.radio_notes.specs.declared.told.Told.{Told}
+use Rattle.radio_notes.specs.declared.told.Told.TheVariants.{Noted, Feeding, Text, Shown}
+use Rattle.radio_notes.specs.Facts.{facts_of}
+use Rattle.radio_notes.specs.Lines.{lines_at}
+
+-- the lines of these facts, or, if memory was refused for them, how many they are
+abbrev pub IsMadeOf : Moment → List Fact → Notice → Type 0
+IsMadeOf moment facts (Lines lines count) = (lines.items ≡ lines_at moment facts) × (count ≡ length facts)
+IsMadeOf moment facts (Lost count) = count ≡ length facts
+IsMadeOf moment facts Nothing = facts ≡ []
+IsMadeOf moment facts (Block count) = ⊥
+
+-- the last second that a line can have, that of the year 9999
+abbrev pub last_second : ℕ
+last_second = 253402300799
+
+-- the same at the moment so many seconds after the beginning of 1970
+abbrev pub IsMadeAt : ℕ → List Fact → Notice → Type 0
+IsMadeAt seconds facts notice =
+    (moment : Moment) × IsSecond (min seconds last_second) moment × IsMadeOf moment facts notice
+
+-- nothing is to be told if there are no facts
+abbrev pub IsToldAt : ℕ → List Fact → Notice → Type 0
+IsToldAt seconds [] notice = notice ≡ Nothing
+IsToldAt seconds (fact ∷ facts) notice = IsMadeAt seconds (fact ∷ facts) notice
+
+-- of a block its length is to be told, and of every other event its facts
+abbrev pub IsNoticeAt : ℕ → Peer → List ℕ → Event → Notice → Type 0
+IsNoticeAt seconds peer agent (Push id block) notice = notice ≡ Block (length block)
+IsNoticeAt seconds peer agent event notice = IsToldAt seconds (facts_of peer agent event) notice
+
+-- what is told if it is done: lines where an answer says so, a block where it was taken
+abbrev pub if_answered : Notice → Notice
+if_answered (Block count) = Nothing
+if_answered notice = notice
+
+abbrev pub if_taken : Notice → Notice
+if_taken (Block count) = Block count
+if_taken notice = Nothing
+
+-- what of a notice is told, by what is noted of the reply: nothing of what was denied
+abbrev pub due : Told → Notice → Notice
+due Noted notice = if_taken notice
+due Feeding notice = if_answered notice
+due Text notice = if_answered notice
+due Shown notice = if_answered notice
+due told notice = Nothing

@@ -1,0 +1,102 @@
+-- What has happened on a connection, and what the log says of it when it is over.
+use Rattle.std.specs.Prelude.{ℕ, Bool, true, false, ◌||◌, ◌==◌, ◌+◌, ◌-◌, ◌/◌, if◌then◌else◌, List, [], ◌∷◌, Option, Some, None}
+use Rattle.radio_addr.specs.declared.peer.Peer.{Peer}
+use Rattle.radio_log.specs.declared.facts.ClientEnded.{ClientEnded}
+use Rattle.radio_log.specs.declared.facts.SourceGone.{SourceGone}
+use Rattle.radio_notes.specs.declared.ends.End.{End}
+use Rattle.radio_notes.specs.declared.heard.Heard.{Heard}
+use Rattle.radio_notes.specs.declared.told.Told.{Told}
+use Rattle.radio_notes.specs.declared.told.Told.TheVariants.{Seated, Feeding, Text, Shown, Denied}
+use Rattle.radio_notes.specs.declared.visit.Part.{Part}
+use Rattle.radio_notes.specs.declared.visit.Part.TheVariants.{Neither, Listener, Source}
+use Rattle.radio_notes.specs.declared.visit.Visit.{Visit}
+use Rattle.radio_notes.specs.declared.visit.Happening.{Happening}
+use Rattle.radio_notes.specs.declared.visit.Happening.TheVariants.{Replied, Handed, Fed, Ended}
+use Rattle.radio_notes.specs.Counts.{capped}
+use Rattle.radio_notes.specs.Ends.{code_of, code_of_end, end_word}
+use Rattle.radio_notes.specs.Requests.{kept_of}
+
+-- the first status counts; 0 is none
+abbrev pub first_of : ℕ → ℕ → ℕ
+first_of before status = if before == 0 then status else before
+
+-- the first end counts
+abbrev pub first_end : Option End → End → Option End
+first_end None end = Some end
+first_end (Some before) end = Some before
+
+-- a connection has come, and nothing has happened on it
+abbrev pub begun : ℕ → Visit
+begun ms = record { since_ms = ms; handed = 0; fed = 0; status = 0; part = Neither; is_poll = false; end = None }
+
+-- what a client does once this was replied
+abbrev pub part_given : Told → Part → Part
+part_given Seated before = Listener
+part_given Feeding before = Source
+part_given told before = before
+
+-- the status of an answer (RFC 9110, section 15); 0 for none
+abbrev pub status_told : Told → ℕ
+status_told Seated = 200
+status_told Feeding = 200
+status_told Text = 200
+status_told Shown = 200
+status_told (Denied rule) = code_of rule
+status_told told = 0
+
+-- something of the station is shown
+abbrev pub is_shown : Told → Bool
+is_shown Shown = true
+is_shown told = false
+
+-- a reply gives the client its part, and the first status counts
+abbrev pub replied : Visit → Told → Visit
+replied visit told = record visit {
+  part = part_given told visit.part;
+  status = first_of visit.status (status_told told);
+  is_poll = is_shown told || visit.is_poll;
+}
+
+-- what has happened once this has happened too
+abbrev pub after : Visit → Happening → Visit
+after visit (Replied told) = replied visit told
+after visit (Handed count) = record visit { handed = capped (visit.handed + count) }
+after visit (Fed count) = record visit { fed = capped (visit.fed + count) }
+after visit (Ended end) =
+    record visit { status = first_of visit.status (code_of_end end); end = first_end visit.end end }
+
+-- whole seconds from one moment to another, in milliseconds
+abbrev pub seconds_between : ℕ → ℕ → ℕ
+seconds_between since ms = (ms - since) / 1000
+
+-- the mount of a client's line: where a listener was last, if that was noted, else the path that was asked for
+abbrev pub mount_named : Part → List ℕ → List ℕ → List ℕ
+mount_named Neither asked last = []
+mount_named Listener asked [] = asked
+mount_named Listener asked (b ∷ last) = b ∷ last
+mount_named Source asked last = asked
+
+-- what the log says of a client who is gone
+abbrev pub client_ended : Peer → ℕ → Visit → Heard → List ℕ → ClientEnded
+client_ended peer ms visit heard last = record {
+  peer = peer;
+  method = (kept_of heard).method;
+  path = (kept_of heard).path;
+  mount = mount_named visit.part (kept_of heard).path last;
+  status = visit.status;
+  why = end_word visit.end;
+  user = (kept_of heard).user;
+  seconds = seconds_between visit.since_ms ms;
+  bytes = visit.handed;
+  agent = (kept_of heard).agent;
+}
+
+-- what the log says of a source that is gone
+abbrev pub source_gone : Peer → ℕ → Visit → Heard → SourceGone
+source_gone peer ms visit heard = record {
+  mount = (kept_of heard).path;
+  peer = peer;
+  why = end_word visit.end;
+  seconds = seconds_between visit.since_ms ms;
+  bytes = visit.fed;
+}

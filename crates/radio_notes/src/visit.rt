@@ -1,0 +1,247 @@
+//! What has happened on a connection, as far as the log says it.
+
+ghost use Rattle.std.specs.Prelude.{◌≡◌, ◌≢◌, ◌⊎◌, []};
+ghost use Rattle.radio_log.specs.declared.facts.Fact.TheVariants.{MountGone};
+ghost use Rattle.radio_notes.specs.Ends.{code_of_end, mount_word};
+ghost use Rattle.radio_notes.specs.Requests.{kept_of};
+ghost use Rattle.radio_notes.specs.Visits.{after, begun, client_ended, first_of, first_end, is_shown, mount_named, part_given, replied, seconds_between, source_gone, status_told};
+
+use crate::Told;
+use crate::ends::{End, code_of, end_word, mount_word};
+use crate::heard::Heard;
+use radio_addr::Peer;
+use radio_log::{ClientEnded, Fact, SourceGone, Text};
+use radio_values::MountName;
+use std::alloc::Global;
+
+/// What a client does.
+#[derive(Clone, Copy, PartialEq, Eq)]
+pub enum Part {
+    /// It neither hears nor feeds a mount, or not yet.
+    Neither,
+    /// It hears a mount.
+    Listener,
+    /// It feeds a mount.
+    Source,
+}
+
+/// One thing that happens on a connection.
+#[derive(Clone, Copy)]
+pub enum Happening {
+    /// The server has replied to an event, and this is noted of it.
+    Replied(Told),
+    /// Its line has taken so many bytes.
+    Handed(u64),
+    /// So many bytes of its stream have come.
+    Fed(u64),
+    /// Its conversation has ended so.
+    Ended(End),
+}
+
+/// What has happened on a connection since it came. It is the same as long as nothing else happens.
+#[derive(Clone, Copy)]
+pub struct Visit {
+    /// When it came, in milliseconds.
+    pub since_ms: u64,
+    /// How many bytes its line has taken; a count that has reached 2^64 - 1 stays.
+    pub handed: u64,
+    /// How many bytes of its stream have come; a count that has reached 2^64 - 1 stays.
+    pub fed: u64,
+    /// The status of its first answer (RFC 9110, section 15); 0 if it has none.
+    pub status: u16,
+    /// What its client does, or did last.
+    pub part: Part,
+    /// Whether it was shown something of the station.
+    pub is_poll: bool,
+    /// How it ended first.
+    pub end: Option<End>,
+}
+
+impl Visit {
+    /// A connection comes at this moment, in milliseconds, and nothing has happened on it.
+    pub fn begun(ms: u64) -> Visit
+        ensures { result ≡ begun ms }
+    {
+        Visit {
+            since_ms: ms,
+            handed: 0,
+            fed: 0,
+            status: 0,
+            part: Part::Neither,
+            is_poll: false,
+            end: None,
+        }
+    }
+
+    /// Returns what has happened once this has happened too.
+    pub fn after(self, happening: Happening) -> Visit
+        ensures { result ≡ after self happening }
+    {
+        match happening {
+            Happening::Replied(told) => self.replied(told),
+            Happening::Handed(count) => Visit {
+                handed: self.handed.saturating_add(count),
+                ..self
+            },
+            Happening::Fed(count) => Visit {
+                fed: self.fed.saturating_add(count),
+                ..self
+            },
+            Happening::Ended(end) => self.ended(end),
+        }
+    }
+
+    /// A reply gives the client its part, and the first status counts.
+    fn replied(self, told: Told) -> Visit
+        ensures { result ≡ replied self told }
+    {
+        Visit {
+            part: part_given(told, self.part),
+            status: first_of(self.status, status_told(told)),
+            is_poll: is_shown(told) || self.is_poll,
+            ..self
+        }
+    }
+
+    /// The first end counts, and the first status.
+    fn ended(self, end: End) -> Visit
+        ensures { result ≡ record self { status = first_of self.status (code_of_end end); end = first_end self.end end } }
+    {
+        Visit {
+            status: first_of(self.status, end.code()),
+            end: first_end(self.end, end),
+            ..self
+        }
+    }
+
+    /// How many whole seconds have passed at this moment, in milliseconds, since it came.
+    fn seconds(self, ms: u64) -> u64
+        ensures { result ≡ seconds_between self.since_ms ms }
+    {
+        ms.saturating_sub(self.since_ms) / 1000
+    }
+
+    /// The mount of its line: the one where the client was last, if that was noted, else the one that it asked for. Empty if
+    /// it was let in to none.
+    fn mount<'a>(self, asked: &'a [u8], last: &'a [u8]) -> &'a [u8]
+        ensures { result.now ≡ mount_named self.part asked.now last.now }
+    {
+        match self.part {
+            Part::Neither => b"",
+            Part::Listener if !last.is_empty() => last,
+            Part::Listener | Part::Source => asked,
+        }
+    }
+
+    /// What the log says of the client, who is gone at this moment, in milliseconds: by what was heard of it, and the mount
+    /// where it was last, which is empty if it is the one that it asked for.
+    pub(crate) fn client_ended<'a>(
+        self,
+        peer: Peer,
+        ms: u64,
+        heard: &'a Heard,
+        last: &'a [u8],
+    ) -> ClientEnded<'a>
+        ensures { result ≡ client_ended peer ms self heard.now last.now }
+    {
+        ClientEnded {
+            peer,
+            method: Text::of(heard.method()),
+            path: Text::of(heard.path()),
+            mount: Text::of(self.mount(heard.path(), last)),
+            status: self.status,
+            why: Text::of(end_word(self.end).as_bytes()),
+            user: Text::of(heard.user()),
+            seconds: self.seconds(ms),
+            bytes: self.handed,
+            agent: Text::of(heard.agent()),
+        }
+    }
+
+    /// What the log says of its source, which is gone at this moment, in milliseconds.
+    pub(crate) fn source_gone<'a>(self, peer: Peer, ms: u64, heard: &'a Heard) -> SourceGone<'a>
+        ensures { result ≡ source_gone peer ms self heard.now }
+    {
+        SourceGone {
+            mount: Text::of(heard.path()),
+            peer,
+            why: Text::of(end_word(self.end).as_bytes()),
+            seconds: self.seconds(ms),
+            bytes: self.fed,
+        }
+    }
+
+    /// What the log says of the mount of its source, which is live no more.
+    pub(crate) fn mount_gone<'a>(self, heard: &'a Heard) -> Fact<'a>
+        ensures { result ≡ MountGone (kept_of heard.now).path (mount_word self.end) }
+    {
+        Fact::MountGone {
+            mount: Text::of(heard.path()),
+            why: Text::of(mount_word(self.end).as_bytes()),
+        }
+    }
+}
+
+/// What a client does once this was replied.
+fn part_given(told: Told, before: Part) -> Part
+    ensures { result ≡ part_given told before }
+{
+    match told {
+        Told::Seated => Part::Listener,
+        Told::Feeding => Part::Source,
+        Told::Nothing | Told::Noted | Told::Text | Told::Shown | Told::Denied(_) => before,
+    }
+}
+
+/// The status of an answer (RFC 9110, section 15); 0 for none.
+fn status_told(told: Told) -> u16
+    ensures { result ≡ status_told told }
+{
+    match told {
+        Told::Seated | Told::Feeding | Told::Text | Told::Shown => 200,
+        Told::Denied(rule) => code_of(rule),
+        Told::Nothing | Told::Noted => 0,
+    }
+}
+
+/// Whether something of the station is shown.
+fn is_shown(told: Told) -> bool
+    ensures { result ≡ is_shown told }
+{
+    match told {
+        Told::Shown => true,
+        Told::Nothing | Told::Noted | Told::Feeding | Told::Seated | Told::Text | Told::Denied(_) =>
+            false,
+    }
+}
+
+/// The first status counts; 0 is none.
+fn first_of(before: u16, status: u16) -> u16
+    ensures { result ≡ first_of before status }
+{
+    if before == 0 { status } else { before }
+}
+
+/// The first end counts.
+fn first_end(before: Option<End>, end: End) -> Option<End>
+    ensures { result ≡ first_end before end }
+{
+    match before {
+        Some(first) => Some(first),
+        None => Some(end),
+    }
+}
+
+/// The name of a mount where a client was last, if it is not the one that it asked for by this path. Empty if it is, or if
+/// memory is refused for it.
+pub(crate) fn elsewhere(alloc: Global, path: &[u8], mount: &MountName) -> Vec<u8>
+    ensures { (result.items ≡ []) ⊎ ((result.items ≡ mount.now) × (mount.now ≢ path.now)) }
+{
+    if path == mount.as_bytes() {
+        return Vec::new(alloc);
+    }
+    match Vec::from_slice(alloc, mount.as_bytes()) {
+        Ok(name) => name,
+        Err(_) => Vec::new(alloc),
+    }
+}
