@@ -4,3 +4,5 @@ pub mod Ends
 pub mod Failures
 pub mod Turns
 pub mod Listed
+pub mod Courses
+pub mod RelayFacts

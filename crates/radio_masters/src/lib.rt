@@ -20,6 +20,7 @@ mod list_log;
 mod list_pull;
 mod listed;
 mod mount_pull;
+mod relay_course;
 mod relay_end;
 mod relay_log;
 mod turns;

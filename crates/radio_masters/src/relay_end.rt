@@ -3,6 +3,7 @@
 ghost use Rattle.std.specs.Prelude.{◌≡◌};
 ghost use Rattle.radio_events.specs.declared.state.Ending.TheVariants.{BadPull};
 ghost use Rattle.radio_masters.specs.Ends.{end_by, keeps_place};
+ghost use Rattle.radio_masters.specs.RelayFacts.{mount_word};
 
 use radio_policy::Rule;
 use radio_session::Ending;
@@ -48,7 +49,9 @@ impl RelayEnd {
     }
 
     /// The word for the end of its mount.
-    pub(crate) fn word_of_mount(self) -> &'static str {
+    pub(crate) fn word_of_mount(self) -> &'static str
+        ensures { result.now ≡ mount_word self }
+    {
         match self {
             RelayEnd::By(Ending::By(Rule::SourceSilent)) => "source-silent",
             RelayEnd::By(Ending::By(Rule::SourceKilled)) => "source-killed",
@@ -68,6 +71,11 @@ fn of_answer(status: Option<u16>) -> RelayEnd
 }
 
 impl fmt::Display for RelayEnd {
+    ghost use Rattle.std.specs.Prelude.{Some};
+    ghost use Rattle.radio_masters.specs.RelayFacts.{relay_word};
+
+    ghost output = { λ end. Some (relay_word end) };
+
     fn fmt<W: fmt::Write>(&self, to: &mut fmt::Formatter<W>) -> fmt::Result {
         match self {
             RelayEnd::NoAddress => to.write_str("no-address"),

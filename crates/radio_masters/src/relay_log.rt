@@ -1,6 +1,12 @@
 //! What the log tells of a relay.
 
-use crate::failing::{Failing, note_failure};
+ghost use Rattle.std.specs.Prelude.{◌≡◌, IfOk};
+ghost use Rattle.std.specs.String.{string_bytes};
+ghost use Rattle.radio_masters.specs.Courses.{IsCopyOf, IsSayingOf, begun, due, said};
+ghost use Rattle.radio_masters.specs.RelayFacts.{failed_fact, gone_fact, master_text, mount_gone_fact, relay_word, up_fact};
+
+use crate::failing::Failing;
+use crate::relay_course::{EndLine, RelayCourse, Saying};
 use crate::{OutOfMemory, RelayEnd};
 use radio_events::{Event, Reply};
 use radio_log::{Fact, RelayFailed, RelayGone, RelayUp, Text, Title};
@@ -8,38 +14,6 @@ use radio_notes::Log;
 use radio_settings::RelaySetting;
 use radio_values::MountName;
 use std::alloc::Global;
-
-/// What is to be told of an event, if the server does what it asks for.
-#[derive(Drop)]
-pub(crate) enum Saying {
-    /// Nothing.
-    Nothing,
-    /// That the relay feeds its mount, with a stream of this type.
-    Up(Vec<u8>),
-    /// So many bytes of sound have come.
-    Sound(u64),
-    /// This title is on the air.
-    Title(Vec<u8>),
-}
-
-impl Saying {
-    /// Of this event. A text for which memory is refused is told as an empty one.
-    pub(crate) fn of(alloc: Global, event: &Event) -> Saying {
-        match event {
-            Event::RelayUp { shown, .. } => Saying::Up(copy(alloc, shown.content_type.as_bytes())),
-            Event::Push { block, .. } => Saying::Sound(block.len() as u64),
-            Event::Title { text, .. } => Saying::Title(copy(alloc, text.as_slice())),
-            _ => Saying::Nothing,
-        }
-    }
-}
-
-fn copy(alloc: Global, bytes: &[u8]) -> Vec<u8> {
-    match Vec::from_slice(alloc, bytes) {
-        Ok(copy) => copy,
-        Err(_) => Vec::new(alloc),
-    }
-}
 
 /// How a pull has ended.
 #[derive(Clone, Copy)]
@@ -52,7 +26,7 @@ pub struct PullEnd {
     pub ms: u64,
 }
 
-/// What the log tells of a relay: its lines wait here.
+/// What the log tells of a relay: its lines wait here. What is told is decided by [`RelayCourse`] and [`Saying`].
 #[derive(Drop)]
 pub struct RelayLog {
     alloc: Global,
@@ -60,16 +34,16 @@ pub struct RelayLog {
     mount: MountName,
     /// The master and its port.
     master: String,
-    is_up: bool,
-    /// How many bytes of sound have come since it is up.
-    sound: u64,
-    /// That it has failed, since it was up last.
-    failing: Option<Failing>,
+    course: RelayCourse,
 }
 
 impl RelayLog {
     /// Of this relay; nothing is told yet. `OutOfMemory` where memory was refused.
-    pub(crate) fn new(alloc: Global, relay: &RelaySetting) -> Result<RelayLog, OutOfMemory> {
+    pub(crate) fn new(alloc: Global, relay: &RelaySetting) -> Result<RelayLog, OutOfMemory>
+        ensures mount { IfOk result (λ log. log.mount ≡ relay.now.local_mount) }
+        ensures master { IfOk result (λ log. string_bytes log.master ≡ master_text relay.now.master) }
+        ensures course { IfOk result (λ log. log.course ≡ begun) }
+    {
         let server = relay.master.server.as_str();
         let port = relay.master.port.get();
         let master = format!(in alloc; "{server}:{port}")?;
@@ -78,9 +52,7 @@ impl RelayLog {
             log: Log::new(alloc),
             mount: relay.local_mount,
             master,
-            is_up: false,
-            sound: 0,
-            failing: None,
+            course: RelayCourse::begun(),
         })
     }
 
@@ -90,79 +62,81 @@ impl RelayLog {
     }
 
     /// What is to be told of this event.
-    pub(crate) fn saying(&self, event: &Event) -> Saying {
+    pub(crate) fn saying(&self, event: &Event) -> Saying
+        ensures { IsSayingOf event.now result }
+    {
         Saying::of(self.alloc, event)
     }
 
     /// Notes what was asked for, and tells of it, if this reply says that it is done.
-    pub(crate) fn note(&mut self, saying: Saying, reply: &Reply) {
-        match reply {
-            Reply::Arrived(_) => self.note_up(saying),
-            Reply::Noted => self.note_done(saying),
-            _ => (),
-        }
+    pub(crate) fn note(&mut self, saying: Saying, reply: &Reply)
+        ensures course { self.new.course ≡ said self.old.course (due reply.now saying) }
+        ensures mount { self.new.mount ≡ self.old.mount }
+        ensures master { self.new.master ≡ self.old.master }
+    {
+        let told = saying.due(reply);
+        self.course = self.course.after(&told);
+        self.tell(told);
     }
 
-    fn note_up(&mut self, saying: Saying) {
-        if let Saying::Up(content_type) = saying {
-            self.is_up = true;
-            self.sound = 0;
-            self.failing = None;
-            let mount = self.mount.as_bytes();
-            self.log.note(Fact::RelayUp(RelayUp {
-                mount: Text::of(mount),
-                master: Text::of(self.master.as_bytes()),
-                content_type: Text::of(content_type.as_slice()),
-            }));
-            self.log.note(Fact::MountUp {
-                mount: Text::of(mount),
-            });
-        }
-    }
-
-    fn note_done(&mut self, saying: Saying) {
-        match saying {
-            Saying::Sound(count) => self.sound = self.sound.saturating_add(count),
+    fn tell(&self, told: Saying) {
+        match told {
+            Saying::Up(content_type) => self.tell_up(content_type.as_slice()),
             Saying::Title(title) => self.log.note(Fact::Title(Title {
                 mount: Text::of(self.mount.as_bytes()),
                 title: Text::of(title.as_slice()),
             })),
-            _ => (),
+            Saying::Sound(_) | Saying::Nothing => (),
         }
     }
 
+    fn tell_up(&self, content_type: &[u8]) {
+        let mount = self.mount.as_bytes();
+        self.log
+            .note(up_fact(mount, self.master.as_bytes(), content_type));
+        self.log.note(Fact::MountUp {
+            mount: Text::of(mount),
+        });
+    }
+
     /// Whether the relay feeds its mount.
-    pub(crate) fn is_up(&self) -> bool {
-        self.is_up
+    pub(crate) fn is_up(&self) -> bool
+        ensures { result ≡ self.now.course.is_up }
+    {
+        self.course.is_up
     }
 
     /// How the relay has failed, if it has since it was up last.
-    pub(crate) fn failing(&self) -> Option<Failing> {
-        self.failing
+    pub(crate) fn failing(&self) -> Option<Failing>
+        ensures { result ≡ self.now.course.failing }
+    {
+        self.course.failing
     }
 
     /// Notes that the relay has failed so before.
-    pub(crate) fn set_failing(&mut self, failing: Option<Failing>) {
-        self.failing = failing;
+    pub(crate) fn set_failing(&mut self, failing: Option<Failing>)
+        ensures { self.new.course ≡ record self.old.course { failing = failing } }
+    {
+        self.course.failing = failing;
     }
 
     /// Tells that the relay has ended so, or did not come up. A failure that lasts is told once an hour.
     pub(crate) fn end(&mut self, end: PullEnd) {
+        let (course, line) = self.course.ended(end.why, end.ms);
+        let sound = self.course.sound;
+        self.course = course;
         let why = self.word_of(end.why);
-        if self.is_up {
-            self.is_up = false;
-            self.tell_gone(&end, why.as_bytes());
-        } else {
-            let (failing, told) = note_failure(self.failing, end.why, end.ms);
-            self.failing = Some(failing);
-            if let Some(times) = told {
-                self.tell_failed(why.as_bytes(), times);
-            }
+        match line {
+            EndLine::Gone => self.tell_gone(&end, why.as_bytes(), sound),
+            EndLine::Failed(times) => self.tell_failed(why.as_bytes(), times),
+            EndLine::Nothing => (),
         }
     }
 
     /// The word for this end. One for which memory is refused is told as an empty one.
-    fn word_of(&self, why: RelayEnd) -> String {
+    fn word_of(&self, why: RelayEnd) -> String
+        ensures { IsCopyOf (relay_word why) (string_bytes result) }
+    {
         match format!(in self.alloc; "{why}") {
             Ok(word) => word,
             Err(_) => String::new(self.alloc),
@@ -170,26 +144,67 @@ impl RelayLog {
     }
 
     fn tell_failed(&self, why: &[u8], times: u64) {
-        self.log.note(Fact::RelayFailed(RelayFailed {
-            mount: Text::of(self.mount.as_bytes()),
-            master: Text::of(self.master.as_bytes()),
-            why: Text::of(why),
-            times,
-        }));
+        let mount = self.mount.as_bytes();
+        self.log
+            .note(failed_fact(mount, self.master.as_bytes(), why, times));
     }
 
-    fn tell_gone(&self, end: &PullEnd, why: &[u8]) {
+    fn tell_gone(&self, end: &PullEnd, why: &[u8], sound: u64) {
         let mount = self.mount.as_bytes();
-        self.log.note(Fact::RelayGone(RelayGone {
-            mount: Text::of(mount),
-            master: Text::of(self.master.as_bytes()),
-            why: Text::of(why),
-            seconds: end.seconds,
-            bytes: self.sound,
-        }));
-        self.log.note(Fact::MountGone {
-            mount: Text::of(mount),
-            why: Text::of(end.why.word_of_mount().as_bytes()),
-        });
+        self.log
+            .note(gone_fact(mount, self.master.as_bytes(), why, end, sound));
+        self.log.note(mount_gone_fact(mount, end));
     }
+}
+
+/// A relay feeds this mount from now on.
+fn up_fact<'a>(mount: &'a [u8], master: &'a [u8], content_type: &'a [u8]) -> Fact<'a>
+    ensures { result ≡ up_fact mount.now master.now content_type.now }
+{
+    Fact::RelayUp(RelayUp {
+        mount: Text::of(mount),
+        master: Text::of(master),
+        content_type: Text::of(content_type),
+    })
+}
+
+/// A relay feeds this mount no more, of which so much sound has come.
+fn gone_fact<'a>(
+    mount: &'a [u8],
+    master: &'a [u8],
+    why: &'a [u8],
+    end: &PullEnd,
+    sound: u64,
+) -> Fact<'a>
+    ensures { result ≡ gone_fact mount.now master.now why.now end.now sound }
+{
+    Fact::RelayGone(RelayGone {
+        mount: Text::of(mount),
+        master: Text::of(master),
+        why: Text::of(why),
+        seconds: end.seconds,
+        bytes: sound,
+    })
+}
+
+/// The mount of a relay whose pull has ended so is live no more.
+fn mount_gone_fact<'a>(mount: &'a [u8], end: &PullEnd) -> Fact<'a>
+    ensures { result ≡ mount_gone_fact mount.now end.now }
+{
+    Fact::MountGone {
+        mount: Text::of(mount),
+        why: Text::of(end.why.word_of_mount().as_bytes()),
+    }
+}
+
+/// A relay of this mount has failed, so often.
+fn failed_fact<'a>(mount: &'a [u8], master: &'a [u8], why: &'a [u8], times: u64) -> Fact<'a>
+    ensures { result ≡ failed_fact mount.now master.now why.now times }
+{
+    Fact::RelayFailed(RelayFailed {
+        mount: Text::of(mount),
+        master: Text::of(master),
+        why: Text::of(why),
+        times,
+    })
 }

@@ -1,11 +1,13 @@
 -- What the line on standard error says of a file that is not taken, after `radiod: `, and the status with which the
 -- program then ends.
-use Rattle.std.specs.Prelude.{ℕ, List, ◌++◌, codes}
+use Rattle.std.specs.Prelude.{ℕ, List, [], ◌++◌, codes, None, Some}
 use Rattle.std.specs.Fmt.{decimal}
 use Rattle.std.specs.String.{string_bytes}
 use Rattle.radio_keys.specs.declared.fault.SettingsFault.{SettingsFault}
 use Rattle.radio_keys.specs.declared.fault.SettingsFault.TheVariants.{OutOfMemory as NoMemoryForSettings}
 use Rattle.radio_keys.specs.Words.{fault_text}
+use Rattle.radio_documents.specs.Sections.{section_word}
+use Rattle.radio_log.specs.declared.facts.FaultyKey.{FaultyKey}
 use Rattle.radio_startup.specs.declared.fault.FileFault.{FileFault}
 use Rattle.radio_startup.specs.declared.fault.FileFault.TheVariants.{CannotRead, Line, NotToml, Settings, OutOfMemory}
 
@@ -28,3 +30,33 @@ exit_status (Line path line) = 3
 exit_status (NotToml misreading) = 3
 exit_status (Settings fault at) = settings_status fault
 exit_status OutOfMemory = 1
+
+-- the path of the file that is at fault, that of the settings among them; empty where memory was refused
+abbrev pub file_of : FileFault → List ℕ → List ℕ
+file_of (CannotRead path error) settings = string_bytes path
+file_of (Line path line) settings = string_bytes path
+file_of (NotToml misreading) settings = settings
+file_of (Settings fault at) settings = settings
+file_of OutOfMemory settings = []
+
+-- the line and the column of a fault, counted from 1; 0 where none is known
+abbrev pub place_of : FileFault → ℕ × ℕ
+place_of (CannotRead path error) = (0, 0)
+place_of (Line path line) = (line, 0)
+place_of (NotToml misreading) = (misreading.line, misreading.column)
+place_of (Settings fault (Some at)) = (at.line, 0)
+place_of (Settings fault None) = (0, 0)
+place_of OutOfMemory = (0, 0)
+
+abbrev pub no_key : FaultyKey
+no_key = record { table = []; mount = []; value = []; allowed = [] }
+
+-- which key of the settings a fault is of, if it is of one
+abbrev pub key_of : FileFault → FaultyKey
+key_of (Settings fault (Some at)) = record {
+  table = section_word at.section;
+  mount = string_bytes at.mount;
+  value = string_bytes at.value;
+  allowed = string_bytes at.allowed;
+}
+key_of fault = no_key

@@ -1,22 +1,17 @@
 //! What of the settings is doubtful.
 ghost use Rattle.std.specs.Prelude.{◌≡◌, Some};
 ghost use Rattle.radio_addr.specs.Addresses.{peer_of};
-ghost use Rattle.radio_startup.specs.Doubts.{is_loopback, is_named};
+ghost use Rattle.radio_startup.specs.Doubts.{is_example, is_loopback, is_named, limit_of, limited_listeners};
 
 use radio_addr::{Address, read_peer};
 use radio_settings::{MountSetting, Settings};
 use radio_values::MountName;
 
-/// The passwords of the example, which everybody knows.
-const EXAMPLE_PASSWORDS: [&str; 2] = ["hackme", "letmein"];
-
-/// Whether a password is one of the example.
-pub fn is_example(password: &str) -> bool {
-    let mut is_one = false;
-    for example in EXAMPLE_PASSWORDS {
-        is_one = is_one || password == example;
-    }
-    is_one
+/// Whether a password is one of the example, which everybody knows.
+pub fn is_example(password: &str) -> bool
+    ensures { result ≡ is_example password.now }
+{
+    password == "hackme" || password == "letmein"
 }
 
 /// Whether only this machine reaches an address (RFC 1122, section 3.2.1.3; RFC 4291, section 2.5.3).
@@ -49,7 +44,9 @@ pub fn is_named(settings: &Settings, name: &MountName) -> bool
 }
 
 /// How many listeners the mounts may have together that have a limit.
-pub fn limited_listeners(mounts: &[MountSetting]) -> u64 {
+pub fn limited_listeners(mounts: &[MountSetting]) -> u64
+    ensures { result ≡ limited_listeners mounts.now }
+{
     let mut sum: u64 = 0;
     for mount in mounts {
         sum = sum.saturating_add(limit_of(mount));
@@ -58,7 +55,9 @@ pub fn limited_listeners(mounts: &[MountSetting]) -> u64 {
 }
 
 /// How many listeners a mount may have; 0 for no limit.
-fn limit_of(mount: &MountSetting) -> u64 {
+fn limit_of(mount: &MountSetting) -> u64
+    ensures { result ≡ limit_of mount.now }
+{
     match mount.options.listeners.max_listeners {
         Some(limit) => limit.get() as u64,
         None => 0,

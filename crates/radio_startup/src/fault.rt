@@ -2,7 +2,7 @@
 
 ghost use Rattle.std.specs.Prelude.{◌≡◌, ◌++◌, codes};
 ghost use Rattle.std.specs.Fmt.{IsPlainFormatter, WritesOnOk, decimal};
-ghost use Rattle.radio_startup.specs.FaultLines.{exit_status, settings_status};
+ghost use Rattle.radio_startup.specs.FaultLines.{exit_status, file_of, key_of, place_of, settings_status};
 
 use crate::misreading::Misreading;
 use crate::notices::words_of;
@@ -49,7 +49,9 @@ impl FileFault {
     }
 
     /// The path of the file that is at fault; `settings` is that of the settings. It is empty where memory was refused.
-    pub fn file<'a>(&'a self, settings: &'a str) -> &'a str {
+    pub fn file<'a>(&'a self, settings: &'a str) -> &'a str
+        ensures { result.now ≡ file_of self.now settings.now }
+    {
         match self {
             FileFault::CannotRead { path, .. } | FileFault::Line { path, .. } => path.as_str(),
             FileFault::NotToml(_) | FileFault::Settings { .. } => settings,
@@ -58,7 +60,9 @@ impl FileFault {
     }
 
     /// The line and the column of the fault, both counted from 1; 0 where none is known.
-    pub fn place(&self) -> (u64, u64) {
+    pub fn place(&self) -> (u64, u64)
+        ensures { result ≡ place_of self.now }
+    {
         match self {
             FileFault::Line { line, .. } => (*line as u64, 0),
             FileFault::NotToml(misreading) => (misreading.line as u64, misreading.column as u64),
@@ -70,7 +74,9 @@ impl FileFault {
     }
 
     /// Where the settings have it, if it is a fault of a key; else all is empty.
-    pub fn key(&self) -> FaultyKey<'_> {
+    pub fn key(&self) -> FaultyKey<'_>
+        ensures { result ≡ key_of self.now }
+    {
         match self {
             FileFault::Settings { at: Some(at), .. } => FaultyKey {
                 table: Text::of(at.section.word().as_bytes()),
@@ -96,7 +102,9 @@ impl FileFault {
         match self {
             FileFault::CannotRead { error, .. } => words_of(alloc, error),
             FileFault::NotToml(misreading) => words_of(alloc, &misreading.reason.as_str()),
-            _ => words_of(alloc, &""),
+            FileFault::Line { .. } | FileFault::Settings { .. } | FileFault::OutOfMemory => {
+                words_of(alloc, &"")
+            }
         }
     }
 }

@@ -1,20 +1,21 @@
 //! The settings file.
 
-ghost use Rattle.std.specs.Prelude.{◌≡◌, Ok, Some, IfOk};
+ghost use Rattle.std.specs.Prelude.{◌≡◌, ℕ, List, Ok, Some, IfOk, IfErr};
 ghost use Rattle.radio_documents.specs.Document.{reading_of};
 ghost use Rattle.radio_documents.specs.Web.{answers_told};
+ghost use Rattle.radio_startup.specs.Files.{AreListsOf, IsStationOf};
+ghost use Rattle.radio_startup.specs.SettingsFaults.{IsFaultOf, IsNotToml};
 
 use crate::fault::FileFault;
 use crate::lists::read_lists;
 use crate::misreading::misread;
+use crate::reading::ReadsFiles;
 use radio_access::Lists;
 use radio_documents::{AnswerSettings, SettingsFault};
 use radio_review::{UnknownKey, locate, unknown_keys};
 use radio_settings::Settings;
-use std::alloc::{AllocGlobal, Global};
-use std::fs::Files;
-use std::io::ErrorKind;
-use std::{fs, io};
+use std::alloc::Global;
+use std::marker::Model;
 
 /// The settings of a file, and what the files hold that they name.
 #[derive(Drop)]
@@ -25,44 +26,56 @@ pub struct Station {
     pub lists: Lists,
 }
 
-/// A settings file as it was read.
+/// A settings file as it was read. In contracts it is its bytes.
 #[derive(Drop)]
 pub struct SettingsText {
     bytes: Vec<u8>,
 }
 
+impl Model for SettingsText {
+    ghost use Rattle.std.specs.Prelude.{ℕ, List};
+
+    ghost Value = { List ℕ };
+
+    ghost view = { λ text. text.bytes.items };
+}
+
 /// The settings of the file of this path, and what the files hold that they name. A fault is the first of these: the file
 /// cannot be read, is not TOML, or has a fault of settings; then those of the files that it names, of which `deny-ip`
 /// comes first, then `allow-ip`, then each mount's `htpasswd` in the order of the tables.
-pub fn read_station<R: Files + AllocGlobal>(rt: &R, path: &str) -> Result<Station, FileFault> {
-    let bytes = read_file(rt, path)?;
-    station_of(rt, bytes.as_slice())
+pub fn read_station<F: ReadsFiles>(files: &F, path: &str) -> Result<Station, FileFault>
+    ensures { IfOk result (λ station. (bytes : List ℕ) × F.holds files.now path.now bytes × IsStationOf (F.holds files.now) bytes station) }
+{
+    let bytes = files.read(path)?;
+    station_of(files, bytes.as_slice())
 }
 
 /// The settings file of this path. The fault is that it cannot be read.
-pub fn read_text<R: Files + AllocGlobal>(rt: &R, path: &str) -> Result<SettingsText, FileFault> {
+pub fn read_text<F: ReadsFiles>(files: &F, path: &str) -> Result<SettingsText, FileFault>
+    ensures { IfOk result (λ text. F.holds files.now path.now text) }
+{
     Ok(SettingsText {
-        bytes: read_file(rt, path)?,
+        bytes: files.read(path)?,
     })
 }
 
 impl SettingsText {
     /// The settings, with what the files hold that they name, and a second copy of the settings: the house takes one, and who
     /// pulls relays in beside it reads the other. Faults are those of [`read_station`], without the first.
-    pub fn station_twice<R: Files + AllocGlobal>(
-        &self,
-        rt: &R,
-    ) -> Result<(Station, Settings), FileFault>
+    pub fn station_twice<F: ReadsFiles>(&self, files: &F) -> Result<(Station, Settings), FileFault>
         ensures copies { IfOk result (λ read. read.1 ≡ read.0.settings) }
+        ensures station { IfOk result (λ read. IsStationOf (F.holds files.now) self.now read.0) }
     {
-        let again = settings_of(rt.alloc(), self.bytes.as_slice())?;
-        let station = station_of(rt, self.bytes.as_slice());
+        let again = settings_of(files.alloc(), self.bytes.as_slice())?;
+        let station = station_of(files, self.bytes.as_slice());
         with_copy(station, again)
     }
 
     /// The settings, with what the files hold that they name. Faults are those of [`read_station`], without the first.
-    pub fn station<R: Files + AllocGlobal>(&self, rt: &R) -> Result<Station, FileFault> {
-        station_of(rt, self.bytes.as_slice())
+    pub fn station<F: ReadsFiles>(&self, files: &F) -> Result<Station, FileFault>
+        ensures { IfOk result (λ station. IsStationOf (F.holds files.now) self.now station) }
+    {
+        station_of(files, self.bytes.as_slice())
     }
 
     /// The keys that are passed over, each with its line. `OutOfMemory`: memory was refused.
@@ -95,13 +108,12 @@ fn with_copy(
 }
 
 /// The station whose settings these bytes say.
-fn station_of<R: Files + AllocGlobal>(rt: &R, bytes: &[u8]) -> Result<Station, FileFault>
-    ensures settings { IfOk result (λ station. reading_of bytes.now ≡ Ok station.settings) }
-    ensures answers { IfOk result (λ station. answers_told bytes.now ≡ Some station.answers) }
+fn station_of<F: ReadsFiles>(files: &F, bytes: &[u8]) -> Result<Station, FileFault>
+    ensures { IfOk result (λ station. IsStationOf (F.holds files.now) bytes.now station) }
 {
-    let settings = settings_of(rt.alloc(), bytes)?;
-    match answers_of(rt.alloc(), bytes) {
-        Ok(answers) => with_lists(rt, settings, answers),
+    let settings = settings_of(files.alloc(), bytes)?;
+    match answers_of(files.alloc(), bytes) {
+        Ok(answers) => with_lists(files, settings, answers),
         Err(fault) => {
             drop(settings);
             Err(fault)
@@ -110,15 +122,16 @@ fn station_of<R: Files + AllocGlobal>(rt: &R, bytes: &[u8]) -> Result<Station, F
 }
 
 /// The station of these settings.
-fn with_lists<R: Files + AllocGlobal>(
-    rt: &R,
+fn with_lists<F: ReadsFiles>(
+    files: &F,
     settings: Settings,
     answers: AnswerSettings,
 ) -> Result<Station, FileFault>
     ensures settings { IfOk result (λ station. station.settings ≡ settings) }
     ensures answers { IfOk result (λ station. station.answers ≡ answers) }
+    ensures lists { IfOk result (λ station. AreListsOf (F.holds files.now) station.settings station.lists) }
 {
-    match read_lists(rt, &settings) {
+    match read_lists(files, &settings) {
         Ok(lists) => Ok(Station {
             settings,
             answers,
@@ -156,7 +169,8 @@ fn answers_of(alloc: Global, bytes: &[u8]) -> Result<AnswerSettings, FileFault>
 
 /// The settings of a text.
 fn settings_in(alloc: Global, text: &str) -> Result<Settings, FileFault>
-    ensures { IfOk result (λ settings. reading_of text.now ≡ Ok settings) }
+    ensures settings { IfOk result (λ settings. reading_of text.now ≡ Ok settings) }
+    ensures fault { IfErr result (IsFaultOf (reading_of text.now)) }
 {
     match radio_documents::read_settings(alloc, text) {
         Ok(settings) => Ok(settings),
@@ -169,7 +183,9 @@ fn settings_in(alloc: Global, text: &str) -> Result<Settings, FileFault>
 }
 
 /// Where and why a text that is not TOML is not.
-fn not_toml(alloc: Global, text: &str) -> FileFault {
+fn not_toml(alloc: Global, text: &str) -> FileFault
+    ensures { IsNotToml result }
+{
     let Err(error) = toml::table_from_str(alloc, text) else {
         return FileFault::Settings {
             fault: SettingsFault::NotToml,
@@ -179,21 +195,5 @@ fn not_toml(alloc: Global, text: &str) -> FileFault {
     match error.span() {
         Some(span) => misread(alloc, text.as_bytes(), span.start, error.message()),
         None => FileFault::OutOfMemory,
-    }
-}
-
-/// All of a file. Want of memory is not told as a file that cannot be read.
-pub fn read_file<R: Files + AllocGlobal>(rt: &R, path: &str) -> Result<Vec<u8>, FileFault> {
-    match fs::read(rt, path) {
-        Ok(bytes) => Ok(bytes),
-        Err(error) if error.kind() == ErrorKind::OutOfMemory => Err(FileFault::OutOfMemory),
-        Err(error) => Err(unreadable(rt.alloc(), path, error)),
-    }
-}
-
-fn unreadable(alloc: Global, path: &str, error: io::Error) -> FileFault {
-    match String::from_str(alloc, path) {
-        Ok(path) => FileFault::CannotRead { path, error },
-        Err(_) => FileFault::OutOfMemory,
     }
 }

@@ -1,7 +1,8 @@
 //! Where a text is not TOML.
 
 ghost use Rattle.std.specs.Prelude.{◌≡◌};
-ghost use Rattle.radio_startup.specs.Columns.{column_after};
+ghost use Rattle.radio_startup.specs.Columns.{column_after, column_behind, line_after, line_behind};
+ghost use Rattle.radio_startup.specs.Misreadings.{IsMisreadAt};
 
 use crate::fault::FileFault;
 use std::alloc::Global;
@@ -15,7 +16,9 @@ pub struct Misreading {
 }
 
 /// A text is not TOML for this reason, from the byte at this place on.
-pub fn misread(alloc: Global, text: &[u8], place: usize, reason: &str) -> FileFault {
+pub fn misread(alloc: Global, text: &[u8], place: usize, reason: &str) -> FileFault
+    ensures { IsMisreadAt text.now place reason.now result }
+{
     let before = &text[..place.min(text.len())];
     match String::from_str(alloc, reason) {
         Ok(reason) => FileFault::NotToml(Misreading {
@@ -28,18 +31,31 @@ pub fn misread(alloc: Global, text: &[u8], place: usize, reason: &str) -> FileFa
 }
 
 /// The line of what stands behind these bytes, counted from 1.
-fn line_behind(before: &[u8]) -> usize {
+fn line_behind(before: &[u8]) -> usize
+    ensures { result ≡ line_behind before.now }
+{
     let mut line: usize = 1;
     for byte in before {
-        if *byte == b'\n' {
-            line = line.saturating_add(1);
-        }
+        line = next_line(line, *byte);
     }
     line
 }
 
+/// The line behind a byte that stands in this one.
+fn next_line(line: usize, byte: u8) -> usize
+    ensures { result ≡ line_after line byte }
+{
+    if byte == b'\n' {
+        line.saturating_add(1)
+    } else {
+        line
+    }
+}
+
 /// The character of its line that stands behind these bytes, counted from 1.
-fn column_behind(before: &[u8]) -> usize {
+fn column_behind(before: &[u8]) -> usize
+    ensures { result ≡ column_behind before.now }
+{
     let mut column: usize = 1;
     for byte in before {
         column = next_column(column, *byte);

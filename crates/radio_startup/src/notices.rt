@@ -1,13 +1,22 @@
 //! Lines of the log that the program itself writes.
 
+use crate::OutOfMemory;
+use crate::limits::limit_named;
+use crate::warnings::warnings_of;
 use radio_log::{Fact, Moment, Note, Text, line};
+use radio_review::UnknownKey;
+use radio_settings::Settings;
 use std::alloc::{AllocGlobal, Global};
 use std::fmt::Display;
+use std::fs::Files;
 use std::time::Clock;
 
 /// The version of the program (Semantic Versioning 2.0.0). It stands here alone: `--version`, the log's first line and the
 /// packages that scripts make read it.
 pub const VERSION: &str = "0.9.0";
+
+/// The name of the limit of descriptors (Linux, `proc(5)`).
+const LINE_OF_DESCRIPTORS: &str = "Max open files";
 
 /// Where the lines of the log go that the program itself writes.
 pub trait Notices {
@@ -51,6 +60,23 @@ pub fn tell_start<N: Notices>(notices: &N, address: &str) {
         version: Text::of(VERSION.as_bytes()),
         address: Text::of(address.as_bytes()),
     });
+}
+
+/// Adds a line to the log for each warning of these settings, and of keys of them that are passed over. Returns how many there
+/// are. `OutOfMemory` if memory is refused for them: then there is no line.
+pub fn warn<R: Files + AllocGlobal, N: Notices>(
+    rt: &R,
+    notices: &N,
+    settings: &Settings,
+    unknown: &[UnknownKey],
+) -> Result<usize, OutOfMemory> {
+    let descriptors = limit_named(rt, LINE_OF_DESCRIPTORS);
+    let told = warnings_of(rt.alloc(), settings, unknown, descriptors)?;
+    let count = told.len();
+    for warning in told {
+        notices.tell(Fact::Warning(warning));
+    }
+    Ok(count)
 }
 
 /// What is said of this; `None` where memory is refused.

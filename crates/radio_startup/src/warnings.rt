@@ -1,204 +1,266 @@
 //! What an operator should know of his settings.
 
+ghost use Rattle.std.specs.Prelude.{◌≡◌, ◌++◌, map, IfOk, OnOk};
+ghost use Rattle.std.specs.List.{flat_map};
+ghost use Rattle.std.specs.Option.{option_to_list};
+ghost use Rattle.radio_startup.specs.Warnings.{belongs_to, did_you_mean, few_descriptors, no_room, of_passwords, of_station_passwords, of_streams, only_this_machine, unknown_fallback, unknown_key, warning, warnings_of, weak_mount_password, weak_password, weak_relay_password};
+
+use crate::OutOfMemory;
 use crate::doubts::{is_example, is_loopback, is_named, limited_listeners};
-use crate::notices::Notices;
-use radio_log::{Fact, KeyPlace, Text, Warning};
+use radio_log::{KeyPlace, Text, Warning};
 use radio_review::{Meant, UnknownKey};
-use radio_settings::{MountSetting, Settings};
-use radio_values::Field;
-use std::alloc::{AllocGlobal, Global};
-use std::fs;
-use std::fs::Files;
+use radio_settings::{AccessSettings, MountSetting, Settings};
+use radio_values::Text as Password;
+use std::alloc::Global;
 
 /// How many descriptors are wanted beside those of clients: the standard streams, the bound socket, what tells of
 /// sockets, and one for a file.
 const OTHER_DESCRIPTORS: u64 = 8;
 
-/// Where the system tells how many descriptors the process may have, and in which line.
-const LIMITS: &str = "/proc/self/limits";
+/// Returns a warning for each thing that an operator should know of these settings, and of keys of them that are passed over,
+/// in the order of their lines. `descriptors` is how many the system allows the process, if it says so.
+///
+/// `OutOfMemory` if memory is refused.
+pub fn warnings_of<'a>(
+    alloc: Global,
+    settings: &'a Settings,
+    unknown: &'a [UnknownKey],
+    descriptors: Option<u64>,
+) -> Result<Vec<Warning<'a>>, OutOfMemory>
+    ensures { IfOk result (λ told. told.items ≡ warnings_of settings.now unknown.now descriptors) }
+{
+    let mut told = Vec::new(alloc);
+    add_unknown(&mut told, unknown)?;
+    add(
+        &mut told,
+        few_descriptors(settings.limits.clients.get(), descriptors),
+    )?;
+    add(
+        &mut told,
+        only_this_machine(settings.listen.address.as_str()),
+    )?;
+    add_passwords(&mut told, settings)?;
+    add_streams(&mut told, settings)?;
+    Ok(told)
+}
 
-const LINE_OF_DESCRIPTORS: &str = "Max open files";
+fn add<'a>(to: &mut Vec<Warning<'a>>, warning: Option<Warning<'a>>) -> Result<(), OutOfMemory>
+    ensures { OnOk result (to.new.items ≡ to.old.items ++ option_to_list warning.entry) }
+{
+    if let Some(warning) = warning {
+        to.push(warning)?;
+    }
+    Ok(())
+}
 
-/// Adds a line to the log for each thing that an operator should know of these settings, and of keys that are passed over.
-/// Returns how many there were.
-pub fn warn<R: Files + AllocGlobal, N: Notices>(
-    rt: &R,
-    notices: &N,
-    settings: &Settings,
-    unknown: &[UnknownKey],
-) -> u64 {
-    let mut warner = Warner { notices, count: 0 };
+/// A warning of each key that is passed over.
+fn add_unknown<'a>(to: &mut Vec<Warning<'a>>, unknown: &'a [UnknownKey]) -> Result<(), OutOfMemory>
+    ensures { OnOk result (to.new.items ≡ to.old.items ++ map unknown_key unknown.now) }
+{
     for key in unknown {
-        warner.warn_of_unknown(key);
+        to.push(unknown_key(key))?;
     }
-    warner.warn_of_descriptors(rt, settings.limits.clients.get());
-    warner.warn_of_address(settings.listen.address.as_str());
-    warner.warn_of_passwords(settings);
-    warner.warn_of_streams(settings);
-    warner.count
+    Ok(())
 }
 
-/// Where warnings go, and how many there were so far.
-#[derive(Drop)]
-struct Warner<'a, N: Notices> {
-    notices: &'a N,
-    count: u64,
+/// Warnings of passwords.
+fn add_passwords<'a>(to: &mut Vec<Warning<'a>>, settings: &'a Settings) -> Result<(), OutOfMemory>
+    ensures { OnOk result (to.new.items ≡ to.old.items ++ of_passwords settings.now) }
+{
+    let access = &settings.access;
+    add_station_passwords(to, access)?;
+    add_mount_passwords(
+        to,
+        settings.mounts.as_slice(),
+        access.source_password.as_str(),
+    )?;
+    Ok(())
 }
 
-impl<'a, N: Notices> Warner<'a, N> {
-    fn tell(&mut self, warning: Warning<'_>) {
-        self.count = self.count.saturating_add(1);
-        self.notices.tell(Fact::Warning(warning));
-    }
+/// Warnings of the passwords that hold for the whole station.
+fn add_station_passwords<'a>(
+    to: &mut Vec<Warning<'a>>,
+    access: &AccessSettings,
+) -> Result<(), OutOfMemory>
+    ensures { OnOk result (to.new.items ≡ to.old.items ++ of_station_passwords access.now) }
+{
+    let source = access.source_password.as_str();
+    let admin = access.admin.password.as_str();
+    add(to, weak_password("source-password", "", source))?;
+    add(to, weak_password("admin-password", "", admin))?;
+    add(to, weak_relay_password(&access.relays.password))?;
+    Ok(())
+}
 
-    fn warn_of(&mut self, why: &str, key: &str, mount: &str, limit: u64) {
-        self.tell(Warning {
-            why: Text::of(why.as_bytes()),
-            key: Text::of(key.as_bytes()),
-            mount: Text::of(mount.as_bytes()),
-            limit,
-            place: KeyPlace::none(),
-        });
+/// Warnings of the passwords of the mounts' own sources.
+fn add_mount_passwords<'a>(
+    to: &mut Vec<Warning<'a>>,
+    mounts: &'a [MountSetting],
+    source: &str,
+) -> Result<(), OutOfMemory>
+    ensures { OnOk result (to.new.items ≡ to.old.items ++ flat_map (λ mount. option_to_list (weak_mount_password source.now mount)) mounts.now) }
+{
+    for mount in mounts {
+        add(to, weak_mount_password(source, mount))?;
     }
+    Ok(())
+}
 
-    /// Warns of a key that is passed over.
-    fn warn_of_unknown(&mut self, unknown: &UnknownKey) {
-        let (did_you_mean, belongs_to) = words_of_meant(unknown.meant);
-        self.tell(Warning {
-            why: Text::of(b"unknown-key"),
-            key: Text::of(unknown.key.as_bytes()),
-            mount: Text::of(unknown.mount.as_bytes()),
-            limit: 0,
-            place: KeyPlace {
-                table: Text::of(unknown.section.word().as_bytes()),
-                line: unknown.line,
-                did_you_mean: Text::of(did_you_mean.as_bytes()),
-                belongs_to: Text::of(belongs_to.as_bytes()),
-            },
-        });
+/// Warnings of fallbacks that nothing names, and of limits that leave no room for sources and commands.
+fn add_streams<'a>(to: &mut Vec<Warning<'a>>, settings: &'a Settings) -> Result<(), OutOfMemory>
+    ensures { OnOk result (to.new.items ≡ to.old.items ++ of_streams settings.now) }
+{
+    add_fallbacks(to, settings)?;
+    let clients = settings.limits.clients.get();
+    add(to, no_room(settings.mounts.as_slice(), clients))
+}
+
+fn add_fallbacks<'a>(to: &mut Vec<Warning<'a>>, settings: &'a Settings) -> Result<(), OutOfMemory>
+    ensures { OnOk result (to.new.items ≡ to.old.items ++ flat_map (λ mount. option_to_list (unknown_fallback settings.now mount)) settings.now.mounts) }
+{
+    let mounts = settings.mounts.as_slice();
+    for mount in mounts {
+        add(to, unknown_fallback(settings, mount))?;
     }
+    Ok(())
+}
 
-    /// Warns where the system allows fewer descriptors than so many clients want.
-    fn warn_of_descriptors<R: Files + AllocGlobal>(&mut self, rt: &R, clients: u32) {
-        if let Some(limit) = descriptors(rt) {
-            if u64::from(clients) + OTHER_DESCRIPTORS > limit {
-                self.warn_of("few-descriptors", "clients", "", limit);
-            }
-        }
-    }
-
-    /// Warns of an address that no other machine reaches.
-    fn warn_of_address(&mut self, address: &str) {
-        if is_loopback(address) {
-            self.warn_of("only-this-machine", "address", "", 0);
-        }
-    }
-
-    fn warn_of_passwords(&mut self, settings: &Settings) {
-        let source = settings.access.source_password.as_str();
-        self.warn_of_password("source-password", "", source);
-        let admin = settings.access.admin.password.as_str();
-        self.warn_of_password("admin-password", "", admin);
-        if let Some(password) = &settings.access.relays.password {
-            self.warn_of_password("relay-password", "", password.as_str());
-        }
-        for mount in settings.mounts.as_slice() {
-            self.warn_of_mount(mount, source);
-        }
-    }
-
-    /// Warns of the password of a mount's own source, unless it is the one of all mounts.
-    fn warn_of_mount(&mut self, mount: &MountSetting, source_password: &str) {
-        let password = mount.options.source.password.as_str();
-        if password != source_password {
-            self.warn_of_password("password", mount.name.as_str(), password);
-        }
-    }
-
-    /// Warns of a password that is empty or known to everybody.
-    fn warn_of_password(&mut self, key: &str, mount: &str, password: &str) {
-        if password.is_empty() {
-            self.warn_of("empty-password", key, mount, 0);
-        } else if is_example(password) {
-            self.warn_of("example-password", key, mount, 0);
-        }
-    }
-
-    /// Warns of fallbacks that nothing names, and of limits that leave no room for sources and commands.
-    fn warn_of_streams(&mut self, settings: &Settings) {
-        for mount in settings.mounts.as_slice() {
-            self.warn_of_fallback(settings, mount);
-        }
-        let clients = u64::from(settings.limits.clients.get());
-        if limited_listeners(settings.mounts.as_slice()) >= clients {
-            self.warn_of("no-room-for-others", "max-listeners", "", clients);
-        }
-    }
-
-    fn warn_of_fallback(&mut self, settings: &Settings, mount: &MountSetting) {
-        if let Some(fallback) = mount.options.listeners.fallback_mount {
-            if !is_named(settings, &fallback) {
-                self.warn_of("unknown-fallback", "fallback-mount", mount.name.as_str(), 0);
-            }
-        }
+/// A warning of a key that the settings have.
+fn warning<'a>(why: &'a str, key: &'a str, mount: &'a str, limit: u64) -> Warning<'a>
+    ensures { result ≡ warning why.now key.now mount.now limit }
+{
+    Warning {
+        why: Text::of(why.as_bytes()),
+        key: Text::of(key.as_bytes()),
+        mount: Text::of(mount.as_bytes()),
+        limit,
+        place: KeyPlace::none(),
     }
 }
 
-/// The key of the same table that may have been meant, and the table that has a key of the name; empty where there is none.
-fn words_of_meant(meant: Meant) -> (&'static str, &'static str) {
+/// A key is passed over.
+fn unknown_key<'a>(unknown: &'a UnknownKey) -> Warning<'a>
+    ensures { result ≡ unknown_key unknown.now }
+{
+    Warning {
+        why: Text::of(b"unknown-key"),
+        key: Text::of(unknown.key.as_bytes()),
+        mount: Text::of(unknown.mount.as_bytes()),
+        limit: 0,
+        place: KeyPlace {
+            table: Text::of(unknown.section.word().as_bytes()),
+            line: unknown.line,
+            did_you_mean: Text::of(did_you_mean(unknown.meant).as_bytes()),
+            belongs_to: Text::of(belongs_to(unknown.meant).as_bytes()),
+        },
+    }
+}
+
+/// The key of the same table that may have been meant, empty if there is none.
+fn did_you_mean(meant: Meant) -> &'static str
+    ensures { result.now ≡ did_you_mean meant }
+{
     match meant {
-        Meant::At(section) => ("", section.word()),
-        Meant::Key(key) => (key.word(), ""),
-        Meant::Nothing => ("", ""),
+        Meant::Key(key) => key.word(),
+        Meant::At(_) | Meant::Nothing => "",
     }
 }
 
-/// What a line on standard error says of a key that is passed over; `None` if memory is refused. Of a key that has control
-/// characters they are left out.
-pub fn words_of_unknown(alloc: Global, unknown: &UnknownKey) -> Option<String> {
-    let Ok(key) = Field::clean(alloc, unknown.key.as_bytes()) else {
-        return None;
-    };
-    let table = unknown.section.word();
-    let mount = unknown.mount.as_str();
-    let line = unknown.line;
-    let space = if mount.is_empty() { "" } else { " " };
-    let (front, word, end) = hint_of(unknown.meant);
-    match format!(in alloc;
-        "unknown key {} in {table}{space}{mount}, line {line}{front}{word}{end}",
-        key.as_str()
-    ) {
-        Ok(words) => Some(words),
-        Err(_) => None,
-    }
-}
-
-/// What may have been meant, and the words around it.
-fn hint_of(meant: Meant) -> (&'static str, &'static str, &'static str) {
+/// The table that has a key of the name, empty if none has.
+fn belongs_to(meant: Meant) -> &'static str
+    ensures { result.now ≡ belongs_to meant }
+{
     match meant {
-        Meant::At(section) => (": it belongs to ", section.word(), ""),
-        Meant::Key(key) => (": did you mean ", key.word(), "?"),
-        Meant::Nothing => ("", "", ""),
+        Meant::At(section) => section.word(),
+        Meant::Key(_) | Meant::Nothing => "",
     }
 }
 
-/// How many descriptors the system allows the process; `None` where it does not tell, or where there is no limit.
-fn descriptors<R: Files + AllocGlobal>(rt: &R) -> Option<u64> {
-    let Ok(text) = fs::read_to_string(rt, LIMITS) else {
-        return None;
-    };
-    for line in text.as_str().lines() {
-        if let Some(rest) = line.strip_prefix(LINE_OF_DESCRIPTORS) {
-            return first_number(rest);
-        }
+/// The system allows fewer descriptors than so many clients want.
+fn few_descriptors(clients: u32, descriptors: Option<u64>) -> Option<Warning<'static>>
+    ensures { result ≡ few_descriptors clients descriptors }
+{
+    let limit = descriptors?;
+    if limit < u64::from(clients) + OTHER_DESCRIPTORS {
+        Some(warning("few-descriptors", "clients", "", limit))
+    } else {
+        None
     }
-    None
 }
 
-fn first_number(text: &str) -> Option<u64> {
-    let word = text.split_whitespace().next()?;
-    match word.parse::<u64>() {
-        Ok(number) => Some(number),
-        Err(_) => None,
+/// No other machine reaches the address.
+fn only_this_machine(address: &str) -> Option<Warning<'static>>
+    ensures { result ≡ only_this_machine address.now }
+{
+    if is_loopback(address) {
+        Some(warning("only-this-machine", "address", "", 0))
+    } else {
+        None
+    }
+}
+
+/// The password of this key is empty, or known to everybody.
+fn weak_password<'a>(key: &'a str, mount: &'a str, password: &str) -> Option<Warning<'a>>
+    ensures { result ≡ weak_password key.now mount.now password.now }
+{
+    if password.is_empty() {
+        Some(warning("empty-password", key, mount, 0))
+    } else if is_example(password) {
+        Some(warning("example-password", key, mount, 0))
+    } else {
+        None
+    }
+}
+
+/// The password of relays is so, if there is one.
+fn weak_relay_password(password: &Option<Password>) -> Option<Warning<'static>>
+    ensures { result ≡ weak_relay_password password.now }
+{
+    match password {
+        Some(password) => weak_password("relay-password", "", password.as_str()),
+        None => None,
+    }
+}
+
+/// The password of a mount's own source is so, and is not the one of all mounts.
+fn weak_mount_password<'a>(source: &str, mount: &'a MountSetting) -> Option<Warning<'a>>
+    ensures { result ≡ weak_mount_password source.now mount.now }
+{
+    let password = mount.options.source.password.as_str();
+    if password == source {
+        None
+    } else {
+        weak_password("password", mount.name.as_str(), password)
+    }
+}
+
+/// Nothing names the fallback of a mount.
+fn unknown_fallback<'a>(settings: &Settings, mount: &'a MountSetting) -> Option<Warning<'a>>
+    ensures { result ≡ unknown_fallback settings.now mount.now }
+{
+    match mount.options.listeners.fallback_mount {
+        Some(fallback) if !is_named(settings, &fallback) => Some(warning(
+            "unknown-fallback",
+            "fallback-mount",
+            mount.name.as_str(),
+            0,
+        )),
+        Some(_) | None => None,
+    }
+}
+
+/// The listeners of the mounts that have a limit leave no room for sources and commands.
+fn no_room(mounts: &[MountSetting], clients: u32) -> Option<Warning<'static>>
+    ensures { result ≡ no_room mounts.now clients }
+{
+    if limited_listeners(mounts) >= u64::from(clients) {
+        Some(warning(
+            "no-room-for-others",
+            "max-listeners",
+            "",
+            u64::from(clients),
+        ))
+    } else {
+        None
     }
 }

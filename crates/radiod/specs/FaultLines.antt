@@ -1,6 +1,8 @@
 -- What the line on standard error says of a fault, after `radiod: `, and the status with which the program ends.
-use Rattle.std.specs.Prelude.{ℕ, List, codes}
-use Rattle.radio_startup.specs.FaultLines.{fault_line as file_fault_text, exit_status as file_status}
+use Rattle.std.specs.Prelude.{ℕ, List, [], codes}
+use Rattle.std.specs.String.{string_bytes}
+use Rattle.radio_log.specs.declared.facts.FaultyKey.{FaultyKey}
+use Rattle.radio_startup.specs.FaultLines.{fault_line as file_fault_text, exit_status as file_status, file_of as file_in, place_of as place_in, key_of as key_in, no_key}
 use Rattle.radio_deliveries.specs.Words.{play_fault_text}
 use Rattle.radio_sockets.specs.Faults.{fault_line as serve_fault_text}
 use Rattle.radiod.specs.declared.fault.Fault.{Fault}
@@ -24,3 +26,21 @@ exit_status (CannotBind address reason) = 1
 exit_status (Serve fault) = 1
 exit_status Warnings = 3
 exit_status OutOfMemory = 1
+
+-- what the log says of a fault: the file that it is in, its line and column, and the key of the settings, if it is one of a file
+abbrev pub file_of : Fault → List ℕ → List ℕ
+file_of (File fault) settings = file_in fault settings
+file_of fault settings = []
+
+abbrev pub place_of : Fault → ℕ × ℕ
+place_of (File fault) = place_in fault
+place_of fault = (0, 0)
+
+abbrev pub key_of : Fault → FaultyKey
+key_of (File fault) = key_in fault
+key_of fault = no_key
+
+-- the address that was to be bound
+abbrev pub address_of : Fault → List ℕ
+address_of (CannotBind address reason) = string_bytes address
+address_of fault = []

@@ -1,5 +1,9 @@
 //! What `--version` and `--help` write on standard output.
 
+ghost use Rattle.std.specs.Prelude.{◌≡◌, MatchResult};
+ghost use Rattle.radio_deliveries.specs.declared.faults.PlayFault.TheVariants.{Write};
+ghost use Rattle.radiod.specs.declared.fault.Fault.TheVariants.{Play};
+
 use crate::fault::Fault;
 use radio_floor::PlayFault;
 use radio_startup::VERSION;
@@ -32,7 +36,9 @@ pub fn write_help(rt: &HostRuntime) -> Result<(), Fault> {
     written(print!(rt; "{HELP}"))
 }
 
-fn written(done: io::Result<()>) -> Result<(), Fault> {
+fn written(done: io::Result<()>) -> Result<(), Fault>
+    ensures { MatchResult done (λ _. result ≡ Ok tt) (λ _. result ≡ Err (Play Write)) }
+{
     match done {
         Ok(()) => Ok(()),
         Err(_) => Err(Fault::Play(PlayFault::Write)),

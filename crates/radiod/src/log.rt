@@ -1,5 +1,8 @@
 //! The log of the program, and its faults.
 
+ghost use Rattle.std.specs.Prelude.{◌≡◌};
+ghost use Rattle.radiod.specs.FaultLines.{address_of, file_of, key_of, place_of};
+
 use crate::fault::{Fault, NotBound};
 use crate::output::LimitedFile;
 use radio_log::{Fact, FaultyKey, Text};
@@ -125,7 +128,9 @@ pub fn say(rt: &HostRuntime, fault: &Fault) {
 }
 
 /// The file that a fault is in.
-fn file_of<'a>(settings: &'a str, fault: &'a Fault) -> &'a str {
+fn file_of<'a>(settings: &'a str, fault: &'a Fault) -> &'a str
+    ensures { result.now ≡ file_of fault.now settings.now }
+{
     match fault {
         Fault::File(fault) => fault.file(settings),
         _ => "",
@@ -133,7 +138,9 @@ fn file_of<'a>(settings: &'a str, fault: &'a Fault) -> &'a str {
 }
 
 /// The line and the column of a fault, 0 where none is known.
-fn place_of(fault: &Fault) -> (u64, u64) {
+fn place_of(fault: &Fault) -> (u64, u64)
+    ensures { result ≡ place_of fault.now }
+{
     match fault {
         Fault::File(fault) => fault.place(),
         _ => (0, 0),
@@ -141,7 +148,9 @@ fn place_of(fault: &Fault) -> (u64, u64) {
 }
 
 /// The key of the settings that a fault is of; all is empty if it is of none.
-fn key_of(fault: &Fault) -> FaultyKey<'_> {
+fn key_of(fault: &Fault) -> FaultyKey<'_>
+    ensures { result ≡ key_of fault.now }
+{
     match fault {
         Fault::File(fault) => fault.key(),
         Fault::Usage
@@ -159,7 +168,9 @@ fn key_of(fault: &Fault) -> FaultyKey<'_> {
 }
 
 /// The address that was to be bound.
-fn address_of(fault: &Fault) -> &str {
+fn address_of(fault: &Fault) -> &str
+    ensures { result.now ≡ address_of fault.now }
+{
     match fault {
         Fault::CannotBind { address, .. } => address.as_str(),
         _ => "",

@@ -6,6 +6,10 @@
 //! error, with status 2 for the words of the call, 3 for the settings and the files that they name, and else 1.
 #![tactic(auto)]
 
+ghost use Rattle.std.specs.Prelude.{◌≡◌};
+ghost use Rattle.radiod.specs.declared.fault.Fault.TheVariants.{File};
+ghost use Rattle.radiod.specs.Checks.{verdict};
+
 mod fault;
 mod help;
 mod log;
@@ -17,9 +21,11 @@ use crate::fault::Fault;
 use crate::help::{write_help, write_version};
 use crate::log::{ProgramLog, say, say_unknown};
 use crate::serving::{serve_station, web_of};
-use crate::words::{Call, read_words};
+use crate::words::read_words;
 use radio_floor::{Tally, play};
-use radio_startup::{FileFault, SettingsText, Station, read_station, read_text, warn};
+use radio_startup::{
+    Call, FileFault, SettingsText, Station, SystemFiles, read_station, read_text, warn,
+};
 use std::io::BufReader;
 use std::process::ExitCode;
 use std::sync::Wait;
@@ -49,7 +55,9 @@ fn run<W: Clock + Threads + Wait + Sync + Copy + Drop + Send + 'static>(
 }
 
 /// The same, and a fault is said on standard error.
-fn said(rt: &HostRuntime, done: Result<(), Fault>) -> Result<(), Fault> {
+fn said(rt: &HostRuntime, done: Result<(), Fault>) -> Result<(), Fault>
+    ensures { result ≡ done }
+{
     if let Err(fault) = &done {
         say(rt, fault);
     }
@@ -75,7 +83,7 @@ fn serve_logged<W: Clock + Threads + Wait + Sync + Copy + Drop + Send + 'static>
     log: &ProgramLog<'_, W>,
     path: &str,
 ) -> Result<(), Fault> {
-    match read_text(rt, path) {
+    match read_text(&SystemFiles::new(rt), path) {
         Ok(text) => Err(serve_text(rt, waits, log, path, &text)),
         Err(fault) => Err(told(log, path, fault)),
     }
@@ -93,7 +101,7 @@ fn serve_text<W: Clock + Threads + Wait + Sync + Copy + Drop + Send + 'static>(
         Ok(unknown) => unknown,
         Err(fault) => return told(log, path, fault),
     };
-    match text.station_twice(rt) {
+    match text.station_twice(&SystemFiles::new(rt)) {
         Ok((station, again)) => {
             let fault = serve_station(rt, waits, log, path, station, &again, unknown.as_slice());
             drop(again);
@@ -108,7 +116,9 @@ fn told<W: Clock + Threads + Wait + Copy + Drop + Send + 'static>(
     log: &ProgramLog<'_, W>,
     path: &str,
     fault: FileFault,
-) -> Fault {
+) -> Fault
+    ensures { result ≡ File fault }
+{
     let fault = Fault::File(fault);
     log.tell_fault(path, &fault);
     fault
@@ -136,16 +146,25 @@ fn check_logged<W: Clock + Threads + Wait + Copy + Drop + Send + 'static>(
 ) -> Result<(), Fault> {
     match warnings_of(rt, log, path) {
         Ok(warnings) => {
-            if is_strict && warnings > 0 {
-                log.wait_written();
-                return said(rt, Err(Fault::Warnings));
+            let verdict = verdict(is_strict, warnings);
+            if verdict.is_ok() {
+                log.tell_line(b"ok\n");
             }
-            log.tell_line(b"ok\n");
             log.wait_written();
-            Ok(())
+            said(rt, verdict)
         }
         Err(fault) => Err(told(log, path, fault)),
     }
+}
+
+/// What a check comes to by so many warnings: they are a fault if it is strict.
+fn verdict(is_strict: bool, warnings: usize) -> Result<(), Fault>
+    ensures { result ≡ verdict is_strict warnings }
+{
+    if is_strict && warnings > 0 {
+        return Err(Fault::Warnings);
+    }
+    Ok(())
 }
 
 /// How many warnings there are of a settings file; each was told.
@@ -153,17 +172,21 @@ fn warnings_of<W: Clock + Threads + Wait + Copy + Drop + Send + 'static>(
     rt: &HostRuntime,
     log: &ProgramLog<'_, W>,
     path: &str,
-) -> Result<u64, FileFault> {
-    let text = read_text(rt, path)?;
+) -> Result<usize, FileFault> {
+    let files = SystemFiles::new(rt);
+    let text = read_text(&files, path)?;
     let unknown = text.unknown_keys(rt.alloc())?;
-    let station = text.station(rt)?;
+    let station = text.station(&files)?;
     say_unknown(rt, unknown.as_slice());
-    Ok(warn(rt, log, &station.settings, unknown.as_slice()))
+    match warn(rt, log, &station.settings, unknown.as_slice()) {
+        Ok(count) => Ok(count),
+        Err(_) => Err(FileFault::OutOfMemory),
+    }
 }
 
 /// Plays the script on standard input, with the settings of this file.
 fn play_script(rt: &HostRuntime, path: &str) -> Result<(), Fault> {
-    match read_station(rt, path) {
+    match read_station(&SystemFiles::new(rt), path) {
         Ok(station) => play_in(rt, station),
         Err(fault) => Err(Fault::File(fault)),
     }

@@ -1,5 +1,6 @@
 //! Standard output, as the log is written to it.
 
+use radio_startup::limit_named;
 use std::fs::{File, OpenOptions};
 use std::io::Write;
 use std::{fs, io};
@@ -7,10 +8,8 @@ use std::{fs, io};
 /// Standard output by its name (Linux, `proc(5)`).
 const STANDARD_OUTPUT: &str = "/proc/self/fd/1";
 
-/// Where the system shows the limits of the process, and in which line that of a file's size.
-const LIMITS: &str = "/proc/self/limits";
-
-const LINE_OF_SIZE: &str = "Max file size";
+/// The name of the limit of a file's size (Linux, `proc(5)`).
+const SIZE: &str = "Max file size";
 
 /// The system's code for a file that would be too large (Linux, `EFBIG` of `errno(3)`).
 const FILE_TOO_LARGE: i32 = 27;
@@ -27,7 +26,7 @@ impl LimitedFile {
     /// Returns standard output, if it is a file and the system limits the size of files. `None` also if the file cannot be
     /// opened by its name.
     pub fn standard_output(rt: &HostRuntime) -> Option<LimitedFile> {
-        let limit = size_limit(rt)?;
+        let limit = limit_named(rt, SIZE)?;
         let Ok(metadata) = fs::metadata(rt, STANDARD_OUTPUT) else {
             return None;
         };
@@ -51,26 +50,5 @@ impl Write for LimitedFile {
 
     fn flush(&mut self) -> io::Result<()> {
         self.file.flush()
-    }
-}
-
-/// Returns how many bytes a file may have; `None` if there is no limit, or the system shows none.
-fn size_limit(rt: &HostRuntime) -> Option<u64> {
-    let Ok(text) = fs::read_to_string(rt, LIMITS) else {
-        return None;
-    };
-    for line in text.as_str().lines() {
-        if let Some(rest) = line.strip_prefix(LINE_OF_SIZE) {
-            return first_number(rest);
-        }
-    }
-    None
-}
-
-fn first_number(text: &str) -> Option<u64> {
-    let word = text.split_whitespace().next()?;
-    match word.parse::<u64>() {
-        Ok(number) => Some(number),
-        Err(_) => None,
     }
 }

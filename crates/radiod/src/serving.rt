@@ -2,6 +2,7 @@
 
 ghost use Rattle.std.specs.Prelude.{◌≡◌, ◌^◌};
 ghost use Rattle.radio_house.specs.World.{opening};
+ghost use Rattle.radiod.specs.Binding.{IsNotBound};
 
 use crate::fault::{Fault, NotBound};
 use crate::log::{ProgramLog, say_unknown};
@@ -79,9 +80,8 @@ fn bind<W: Clock + Threads + Wait + Copy + Drop + Send + 'static>(
 
 /// Returns the bound socket.
 fn bind_socket(rt: &HostRuntime, settings: &Settings) -> Result<Listening, Fault> {
-    let listen = &settings.listen;
-    let port = listen.port.get() as u16;
-    match Listening::bind(rt, rt.alloc(), listen.address.as_str(), port) {
+    let (address, port) = bound_to(settings);
+    match Listening::bind(rt, rt.alloc(), address, port) {
         Ok(listening) => Ok(listening),
         Err(BindFault::NoAddress) => Err(cannot_bind(rt, settings, NotBound::NoAddress)),
         Err(BindFault::Refused(error)) => {
@@ -91,11 +91,21 @@ fn bind_socket(rt: &HostRuntime, settings: &Settings) -> Result<Listening, Fault
     }
 }
 
-/// The address and the port of the settings cannot be bound, for this reason.
-fn cannot_bind(rt: &HostRuntime, settings: &Settings, reason: NotBound) -> Fault {
+/// The address and the port to bind.
+fn bound_to(settings: &Settings) -> (&str, u16)
+    ensures address { result.0.now ≡ settings.now.listen.address }
+    ensures port { result.1 ≡ settings.now.listen.port }
+{
     let listen = &settings.listen;
-    let port = listen.port.get();
-    match format!(in rt.alloc(); "{}:{port}", listen.address.as_str()) {
+    (listen.address.as_str(), listen.port.get() as u16)
+}
+
+/// The address and the port of the settings cannot be bound, for this reason. `OutOfMemory` if memory is refused.
+fn cannot_bind(rt: &HostRuntime, settings: &Settings, reason: NotBound) -> Fault
+    ensures { IsNotBound settings.now.listen reason result }
+{
+    let (address, port) = bound_to(settings);
+    match format!(in rt.alloc(); "{address}:{port}") {
         Ok(address) => Fault::CannotBind { address, reason },
         Err(_) => Fault::OutOfMemory,
     }
