@@ -1,6 +1,6 @@
 //! What a connection is owed, written.
 
-ghost use Rattle.std.specs.Prelude.{◌<◌, length};
+ghost use Rattle.std.specs.Prelude.{◌≡◌, ◌<◌, ◌||◌, length};
 ghost use Rattle.radio_connections.specs.Duties.{IsWritten};
 ghost use Rattle.radio_connections.specs.Leaving.{IsFlushed, IsPatient};
 
@@ -49,7 +49,9 @@ fn write<L: Line, G: Gate>(conn: &mut Conn<L>, gate: &G, now: Now)
 /// what there is news of, and is behind then.
 #[cold]
 pub(crate) fn give_up<L: Line>(conn: &mut Conn<L>, now: Now)
-    ensures { IsPatient now.ms now.patience_ms conn.old conn.new }
+    ensures patient { IsPatient now.ms now.patience_ms conn.old conn.new }
+    // it is behind if there is news, or it was before
+    ensures behind { conn.new.status.is_behind ≡ (now.news || conn.old.status.is_behind) }
 {
     conn.status.is_behind = either(now.news, conn.status.is_behind);
     if now.is_past(conn.status.moved_ms, now.patience_ms) {

@@ -3,8 +3,8 @@ use Rattle.radio_connections.proofs.Calling.{later_same, unread_same}
 use Rattle.radio_connections.proofs.Deeds.{not_cut, closed_not_cut, patient_as, served_by_cut, served_by_note, le_by, lt_by}
 use Rattle.radio_connections.proofs.serving.flushing.give_up.Goals as goal
 
-pub returns-then-is_past : goal.returns-then-is_past
-returns-then-is_past g c =
+pub returns-then-is_past-clause-patient : goal.returns-then-is_past-clause-patient
+returns-then-is_past-clause-patient g c =
     patient_as c.conn.view_is (record {
       served = served_by_cut _ _ (record { id = refl; sits = refl; left = refl }) (later_same refl refl refl) refl refl refl;
       goes = λ e. absurd (not_cut e);
@@ -17,8 +17,8 @@ returns-then-is_past g c =
       owed = refl;
     })
 
-pub returns-else-is_past : goal.returns-else-is_past
-returns-else-is_past g c =
+pub returns-else-is_past-clause-patient : goal.returns-else-is_past-clause-patient
+returns-else-is_past-clause-patient g c =
     patient_as c.conn.view_is (record {
       served =
           served_by_note _ _ (record { id = refl; sits = refl; left = refl }) (later_same refl refl refl)

@@ -9,7 +9,7 @@ pub returns-then-not-is_empty : goal.returns-then-not-is_empty
 returns-then-not-is_empty g c = kept_in_turn g.S.Server.steps c.flush.ensures
     (λ none. false≢true (sym c.if-not-is_empty.true ∙ c.is_empty.ensures
     ∙ ap (λ (xs : List ℕ). length xs == 0) (c.rest.ensures ∙ ap (λ (o : Connection). o.owed) c.conn.view_is ∙ none)))
-    c.give_up.ensures c.leave.ensures
+    c.give_up.ensures.patient c.leave.ensures
 
 pub returns : goal.returns
 returns g c = served_in_turn g.S.Server.steps c.flush.ensures
