@@ -1,5 +1,8 @@
 //! What all lines of a thread share with its loop.
 
+ghost use Rattle.std.specs.Prelude.{◌≡◌};
+ghost use Rattle.radio_lines.specs.Paces.{turn_wait};
+
 use crate::closing::NewsCount;
 use crate::pace::{Pace, SharedPace};
 use std::sync::atomic::{AtomicBool, AtomicU64, Ordering};
@@ -46,13 +49,7 @@ impl Activity {
     /// was asked the last time, one where a line was held back, and else so many.
     pub fn wait_ms(&self, longest_ms: u64) -> u64 {
         let was_held = take(&self.was_held);
-        if take(&self.has_more) {
-            0
-        } else if was_held {
-            longest_ms.min(1)
-        } else {
-            longest_ms
-        }
+        turn_wait(take(&self.has_more), was_held, longest_ms)
     }
 
     /// How many bytes have come from sources since this was asked the last time.
@@ -102,4 +99,18 @@ impl Activity {
 /// Whether the flag is set. It is not, from now on.
 fn take(flag: &AtomicBool) -> bool {
     flag.load(Ordering::SeqCst) && flag.swap(false, Ordering::SeqCst)
+}
+
+/// Returns for how many milliseconds the next turn waits at most, if a line has something to do or not, and was held back or
+/// not.
+fn turn_wait(has_more: bool, was_held: bool, longest_ms: u64) -> u64
+    ensures { result ≡ turn_wait has_more was_held longest_ms }
+{
+    if has_more {
+        0
+    } else if was_held {
+        longest_ms.min(1)
+    } else {
+        longest_ms
+    }
 }

@@ -22,6 +22,7 @@ mod line;
 mod pace;
 mod reach;
 mod readiness;
+mod ready;
 mod sockets;
 mod stream;
 

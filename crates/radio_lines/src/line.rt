@@ -6,16 +6,13 @@ ghost use Rattle.radio_lines.specs.Streams.{IsGivenBy, IsTakenBy};
 
 use crate::activity::Activity;
 use crate::closing::{Closing, tells_closing};
-use crate::pace::Pace;
+use crate::pace::is_source;
 use crate::readiness::Readiness;
 use crate::stream::{Shut, read_once, write_once};
 use radio_connections::{CallCount, History, Line, Received, Sent};
 use std::alloc::Global;
 use std::io::{Read, Write};
 use std::sync::Arc;
-
-/// How many bytes no line gives but that of a source: a head has fewer.
-const MOST_OF_OTHERS: u64 = 16_384;
 
 /// A connection's socket. It is asked only where the system has told that it is ready: `Nothing`
 /// takes no call of the system then. Where nothing is wanted of what comes, it is read from at most
@@ -129,17 +126,12 @@ impl<S: Read + Write + Shut + Drop> SocketLine<S> {
 
     /// Whether it has given as much as only sources do, and what it gives is wanted.
     fn is_source(&self) -> bool {
-        self.gave >= MOST_OF_OTHERS && !self.readiness.is_passed_over()
+        is_source(self.gave, self.readiness.is_passed_over())
     }
 
     /// Whether it gives nothing more at this moment, so that listeners can follow.
     fn is_held(&self, ms: u64) -> bool {
-        let is_held = self.is_source()
-            && match self.activity.pace() {
-                Pace::Free => false,
-                Pace::Slow => self.gave_ms == ms,
-                Pace::Stopped => true,
-            };
+        let is_held = self.is_source() && self.activity.pace().holds(self.gave_ms, ms);
         if is_held {
             self.activity.note_held();
         }

@@ -1,9 +1,12 @@
 //! How fast sources are read.
 
+ghost use Rattle.std.specs.Prelude.{◌≡◌};
+ghost use Rattle.radio_lines.specs.Paces.{holds, is_source, number_of};
+
 use std::sync::atomic::{AtomicU64, Ordering};
 
 /// How fast sources are read, so that listeners can follow.
-#[derive(Clone, Copy)]
+#[derive(Clone, Copy, Debug, PartialEq, Eq)]
 pub enum Pace {
     /// As they come.
     Free,
@@ -14,13 +17,48 @@ pub enum Pace {
 }
 
 impl Pace {
-    fn number(self) -> u64 {
+    /// Returns whether a source's line gives nothing at `ms` that gave something at `gave_ms` last, in milliseconds.
+    pub(crate) fn holds(self, gave_ms: u64, ms: u64) -> bool
+        ensures { result ≡ holds self gave_ms ms }
+    {
+        match self {
+            Pace::Free => false,
+            Pace::Slow => gave_ms == ms,
+            Pace::Stopped => true,
+        }
+    }
+
+    /// Returns the number of the pace, by which it is shared.
+    fn number(self) -> u64
+        ensures { result ≡ number_of self }
+    {
         match self {
             Pace::Free => 0,
             Pace::Slow => 1,
             Pace::Stopped => 2,
         }
     }
+
+    /// Returns the pace of this number: the slowest, if there is none.
+    fn of(number: u64) -> Pace
+        ensures { (pace : Pace) → number ≡ number_of pace → result ≡ pace }
+    {
+        match number {
+            0 => Pace::Free,
+            1 => Pace::Slow,
+            _ => Pace::Stopped,
+        }
+    }
+}
+
+/// How many bytes no line gives but that of a source: a head has fewer.
+const MOST_OF_OTHERS: u64 = 16_384;
+
+/// Returns whether a line has given so many bytes as only that of a source does, and they are wanted.
+pub(crate) fn is_source(gave: u64, is_passed_over: bool) -> bool
+    ensures { result ≡ is_source gave is_passed_over }
+{
+    gave >= MOST_OF_OTHERS && !is_passed_over
 }
 
 /// A pace that threads share.
@@ -33,7 +71,7 @@ impl SharedPace {
     /// Free.
     pub(crate) fn new() -> SharedPace {
         SharedPace {
-            number: AtomicU64::new(0),
+            number: AtomicU64::new(Pace::Free.number()),
         }
     }
 
@@ -47,10 +85,6 @@ impl SharedPace {
 
     /// The pace.
     pub(crate) fn get(&self) -> Pace {
-        match self.number.load(Ordering::SeqCst) {
-            0 => Pace::Free,
-            1 => Pace::Slow,
-            _ => Pace::Stopped,
-        }
+        Pace::of(self.number.load(Ordering::SeqCst))
     }
 }

@@ -1,80 +1,65 @@
 //! What the system has told of sockets.
 
+use crate::ready::{Notice, Ready, may_read, may_write};
 use mio::event::Event;
 use std::sync::atomic::{AtomicBool, AtomicU64, Ordering};
 
-/// For how long nothing is read from a line of which nothing is wanted, in milliseconds.
-const PASS_OVER_MS: u64 = 100;
-
-/// After how long a line that took nothing is asked again, whatever the system has told, in
-/// milliseconds: it tells of room only once a third of the socket's buffer is free.
-const ASK_AGAIN_MS: u64 = 1000;
-
-/// What a socket is ready for, by what the system has told and the socket has answered since. The
-/// system tells each change once. Moments are in milliseconds.
+/// What a socket is ready for, as its line and the sockets of its thread share it. It keeps a [`Ready`], whose functions decide
+/// what becomes of it. The system tells each change once. Only one thread uses it at a time.
 #[derive(Drop)]
 pub(crate) struct Readiness {
     is_readable: AtomicBool,
     is_writable: AtomicBool,
-    /// Whether it has failed, or a side of it was closed.
     is_over: AtomicBool,
-    /// Whether nothing is wanted of what comes.
     is_passed_over: AtomicBool,
-    /// Before that moment nothing is read, if nothing is wanted.
     read_from_ms: AtomicU64,
-    /// From that moment on it is written to all the same.
     write_from_ms: AtomicU64,
 }
 
 impl Readiness {
-    /// Of a socket of which nothing was told yet: it is to be asked.
+    /// Returns that of a socket of which nothing was told yet.
     pub(crate) fn new() -> Readiness {
+        let fresh = Ready::fresh();
         Readiness {
-            is_readable: AtomicBool::new(true),
-            is_writable: AtomicBool::new(true),
-            is_over: AtomicBool::new(false),
-            is_passed_over: AtomicBool::new(false),
-            read_from_ms: AtomicU64::new(0),
-            write_from_ms: AtomicU64::new(0),
+            is_readable: AtomicBool::new(fresh.is_readable),
+            is_writable: AtomicBool::new(fresh.is_writable),
+            is_over: AtomicBool::new(fresh.is_over),
+            is_passed_over: AtomicBool::new(fresh.is_passed_over),
+            read_from_ms: AtomicU64::new(fresh.read_from_ms),
+            write_from_ms: AtomicU64::new(fresh.write_from_ms),
         }
     }
 
-    /// Another socket has it, which is to be asked, as at its beginning.
+    /// Gives it to another socket, of which nothing was told yet.
     pub(crate) fn reset(&self) {
-        self.is_readable.store(true, Ordering::SeqCst);
-        self.is_writable.store(true, Ordering::SeqCst);
-        self.is_over.store(false, Ordering::SeqCst);
-        self.is_passed_over.store(false, Ordering::SeqCst);
-        self.read_from_ms.store(0, Ordering::SeqCst);
-        self.write_from_ms.store(0, Ordering::SeqCst);
+        self.store(Ready::fresh());
     }
 
-    /// The system has told this. A socket that has failed or was closed tells so when it is asked.
-    /// Whether there is something to do at once: for bytes that are not wanted there is not.
+    /// Notes what the system has notice. Returns whether there is something to do at once.
     pub(crate) fn mark(&self, event: &Event) -> bool {
-        let is_over = event.is_error() || event.is_read_closed() || event.is_write_closed();
-        if is_over {
-            self.is_over.store(true, Ordering::SeqCst);
-            self.read_from_ms.store(0, Ordering::SeqCst);
-        }
-        let may_read = is_over || event.is_readable();
-        let may_write = is_over || event.is_writable();
-        let reads = may_read && !self.is_readable.swap(true, Ordering::SeqCst);
-        let writes = may_write && !self.is_writable.swap(true, Ordering::SeqCst);
-        is_over || writes || (reads && !self.is_passed_over.load(Ordering::SeqCst))
+        let notice = Notice {
+            reads: event.is_readable(),
+            writes: event.is_writable(),
+            is_over: event.is_error() || event.is_read_closed() || event.is_write_closed(),
+        };
+        let before = self.load();
+        self.store(before.after_told(notice));
+        before.brings_work(notice)
     }
 
-    /// Whether it is worth a read at this moment.
+    /// Returns whether it is worth a read at this moment.
     pub(crate) fn is_readable(&self, ms: u64) -> bool {
-        self.is_readable.load(Ordering::SeqCst) && ms >= self.read_from_ms.load(Ordering::SeqCst)
+        let is_readable = self.is_readable.load(Ordering::SeqCst);
+        may_read(is_readable, self.read_from_ms.load(Ordering::SeqCst), ms)
     }
 
-    /// Whether it is worth a write at this moment.
+    /// Returns whether it is worth a write at this moment.
     pub(crate) fn is_writable(&self, ms: u64) -> bool {
-        self.is_writable.load(Ordering::SeqCst) || ms >= self.write_from_ms.load(Ordering::SeqCst)
+        let is_writable = self.is_writable.load(Ordering::SeqCst);
+        may_write(is_writable, self.write_from_ms.load(Ordering::SeqCst), ms)
     }
 
-    /// Whether nothing is wanted of what comes.
+    /// Returns whether nothing is wanted of what comes.
     pub(crate) fn is_passed_over(&self) -> bool {
         self.is_passed_over.load(Ordering::SeqCst)
     }
@@ -84,28 +69,57 @@ impl Readiness {
         self.is_passed_over.store(true, Ordering::SeqCst);
     }
 
-    /// A read gave bytes at this moment, and filled the buffer or not. Whether there may be more to
-    /// read at once.
+    /// Notes that a read at this moment gave bytes, and filled the buffer or not. Returns whether there may be more to read at
+    /// once.
     pub(crate) fn has_read(&self, is_filled: bool, ms: u64) -> bool {
-        if self.is_passed_over.load(Ordering::SeqCst) {
-            self.read_from_ms
-                .store(ms.saturating_add(PASS_OVER_MS), Ordering::SeqCst);
-            return false;
-        }
-        let may_have_more = is_filled || self.is_over.load(Ordering::SeqCst);
-        self.is_readable.store(may_have_more, Ordering::SeqCst);
-        may_have_more
+        let after = self.load().after_read(is_filled, ms);
+        self.store(after);
+        after.has_more()
     }
 
-    /// A read would have waited.
+    /// Notes that a read would have waited.
     pub(crate) fn has_nothing_to_read(&self) {
         self.is_readable.store(false, Ordering::SeqCst);
     }
 
-    /// A write at this moment would have waited, or took a part.
+    /// Notes that a write at this moment would have waited, or took a part.
     pub(crate) fn has_no_room(&self, ms: u64) {
-        self.is_writable.store(false, Ordering::SeqCst);
-        self.write_from_ms
-            .store(ms.saturating_add(ASK_AGAIN_MS), Ordering::SeqCst);
+        self.store(self.load().without_room(ms));
+    }
+
+    /// Returns what it is ready for.
+    fn load(&self) -> Ready {
+        Ready {
+            is_readable: self.is_readable.load(Ordering::SeqCst),
+            is_writable: self.is_writable.load(Ordering::SeqCst),
+            is_over: self.is_over.load(Ordering::SeqCst),
+            is_passed_over: self.is_passed_over.load(Ordering::SeqCst),
+            read_from_ms: self.read_from_ms.load(Ordering::SeqCst),
+            write_from_ms: self.write_from_ms.load(Ordering::SeqCst),
+        }
+    }
+
+    /// It is ready for this.
+    fn store(&self, ready: Ready) {
+        put_flag(&self.is_readable, ready.is_readable);
+        put_flag(&self.is_writable, ready.is_writable);
+        put_flag(&self.is_over, ready.is_over);
+        put_flag(&self.is_passed_over, ready.is_passed_over);
+        put_moment(&self.read_from_ms, ready.read_from_ms);
+        put_moment(&self.write_from_ms, ready.write_from_ms);
+    }
+}
+
+/// Stores a flag. A store costs much more than a load.
+fn put_flag(flag: &AtomicBool, is_set: bool) {
+    if flag.load(Ordering::SeqCst) != is_set {
+        flag.store(is_set, Ordering::SeqCst);
+    }
+}
+
+/// Stores a moment, in the same way.
+fn put_moment(moment: &AtomicU64, ms: u64) {
+    if moment.load(Ordering::SeqCst) != ms {
+        moment.store(ms, Ordering::SeqCst);
     }
 }

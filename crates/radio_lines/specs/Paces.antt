@@ -1,0 +1,24 @@
+-- How fast sources are read, and how long a thread's lines let its next turn wait.
+use Rattle.std.specs.Prelude.{ℕ, Bool, true, false, ◌==◌, nat_le, not, ◌&&◌, min, if◌then◌else◌}
+use Rattle.radio_lines.specs.declared.pace.Pace.{Pace}
+use Rattle.radio_lines.specs.declared.pace.Pace.TheVariants.{Free, Slow, Stopped}
+
+-- whether the line of a source gives nothing at a moment, in milliseconds, that gave something at another one last
+abbrev pub holds : Pace → ℕ → ℕ → Bool
+holds Free gave ms = false
+holds Slow gave ms = gave == ms
+holds Stopped gave ms = true
+
+-- the number by which a pace is shared
+abbrev pub number_of : Pace → ℕ
+number_of Free = 0
+number_of Slow = 1
+number_of Stopped = 2
+
+-- whether a line has given so many bytes as only that of a source does, and they are wanted
+abbrev pub is_source : ℕ → Bool → Bool
+is_source gave passed_over = nat_le 16384 gave && not passed_over
+
+-- for how many milliseconds the next turn waits at most: not at all if a line has something to do, one if a line was held back
+abbrev pub turn_wait : Bool → Bool → ℕ → ℕ
+turn_wait has_more was_held longest = if has_more then 0 else (if was_held then min longest 1 else longest)
