@@ -1,3 +1,5 @@
 pub mod Workers
 pub mod Turns
 pub mod Admission
+pub mod Kinds
+pub mod Sources

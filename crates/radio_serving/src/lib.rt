@@ -6,9 +6,12 @@
 //! - Lines and connections are those of `radio_connections`, under its names.
 #![tactic(auto)]
 
+mod kind;
 mod laws;
 mod round;
+mod sources;
 mod turn;
+mod watch;
 mod watched;
 mod worker;
 
