@@ -1,7 +1,9 @@
 pub mod Choices
 pub mod News
 pub mod NewsLaws
+pub mod Paces
 pub mod Rests
 pub mod Serving
 pub mod States
 pub mod StateLaws
+pub mod Sums

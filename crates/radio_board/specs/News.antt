@@ -1,5 +1,7 @@
 -- When a worker begins a round of draws for news. Moments and times are in microseconds.
-use Rattle.std.specs.Prelude.{ℕ, Bool, false, List, ◌∷◌, if◌then◌else◌, ◌+◌, ◌-◌, ◌*◌, ◌^◌, min, fold, take, replicate, nat_lt}
+use Rattle.std.specs.Prelude.{ℕ, Bool, true, false, ◌==◌, not, List, ◌∷◌, if◌then◌else◌, ◌+◌, ◌-◌, ◌*◌, ◌^◌, min, fold, take, replicate, nat_lt}
+use Rattle.radio_board.specs.declared.news.NewsFor.{NewsFor}
+use Rattle.radio_board.specs.declared.news.NewsFor.TheVariants.{Nobody, AllBut, All}
 
 -- a round begins at the earliest so many times the shortest of the last rounds after the last one began
 abbrev pub spacing : ℕ
@@ -43,3 +45,9 @@ begun now came rounds = record rounds { began = now; was_early = nat_lt came (pa
 -- it ends at this moment
 abbrev pub ended : ℕ → Rounds → Rounds
 ended now rounds = record rounds { took = (now - rounds.began) ∷ take 7 rounds.took }
+
+-- whether it is for the listeners of the worker of this number
+abbrev pub is_for : NewsFor → ℕ → Bool
+is_for Nobody number = false
+is_for (AllBut other) number = not (number == other)
+is_for All number = true

@@ -5,6 +5,7 @@ use crate::desk::Desk;
 use crate::news::NewsFor;
 use crate::pace::{much_from, pace_of, slow_from};
 use crate::served::is_served;
+use crate::sums::{is_called, least_of, may_linger, most_of, place_on};
 use mio::Waker;
 use radio_lines::{NewsCount, Pace};
 use radio_outlet::LogQueue;
@@ -99,9 +100,7 @@ impl Board {
     pub fn moment(&self, settled_ms: u64) -> u64 {
         let mut least = settled_ms;
         for desk in &self.desks {
-            if desk.works() {
-                least = least.min(desk.read_ms());
-            }
+            least = least_of(least, desk.works(), desk.read_ms());
         }
         self.raise(least)
     }
@@ -158,9 +157,8 @@ impl Board {
         let latest_ms = self.latest_ms();
         let mut drawn = told;
         for desk in &self.desks {
-            if !desk.state().has_drawn() && is_served(desk.turn_ms(), latest_ms) {
-                drawn = drawn.min(desk.drawn_news());
-            }
+            let holds_up = !desk.state().has_drawn() && is_served(desk.turn_ms(), latest_ms);
+            drawn = least_of(drawn, holds_up, desk.drawn_news());
         }
         NewsCount { told, drawn }
     }
@@ -183,9 +181,8 @@ impl Board {
         let latest_ms = self.latest_ms();
         let mut most = 0u64;
         for desk in &self.desks {
-            if is_served(desk.turn_ms(), latest_ms) {
-                most = most.max(desk.behind(received));
-            }
+            let holds_up = is_served(desk.turn_ms(), latest_ms);
+            most = most_of(most, holds_up, desk.behind(received));
         }
         pace_of(most, self.slow_from)
     }
@@ -206,8 +203,7 @@ impl Board {
         for each in &self.desks {
             all = all.saturating_add(each.lingering());
         }
-        let over = all.saturating_sub(self.most_lingering);
-        let most = count.saturating_sub(over);
+        let most = may_linger(count, all, self.most_lingering);
         desk.set_lingering(most);
         most
     }
@@ -219,7 +215,7 @@ impl Board {
         let latest_ms = self.latest_ms();
         let mut best = None;
         for step in 0..count {
-            let number = (from % count.max(1)).saturating_add(step) % count.max(1);
+            let number = place_on(from, step, count);
             if let Some(load) = self.load_of(number, latest_ms) {
                 best = Some(least_loaded(best, Chosen { number, load }));
             }
@@ -311,9 +307,9 @@ impl Board {
     /// From now on the acceptor waits, unless there is something to do: whether there is.
     pub fn acceptor_lies_down(&self) -> bool {
         self.acceptor_sleeps.store(true, Ordering::SeqCst);
-        let has_closed = self.wants_closing.load(Ordering::SeqCst)
-            && self.has_closed.load(Ordering::SeqCst);
-        self.is_over() || has_closed
+        let wants_closing = self.wants_closing.load(Ordering::SeqCst);
+        let has_closed = self.has_closed.load(Ordering::SeqCst);
+        is_called(self.is_over(), wants_closing, has_closed)
     }
 
     /// The acceptor does not wait any more.

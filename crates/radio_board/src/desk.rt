@@ -1,11 +1,9 @@
 //! What one worker tells the others, and what they tell it.
 
 use crate::state::{State, Step};
+use crate::sums::{drawn_after, left_to_draw, load_of};
 use mio::Waker;
 use std::sync::atomic::{AtomicBool, AtomicU64, AtomicUsize, Ordering};
-
-/// How many bytes a draw brings at most.
-const DRAW_ROOM: u64 = 65_536;
 
 /// What one worker tells the others, and what they tell it. Moments are in milliseconds, if nothing else is said.
 #[derive(Drop)]
@@ -111,8 +109,7 @@ impl Desk {
 
     /// Takes a step, and ends its wait if it waits no more after it.
     fn take_and_wake(&self, step: Step) {
-        let before = self.take(step);
-        if before.waits() && !before.after(step).waits() {
+        if self.take(step).is_woken_by(step) {
             // Where it can't be told, its wait ends by itself.
             let _ = self.waker.wake();
         }
@@ -211,9 +208,7 @@ impl Desk {
 
     /// How many connections he has, with those that were put for him.
     pub(crate) fn load(&self) -> usize {
-        self.connections
-            .load(Ordering::SeqCst)
-            .saturating_add(self.comings())
+        load_of(self.connections.load(Ordering::SeqCst), self.comings())
     }
 
     /// Returns whether it has listeners. One that has none is told of no news.
@@ -237,11 +232,7 @@ impl Desk {
     /// then so many of them as a draw brings.
     pub fn note_drawn(&self, received: u64, has_more: bool) {
         let before = self.drawn.load(Ordering::SeqCst);
-        let drawn = if has_more {
-            received.min(before.saturating_add(DRAW_ROOM))
-        } else {
-            received
-        };
+        let drawn = drawn_after(before, received, has_more);
         if drawn != before {
             self.drawn.store(drawn, Ordering::SeqCst);
         }
@@ -249,10 +240,7 @@ impl Desk {
 
     /// How many bytes that have come his listeners have still to draw, of so many.
     pub(crate) fn behind(&self, count: u64) -> u64 {
-        if self.has_listeners() {
-            count.saturating_sub(self.drawn.load(Ordering::SeqCst))
-        } else {
-            0
-        }
+        let drawn = self.drawn.load(Ordering::SeqCst);
+        left_to_draw(count, drawn, self.has_listeners())
     }
 }

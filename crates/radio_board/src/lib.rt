@@ -20,6 +20,7 @@ mod pace;
 mod rest;
 mod served;
 mod state;
+mod sums;
 
 pub use board::{Board, Limits};
 pub use choice::{Chosen, least_loaded};

@@ -1,7 +1,7 @@
 //! Whose listeners have news, and when a worker draws for them.
 
 ghost use Rattle.std.specs.Prelude.{◌≡◌};
-ghost use Rattle.radio_board.specs.News.{no_rounds, shortest, pause_end, wait_left, begun, ended};
+ghost use Rattle.radio_board.specs.News.{no_rounds, shortest, pause_end, wait_left, begun, ended, is_for};
 
 use std::marker::Model;
 
@@ -27,7 +27,9 @@ pub enum NewsFor {
 
 impl NewsFor {
     /// Whether the listeners of the worker of this number may have news.
-    pub(crate) fn is_for(self, number: usize) -> bool {
+    pub(crate) fn is_for(self, number: usize) -> bool
+        ensures { result ≡ is_for self number }
+    {
         match self {
             NewsFor::Nobody => false,
             NewsFor::AllBut(other) => number != other,

@@ -1,13 +1,18 @@
 //! From where on listeners are told of news at once, and sources are read slowly, so that listeners of other workers can
 //! follow.
 
+ghost use Rattle.std.specs.Prelude.{◌≡◌};
+ghost use Rattle.radio_board.specs.Paces.{slow_at, much_at, pace_at};
+
 use radio_lines::Pace;
 
 /// How many bytes a worker's listeners may have still to draw at most, before sources are read slowly.
 const MOST_BEHIND: u64 = 131_072;
 
 /// From where on sources are read slowly: a quarter of what is kept of a stream, if that is less.
-pub(crate) fn slow_from(queue_size: u64) -> u64 {
+pub(crate) fn slow_from(queue_size: u64) -> u64
+    ensures { result ≡ slow_at queue_size }
+{
     MOST_BEHIND.min(queue_size / 4)
 }
 
@@ -16,7 +21,9 @@ pub(crate) fn slow_from(queue_size: u64) -> u64 {
 const LEAST_QUEUE: u64 = 65_536;
 
 /// From where on listeners are told of news at once: a quarter of that, so that it is told long before.
-pub(crate) fn much_from(queue_size: u64) -> u64 {
+pub(crate) fn much_from(queue_size: u64) -> u64
+    ensures { result ≡ much_at queue_size }
+{
     if queue_size < LEAST_QUEUE {
         0
     } else {
@@ -26,7 +33,9 @@ pub(crate) fn much_from(queue_size: u64) -> u64 {
 
 /// The pace where the listeners of a worker are so many bytes behind, and sources are read slowly from so many on. They
 /// stand still from twice as many on.
-pub(crate) fn pace_of(behind: u64, slow_from: u64) -> Pace {
+pub(crate) fn pace_of(behind: u64, slow_from: u64) -> Pace
+    ensures { result ≡ pace_at behind slow_from }
+{
     if behind <= slow_from {
         Pace::Free
     } else if behind <= slow_from.saturating_mul(2) {

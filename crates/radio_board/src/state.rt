@@ -1,6 +1,6 @@
 //! What a worker does, as those see it who tell it of news, and wake it.
 
-ghost use Rattle.std.specs.Prelude.{◌≡◌, if◌then◌else◌};
+ghost use Rattle.std.specs.Prelude.{◌≡◌, ◌&&◌, not, if◌then◌else◌};
 ghost use Rattle.radio_board.specs.States.{has_news, waits, has_drawn, after, number_of};
 ghost use Rattle.radio_board.specs.declared.state.Step.TheVariants.{News, MuchNews, Wake, LieDown, Pause, EndRound};
 
@@ -148,6 +148,13 @@ impl State {
             State::Awake { .. } | State::Drawing { .. } => false,
             State::Asleep | State::Paused { .. } => true,
         }
+    }
+
+    /// Returns whether a step ends its wait.
+    pub(crate) fn is_woken_by(self, step: Step) -> bool
+        ensures { result ≡ (waits self && not (waits (after step self))) }
+    {
+        self.waits() && !self.after(step).waits()
     }
 
     /// Returns whether its listeners have drawn all the news that it was told of.

@@ -1,0 +1,36 @@
+-- What is made of what the desks of all workers say.
+use Rattle.std.specs.Prelude.{ℕ, ◌+◌, ◌-◌, ◌^◌, ◌%◌, min, max, nat_lt, Bool, if◌then◌else◌}
+
+-- the smaller of two numbers, of which the second is that of a worker, if that worker counts
+abbrev pub least_of : ℕ → Bool → ℕ → ℕ
+least_of least counts number = if counts then min least number else least
+
+-- the larger of them
+abbrev pub most_of : ℕ → Bool → ℕ → ℕ
+most_of most counts number = if counts then max most number else most
+
+-- how many connections a worker has, with those that were put for it; a count has 64 bits
+abbrev pub load_of : ℕ → ℕ → ℕ
+load_of connections comings = min (2 ^ 64 - 1) (connections + comings)
+
+-- how many of so many of a worker's connections may linger, if so many of all do, and so many of all may: those that are too
+-- many are its own
+abbrev pub may_linger : ℕ → ℕ → ℕ → ℕ
+may_linger count all most = count - (all - most)
+
+-- so many bytes a draw brings at most
+abbrev pub draw_room : ℕ
+draw_room = 65536
+
+-- up to which of all bytes listeners have drawn who had drawn some before: as many as had come, but no more than a draw brings if
+-- one of them has more to draw; there are at most 64 bits
+abbrev pub drawn_after : ℕ → ℕ → Bool → ℕ
+drawn_after before received has_more = if has_more then min received (min (2 ^ 64 - 1) (before + draw_room)) else received
+
+-- how many of the bytes that came are still to be drawn, if there are listeners
+abbrev pub left_to_draw : ℕ → ℕ → Bool → ℕ
+left_to_draw received drawn has_listeners = if has_listeners then received - drawn else 0
+
+-- the number so many steps behind another, of so many in a ring: behind the last comes the first
+abbrev pub place_on : ℕ → ℕ → ℕ → ℕ
+place_on from step count = if nat_lt (from % count + step) count then from % count + step else (from % count + step) - count
