@@ -1,6 +1,7 @@
 //! One worker, at his seat.
 
-ghost use Rattle.std.specs.Prelude.{◌≡◌};
+ghost use Rattle.std.specs.Prelude.{◌≡◌, ◌+◌, ◌-◌, ◌^◌, min, length, filter};
+ghost use Rattle.radio_connections.specs.Connections.{lingers};
 ghost use Rattle.radio_workers.specs.Hands.{HasTakenMore};
 
 use crate::leaving::leave_all;
@@ -206,7 +207,9 @@ impl<S: Server + Drop, L: Line> Shift<S, L> {
     }
 
     /// How many connections he has.
-    fn count(&self) -> usize {
+    fn count(&self) -> usize
+        ensures { result ≡ min (2 ^ 64 - 1) (length self.now.sources.items + length self.now.conns.items) }
+    {
         self.sources.len().saturating_add(self.conns.len())
     }
 
@@ -256,7 +259,9 @@ impl<S: Server + Drop, L: Line> Shift<S, L> {
     }
 
     /// How many linger.
-    fn count_lingering(&self) -> usize {
+    fn count_lingering(&self) -> usize
+        ensures { result ≡ min (2 ^ 64 - 1) (length (filter lingers self.now.sources.items) + length (filter lingers self.now.conns.items)) }
+    {
         let sources = count_lingering(self.sources.as_slice());
         sources.saturating_add(count_lingering(self.conns.as_slice()))
     }
