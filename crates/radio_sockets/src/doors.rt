@@ -1,6 +1,7 @@
 //! The bound socket, as the system tells of it.
 
 use crate::address::{address_of, peer_at};
+use crate::steps::lacks_descriptors;
 use crate::{BindFault, OutOfMemory, ServeFault};
 use mio::net::{TcpListener, TcpStream};
 use mio::{Events, Interest, Poll, Token, Waker};
@@ -20,9 +21,6 @@ const WAKER: Token = Token(usize::MAX - 2);
 
 /// Of how many things the system tells at once: the bound socket and the waker.
 const EVENTS: usize = 8;
-
-/// What the system answers where there is no descriptor left, for the process or at all.
-const NO_DESCRIPTORS: [i32; 2] = [24, 23];
 
 /// A connection that was accepted, and waits for a worker.
 #[derive(Drop)]
@@ -144,8 +142,8 @@ impl Entrance<Coming> for Doors {
 
 /// Whether there is no descriptor left. Those who are there go on, and may leave some.
 fn is_out_of_descriptors(error: &io::Error) -> bool {
-    match error.raw_os_error() {
-        Some(code) => NO_DESCRIPTORS.contains(&code),
-        None => false,
+    match error.raw_os_error().map(u32::try_from) {
+        Some(Ok(code)) => lacks_descriptors(code),
+        Some(Err(_)) | None => false,
     }
 }

@@ -12,6 +12,7 @@ mod doors;
 mod fault;
 mod post;
 mod seats;
+mod steps;
 
 pub use acceptor::Acceptor;
 pub use doors::{Coming, Doors};

@@ -1,6 +1,7 @@
 //! Where a worker's turns come from: his sockets, and what the others tell him.
 
 use crate::doors::Coming;
+use crate::steps::{begins_round, called_of, is_time_to_tell, is_turn_due, news_for, weight_of};
 use mio::net::TcpStream;
 use radio_addr::Peer;
 use radio_board::{Board, Desk, MOST_REST_MS, NewsFor, NewsPause, Rest, ServedTime, rest_for};
@@ -11,28 +12,11 @@ use radio_workers::{Call, Post, Seen};
 use std::sync::Wait;
 use std::time::Clock;
 
-/// How long after a turn those who come wait for the next one, so that the server is told the moment first, in milliseconds.
-const LATE_MS: u64 = 50;
-
-/// After how many milliseconds a turn is made, whether there is something to do or not: as often clients are asked for
-/// who have nothing to do.
-const TURN_AFTER_MS: u64 = 500;
-
 /// After how many such waits a turn is made, even where the moment has stood still.
 const MOST_WAITS: usize = 8;
 
-/// After how long the log is told the moment again, in milliseconds.
-const TELL_AFTER_MS: u64 = 100;
-
 /// For how long a worker waits for the acceptor to begin.
 const MOST_ALONE_MS: u64 = 10_000;
-
-/// As how many connections more a source counts, where the next one is for the worker who has the fewest: the others wait
-/// for what he has pushed, so he is to have less beside.
-const SOURCE_WEIGHT: usize = 4;
-
-/// How many connections a worker takes before a turn at most.
-const MOST_AT_ONCE: usize = 64;
 
 /// Where a worker's turns come from. Moments are in milliseconds.
 #[derive(Drop)]
@@ -217,7 +201,7 @@ impl<'a, R: Clock + Wait> SocketPost<'a, R> {
 
     /// Whether the last turn was so long ago that another is due.
     fn is_due(&self) -> bool {
-        self.moment().saturating_sub(self.turn_ms) >= TURN_AFTER_MS
+        is_turn_due(self.moment(), self.turn_ms)
     }
 
     /// Whether the acceptor has not begun for so long that he can't.
@@ -246,11 +230,11 @@ impl<'a, R: Clock + Wait> SocketPost<'a, R> {
     /// How many are taken in before a turn at this moment: none where the last turn was long ago, and this one tells the
     /// server the moment first.
     fn comings(&mut self, ms: u64) -> usize {
-        let waiting = self.desk.comings().min(MOST_AT_ONCE);
-        let is_late = ms.saturating_sub(self.turn_ms) > LATE_MS;
-        self.puts_off = waiting > 0 && is_late && !self.puts_off;
-        self.called = if self.puts_off { 0 } else { waiting };
-        self.called
+        let passed_ms = ms.saturating_sub(self.turn_ms);
+        let called = called_of(self.desk.comings(), passed_ms, self.puts_off);
+        self.puts_off = called.puts_off;
+        self.called = called.count;
+        called.count
     }
 
     /// So many of those that he was called to take are taken, by him or others.
@@ -261,7 +245,7 @@ impl<'a, R: Clock + Wait> SocketPost<'a, R> {
 
     /// Tells the log the moment, if the clock tells it, and some time has passed.
     fn tell_moment(&mut self, log: &Log, clock_ms: u64) {
-        if self.told_ms != 0 && clock_ms.saturating_sub(self.told_ms) < TELL_AFTER_MS {
+        if !is_time_to_tell(self.told_ms, clock_ms) {
             return;
         }
         self.told_ms = clock_ms;
@@ -277,7 +261,8 @@ impl<'a, R: Clock + Wait> SocketPost<'a, R> {
             self.received = self.board.received();
         }
         self.desk.note_drawn(self.received, seen.more);
-        self.desk.set_connections(weight(seen), seen.has_listeners);
+        let weight = weight_of(seen.connections, seen.sources);
+        self.desk.set_connections(weight, seen.has_listeners);
     }
 
     /// Tells how many bytes his sources have brought, and that these listeners may have news.
@@ -335,14 +320,9 @@ impl<'a, R: Clock + Wait> Post<Coming, SocketLine<TcpStream>> for SocketPost<'a,
 
     fn begins_round(&mut self, is_told: bool, brings: bool) -> bool {
         if brings {
-            let whose = if self.may_tell {
-                NewsFor::AllBut(self.number)
-            } else {
-                NewsFor::All
-            };
-            self.tell(whose);
+            self.tell(news_for(self.number, self.may_tell));
         }
-        let begins = is_told || brings && self.may_tell;
+        let begins = begins_round(is_told, brings, self.may_tell);
         if begins {
             self.begin_round();
         }
@@ -361,10 +341,4 @@ impl<'a, R: Clock + Wait> Post<Coming, SocketLine<TcpStream>> for SocketPost<'a,
         }
         self.hand_lines(log);
     }
-}
-
-/// What a worker has to do in a turn, in connections.
-fn weight(seen: Seen) -> usize {
-    seen.connections
-        .saturating_add(seen.sources.saturating_mul(SOURCE_WEIGHT))
 }

@@ -1,0 +1,94 @@
+//! What a worker's post decides, as plain values. Moments are in milliseconds.
+
+ghost use Rattle.std.specs.Prelude.{◌≡◌, ◌&&◌, ◌||◌, ◌==◌};
+ghost use Rattle.radio_sockets.specs.Steps.{called_of, weight_of, is_time_to_tell, is_turn_due, news_for};
+
+use radio_board::NewsFor;
+
+/// How long after a turn those who come wait for the next one, so that the server is told the moment first.
+const LATE_MS: u64 = 50;
+
+/// How many connections a worker takes before a turn at most.
+const MOST_AT_ONCE: usize = 64;
+
+/// After how long a turn is made, whether there is something to do or not: as often clients are asked for who have nothing to
+/// do.
+const TURN_AFTER_MS: u64 = 500;
+
+/// After how long the log is told the moment again.
+const TELL_AFTER_MS: u64 = 100;
+
+/// As how many connections more a source counts, where the next one is for the worker that has the fewest: the others wait for
+/// what it has pushed, so it is to have less beside.
+const SOURCE_WEIGHT: usize = 4;
+
+/// How many of those who have come are taken in before a turn.
+#[derive(Clone, Copy, Debug, PartialEq, Eq)]
+pub(crate) struct Called {
+    /// How many.
+    pub(crate) count: usize,
+    /// Whether some wait, and all are put off to the next turn.
+    pub(crate) puts_off: bool,
+}
+
+/// Returns how many of the `waiting` connections are taken in before a turn that begins `passed_ms` after the last one. They are
+/// put off if that is long, so that the server is told the moment first, but never twice in a row.
+pub(crate) fn called_of(waiting: usize, passed_ms: u64, were_put_off: bool) -> Called
+    ensures { result ≡ called_of waiting passed_ms were_put_off }
+{
+    let most = waiting.min(MOST_AT_ONCE);
+    let puts_off = most > 0 && passed_ms > LATE_MS && !were_put_off;
+    Called {
+        count: if puts_off { 0 } else { most },
+        puts_off,
+    }
+}
+
+/// Returns what a worker has to do in a turn, in connections: each of its sources counts as five.
+pub(crate) fn weight_of(connections: usize, sources: usize) -> usize
+    ensures { result ≡ weight_of connections sources }
+{
+    connections.saturating_add(sources.saturating_mul(SOURCE_WEIGHT))
+}
+
+/// Returns whether the log is told the moment, when the clock is at `clock_ms`, and it was told `told_ms` last; 0 is never.
+pub(crate) fn is_time_to_tell(told_ms: u64, clock_ms: u64) -> bool
+    ensures { result ≡ is_time_to_tell told_ms clock_ms }
+{
+    told_ms == 0 || clock_ms.saturating_sub(told_ms) >= TELL_AFTER_MS
+}
+
+/// Returns whether a turn is due at this moment, whatever there is to do, if the last one was at `turn_ms`.
+pub(crate) fn is_turn_due(ms: u64, turn_ms: u64) -> bool
+    ensures { result ≡ is_turn_due ms turn_ms }
+{
+    ms.saturating_sub(turn_ms) >= TURN_AFTER_MS
+}
+
+/// Returns for whose listeners it is news that the sources of the worker of this number have brought something: its own draw in
+/// the same turn, if they may be told in it.
+pub(crate) fn news_for(number: usize, may_tell: bool) -> NewsFor
+    ensures { result ≡ news_for number may_tell }
+{
+    if may_tell {
+        NewsFor::AllBut(number)
+    } else {
+        NewsFor::All
+    }
+}
+
+/// Returns whether a round of draws begins: the turn was told of news, or its sources have brought something and its listeners
+/// may be told.
+pub(crate) fn begins_round(is_told: bool, brings: bool, may_tell: bool) -> bool
+    ensures { result ≡ (is_told || (brings && may_tell)) }
+{
+    is_told || (brings && may_tell)
+}
+
+/// Returns whether the system's fault of this number says that there is no descriptor left, for the process (24, `EMFILE`) or
+/// at all (23, `ENFILE`).
+pub(crate) fn lacks_descriptors(code: u32) -> bool
+    ensures { result ≡ (code == 24 || code == 23) }
+{
+    code == 24 || code == 23
+}
