@@ -9,6 +9,7 @@
 //! - `intake`: connections that are put, taken and counted, also by two threads.
 //! - `commands`: paths and queries as commands; `listings`: what is written of rows; `relays`: what masters answer, and which relays run.
 //! - `heads`: queries, faults, and answers with a body.
+//! - `verdicts`: what the policy says of numbers that are spent.
 //! - `settings`: every key read back, and names; `scripts`: scripts over devices that fail.
 #![tactic(auto)]
 
@@ -46,3 +47,5 @@ mod scripts;
 mod settings;
 #[cfg(test)]
 mod tables;
+#[cfg(test)]
+mod verdicts;

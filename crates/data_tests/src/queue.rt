@@ -1,7 +1,7 @@
 //! A bounded queue of blocks: what nobody sees of it who listens. What listeners are given is in the end-to-end scripts.
 
 use bytes::Bytes;
-use radio_blocks::{Block, BlockQueue, OutOfMemory, Pieces, Place};
+use radio_blocks::{Block, BlockQueue, DrawFault, OutOfMemory, Pieces, Place};
 use std::alloc::Global;
 
 /// Blocks of four bytes.
@@ -112,4 +112,34 @@ fn are_two(slices: &[Bytes]) -> bool {
 #[test]
 fn draw_of_two_slices(rt: HostRuntime) {
     assert!(rt; draws_slices(rt.alloc()) == Ok(true));
+}
+
+/// Whether bursts begin where they should in three blocks of four bytes, and a place is as far behind as
+/// it is.
+fn begins_bursts(alloc: Global) -> Result<bool, OutOfMemory> {
+    let queue = queue_of(alloc, 12, 12, &FOUR_EACH[..3])?;
+    Ok(
+        queue.start_for(9) == Place::new(4)
+            && queue.start_for(3) == Place::new(12)
+            && queue.lag(Place::new(7)) == 5,
+    )
+}
+
+#[test]
+fn starts_of_bursts(rt: HostRuntime) {
+    assert!(rt; begins_bursts(rt.alloc()) == Ok(true));
+}
+
+/// Whether a draw at the opening place is refused once the first of four blocks is not kept any more, and
+/// hands out nothing.
+fn trims_the_opening(alloc: Global) -> Result<bool, OutOfMemory> {
+    let queue = queue_of(alloc, 10, 10, FOUR_EACH)?;
+    let mut pieces = Pieces::new(alloc);
+    let drawn = queue.draw(Place::new(0), 100, &mut pieces);
+    Ok(drawn == Err(DrawFault::Trimmed) && pieces.slices().is_empty())
+}
+
+#[test]
+fn draw_of_what_is_forgotten(rt: HostRuntime) {
+    assert!(rt; trims_the_opening(rt.alloc()) == Ok(true));
 }
