@@ -2,7 +2,7 @@
 
 ghost use Rattle.std.specs.Prelude.{◌≡◌, length, map, None, Some, unwrap_or, IfOk, MatchOption};
 ghost use Rattle.std.specs.Option.{option_copied, option_map};
-ghost use Rattle.radio_seats.specs.Guests.{first_moment};
+ghost use Rattle.radio_seats.specs.Guests.{first_moment, seat_of_guest};
 ghost use Rattle.radio_seats.specs.Seats.{listener_of, seat_of, last_mount_of, count_at, AreByNumber};
 ghost use Rattle.radio_listeners.specs.Lent.{lent_seat, standing_in};
 ghost use Rattle.radio_listeners.specs.Listed.{lent_guest, guests_at};
@@ -43,19 +43,8 @@ impl Listeners {
         let Some(seat) = self.seats.seat(id) else {
             return None;
         };
-        let LentSeat {
-            place,
-            mount,
-            session,
-            guest,
-        } = seat;
-        let place = place_of(self.parts.place(mount, id), place);
-        Some(LentSeat {
-            place,
-            mount,
-            session,
-            guest,
-        })
+        let heard = self.parts.place(seat.mount, id);
+        Some(seat_at(seat, heard))
     }
 
     /// Returns the listener's seat, if it has one, and the session of its mount, if that is live. The
@@ -67,23 +56,10 @@ impl Listeners {
         let Some(seat) = self.seats.seat(id) else {
             return None;
         };
-        let LentSeat {
-            place,
-            mount,
-            session,
-            guest,
-        } = seat;
-        let (heard, live) = self.parts.place_and_session(mount, id);
-        let place = place_of(heard, place);
-        let seat = LentSeat {
-            place,
-            mount,
-            session,
-            guest,
-        };
+        let (heard, session) = self.parts.place_and_session(seat.mount, id);
         Some(Hearing {
-            seat,
-            session: live,
+            seat: seat_at(seat, heard),
+            session,
         })
     }
 
@@ -138,6 +114,16 @@ impl Listeners {
         ensures landing { result.landing ≡ landing (V.sight view.now) self.now.seats (option_copied pair.entry) mount.now }
     {
         walk_from(view, &self.seats, mount, pair)
+    }
+}
+
+/// Returns the seat at the place of its attachment, if there is one.
+fn seat_at(seat: LentSeat<'_>, attached: Option<u64>) -> LentSeat<'_>
+    ensures { lent_seat result ≡ seat_of_guest (unwrap_or attached seat.entry.place) seat.entry.mount.now seat.entry.session seat.entry.guest.now }
+{
+    LentSeat {
+        place: place_of(attached, seat.place),
+        ..seat
     }
 }
 

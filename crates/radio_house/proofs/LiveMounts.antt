@@ -15,7 +15,7 @@ use Rattle.radio_house.specs.declared.live.LiveMount.{LiveMount}
 use Rattle.radio_house.specs.Control.{Control, house_of}
 use Rattle.radio_house.specs.Facts.{fallback_of, live_end, live_number, sight_of}
 use Rattle.radio_house.specs.House.{House}
-use Rattle.radio_house.specs.Live.{AreLive, bare_house, bare_session, by_name, is_live_mount, live_mount, sight_in, with_live, without_live}
+use Rattle.radio_house.specs.Live.{AreLive, bare_house, bare_session, is_live_mount, live_by_name, live_mount, sight_in, with_live, without_live}
 use Rattle.radio_house.specs.Waiting.{heard_at, is_on_demand, silence_at, silence_of}
 
 -- what the control knows of a mount
@@ -89,7 +89,7 @@ module _ (rows later : List LiveMount) (live new : List Session) (are : AreLive 
   pub one_begun : (session : Session) → later ≡ with_live rows (live_mount session) → new ≡ with_session live session → AreLive later new
   one_begun session is_later is_new =
       is_later ∙ ap (λ (known : List LiveMount). with_live known (live_mount session)) are
-      ∙ sym (map_placed live_mount by_mount by_name session (λ other. refl) live) ∙ sym (ap (map live_mount) is_new)
+      ∙ sym (map_placed live_mount by_mount live_by_name session (λ other. refl) live) ∙ sym (ap (map live_mount) is_new)
 
   pub one_ended : (mount : List ℕ) → later ≡ without_live rows mount → new ≡ without_session live mount → AreLive later new
   one_ended mount is_later is_new =

@@ -17,12 +17,12 @@ abbrev pub is_live_mount : List ℕ → LiveMount → Bool
 is_live_mount mount row = bytes_eq row.mount mount
 
 -- they stand in the order of their mounts' bytes
-abbrev pub by_name : LiveMount → LiveMount → Ordering
-by_name a b = slice_cmp nat_cmp a.mount b.mount
+abbrev pub live_by_name : LiveMount → LiveMount → Ordering
+live_by_name a b = slice_cmp nat_cmp a.mount b.mount
 
 -- one more is live
 abbrev pub with_live : List LiveMount → LiveMount → List LiveMount
-with_live rows row = placed by_name row rows
+with_live rows row = placed live_by_name row rows
 
 -- one is live no more
 abbrev pub without_live : List LiveMount → List ℕ → List LiveMount

@@ -2,6 +2,7 @@ use Rattle.std.proofs.Common.{◌≡◌, ℕ, Some, None, ap, sym, ◌∙◌}
 use Rattle.std.specs.Prelude.{unwrap_or}
 use Rattle.std.specs.Option.{option_map}
 use Rattle.radio_parts.specs.Sessions.{session_of}
+use Rattle.radio_seats.specs.declared.seat.Seat.{Seat}
 use Rattle.radio_seats.specs.Guests.{seat_of_guest}
 use Rattle.radio_seats.specs.Seats.{seat_of}
 use Rattle.radio_listeners.specs.Lent.{lent_seat}
@@ -27,7 +28,8 @@ returns c =
     let some : seat_of i.seats.seats c.args.id ≡ Some (lent_seat seat) = sym c.seat.ensures ∙ ap (option_map lent_seat) c.in-Some.is in (
       sym (ap (λ (b : Listening). seat_of b.seats c.args.id) c.self.view_is) ∙ seat_heard f i.seats.seats c.args.id
           ∙ ap (option_map (heard_seat f c.args.id)) some
-          ∙ sym (ap (λ (place : ℕ). Some (seat_of_guest place seat.mount.now seat.session seat.guest.now))
-          (c.place_of-place.ensures ∙ ap (λ attached. unwrap_or attached seat.place) found.place)),
-      found.session ∙ ap (λ (b : Listening). session_of b.live seat.mount.now) c.self.view_is,
+          ∙ sym (ap (λ (its : Seat). Some its)
+          (c.seat_at.ensures ∙ ap (λ attached. seat_of_guest (unwrap_or attached seat.place) seat.mount.now seat.session seat.guest.now) found.place)),
+      found.session ∙ ap (λ (b : Listening). session_of b.live seat.mount.now) c.self.view_is
+          ∙ sym (ap (λ (its : Seat). session_of c.args.self.now.live its.mount) c.seat_at.ensures),
     )

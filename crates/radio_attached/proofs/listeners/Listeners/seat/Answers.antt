@@ -1,6 +1,7 @@
 use Rattle.std.proofs.Common.{◌≡◌, ℕ, Some, None, ap, sym, ◌∙◌}
 use Rattle.std.specs.Prelude.{unwrap_or}
 use Rattle.std.specs.Option.{option_map}
+use Rattle.radio_seats.specs.declared.seat.Seat.{Seat}
 use Rattle.radio_seats.specs.Guests.{seat_of_guest}
 use Rattle.radio_seats.specs.Seats.{seat_of}
 use Rattle.radio_listeners.specs.Lent.{lent_seat}
@@ -23,6 +24,7 @@ returns c =
     let f = places_in i.parts.attached in
     let seat = c.in-Some.seat in
     let some : seat_of i.seats.seats c.args.id ≡ Some (lent_seat seat) = sym c.seat.ensures ∙ ap (option_map lent_seat) c.in-Some.is in
-    ap (λ (place : ℕ). Some (seat_of_guest place seat.mount.now seat.session seat.guest.now)) (c.place_of-place.ensures ∙ ap (λ found. unwrap_or found seat.place) c.place.ensures)
+    ap (λ (its : Seat). Some its)
+    (c.seat_at.ensures ∙ ap (λ found. seat_of_guest (unwrap_or found seat.place) seat.mount.now seat.session seat.guest.now) c.place-heard.ensures)
     ∙ sym (ap (option_map (heard_seat f c.args.id)) some) ∙ sym (seat_heard f i.seats.seats c.args.id)
     ∙ ap (λ (b : Listening). seat_of b.seats c.args.id) c.self.view_is
