@@ -29,6 +29,8 @@ mod LocalityLemmas
 mod MountLemmas
 mod ObeyLemmas
 mod OnDemandLemmas
+mod OwnDrawLemmas
+mod OwnStepLemmas
 mod PartLemmas
 mod RowSteps
 mod ServiceLemmas

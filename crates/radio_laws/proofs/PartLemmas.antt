@@ -69,8 +69,14 @@ in_turn p q (Some seat) = picked p (q seat) ∙ swapped (q seat) (p seat) ∙ sy
   swapped false true = refl
   swapped false false = refl
 
+-- who keeps up, of those who sit there
+pub those_kept : (mount : List ℕ) (p : Seat → Bool) (listeners : List Listener) (id : ℕ)
+    → seat_at mount (with_ended listeners p Lagged) id ≡ seat_if (λ seat. not (p seat)) (seat_at mount listeners id)
+those_kept mount p listeners id =
+    ap (seat_if (is_at mount)) (others_keep p listeners id) ∙ in_turn (is_at mount) (λ seat. not (p seat)) (seat_of listeners id)
+
 -- who sits there has that seat
-sits_there : (mount : List ℕ) (listeners : List Listener) (id : ℕ) (seat : Seat) → seat_at mount listeners id ≡ Some seat
+pub sits_there : (mount : List ℕ) (listeners : List Listener) (id : ℕ) (seat : Seat) → seat_at mount listeners id ≡ Some seat
     → (seat_of listeners id ≡ Some seat) × (is_at mount seat ≡ true)
 sits_there mount listeners id seat has = by_seat (seat_of listeners id) refl has where
   by_mount : (other : Seat) → seat_of listeners id ≡ Some other → (b : Bool) → is_at mount other ≡ b → (if b then Some other else None) ≡ Some seat
@@ -146,14 +152,10 @@ module _ (w : World) (s : IsSound w) (p : Part) (of : IsPartOf w p) where
     in_state_at end id = seat_at p.mount (with_ended w.seats (lags_behind p.mount end queue) Lagged) id
 
     kept : (end id : ℕ) → seat_at p.mount (with_ended p.listeners (lags_behind p.mount end queue) Lagged) id ≡ in_state_at end id
-    kept end id = by_those_there p.listeners ∙ ap (seat_if keeps_up) (of.seats id) ∙ sym (by_those_there w.seats) where
-      keeps_up : Seat → Bool
-      keeps_up seat = not (lags_behind p.mount end queue seat)
-
-      by_those_there : (listeners : List Listener) → seat_at p.mount (with_ended listeners (lags_behind p.mount end queue) Lagged) id
-          ≡ seat_if keeps_up (seat_at p.mount listeners id)
-      by_those_there listeners =
-          ap (seat_if (is_at p.mount)) (others_keep (lags_behind p.mount end queue) listeners id) ∙ in_turn (is_at p.mount) keeps_up (seat_of listeners id)
+    kept end id =
+        those_kept p.mount (lags_behind p.mount end queue) p.listeners id
+        ∙ ap (seat_if (λ seat. not (lags_behind p.mount end queue seat))) (of.seats id)
+        ∙ sym (those_kept p.mount (lags_behind p.mount end queue) w.seats id)
 
     received : IsPartOf (changed w (Receive p.mount block)) (part_received queue w.house.time block p)
     received = record {
@@ -189,19 +191,26 @@ module _ (w : World) (s : IsSound w) (p : Part) (of : IsPartOf w p) where
         let clash : Feeds p.mount ≡ IsSitting = sym feeding ∙ ap (standing_of w) one ∙ s.sitting him his has in
         cc
 
+    -- what the policy says to its block
+    pub judged : (block : List ℕ) → outcome w (Push session.number block) ≡ on_verdict (verdict_in (rows_to_push w.house p.mount block)) Nothing (takes_in p.mount block)
+    unfolding outcome
+    judged block = ap (λ (standing : Standing).
+        if_feeding standing (λ mount. on_verdict (verdict_in (rows_to_push w.house mount block)) Nothing (takes_in mount block))) feeding
+
+    -- and its title is noted
+    pub noted_title : (text : List ℕ) → outcome w (Title session.number text) ≡ says Noted (SetTitle p.mount text)
+    unfolding outcome
+    noted_title text = ap (λ (standing : Standing). if_feeding standing (λ mount. says Noted (SetTitle mount text))) feeding
+
     pub parts_receive : (block : List ℕ) → reply_to w (Push session.number block) ≡ Noted
         → IsPartsStep w (world_after w (Push session.number block)) p (part_received w.house.settings.limits.queue_size w.house.time block p)
     unfolding outcome reply_to world_after
     parts_receive block noted = by_verdict (verdict_in (rows_to_push w.house p.mount block)) refl where
-      judged : outcome w (Push session.number block) ≡ on_verdict (verdict_in (rows_to_push w.house p.mount block)) Nothing (takes_in p.mount block)
-      judged = ap (λ (standing : Standing).
-          if_feeding standing (λ mount. on_verdict (verdict_in (rows_to_push w.house mount block)) Nothing (takes_in mount block))) feeding
-
       by_verdict : (verdict : Verdict) → verdict_in (rows_to_push w.house p.mount block) ≡ verdict
           → IsPartsStep w (world_after w (Push session.number block)) p (part_received w.house.settings.limits.queue_size w.house.time block p)
       by_verdict Allow e =
           let taken : outcome w (Push session.number block) ≡ takes_in p.mount block
-          = judged ∙ ap (λ (verdict : Verdict). on_verdict verdict Nothing (takes_in p.mount block)) e in
+          = judged block ∙ ap (λ (verdict : Verdict). on_verdict verdict Nothing (takes_in p.mount block)) e in
           record {
             here = subst (λ (later : World). IsPartOf later (part_received w.house.settings.limits.queue_size w.house.time block p))
                 (sym (ap (λ (o : Outcome). changed w o.change) taken)) (received block);
@@ -209,16 +218,16 @@ module _ (w : World) (s : IsSound w) (p : Part) (of : IsPartOf w p) where
           }
       by_verdict (Denied rule) e =
           let denied : outcome w (Push session.number block) ≡ on_verdict (Denied rule) Nothing (takes_in p.mount block)
-          = judged ∙ ap (λ (verdict : Verdict). on_verdict verdict Nothing (takes_in p.mount block)) e in
+          = judged block ∙ ap (λ (verdict : Verdict). on_verdict verdict Nothing (takes_in p.mount block)) e in
           let other : reply_to w (Push session.number block) ≡ (on_verdict (Denied rule) Nothing (takes_in p.mount block)).reply
           = ap (λ (o : Outcome). o.reply) denied in
           cc
 
     pub parts_titled : (text : List ℕ) → IsPartsStep w (world_after w (Title session.number text)) p (part_titled text p)
-    unfolding outcome world_after
+    unfolding world_after
     parts_titled text = record {
       here = subst (λ (later : World). IsPartOf later (part_titled text p)) (sym after) (on_the_air text);
       there = left_alone (is_mount_of p) w s (Title session.number text) fed_within nobody_sits;
     } where
       after : world_after w (Title session.number text) ≡ changed w (SetTitle p.mount text)
-      after = ap (λ (standing : Standing). changed w (if_feeding standing (λ mount. says Noted (SetTitle mount text))).change) feeding
+      after = ap (λ (o : Outcome). changed w o.change) (noted_title text)

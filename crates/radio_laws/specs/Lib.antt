@@ -2,6 +2,7 @@ pub mod Denials
 pub mod FinishesTold
 pub mod Limits
 pub mod Parts
+pub mod OwnSteps
 pub mod Walks
 pub mod OnDemand
 pub mod Commanded

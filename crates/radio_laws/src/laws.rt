@@ -27,6 +27,9 @@ ghost use Rattle.radio_house.specs.Timeouts.{TestsAreInNumbers};
 ghost use Rattle.radio_laws.specs.Outstaying.{NobodyOutstays};
 ghost use Rattle.radio_laws.specs.Locality.{AnswersAlike, LeavesAlone};
 ghost use Rattle.radio_laws.specs.Parts.{PartsDraw, PartsReceive, PartsAreTitled};
+ghost use Rattle.radio_laws.specs.OwnSteps.{OwnStepsAreTheServers, OwnStepsAreAnswered};
+ghost use Rattle.radio_core.specs.Step.{Represents};
+ghost use Rattle.radio_house.specs.World.{World};
 ghost use Rattle.radio_laws.specs.Gone.{Leaving, HasLeft, IsOutOfPlace, StaysGone};
 
 use radio_policy::denials_name_the_first_rule;
@@ -246,4 +249,15 @@ pub fn parts_go_by_themselves()
     ensures blocks { (settings : Settings) (lists : Lists) (events : List Event) → PartsReceive (run_after settings lists events) }
     // a title of its source is the part's, and nothing changes at another mount
     ensures titles { (settings : Settings) (lists : Lists) (events : List Event) → PartsAreTitled (run_after settings lists events) }
+{}
+
+/// The law of a part's own step. A mount's part that has what a state has at its mount replies to an
+/// event by itself exactly as the server does in that state. It has afterwards what the state has
+/// there after the event, and nothing changes at any other mount.
+pub fn own_steps_are_the_servers()
+    // in every state for which a core stands
+    ensures steps { (core w : World) → Represents core w → OwnStepsAreTheServers w }
+    // and it does reply to each draw of a listener that sits there, and to each block and title of the
+    // source that feeds the mount
+    ensures answered { (core w : World) → Represents core w → OwnStepsAreAnswered w }
 {}

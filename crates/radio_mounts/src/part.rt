@@ -26,6 +26,9 @@ pub struct MountPart {
     /// The listeners that are attached to it, each with the place up to which it has heard the
     /// mount's stream.
     pub attachments: AttachmentTree,
+    /// The listeners that were attached, and lagged out by an own step of the part, until they are
+    /// taken.
+    pub lagged: AttachmentTree,
 }
 
 impl Row for MountPart {
@@ -49,12 +52,13 @@ impl MountPart {
     /// Returns the part of a mount that is not live, and to which nobody is attached. It takes no
     /// memory.
     pub fn new(mount: MountName) -> MountPart
-        ensures { result ≡ record { mount = mount; session = None; attachments = [] } }
+        ensures { result ≡ record { mount = mount; session = None; attachments = []; lagged = [] } }
     {
         MountPart {
             mount,
             session: None,
             attachments: AttachmentTree::new(),
+            lagged: AttachmentTree::new(),
         }
     }
 
@@ -72,7 +76,12 @@ impl MountPart {
     /// Adds a block to the stream of the mount's session, if it is live, and returns where the stream
     /// ends then, in bytes; 0 if it is not live. The last blocks are kept, so many bytes or more.
     /// `OutOfMemory` if memory was refused; nothing has changed then.
-    fn receive(&mut self, block: &Block, moment: u64, limit: u64) -> Result<u64, OutOfMemory>
+    pub(crate) fn receive(
+        &mut self,
+        block: &Block,
+        moment: u64,
+        limit: u64,
+    ) -> Result<u64, OutOfMemory>
         ensures ok { OnOk result (self.new ≡ with_session_changed (longer_kept limit block.now moment) self.old) }
         ensures end { IfOk result (λ end. end ≡ end_in self.new.session) }
         ensures err { OnErr result (self.new ≡ self.old) }

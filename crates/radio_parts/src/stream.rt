@@ -48,6 +48,13 @@ impl Stream {
         self.queue.end().bytes_before()
     }
 
+    /// Returns the place before which the stream is forgotten.
+    pub fn first(&self) -> Place
+        ensures { result ≡ first_start (end_of self.now) self.now.starts }
+    {
+        self.queue.offset()
+    }
+
     /// Appends a block, and forgets the first blocks where those behind them have `limit` bytes.
     /// `OutOfMemory` where memory was refused, and where the stream would have 2^64 bytes; the
     /// stream is unchanged then.

@@ -8,6 +8,7 @@
 //! - `scripts`: lists of deliveries, among them large ones.
 //! - `listeners`: who sits where and has heard how far, through the calls of `radio_attached`.
 //! - `mounts`: sessions in the parts of the mounts, through the calls of `radio_mounts`.
+//! - `own_steps`: draws, blocks and titles by a mount's part alone.
 //!
 //! Of the book and the hall:
 //! - `calls`: events, and the calls of a caller who feeds a mount and listens to it.
@@ -59,6 +60,8 @@ mod merged;
 mod moments;
 #[cfg(test)]
 mod mounts;
+#[cfg(test)]
+mod own_steps;
 #[cfg(test)]
 mod rows;
 #[cfg(test)]

@@ -13,7 +13,7 @@ use Rattle.radio_mounts.proofs.parts.MountParts.prepare.Goals as goal
 use Rattle.radio_mounts.proofs.parts.MountParts.prepare.Goals.{In_ok-insert}
 
 abbrev fresh : List ℕ → MountPart
-fresh mount = record { mount = mount; session = None; attachments = [] }
+fresh mount = record { mount = mount; session = None; attachments = []; lagged = [] }
 
 inserted : (c : In_ok-insert) → c.insert.new.self ≡ placed by_name (fresh c.args.mount.now) c.self.inside.parts
 inserted c = c.in_ok-insert.ensures.ok ∙ ap (λ (part : MountPart). placed by_name part c.self.inside.parts) c.new.ensures
