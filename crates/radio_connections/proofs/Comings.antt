@@ -4,7 +4,7 @@ use Rattle.radio_addr.specs.declared.peer.Peer.{Peer}
 use Rattle.radio_policy.specs.declared.rule.Rule.{Rule}
 use Rattle.radio_events.specs.declared.reply.Reply.{Reply}
 use Rattle.radio_events.specs.declared.reply.Reply.TheVariants.{Arrived, Feeding, Seated, Drawn, Noted, Text, Deny, Finished, Stray}
-use Rattle.radio_session.specs.declared.web_answers.WebAnswers.{WebAnswers}
+use Rattle.radio_answers.specs.declared.web_answers.WebAnswers.{WebAnswers}
 use Rattle.radio_connections.specs.declared.conn.Status.{Status}
 use Rattle.radio_connections.specs.declared.conn.Fate.TheVariants.{Open, Ended}
 use Rattle.radio_connections.specs.Lines.{Calls}

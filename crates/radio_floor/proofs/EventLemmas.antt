@@ -20,7 +20,7 @@ use Rattle.radio_values.specs.Limits.{max_title}
 use Rattle.radio_session.specs.declared.session.Hears.{Hears}
 use Rattle.radio_session.specs.declared.session.Hears.TheVariants.{Head, Body, Nothing}
 use Rattle.radio_session.specs.declared.session.Says.{Says}
-use Rattle.radio_session.specs.declared.web_answers.WebAnswers.{WebAnswers}
+use Rattle.radio_answers.specs.declared.web_answers.WebAnswers.{WebAnswers}
 use Rattle.radio_events.specs.declared.state.State.{State}
 use Rattle.radio_events.specs.declared.state.State.TheVariants.{Running, Shut}
 use Rattle.radio_session.specs.Conversation.{Conversation}

@@ -4,7 +4,7 @@ use Rattle.radio_deliveries.specs.declared.delivery.Delivery.{Delivery}
 use Rattle.radio_deliveries.specs.declared.delivery.Delivery.TheVariants.{Open, Pull, To, Clock}
 use Rattle.radio_deliveries.specs.declared.delivery.Input.{Input}
 use Rattle.radio_deliveries.specs.declared.delivery.Input.TheVariants.{Data, Room, Title, End}
-use Rattle.radio_session.specs.declared.web_answers.WebAnswers.{WebAnswers}
+use Rattle.radio_answers.specs.declared.web_answers.WebAnswers.{WebAnswers}
 use Rattle.radio_session.specs.Conversation.{Conversation}
 use Rattle.radio_session.specs.Hearing.{Heard}
 use Rattle.radio_session.specs.Laws.{HearingIsOne}

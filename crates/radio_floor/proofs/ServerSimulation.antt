@@ -6,7 +6,7 @@ use Rattle.radio_settings.specs.declared.settings.Settings.{Settings}
 use Rattle.radio_access.specs.Lists.{Lists}
 use Rattle.radio_deliveries.specs.declared.delivery.Delivery.{Delivery}
 use Rattle.radio_floor.specs.declared.script_server.ScriptServer.{ScriptServer}
-use Rattle.radio_session.specs.declared.web_answers.WebAnswers.{WebAnswers}
+use Rattle.radio_answers.specs.declared.web_answers.WebAnswers.{WebAnswers}
 use Rattle.radio_deliveries.specs.declared.faults.PlayFault.{PlayFault}
 use Rattle.radio_floor.specs.ScriptState.{ScriptState, opening_script}
 use Rattle.radio_floor.specs.ScriptServer.{script_state_of}

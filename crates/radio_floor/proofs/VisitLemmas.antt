@@ -10,7 +10,7 @@ use Rattle.radio_deliveries.specs.declared.faults.PerformFault.{PerformFault}
 use Rattle.radio_deliveries.specs.declared.faults.PerformFault.TheVariants.{OutOfMemory}
 use Rattle.radio_tables.proofs.FindLaws.{changed_alike, unchanged}
 use Rattle.radio_tables.specs.Lists.{update_first}
-use Rattle.radio_session.specs.declared.web_answers.WebAnswers.{WebAnswers}
+use Rattle.radio_answers.specs.declared.web_answers.WebAnswers.{WebAnswers}
 use Rattle.radio_floor.specs.declared.handler.Told.{Told}
 use Rattle.radio_floor.specs.declared.labelled.Connection.{Connection}
 use Rattle.radio_floor.specs.declared.labelled.Labelled.{Labelled}

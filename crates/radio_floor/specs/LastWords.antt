@@ -10,8 +10,8 @@ use Rattle.radio_events.specs.declared.text.Text.{Text as CommandText}
 use Rattle.radio_core.specs.Step.{reply_to}
 use Rattle.radio_deliveries.specs.TranscriptLines.{answer_lines}
 use Rattle.radio_session.specs.Conversation.{Conversation}
-use Rattle.radio_session.specs.Saying.{text_answer}
-use Rattle.radio_session.specs.WebAnswers.{answered_by}
+use Rattle.radio_answers.specs.Answers.{text_answer}
+use Rattle.radio_answers.specs.WebAnswers.{answered_by}
 use Rattle.radio_session.specs.LastWords.{IsAsking}
 use Rattle.radio_floor.specs.ScriptState.{ScriptState, exchanges, closes}
 

@@ -5,7 +5,7 @@ use Rattle.radio_core.specs.Step.{Represents}
 use Rattle.radio_deliveries.specs.declared.delivery.Delivery.{Delivery}
 use Rattle.radio_deliveries.specs.declared.faults.PerformFault.{PerformFault}
 use Rattle.radio_deliveries.specs.declared.faults.PerformFault.TheVariants.{Label, OutOfMemory}
-use Rattle.radio_session.specs.declared.web_answers.WebAnswers.{WebAnswers}
+use Rattle.radio_answers.specs.declared.web_answers.WebAnswers.{WebAnswers}
 use Rattle.radio_floor.specs.declared.labelled.Labelled.{Labelled}
 use Rattle.radio_floor.specs.ScriptState.{IsPerformed}
 use Rattle.radio_floor.specs.ScriptServer.{script_state_of, performed_as}

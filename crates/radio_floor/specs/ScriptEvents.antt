@@ -11,7 +11,7 @@ use Rattle.radio_core.specs.Run.{world_after_all}
 use Rattle.radio_relay.specs.Items.{items_of}
 use Rattle.radio_relay.specs.Pulled.{IsPulledAt, Pulled}
 use Rattle.radio_pull.specs.Pulling.{Pulling, event_of}
-use Rattle.radio_session.specs.declared.web_answers.WebAnswers.{WebAnswers}
+use Rattle.radio_answers.specs.declared.web_answers.WebAnswers.{WebAnswers}
 use Rattle.radio_session.specs.Conversation.{Conversation}
 use Rattle.radio_session.specs.Hearing.{Heard, IsHeard}
 use Rattle.radio_deliveries.specs.declared.delivery.Delivery.{Delivery}

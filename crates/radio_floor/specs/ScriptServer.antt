@@ -7,7 +7,7 @@ use Rattle.radio_core.specs.Step.{Represents}
 use Rattle.radio_deliveries.specs.declared.delivery.Input.{Input}
 use Rattle.radio_events.specs.declared.state.State.{State}
 use Rattle.radio_pull.specs.Pulling.{Pulling}
-use Rattle.radio_session.specs.declared.web_answers.WebAnswers.{WebAnswers}
+use Rattle.radio_answers.specs.declared.web_answers.WebAnswers.{WebAnswers}
 use Rattle.radio_floor.specs.declared.handler.Told.{Told}
 use Rattle.radio_floor.specs.declared.labelled.Labelled.{Labelled}
 use Rattle.radio_floor.specs.declared.labelled.Connection.{Connection}

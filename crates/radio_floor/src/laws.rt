@@ -1,7 +1,7 @@
 //! Laws on the transcript, which run no code.
 
 ghost use Rattle.radio_script.specs.Laws.{GoesOnAsItBegan, HasOneTranscript, IsDetermined};
-ghost use Rattle.radio_session.specs.declared.web_answers.WebAnswers.{WebAnswers};
+ghost use Rattle.radio_answers.specs.declared.web_answers.WebAnswers.{WebAnswers};
 ghost use Rattle.radio_floor.specs.Transcript.{conduct};
 ghost use Rattle.radio_floor.specs.LastWords.{DenialsAreTold, CommandsAreTold, FinishesAreTold, ClosedOnesAreDone};
 ghost use Rattle.radio_floor.specs.ScriptEvents.{ScriptsComeToEvents};

@@ -38,7 +38,8 @@ use Rattle.radio_events.specs.declared.reply.Reply.TheVariants.{Deny, Feeding, F
 use Rattle.radio_laws.specs.Denials.{DenialsAreThePolicys}
 use Rattle.radio_session.specs.declared.session.Greeting.{Greeting}
 use Rattle.radio_session.specs.declared.session.Says.{Says}
-use Rattle.radio_session.specs.Saying.{denial, greeting_text, said}
+use Rattle.radio_answers.specs.Answers.{denial}
+use Rattle.radio_session.specs.Saying.{greeting_text, said}
 use Rattle.radio_headline.specs.Listeners.{SourceIsAnswered}
 use Rattle.radio_headline.proofs.Greetings.{greeted_says}
 use Rattle.std.proofs.lemmas.List.{append-nil}
@@ -58,7 +59,7 @@ use Rattle.radio_headline.proofs.ListenerLemmas.{on_his}
 use Rattle.radio_headline.proofs.GetLogs.{Waited, waited, by_get, get_is_of, no_entry, orderly_second, parted_at_get}
 use Rattle.radio_headline.proofs.SourceLemmas.{orderly_is_cut, Front, IsHisOrNotesNothing, NotesNothing, brings_front, delivered_gathered, given_before, no_block, noted, noted_of, nothing_noted}
 use Rattle.radio_headline.proofs.Partings.{Parted, none_there, parted}
-use Rattle.radio_session.specs.declared.web_answers.WebAnswers.{WebAnswers}
+use Rattle.radio_answers.specs.declared.web_answers.WebAnswers.{WebAnswers}
 
 -- by this event a mount is asked for, to feed it
 abbrev IsSourcing : Event → Type 0

@@ -36,7 +36,7 @@ use Rattle.radio_headline.proofs.RunLemmas.{IsOwn}
 use Rattle.radio_headline.proofs.Connections.{arrival, events_of, IsIdleOrLeaving, IsBehindRequest, IsNoRequest, AsksForMount, ByGet, Feeds}
 use Rattle.radio_headline.proofs.Connections.{Facts, IsTold, Stage}
 use Rattle.radio_headline.proofs.Connections.{IsSo}
-use Rattle.radio_session.specs.declared.web_answers.WebAnswers.{WebAnswers}
+use Rattle.radio_answers.specs.declared.web_answers.WebAnswers.{WebAnswers}
 
 pub events_of_entries : (w : World) (events : List Event) → events_of (entries w events) ≡ events
 events_of_entries w [] = refl

@@ -38,7 +38,7 @@ use Rattle.radio_headline.proofs.ClientEvents.{IsIdleOrLeave, Pushed, PushesNoth
 use Rattle.radio_headline.proofs.HeardLemmas.{Delivers, behind_head, delivers_by, more_data, more_for_source, of_reading, read_more}
 use Rattle.radio_headline.proofs.Settling.{CameOn, logged, settled_in}
 use Rattle.radio_headline.proofs.HeadSteps.{nothing_asked, idle_at_head, head_comes}
-use Rattle.radio_session.specs.declared.web_answers.WebAnswers.{WebAnswers}
+use Rattle.radio_answers.specs.declared.web_answers.WebAnswers.{WebAnswers}
 
 module _ (web : WebAnswers) (settled : IsSettled ShowsRequest) (within : HeadsLieWithin ShowsRequest) (joined : (bytes : List ℕ) → concat (blocks_of bytes) ≡ bytes)
     (places : (place : Place) (first second : List ℕ) → after place (first ++ second) ≡ after (after place first) second)

@@ -34,7 +34,7 @@ use Rattle.radio_headline.proofs.Greetings.{Greeted}
 use Rattle.radio_headline.proofs.RelayWords.{IsCut, IsNotRefused, IsNoUp, OwnRelay, number_after}
 use Rattle.radio_headline.proofs.ReplyForms.{IsIdle}
 use Rattle.radio_headline.proofs.RunLemmas.{IsOwn, IsIdling}
-use Rattle.radio_session.specs.declared.web_answers.WebAnswers.{WebAnswers}
+use Rattle.radio_answers.specs.declared.web_answers.WebAnswers.{WebAnswers}
 
 -- he has arrived, and has this number
 abbrev pub arrival : Peer → ℕ → Entry

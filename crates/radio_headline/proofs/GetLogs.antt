@@ -35,7 +35,7 @@ use Rattle.radio_headline.proofs.ClientEvents.{client_owns, idle_asks_nothing, i
 use Rattle.radio_headline.proofs.OwnLogs.{relay_owns}
 use Rattle.radio_headline.proofs.RelayWords.{OwnRelay, relay_asks_not}
 use Rattle.radio_headline.proofs.Partings.{none_there, parted}
-use Rattle.radio_session.specs.declared.web_answers.WebAnswers.{WebAnswers}
+use Rattle.radio_answers.specs.declared.web_answers.WebAnswers.{WebAnswers}
 
 pub idle_or_leaving_is_his : (id : ℕ) (e : Entry) → IsIdleOrLeaving id e → client_in e.event ≡ Some id
 idle_or_leaving_is_his id e (inl h) = idle_is_his id e.event h

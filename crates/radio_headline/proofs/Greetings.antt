@@ -18,7 +18,7 @@ use Rattle.radio_session.specs.Saying.{said}
 use Rattle.radio_session.specs.Told.{told}
 use Rattle.radio_headline.proofs.Logs.{Entry, replies}
 use Rattle.radio_headline.proofs.AppliedLemmas.{IsLast, IsOpen, last_shuts, said_all}
-use Rattle.radio_session.specs.declared.web_answers.WebAnswers.{WebAnswers}
+use Rattle.radio_answers.specs.declared.web_answers.WebAnswers.{WebAnswers}
 
 -- how the reply to its request is told
 abbrev pub greeted_says : (web : WebAnswers) → ℕ → List Entry → RequestParts → Option Closing → Says

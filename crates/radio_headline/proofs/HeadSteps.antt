@@ -42,7 +42,7 @@ use Rattle.radio_headline.proofs.Greetings.{Greeted, ToldFirst, greeted_says, to
 use Rattle.radio_headline.proofs.ClientEvents.{First, Pushed, applied_pushed, asked_as, behind_is_his, entries_each, events_of_entries, first_of_applied, idle_asks_nothing, idle_is_his, new, still_told, told_now}
 use Rattle.radio_headline.proofs.HeardLemmas.{AGet, ASource, Delivers, HeadHeard, IsRefused, Unfinished, delivers_by}
 use Rattle.radio_headline.proofs.Settling.{CameOn, settled_in}
-use Rattle.radio_session.specs.declared.web_answers.WebAnswers.{WebAnswers}
+use Rattle.radio_answers.specs.declared.web_answers.WebAnswers.{WebAnswers}
 
 module _ (web : WebAnswers) (settled : IsSettled ShowsRequest) (within : HeadsLieWithin ShowsRequest) (joined : (bytes : List ℕ) → concat (blocks_of bytes) ≡ bytes)
     (places : (place : Place) (first second : List ℕ) → after place (first ++ second) ≡ after (after place first) second)

@@ -20,7 +20,7 @@ use Rattle.radio_source.specs.Place.{Place, after, data_of}
 use Rattle.radio_session.specs.declared.session.Hears.TheVariants.{Body, Nothing}
 use Rattle.radio_session.specs.declared.session.Closing.{Closing}
 use Rattle.radio_session.specs.declared.session.LastWord.{LastWord}
-use Rattle.radio_session.specs.declared.web_answers.WebAnswers.{WebAnswers}
+use Rattle.radio_answers.specs.declared.web_answers.WebAnswers.{WebAnswers}
 use Rattle.radio_session.specs.Asking.{asks_to_feed}
 use Rattle.radio_session.specs.Conversation.{Conversation}
 use Rattle.radio_session.specs.Framing.{is_source, framing_of, start_of}

@@ -50,7 +50,7 @@ use Rattle.radio_session.specs.Asking.{asks_by_get}
 use Rattle.radio_session.specs.Conversation.{asking}
 use Rattle.radio_session.specs.declared.session.Says.{Says}
 use Rattle.radio_session.specs.Draws.{joined_draws}
-use Rattle.radio_session.specs.Saying.{denial, head_text, text_answer}
+use Rattle.radio_answers.specs.Answers.{denial, head_text, text_answer}
 use Rattle.radio_session.specs.Told.{AdmitNobody, DrawsFollowTheHead, draws_of, told, PlainDrawsAreTheirData, JoinedDrawsAreWoven, DrawsAreTakenOutAgain}
 use Rattle.radio_floor.specs.ScriptState.{ScriptState, connection_of}
 use Rattle.radio_deliveries.specs.declared.delivery.Delivery.{Delivery}
@@ -67,7 +67,7 @@ use Rattle.radio_headline.proofs.Connections.{arrival, AsksForMount, ByGet, IsId
 use Rattle.radio_headline.proofs.Connections.{IsSo}
 use Rattle.radio_headline.proofs.GetLogs.{DrawsNothing, EntryFits, FitsEvent, GetsNot, IsGetting, IsHisOrDrawsNothing, IsMute, Waited, admit_nobody, by_get, calls, calls_of, draws_gathered, get_is_his, idle_not, idle_or_leaving_is_his, idle_or_leaving_not, mute_draws, no_calls, none_admitted, orderly_draws, orderly_second, so_owns, waited}
 use Rattle.radio_headline.proofs.Partings.{Parted, parted}
-use Rattle.radio_session.specs.declared.web_answers.WebAnswers.{WebAnswers}
+use Rattle.radio_answers.specs.declared.web_answers.WebAnswers.{WebAnswers}
 
 -- the events of clients come each on one connection
 module _ (web : WebAnswers) (settings : Settings) (lists : Lists)

@@ -7,7 +7,7 @@ use Rattle.radio_deliveries.specs.declared.faults.PlayFault.{PlayFault}
 use Rattle.radio_script.specs.Transcripts.{first_fault}
 use Rattle.radio_script.specs.Runs.{Runs}
 use Rattle.radio_floor.specs.ScriptState.{ScriptState, opening_script}
-use Rattle.radio_session.specs.declared.web_answers.WebAnswers.{WebAnswers}
+use Rattle.radio_answers.specs.declared.web_answers.WebAnswers.{WebAnswers}
 use Rattle.radio_floor.specs.Transcript.{conduct}
 use Rattle.radio_headline.specs.Listeners.{HearsSlices, ListenersHearSlices}
 

@@ -49,7 +49,7 @@ use Rattle.radio_headline.proofs.HeardLemmas.{more_for_get, more_for_source}
 use Rattle.radio_headline.proofs.ClientEvents.{entries_each, events_of_entries, events_of_joined, pushed_joined}
 use Rattle.radio_headline.proofs.OwnLogs.{relay_owns}
 use Rattle.radio_headline.proofs.PullParts.{behind_head, head_items, items_sound, items_up, more_pulled, more_sound, no_items, none_up, pulls_with, read_more, stream_shows}
-use Rattle.radio_session.specs.declared.web_answers.WebAnswers.{WebAnswers}
+use Rattle.radio_answers.specs.declared.web_answers.WebAnswers.{WebAnswers}
 
 module _ (web : WebAnswers) (settled : IsSettled ShowsResponse) (within : HeadsLieWithin ShowsResponse) (joined : (bytes : List ℕ) → concat (blocks_of bytes) ≡ bytes)
     (none_blocks : blocks_of [] ≡ []) (in_pieces : HeardInPieces) (afters : AfterPieces) where

@@ -21,7 +21,7 @@ use Rattle.radio_headline.proofs.LabelLemmas.{written_joined}
 use Rattle.radio_headline.proofs.FaultLemmas.{at_fault_so}
 use Rattle.radio_headline.proofs.CourseLemmas.{performs_next}
 use Rattle.radio_headline.proofs.Standing.{Stands}
-use Rattle.radio_session.specs.declared.web_answers.WebAnswers.{WebAnswers}
+use Rattle.radio_answers.specs.declared.web_answers.WebAnswers.{WebAnswers}
 
 module _ (web : WebAnswers) (settings : Settings) (lists : Lists) (settled : IsSettled ShowsRequest) (within : HeadsLieWithin ShowsRequest)
     (settled_answers : IsSettled ShowsResponse) (within_answers : HeadsLieWithin ShowsResponse) (none_blocks : blocks_of [] ≡ []) (in_pieces : HeardInPieces)

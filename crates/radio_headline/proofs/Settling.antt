@@ -16,7 +16,7 @@ use Rattle.radio_headline.proofs.Connections.{arrival}
 use Rattle.radio_headline.proofs.Connections.{Facts, Stage}
 use Rattle.radio_headline.proofs.Connections.{IsClient, IsSo}
 use Rattle.radio_headline.proofs.ClientEvents.{settles}
-use Rattle.radio_session.specs.declared.web_answers.WebAnswers.{WebAnswers}
+use Rattle.radio_answers.specs.declared.web_answers.WebAnswers.{WebAnswers}
 
 pub logged : {A : Type 0} (first : A) (xs ys zs : List A) → first ∷ xs ++ ys ++ zs ≡ first ∷ xs ++ (ys ++ zs)
 logged first xs ys zs = append_assoc (first ∷ xs) ys zs

@@ -48,7 +48,7 @@ use Rattle.radio_headline.proofs.GetLogs.{no_entry}
 use Rattle.radio_headline.proofs.PullParts.{more_pulled}
 use Rattle.radio_headline.proofs.SourceLemmas.{Front, IsHisOrNotesNothing, brings_front, delivered_gathered, no_block, noted}
 use Rattle.radio_headline.proofs.Partings.{none_there}
-use Rattle.radio_session.specs.declared.web_answers.WebAnswers.{WebAnswers}
+use Rattle.radio_answers.specs.declared.web_answers.WebAnswers.{WebAnswers}
 
 -- by this event a relay comes up
 abbrev IsUp : Event → Type 0

@@ -21,7 +21,7 @@ use Rattle.radio_headline.proofs.RunLemmas.{AllNowhere, IsMoment}
 use Rattle.radio_headline.proofs.Connections.{IsSo}
 use Rattle.radio_headline.proofs.LabelLemmas.{given_joined}
 use Rattle.radio_tables.proofs.KeyLaws.{by_number}
-use Rattle.radio_session.specs.declared.web_answers.WebAnswers.{WebAnswers}
+use Rattle.radio_answers.specs.declared.web_answers.WebAnswers.{WebAnswers}
 
 pub brought_joined : (deliveries more : List Delivery) (label : ℕ) → brought (deliveries ++ more) label ≡ brought deliveries label ++ brought more label
 brought_joined deliveries more label = flat_map-append (brought_by label) deliveries more

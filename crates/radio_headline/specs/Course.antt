@@ -13,7 +13,7 @@ use Rattle.radio_core.specs.Step.{Step, reply_to, world_after}
 use Rattle.radio_pull.specs.Pulling.{Pulling, Standing}
 use Rattle.radio_pull.specs.Course.{AsksIf, GoesDown, Takes}
 use Rattle.radio_session.specs.declared.session.Says.{Says}
-use Rattle.radio_session.specs.declared.web_answers.WebAnswers.{WebAnswers}
+use Rattle.radio_answers.specs.declared.web_answers.WebAnswers.{WebAnswers}
 use Rattle.radio_events.specs.declared.state.State.{State}
 use Rattle.radio_events.specs.declared.state.State.TheVariants.{Running, Shut}
 use Rattle.radio_session.specs.Conversation.{Conversation}

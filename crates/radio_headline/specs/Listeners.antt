@@ -33,10 +33,11 @@ use Rattle.radio_laws.specs.Stretches.{AreStretches, SeatsKeepTheirMounts, Sitti
 use Rattle.radio_laws.specs.TitlesTold.{TitlesAreTold}
 use Rattle.radio_laws.specs.WalkingOn.{ListenersWalkOn}
 use Rattle.radio_pull.specs.Laws.{ItemsAreOfTheirRelay}
-use Rattle.radio_session.specs.declared.web_answers.WebAnswers.{WebAnswers}
+use Rattle.radio_answers.specs.declared.web_answers.WebAnswers.{WebAnswers}
 use Rattle.radio_session.specs.Bodies.{PlainBodiesAreHeard, SizedBodiesAreHeard, ChunkedBodiesAreHeard, FaultyBodiesAreHeard}
-use Rattle.radio_session.specs.Draws.{interval_told, joined_draws}
-use Rattle.radio_session.specs.Saying.{denial, greeting_text, head_text, text_answer}
+use Rattle.radio_session.specs.Draws.{joined_draws}
+use Rattle.radio_answers.specs.Answers.{denial, head_text, interval_told, text_answer}
+use Rattle.radio_session.specs.Saying.{greeting_text}
 use Rattle.radio_session.specs.Told.{draws_of, taken_out}
 use Rattle.radio_deliveries.specs.declared.delivery.Delivery.{Delivery}
 use Rattle.radio_deliveries.specs.Given.{TranscriptLine, AreLines, given, written}

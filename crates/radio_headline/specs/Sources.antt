@@ -19,7 +19,7 @@ use Rattle.radio_events.specs.declared.reply.Reply.TheVariants.{Arrived}
 use Rattle.radio_parts.specs.Sessions.{Session}
 use Rattle.radio_relay.specs.Laws.{sound_in}
 use Rattle.radio_relay.specs.Pulled.{IsPulled, Part, Pulled, ShownPart}
-use Rattle.radio_session.specs.declared.web_answers.WebAnswers.{WebAnswers}
+use Rattle.radio_answers.specs.declared.web_answers.WebAnswers.{WebAnswers}
 use Rattle.radio_session.specs.Conversation.{fresh}
 use Rattle.radio_session.specs.Hearing.{Heard, IsHeard}
 use Rattle.radio_deliveries.specs.declared.delivery.Delivery.{Delivery}

@@ -4,7 +4,7 @@ use Rattle.radio_addr.specs.declared.peer.Peer.{Peer}
 use Rattle.radio_events.specs.declared.event.Event.TheVariants.{Arrive}
 use Rattle.radio_events.specs.declared.reply.Reply.{Reply}
 use Rattle.radio_events.specs.Servers.{Steps}
-use Rattle.radio_session.specs.declared.web_answers.WebAnswers.{WebAnswers}
+use Rattle.radio_answers.specs.declared.web_answers.WebAnswers.{WebAnswers}
 use Rattle.radio_connections.specs.Connections.{Connection}
 use Rattle.radio_connections.specs.Admission.{IsTakenIn, LetsNobodyIn}
 

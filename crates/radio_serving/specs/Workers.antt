@@ -1,6 +1,6 @@
 -- Workers, as their callers see them.
 use Rattle.std.specs.Prelude.{ℕ}
-use Rattle.radio_session.specs.declared.web_answers.WebAnswers.{WebAnswers}
+use Rattle.radio_answers.specs.declared.web_answers.WebAnswers.{WebAnswers}
 
 -- whom he asks, what the settings say of answers, when he last told him the time, and for how long a line may take nothing of what it is owed, in milliseconds
 pub record WorkerOf (S : Type 0) : Type 0 where

@@ -16,8 +16,8 @@ use Rattle.radio_session.specs.Framing.{greeting_of, is_word, start_of}
 use Rattle.radio_session.specs.Greetings.{WaitsToGoOn, told_when_admitted, WhoWaitsIsToldToGoOn, NobodyElseIsToldToGoOn}
 use Rattle.radio_session.specs.Hearing.{Heard, delivered, greeted}
 use Rattle.radio_session.specs.Saying.{greeting_text}
-use Rattle.radio_session.specs.WebAnswers.{answered_by}
-use Rattle.radio_session.specs.declared.web_answers.WebAnswers.{WebAnswers}
+use Rattle.radio_answers.specs.WebAnswers.{answered_by}
+use Rattle.radio_answers.specs.declared.web_answers.WebAnswers.{WebAnswers}
 use Rattle.radio_session.proofs.BodyLemmas.{closes_at}
 use Rattle.radio_session.proofs.HeardBodyLemmas.{source_as}
 

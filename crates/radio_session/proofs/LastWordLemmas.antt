@@ -12,9 +12,10 @@ use Rattle.radio_session.specs.declared.session.LastWord.TheVariants.{Refusal, C
 use Rattle.radio_session.specs.declared.session.Greeting.{Greeting}
 use Rattle.radio_session.specs.declared.session.Greeting.TheVariants.{Welcome, Continue}
 use Rattle.radio_events.specs.declared.state.Ending.TheVariants.{By, Done, BadBody}
-use Rattle.radio_session.specs.WebAnswers.{answered_by}
-use Rattle.radio_session.specs.declared.web_answers.WebAnswers.{WebAnswers}
-use Rattle.radio_session.specs.Saying.{denial, denial_with, body_text, noted, text_answer}
+use Rattle.radio_answers.specs.WebAnswers.{answered_by}
+use Rattle.radio_answers.specs.declared.web_answers.WebAnswers.{WebAnswers}
+use Rattle.radio_answers.specs.Answers.{denial, denial_with, text_answer}
+use Rattle.radio_session.specs.Saying.{body_text, noted}
 use Rattle.radio_session.specs.LastWords.{EndsWith, IsAbout, DenialsNameTheirRule, RulesWithoutStatusAreSilent, LateDenialsAreSilent}
 use Rattle.radio_session.specs.LastWords.{FinishesAreSilent, CommandsAreAnswered, RefusalsNameTheirRule, WholeBodiesAreDone, FaultyBodiesAreSilent}
 

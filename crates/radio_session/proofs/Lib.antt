@@ -13,6 +13,5 @@ mod PieceTellingLemmas
 mod CutTellingLemmas
 mod SentTitleLemmas
 mod HeardBodyLemmas
-mod FieldLemmas
 mod GreetingLemmas
 mod FailingLemmas

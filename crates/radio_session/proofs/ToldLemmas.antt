@@ -12,8 +12,10 @@ use Rattle.radio_events.specs.declared.text.Text.{Text as CommandText}
 use Rattle.radio_policy.specs.declared.rule.Rule.{Rule}
 use Rattle.radio_session.specs.declared.session.Says.{Says}
 use Rattle.radio_session.specs.declared.session.Closing.{Closing}
-use Rattle.radio_session.specs.Draws.{draw, drawn, after_draw, drawn_by, interval_told, joined_draws}
-use Rattle.radio_session.specs.Saying.{Said, head_text, said, denied, noted, one_less, seated, texted}
+use Rattle.radio_answers.specs.Answers.{interval_told}
+use Rattle.radio_session.specs.Draws.{draw, drawn, after_draw, drawn_by, joined_draws}
+use Rattle.radio_answers.specs.Answers.{head_text}
+use Rattle.radio_session.specs.Saying.{Said, said, denied, noted, one_less, seated, texted}
 use Rattle.radio_session.specs.Told.{told, while_open, draws_of, AdmitNobody, DrawsFollowTheHead, PlainDrawsAreTheirData, JoinedDrawsAreWoven}
 use Rattle.radio_session.specs.Told.{DrawsAreTakenOutAgain}
 

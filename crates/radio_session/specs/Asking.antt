@@ -10,7 +10,7 @@ use Rattle.radio_values.specs.declared.field.Shown.{Shown}
 use Rattle.radio_values.specs.Shown.{shown_of}
 use Rattle.radio_heads.specs.Head.{RequestParts}
 use Rattle.radio_heads.specs.Headers.{value_of}
-use Rattle.radio_session.specs.declared.web_answers.WebAnswers.{WebAnswers}
+use Rattle.radio_answers.specs.declared.web_answers.WebAnswers.{WebAnswers}
 use Rattle.radio_session.specs.Browsers.{is_refused_pair}
 use Rattle.radio_session.specs.Framing.{is_word}
 use Rattle.radio_session.specs.Commands.{asked_in, is_status}

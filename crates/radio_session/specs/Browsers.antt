@@ -1,14 +1,13 @@
 -- Commands that a browser may give for the page of another site, and of which its user knows nothing.
-use Rattle.std.specs.Prelude.{ℕ, Bool, true, false, not, ◌&&◌, ◌||◌, if◌then◌else◌, List, codes, Option, None, Some}
+use Rattle.std.specs.Prelude.{ℕ, Bool, true, false, not, ◌&&◌, ◌||◌, List, codes, Option, None, Some}
 use Rattle.std.specs.Option.{is_some}
 use Rattle.std.specs.Str.{bytes_eq}
-use Rattle.radio_creds.specs.Credentials.{Credentials}
 use Rattle.radio_events.specs.declared.command.Asked.{Asked}
 use Rattle.radio_events.specs.declared.command.Asked.TheVariants.{Command}
 use Rattle.radio_events.specs.declared.command.Command.TheVariants.{SetTitle}
 use Rattle.radio_heads.specs.Head.{RequestParts}
 use Rattle.radio_heads.specs.Headers.{value_of}
-use Rattle.radio_session.specs.declared.web_answers.WebAnswers.{WebAnswers}
+use Rattle.radio_answers.specs.declared.web_answers.WebAnswers.{WebAnswers}
 
 -- `Sec-Fetch-Site` has this where no other site has sent the request: the station's own page, or the user (Fetch Metadata Request Headers, section 2.3)
 abbrev pub is_own_site : List ℕ → Bool

@@ -1,17 +1,12 @@
 -- What a listener draws, as it goes out: with metadata blocks between the data, where he asked for them (ICY convention).
-use Rattle.std.specs.Prelude.{ℕ, zero, suc, List, Option, None, Some, option_map}
+use Rattle.std.specs.Prelude.{ℕ, List, Option, None, Some, option_map}
+use Rattle.radio_answers.specs.Answers.{interval_told}
 use Rattle.radio_icy.specs.Weaving.{Call, Weaving, new_weaving, woven, after_weaving, woven_by_calls}
 use Rattle.radio_icy.specs.Stream.{sound_of_calls}
 
 -- data, and the title that their mount had when they were drawn
 abbrev pub draw : List ℕ → Option (List ℕ) → Call
 draw bytes title = record { sound = bytes; title = title }
-
--- after how many bytes of data a block is sent, if any is; an interval of none has no blocks
-abbrev pub interval_told : Option ℕ → Option ℕ
-interval_told None = None
-interval_told (Some zero) = None
-interval_told (Some (suc n)) = Some (suc n)
 
 -- how his data are woven, before the first of them
 abbrev pub weaver_at : Option ℕ → Option Weaving

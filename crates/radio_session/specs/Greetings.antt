@@ -10,7 +10,7 @@ use Rattle.radio_session.specs.Bodies.{IsFramed}
 use Rattle.radio_session.specs.Conversation.{Conversation}
 use Rattle.radio_session.specs.Hearing.{request_heard}
 use Rattle.radio_session.specs.Saying.{said}
-use Rattle.radio_session.specs.WebAnswers.{answered_by}
+use Rattle.radio_answers.specs.WebAnswers.{answered_by}
 
 -- a PUT that waits for a first answer before it sends its data (RFC 9110, section 10.1.1)
 pub record WaitsToGoOn (request : RequestParts) : Type 0 where

@@ -13,8 +13,9 @@ use Rattle.radio_session.specs.declared.session.Greeting.TheVariants.{Welcome, C
 use Rattle.radio_events.specs.declared.state.State.TheVariants.{Shut}
 use Rattle.radio_events.specs.declared.state.Ending.{Ending}
 use Rattle.radio_events.specs.Endings.{ending_word}
-use Rattle.radio_session.specs.Saying.{Said, said, text_answer}
-use Rattle.radio_session.specs.WebAnswers.{answered_by}
+use Rattle.radio_answers.specs.Answers.{text_answer}
+use Rattle.radio_session.specs.Saying.{Said, said}
+use Rattle.radio_answers.specs.WebAnswers.{answered_by}
 
 -- these bytes are told, and the connection is shut with this word
 pub record EndsWith (told : Said) (bytes word : List ℕ) : Type 0 where

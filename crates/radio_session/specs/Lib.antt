@@ -1,7 +1,6 @@
 pub mod Conversation
 pub mod Pushes
 pub mod Commands
-pub mod WebAnswers
 pub mod Browsers
 pub mod Asking
 pub mod Hearing

@@ -1,22 +1,15 @@
 -- From replies to the bytes that go out on a connection.
 use Rattle.std.specs.Prelude.{ℕ, ◌-◌, ◌==◌, true, List, [], Option, None, Some, option_map, if◌then◌else◌}
 use Rattle.radio_policy.specs.declared.rule.Rule.{Rule}
-use Rattle.radio_policy.specs.declared.rule.Status.{Status}
-use Rattle.radio_policy.specs.Words.{word_of, status_of}
 use Rattle.radio_events.specs.declared.reply.Reply.{Reply}
 use Rattle.radio_events.specs.declared.reply.Reply.TheVariants.{Arrived, Feeding, Seated, Drawn, Noted, Text, Deny, Finished, Stray}
 use Rattle.radio_events.specs.declared.text.Text.{Text as CommandText}
-use Rattle.radio_events.specs.declared.text.Text.TheVariants.{Done as CommandDone, Moved, Ended as ListenersEnded, Json, Streams, Public, Page}
-use Rattle.radio_events.specs.Texts.{done_line, moved_line, ended_line}
-use Rattle.radio_events.specs.declared.reply.StreamHead.{StreamHead}
-use Rattle.radio_heads.specs.Answer.{source_text, continue_text, denial_text, sized_text, content_type}
-use Rattle.radio_heads.specs.declared.answer.TextKind.TheVariants.{Plain, Json as InJson}
-use Rattle.radio_heads.specs.WebAnswer.{shared_text, stream_text}
-use Rattle.radio_page.specs.Page.{page_answer}
-use Rattle.radio_session.specs.declared.web_answers.WebAnswers.{WebAnswers}
-use Rattle.radio_session.specs.WebAnswers.{answered_by, stream_by}
+use Rattle.radio_heads.specs.Answer.{source_text, continue_text}
+use Rattle.radio_answers.specs.declared.web_answers.WebAnswers.{WebAnswers}
+use Rattle.radio_answers.specs.WebAnswers.{answered_by}
+use Rattle.radio_answers.specs.Answers.{denial, head_text, text_answer}
 use Rattle.radio_icy.specs.Weaving.{Call}
-use Rattle.radio_session.specs.Draws.{draw, interval_told, weaver_at, drawn, after_draw}
+use Rattle.radio_session.specs.Draws.{draw, weaver_at, drawn, after_draw}
 use Rattle.radio_session.specs.declared.session.Says.{Says}
 use Rattle.radio_session.specs.declared.session.Closing.{Closing}
 use Rattle.radio_session.specs.declared.session.LastWord.{LastWord}
@@ -33,14 +26,6 @@ pub record Said : Type 0 where
   pub bytes : List ℕ
   pub says : Says
   pub state : State
-
--- the answer that names the rule; a rule without a status has none
-abbrev pub denial_with : WebAnswers → Option Status → Rule → List ℕ
-denial_with web None rule = []
-denial_with web (Some status) rule = answered_by web (denial_text status (word_of rule))
-
-abbrev pub denial : WebAnswers → Rule → List ℕ
-denial web rule = denial_with web (status_of rule) rule
 
 -- these bytes, and it goes on
 abbrev pub tells : List ℕ → Says → Said
@@ -83,30 +68,7 @@ body_text web Continue = answered_by web source_text
 abbrev pub denied : Says → Rule → Said
 denied says rule = ends (if says.is_admitted then [] else denial says.web rule) says (By rule)
 
--- the head of a stream, with metadata blocks at this interval
-abbrev pub head_text : WebAnswers → Option ℕ → StreamHead → List ℕ
-head_text web interval head = stream_by web head.shown.content_type (stream_text head.allow_origin (record {
-  content_type = head.shown.content_type;
-  name = head.shown.name;
-  genre = head.shown.genre;
-  interval = interval_told interval;
-}))
-
--- what is said of a command that was done, or shown of the station
-abbrev pub bare_answer : CommandText → List ℕ
-bare_answer CommandDone = sized_text 200 (content_type Plain) done_line
-bare_answer (Moved count) = sized_text 200 (content_type Plain) (moved_line count)
-bare_answer (ListenersEnded count) = sized_text 200 (content_type Plain) (ended_line count)
-bare_answer (Json bytes) = sized_text 200 (content_type InJson) bytes
-bare_answer (Streams bytes) = sized_text 200 (content_type Plain) bytes
-bare_answer (Public bytes origin) = shared_text origin (content_type InJson) bytes
-bare_answer (Page origin) = page_answer origin
-
-abbrev pub text_answer : WebAnswers → CommandText → List ℕ
-text_answer web text = answered_by web (bare_answer text)
-
--- it is said in an answer where nothing was admitted, else by closing alone
-
+-- a command was done: it is said in an answer where nothing was admitted, else by closing alone
 abbrev pub texted : Says → CommandText → Said
 texted says text = ends (if says.is_admitted then [] else text_answer says.web text) says Done
 

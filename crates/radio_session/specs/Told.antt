@@ -11,8 +11,10 @@ use Rattle.radio_events.specs.declared.reply.Reply.TheVariants.{Feeding, Seated,
 use Rattle.radio_session.specs.declared.session.Says.{Says}
 use Rattle.radio_events.specs.declared.state.State.{State}
 use Rattle.radio_events.specs.declared.state.State.TheVariants.{Running, Shut}
-use Rattle.radio_session.specs.Draws.{draw, interval_told, joined_draws}
-use Rattle.radio_session.specs.Saying.{head_text, said}
+use Rattle.radio_answers.specs.Answers.{interval_told}
+use Rattle.radio_session.specs.Draws.{draw, joined_draws}
+use Rattle.radio_answers.specs.Answers.{head_text}
+use Rattle.radio_session.specs.Saying.{said}
 
 -- what is told later, while the connection goes on
 abbrev pub while_open : State → List ℕ → List ℕ

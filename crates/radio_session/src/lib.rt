@@ -1,7 +1,7 @@
 //! One connection's conversation with the server: from the bytes that come on it to events, and
 //! from replies to the bytes that go out on it.
 //!
-//! - [`WebAnswers`]: what the settings say of answers, and of commands that browsers give.
+//! - [`WebAnswers`] of `radio_answers`: what the settings say of answers, and of commands that browsers give.
 //! - [`Session`]: the connection. [`Session::take`] is given what comes, and answers the events that
 //!   it means; [`Session::give`] is given the reply to each, and tells it.
 //! - [`exchange`]: the events of a connection, applied one after another by whoever [`Server`]
@@ -15,7 +15,6 @@
 mod exchanging;
 mod laws;
 mod session;
-mod web_answers;
 
 pub use exchanging::exchange;
 pub use laws::{
@@ -23,9 +22,9 @@ pub use laws::{
     last_words_name_the_rule, listeners_are_told_what_they_draw, only_refused_calls_fail,
     who_waits_is_told_to_go_on,
 };
+pub use radio_answers::WebAnswers;
 pub use radio_events::{Ending, Server, State};
 pub use session::Session;
-pub use web_answers::WebAnswers;
 
 /// What a call answers where memory was refused.
 pub type OutOfMemory = std::alloc::AllocError;

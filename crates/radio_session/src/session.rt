@@ -11,7 +11,6 @@ use radio_policy::Rule;
 use std::alloc::Global;
 use std::marker::Model;
 
-mod answers;
 mod asking;
 mod browsers;
 mod commands;

@@ -1,26 +1,21 @@
 ghost use Rattle.std.specs.Prelude.{◌≡◌, ◌≤◌, ◌++◌, length, true, Some, option_copied, option_map, IfOk, IfSome, IsErr, OnOk, OnErr};
-ghost use Rattle.radio_heads.specs.Additions.{with_additions};
-ghost use Rattle.radio_heads.specs.Answer.{answer_text, continue_text};
-ghost use Rattle.radio_heads.specs.WebAnswer.{shared_text, web_answer_text};
 ghost use Rattle.radio_session.specs.Conversation.{saying_now};
-ghost use Rattle.radio_session.specs.Saying.{said, texted, denied, noted, counted, one_less, admitted, seated, drew, last_text, last_ending, greeting_text, text_answer, head_text, denial};
-ghost use Rattle.radio_session.specs.WebAnswers.{answered_by};
+ghost use Rattle.radio_session.specs.Saying.{said, texted, denied, noted, counted, one_less, admitted, seated, drew, last_text, last_ending, greeting_text};
+ghost use Rattle.radio_answers.specs.Answers.{head_text};
 ghost use Rattle.radio_session.specs.Draws.{draw, drawn, weaver_at};
 ghost use Rattle.radio_values.specs.Limits.{max_title};
 ghost use Rattle.radio_events.specs.declared.state.State.TheVariants.{Running, Shut};
 
-use crate::session::answers::tell_answer;
-use crate::session::weaving::{interval_told, tell_draw, text_of, weaver_at};
+use crate::session::weaving::{tell_draw, text_of, weaver_at};
 use crate::session::{Closing, Greeting, LastWord, Session};
 use crate::{OutOfMemory, WebAnswers};
+use radio_answers::{
+    append_answer, append_continue, append_denial, append_stream_head, append_text,
+};
 use radio_blocks::Pieces;
 use radio_events::{Ending, Reply, State, StreamHead, Text};
-use radio_heads::{
-    Additions, Answer, FieldValue, TextKind, WebAnswer, Welcome, add_headers, write_answer,
-    write_web_answer,
-};
+use radio_heads::Answer;
 use radio_policy::Rule;
-use radio_values::AllowedOrigin;
 use std::alloc::{AllocError, Global};
 
 impl Session {
@@ -109,7 +104,7 @@ impl Session {
         ensures says { IfOk result (λ _. self.new ≡ saying_now self.old (seated self.old.says interval)) }
         ensures silent { OnErr result (out.new.items ≡ out.old.items) }
     {
-        welcome(self.alloc, self.says.web, interval, head, out)?;
+        append_stream_head(self.alloc, self.says.web, interval, head, out)?;
         self.says.weaver = weaver_at(self.alloc, interval);
         self.admit();
         Ok(State::Running)
@@ -140,7 +135,7 @@ impl Session {
         ensures silent { OnErr result (out.new.items ≡ out.old.items) }
     {
         if !self.says.is_admitted {
-            tell_answer(self.alloc, self.says.web, text, out)?;
+            append_text(self.alloc, self.says.web, text, out)?;
         }
         Ok(State::Shut(Ending::Done))
     }
@@ -152,7 +147,7 @@ impl Session {
         ensures silent { OnErr result (out.new.items ≡ out.old.items) }
     {
         if !self.says.is_admitted {
-            tell_denial(self.alloc, self.says.web, rule, out)?;
+            append_denial(self.alloc, self.says.web, rule, out)?;
         }
         Ok(State::Shut(Ending::By(rule)))
     }
@@ -231,12 +226,12 @@ fn tell_last(
 {
     match word {
         LastWord::Refusal(rule) => {
-            tell_denial(alloc, web, rule, out)?;
+            append_denial(alloc, web, rule, out)?;
             Ok(State::Shut(Ending::By(rule)))
         }
         LastWord::Complete => {
             if greeting == Greeting::Continue {
-                tell(alloc, web, &Answer::Source, out)?;
+                append_answer(alloc, web, &Answer::Source, out)?;
             }
             Ok(State::Shut(Ending::Done))
         }
@@ -255,102 +250,7 @@ fn greet(
     ensures err { OnErr result (out.new.items ≡ out.old.items) }
 {
     match greeting {
-        Greeting::Welcome => tell(alloc, web, &Answer::Source, out),
-        Greeting::Continue => tell_interim(alloc, out),
+        Greeting::Welcome => append_answer(alloc, web, &Answer::Source, out),
+        Greeting::Continue => append_continue(alloc, out),
     }
-}
-
-/// Appends that a source may send its body. `OutOfMemory` where memory was refused: nothing was appended then.
-fn tell_interim(alloc: Global, out: &mut Vec<u8>) -> Result<(), OutOfMemory>
-    ensures ok { OnOk result (out.new.items ≡ out.old.items ++ continue_text) }
-    ensures err { OnErr result (out.new.items ≡ out.old.items) }
-{
-    let text = write_answer(alloc, &Answer::Continue)?;
-    out.extend_from_slice(text.as_slice())
-}
-
-/// Appends an answer's text, as the settings say. `OutOfMemory` where memory was refused: nothing was appended then.
-pub(super) fn tell(
-    alloc: Global,
-    web: WebAnswers,
-    answer: &Answer,
-    out: &mut Vec<u8>,
-) -> Result<(), OutOfMemory>
-    ensures ok { OnOk result (out.new.items ≡ out.old.items ++ answered_by web (answer_text answer.now)) }
-    ensures err { OnErr result (out.new.items ≡ out.old.items) }
-{
-    let text = write_answer(alloc, answer)?;
-    let whole = add_headers(alloc, web.additions(), text)?;
-    out.extend_from_slice(whole.as_slice())
-}
-
-/// Appends an answer that the pages of web sites read, of the origin where one is given, with these headers in addition.
-/// `OutOfMemory` where memory was refused: nothing was appended then.
-pub(super) fn tell_pages(
-    alloc: Global,
-    additions: Additions,
-    answer: &WebAnswer,
-    allow_origin: &Option<AllowedOrigin>,
-    out: &mut Vec<u8>,
-) -> Result<(), OutOfMemory>
-    ensures ok { OnOk result (out.new.items ≡ out.old.items ++ with_additions additions (web_answer_text allow_origin.now answer.now)) }
-    ensures err { OnErr result (out.new.items ≡ out.old.items) }
-{
-    let text = write_web_answer(alloc, answer, &readers(allow_origin))?;
-    let whole = add_headers(alloc, additions, text)?;
-    out.extend_from_slice(whole.as_slice())
-}
-
-/// Whose pages may read an answer, as its header has it.
-#[tactic(auto, using(crate::proofs::FieldLemmas::visible_is_field_text))]
-fn readers(allow_origin: &Option<AllowedOrigin>) -> Option<FieldValue<'_>>
-    ensures { result ≡ allow_origin.now }
-{
-    match allow_origin {
-        Some(origin) => Some(FieldValue::new(origin.as_bytes())),
-        None => None,
-    }
-}
-
-/// Appends the head that a listener gets who is admitted, with metadata blocks at this interval.
-#[tactic(auto, using(crate::proofs::FieldLemmas::shown_is_field_text))]
-fn welcome(
-    alloc: Global,
-    web: WebAnswers,
-    interval: Option<u32>,
-    head: &StreamHead,
-    out: &mut Vec<u8>,
-) -> Result<(), OutOfMemory>
-    ensures ok { OnOk result (out.new.items ≡ out.old.items ++ head_text web interval head.now) }
-    ensures err { OnErr result (out.new.items ≡ out.old.items) }
-{
-    let shown = &head.shown;
-    let answer = WebAnswer::Stream(Welcome {
-        content_type: FieldValue::new(shown.content_type.as_bytes()),
-        name: FieldValue::new(shown.name.as_bytes()),
-        genre: FieldValue::new(shown.genre.as_bytes()),
-        interval: interval_told(interval),
-    });
-    let additions = web.stream_additions(shown.content_type.as_bytes());
-    tell_pages(alloc, additions, &answer, &head.allow_origin, out)
-}
-
-/// Appends the answer that names the rule, if the rule has one.
-fn tell_denial(
-    alloc: Global,
-    web: WebAnswers,
-    rule: Rule,
-    out: &mut Vec<u8>,
-) -> Result<(), OutOfMemory>
-    ensures ok { OnOk result (out.new.items ≡ out.old.items ++ denial web rule) }
-    ensures err { OnErr result (out.new.items ≡ out.old.items) }
-{
-    let Some(status) = rule.status() else {
-        return Ok(());
-    };
-    let answer = Answer::Denial {
-        status,
-        rule: rule.word(),
-    };
-    tell(alloc, web, &answer, out)
 }

@@ -4,34 +4,22 @@ ghost use Rattle.std.specs.Prelude.{◌≡◌, ◌≤◌, ◌++◌, length, opti
 ghost use Rattle.std.specs.List.{concat};
 ghost use Rattle.radio_icy.specs.Weaving.{woven, after_weaving};
 ghost use Rattle.radio_values.specs.Limits.{max_title};
-ghost use Rattle.radio_session.specs.Draws.{draw, drawn, after_draw, interval_told, weaver_at};
+ghost use Rattle.radio_session.specs.Draws.{draw, drawn, after_draw, weaver_at};
 
 use crate::OutOfMemory;
 use bytes::Bytes;
+use radio_answers::metadata_interval;
 use radio_blocks::Pieces;
 use radio_icy::Weaver;
 use radio_icy::laws::joined_weaving;
 use radio_values::Title;
 use std::alloc::Global;
 
-/// After how many bytes of data a metadata block is sent, if any is; an interval of none has no
-/// blocks.
-pub(super) fn interval_told(interval: Option<u32>) -> Option<u32>
-    ensures told { result ≡ interval_told interval }
-    ensures some { IfSome result (λ n. 1 ≤ n) }
-{
-    match interval {
-        None => None,
-        Some(0) => None,
-        Some(n) => Some(n),
-    }
-}
-
 /// What puts metadata between the data of a listener with this interval, if he is sent any.
 pub(super) fn weaver_at(alloc: Global, interval: Option<u32>) -> Option<Weaver>
     ensures { result ≡ weaver_at interval }
 {
-    let interval = interval_told(interval)?;
+    let interval = metadata_interval(interval)?;
     Some(Weaver::new(alloc, interval as usize))
 }
 

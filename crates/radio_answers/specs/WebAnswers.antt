@@ -2,9 +2,8 @@
 use Rattle.std.specs.Prelude.{ℕ, nat_eq, Bool, false, not, ◌&&◌, ◌||◌, ◌==◌, List, codes}
 use Rattle.std.specs.List.{list_any, starts_with}
 use Rattle.std.specs.Str.{bytes_eq}
-use Rattle.radio_heads.specs.declared.additions.Additions.{Additions}
 use Rattle.radio_heads.specs.Additions.{with_additions}
-use Rattle.radio_session.specs.declared.web_answers.WebAnswers.{WebAnswers}
+use Rattle.radio_answers.specs.declared.web_answers.WebAnswers.{WebAnswers}
 
 -- what holds without a table `[web]`
 abbrev pub no_web : WebAnswers

@@ -2,7 +2,7 @@
 
 ghost use Rattle.std.specs.Prelude.{◌≡◌, ◌&&◌, not, false};
 ghost use Rattle.std.specs.List.{list_any};
-ghost use Rattle.radio_session.specs.WebAnswers.{has_media_name, is_media, no_web, parts_types};
+ghost use Rattle.radio_answers.specs.WebAnswers.{has_media_name, is_media, no_web, parts_types};
 
 use radio_heads::Additions;
 

@@ -1,0 +1,2 @@
+pub mod WebAnswers
+pub mod Answers
