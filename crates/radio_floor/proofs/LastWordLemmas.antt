@@ -1,17 +1,20 @@
 -- The lines of a delivery show the last word of its connection.
-use Rattle.std.proofs.Common.{◌≡◌, ℕ, List, Some, ap, sym, subst, ◌∙◌}
+use Rattle.std.proofs.Common.{◌≡◌, ℕ, List, Some, refl, ap, sym, subst, ◌∙◌}
+use Rattle.radio_addr.specs.declared.peer.Peer.{Peer}
+use Rattle.radio_answers.specs.declared.web_answers.WebAnswers.{WebAnswers}
 use Rattle.radio_events.specs.declared.event.Event.{Event}
+use Rattle.radio_events.specs.declared.event.Event.TheVariants.{Arrive}
 use Rattle.radio_events.specs.declared.reply.Reply.{Reply}
 use Rattle.radio_core.specs.Step.{reply_to, world_after}
 use Rattle.radio_deliveries.specs.TranscriptLines.{answer_lines}
 use Rattle.radio_events.specs.declared.state.State.{State}
 use Rattle.radio_events.specs.Endings.{ending_word}
-use Rattle.radio_session.specs.Conversation.{Conversation}
+use Rattle.radio_session.specs.Conversation.{Conversation, asking}
 use Rattle.radio_session.specs.Saying.{said}
 use Rattle.radio_exchanges.specs.Exchanges.{WorldExchange, then_exchanged, exchanged}
-use Rattle.radio_session.specs.LastWords.{EndsWith, DenialsNameTheirRule, CommandsAreAnswered, FinishesAreSilent}
-use Rattle.radio_floor.specs.ScriptState.{ScriptState, told_lines}
-use Rattle.radio_floor.specs.LastWords.{ShutsWith, DenialsAreTold, CommandsAreTold, FinishesAreTold}
+use Rattle.radio_session.specs.LastWords.{EndsWith, DenialsNameTheirRule, CommandsAreAnswered, FaultyBodiesAreSilent, FinishesAreSilent, RefusalsNameTheirRule, RulesWithoutStatusAreSilent, WholeBodiesAreDone}
+use Rattle.radio_floor.specs.ScriptState.{ScriptState, opens, told_lines}
+use Rattle.radio_floor.specs.LastWords.{ShutsWith, CommandsAreTold, DenialsAreTold, DeniedArrivalsAreTold, FaultyBodiesAreTold, FinishesAreTold, RefusalsAreTold, WholeBodiesAreTold}
 
 abbrev lines_of : ℕ → WorldExchange → List ℕ
 lines_of label x = told_lines label x.exchange.bytes x.exchange.state
@@ -39,3 +42,34 @@ commands_are_told law state label conversation event text asks replied =
 pub finishes_are_told : FinishesAreSilent → FinishesAreTold
 finishes_are_told law state label conversation event rule replied =
     shuts_with state label conversation event _ _ _ replied (law conversation.says rule)
+
+-- the reply to an arrival ends the connection that arrives
+opens_with : (web : WebAnswers) (state : ScriptState) (label : ℕ) (peer : Peer) (reply : Reply) (bytes word : List ℕ)
+    → reply_to state.world (Arrive peer) ≡ reply → EndsWith (said (asking web) reply) bytes word
+    → (opens web state label peer).lines ≡ Some (answer_lines label bytes (Some word))
+opens_with web state label peer reply bytes word replied ends =
+    let told = said (asking web) (reply_to state.world (Arrive peer)) in
+    let e : EndsWith told bytes word = subst (λ (r : Reply). EndsWith (said (asking web) r) bytes word) (sym replied) ends in
+    ap (λ (s : State). Some (told_lines label told.bytes s)) e.shut
+    ∙ ap (λ (xs : List ℕ). Some (answer_lines label xs (Some (ending_word e.ending)))) e.bytes_told
+    ∙ ap (λ (xs : List ℕ). Some (answer_lines label bytes (Some xs))) e.last_word
+
+pub denied_arrivals_are_told : DenialsNameTheirRule → RulesWithoutStatusAreSilent → DeniedArrivalsAreTold
+denied_arrivals_are_told named silent web state label peer rule replied = (
+  λ none. opens_with web state label peer _ _ _ replied (silent (asking web) rule none),
+  λ status some. opens_with web state label peer _ _ _ replied (named (asking web) rule status refl some),
+)
+
+pub refusals_are_told : RefusalsNameTheirRule → RefusalsAreTold
+refusals_are_told law state label conversation event rule status about replied known =
+    shuts_with state label conversation event _ _ _ replied (law conversation.says rule status about known)
+
+pub faulty_bodies_are_told : FaultyBodiesAreSilent → FaultyBodiesAreTold
+faulty_bodies_are_told law state label conversation event about replied =
+    shuts_with state label conversation event _ _ _ replied (law conversation.says about)
+
+pub whole_bodies_are_told : WholeBodiesAreDone → WholeBodiesAreTold
+whole_bodies_are_told law state label conversation event about replied = (
+  λ welcome. shuts_with state label conversation event _ _ _ replied ((law conversation.says about).0 welcome),
+  λ goes_on. shuts_with state label conversation event _ _ _ replied ((law conversation.says about).1 goes_on),
+)

@@ -1,6 +1,7 @@
 mod ScriptStateLemmas
 mod VisitLemmas
 mod ServerSimulation
+pub mod Weakened
 mod OneTranscript
 mod LastWordLemmas
 mod PullEventLemmas

@@ -1,5 +1,5 @@
 -- The server does what the state does, whatever state its core stands for.
-use Rattle.std.proofs.Common.{◌≡◌, ℕ, List, [], Option, None, Some, Result, refl, sym, ap, subst, ◌∙◌}
+use Rattle.std.proofs.Common.{◌≡◌, ℕ, List, [], Option, Result, refl, sym, ap, subst, ◌∙◌}
 use Rattle.radio_house.specs.World.{World, opening}
 use Rattle.radio_core.specs.Step.{Represents}
 use Rattle.radio_settings.specs.declared.settings.Settings.{Settings}
@@ -11,7 +11,7 @@ use Rattle.radio_deliveries.specs.declared.faults.PlayFault.{PlayFault}
 use Rattle.radio_floor.specs.ScriptState.{ScriptState, opening_script}
 use Rattle.radio_floor.specs.ScriptServer.{script_state_of}
 use Rattle.radio_floor.specs.Performing.{Performs}
-use Rattle.radio_script.specs.Plays.{Plays, IfKnown, Writes}
+use Rattle.radio_script.specs.Plays.{Plays}
 use Rattle.radio_script.specs.Runs.{Conduct, Runs}
 use Rattle.radio_floor.specs.Transcript.{conduct, IsTranscriptOf, PlaysScript}
 use Rattle.radio_script.proofs.SimulationLemmas.{runs, plays}
@@ -54,15 +54,3 @@ pub server_plays : (web : WebAnswers) (server last : ScriptServer) (settings : S
 server_plays web server last settings lists script left result written turns answers stands none h =
     plays server_conduct (conduct web) (Same web) (does web) server last (opening_script settings lists) 1 script left result written turns
     (opens web server settings lists answers stands none) h
-
--- what holds of known bytes may be weakened
-pub known-weaker : (old new : Option (List ℕ)) (P Q : List ℕ → List ℕ → Type 0) → ((script left : List ℕ) → P script left → Q script left) → IfKnown old new P
-    → IfKnown old new Q
-known-weaker None new P Q h k = tt
-known-weaker (Some script) None P Q h k = k
-known-weaker (Some script) (Some left) P Q h k = h script left k
-
-pub writes-weaker : (old new : Option (List ℕ)) (before after : ℕ) (P Q : List ℕ → ℕ → Type 0)
-    → ((written : List ℕ) (turns : ℕ) → P written turns → Q written turns) → Writes old new before after P → Writes old new before after Q
-writes-weaker old new before after P Q h w =
-    record { written = w.written; most_calls = w.most_calls; appends = w.appends; called = w.called; holds = h w.written w.most_calls w.holds }

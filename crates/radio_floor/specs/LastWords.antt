@@ -1,19 +1,24 @@
 -- What a transcript tells of the end of a connection.
-use Rattle.std.specs.Prelude.{◌≡◌, ℕ, List, [], ◌∷◌, codes, Some}
+use Rattle.std.specs.Prelude.{◌≡◌, ℕ, List, [], ◌∷◌, codes, None, Some}
 use Rattle.radio_policy.specs.declared.rule.Rule.{Rule}
 use Rattle.radio_policy.specs.declared.rule.Status.{Status}
 use Rattle.radio_policy.specs.Words.{word_of, status_of}
-use Rattle.radio_heads.specs.Answer.{denial_text}
+use Rattle.radio_addr.specs.declared.peer.Peer.{Peer}
+use Rattle.radio_heads.specs.Answer.{denial_text, source_text}
 use Rattle.radio_events.specs.declared.event.Event.{Event}
-use Rattle.radio_events.specs.declared.reply.Reply.TheVariants.{Text, Deny, Finished}
+use Rattle.radio_events.specs.declared.event.Event.TheVariants.{Arrive}
+use Rattle.radio_events.specs.declared.reply.Reply.TheVariants.{Noted, Text, Deny, Finished}
 use Rattle.radio_events.specs.declared.text.Text.{Text as CommandText}
 use Rattle.radio_core.specs.Step.{reply_to}
 use Rattle.radio_deliveries.specs.TranscriptLines.{answer_lines}
 use Rattle.radio_session.specs.Conversation.{Conversation}
 use Rattle.radio_answers.specs.Answers.{text_answer}
 use Rattle.radio_answers.specs.WebAnswers.{answered_by}
-use Rattle.radio_session.specs.LastWords.{IsAsking}
-use Rattle.radio_floor.specs.ScriptState.{ScriptState, exchanges, closes}
+use Rattle.radio_answers.specs.declared.web_answers.WebAnswers.{WebAnswers}
+use Rattle.radio_session.specs.declared.session.Greeting.TheVariants.{Welcome, Continue}
+use Rattle.radio_session.specs.declared.session.LastWord.TheVariants.{Complete, Faulty, Refusal}
+use Rattle.radio_session.specs.LastWords.{IsAbout, IsAsking}
+use Rattle.radio_floor.specs.ScriptState.{ScriptState, exchanges, closes, opens}
 
 -- whatever events were behind it, with this event the connection of the label is told these bytes, and shut with this word
 abbrev pub ShutsWith : ScriptState → ℕ → Conversation → Event → List ℕ → List ℕ → Type 0
@@ -41,3 +46,40 @@ FinishesAreTold = (state : ScriptState) (label : ℕ) (conversation : Conversati
 abbrev pub ClosedOnesAreDone : Type 0
 ClosedOnesAreDone = (state : ScriptState) (label : ℕ) (conversation : Conversation)
     → (closes state label conversation).lines ≡ Some (answer_lines label [] (Some (codes "done")))
+
+-- a connection arrives that the policy denies: the lines show its rule's word, behind the answer that names the rule, if the rule has a status; an address
+-- that is denied is shut without bytes
+abbrev pub DeniedArrivalsAreTold : Type 0
+DeniedArrivalsAreTold = (web : WebAnswers) (state : ScriptState) (label : ℕ) (peer : Peer) (rule : Rule) → reply_to state.world (Arrive peer) ≡ Deny rule →
+    (status_of rule ≡ None → (opens web state label peer).lines ≡ Some (answer_lines label [] (Some (word_of rule))))
+    × ((status : Status) → status_of rule ≡ Some status
+    → (opens web state label peer).lines ≡ Some (answer_lines label (answered_by web (denial_text status (word_of rule))) (Some (word_of rule))))
+
+-- the connection itself refuses what came, by `bad-head` or `bad-method`, and its client leaves: the lines show the answer that names the rule, and its word
+abbrev pub RefusalsAreTold : Type 0
+RefusalsAreTold = (state : ScriptState) (label : ℕ) (conversation : Conversation) (event : Event) (rule : Rule) (status : Status)
+    → IsAbout conversation.says (Refusal rule) → reply_to state.world event ≡ Noted → status_of rule ≡ Some status
+    → ShutsWith state label conversation event (answered_by conversation.says.web (denial_text status (word_of rule))) (word_of rule)
+
+-- there is a fault in the source's body: the line shows `bad-body`, and nothing else
+abbrev pub FaultyBodiesAreTold : Type 0
+FaultyBodiesAreTold = (state : ScriptState) (label : ℕ) (conversation : Conversation) (event : Event)
+    → IsAbout conversation.says Faulty → reply_to state.world event ≡ Noted → ShutsWith state label conversation event [] (codes "bad-body")
+
+-- the source's body is whole: the lines show `done`, behind the answer that it was admitted, if it was only asked to go on before
+abbrev pub WholeBodiesAreTold : Type 0
+WholeBodiesAreTold = (state : ScriptState) (label : ℕ) (conversation : Conversation) (event : Event)
+    → IsAbout conversation.says Complete → reply_to state.world event ≡ Noted →
+    (conversation.says.greeting ≡ Welcome → ShutsWith state label conversation event [] (codes "done"))
+    × (conversation.says.greeting ≡ Continue → ShutsWith state label conversation event (answered_by conversation.says.web source_text) (codes "done"))
+
+-- The word by which each connection of a client is shut, and the bytes before it.
+pub record LastWordsAreTold : Type 0 where
+  pub arrivals : DeniedArrivalsAreTold
+  pub denied : DenialsAreTold
+  pub refused : RefusalsAreTold
+  pub finished : FinishesAreTold
+  pub command : CommandsAreTold
+  pub faulty : FaultyBodiesAreTold
+  pub whole : WholeBodiesAreTold
+  pub done : ClosedOnesAreDone

@@ -3,7 +3,7 @@
 ghost use Rattle.radio_script.specs.Laws.{GoesOnAsItBegan, HasOneTranscript, IsDetermined};
 ghost use Rattle.radio_answers.specs.declared.web_answers.WebAnswers.{WebAnswers};
 ghost use Rattle.radio_floor.specs.Transcript.{conduct};
-ghost use Rattle.radio_floor.specs.LastWords.{DenialsAreTold, CommandsAreTold, FinishesAreTold, ClosedOnesAreDone};
+ghost use Rattle.radio_floor.specs.LastWords.{ClosedOnesAreDone, CommandsAreTold, DenialsAreTold, DeniedArrivalsAreTold, FaultyBodiesAreTold, FinishesAreTold, RefusalsAreTold, WholeBodiesAreTold};
 ghost use Rattle.radio_floor.specs.ScriptEvents.{ScriptsComeToEvents};
 
 use radio_exchanges::pulling_is_one;
@@ -20,13 +20,18 @@ pub fn the_transcript_is_one()
     pulling_is_one();
 }
 
-/// A connection that is shut shows the word of the rule by which it is, or `done` where its peer has
-/// closed it or its command was done; a denial of what it asked shows the answer that names the rule,
-/// and a command that was done the answer that says so.
+/// A connection that is shut shows the word of the rule by which it is, `bad-body` for a fault in its body, or
+/// `done` where its peer has closed it, its command was done or its body is whole. A denial of its arrival or of
+/// what it asked, and the connection's own refusal, show the answer that names the rule, if the rule has a status;
+/// a command that was done shows the answer that says so.
 pub fn last_words_are_told()
+    ensures arrivals { DeniedArrivalsAreTold }
     ensures denied { DenialsAreTold }
-    ensures command { CommandsAreTold }
+    ensures refused { RefusalsAreTold }
     ensures finished { FinishesAreTold }
+    ensures command { CommandsAreTold }
+    ensures faulty { FaultyBodiesAreTold }
+    ensures whole { WholeBodiesAreTold }
     ensures done { ClosedOnesAreDone }
 {
     last_words_name_the_rule();

@@ -16,7 +16,6 @@ use Rattle.radio_exchanges.specs.Exchanges.{WorldExchange, exchanged, then_excha
 use Rattle.radio_session.specs.Exchanges.{is_leave}
 use Rattle.radio_session.specs.declared.session.Closing.{Closing}
 use Rattle.radio_session.specs.Saying.{Said, counted, ends, last_ending, last_text, noted, one_less, said, tells}
-use Rattle.radio_answers.specs.declared.web_answers.WebAnswers.{WebAnswers}
 use Rattle.radio_session.specs.Told.{told, while_open}
 use Rattle.radio_headline.specs.Course.{and_then, applied}
 use Rattle.radio_headline.proofs.Logs.{Entry, entries, replies, Each}

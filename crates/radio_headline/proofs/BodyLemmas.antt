@@ -46,7 +46,7 @@ use Rattle.std.proofs.lemmas.List.{append-nil}
 use Rattle.radio_headline.specs.Course.{Happening, events_in, on}
 use Rattle.radio_headline.specs.Sources.{DeliversItsBody, IsRequest, brought, pushed}
 use Rattle.radio_headline.proofs.Gathered.{IsOnIt}
-use Rattle.radio_headline.proofs.Logs.{Entry, entry, log_on, log_joined, Each, each_as, each_joined, itself}
+use Rattle.radio_headline.proofs.Logs.{Entry, entry, log_on, log_parted, Each, each_as, each_joined}
 use Rattle.radio_headline.proofs.AppliedLemmas.{IsLast, IsOrderly}
 use Rattle.radio_headline.proofs.RunLemmas.{AllNowhere, IsMoment, HasNumber, IsIdling, are_on_first, arrives_and_idles, last_stays, reached_opening, reached_after, reached_all}
 use Rattle.radio_headline.proofs.Connections.{arrival, AsksForMount, AsksNothing, ByGet, Feeds, IsIdleOrLeaving, IsBehindRequest, IsNoRequest, events_of}
@@ -243,8 +243,7 @@ module _ (web : WebAnswers) (settled : IsSettled ShowsRequest) (within : HeadsLi
       behind = log_on (world_after w (Source asked)) later label
 
       in_order : log label ≡ before ++ entry w (Source asked) ∷ behind
-      in_order = ap (λ (hs : List Happening). log_on w0 hs label) parts ∙ log_joined w0 past (on label (Source asked) ∷ later) label
-          ∙ ap (λ (b : Bool). before ++ ((if b then entry w (Source asked) ∷ [] else []) ++ behind)) (itself label)
+      in_order = ap (λ (hs : List Happening). log_on w0 hs label) parts ∙ log_parted w0 past later label (Source asked)
 
       feeds_greeted : (f : Feeds (brought done label) (log label)) × IsGreeted web f (given lines label)
       feeds_greeted = feeds_so web (brought done label) (log label) (given lines label) before behind (entry w (Source asked)) in_order tt
@@ -388,8 +387,7 @@ module _ (web : WebAnswers) (settled : IsSettled ShowsRequest) (within : HeadsLi
           let before = log_on w0 past label in
           let behind = log_on (world_after w (Listen asked)) later label in
           let in_order : log label ≡ before ++ entry w (Listen asked) ∷ behind =
-          ap (λ (hs : List Happening). log_on w0 hs label) parts ∙ log_joined w0 past (on label (Listen asked) ∷ later) label
-          ∙ ap (λ (b : Bool). before ++ ((if b then entry w (Listen asked) ∷ [] else []) ++ behind)) (itself label) in
+          ap (λ (hs : List Happening). log_on w0 hs label) parts ∙ log_parted w0 past later label (Listen asked) in
           let first = by_get web (brought done label) (log label) (given lines label) before behind (entry w (Listen asked)) in_order tt
           (connection_of last.connections label) (each label) in
           let g = more_for_get settled within joined places data_joined web (brought done label) (brought rest label) (log label) (given lines label) first in

@@ -15,7 +15,8 @@ use Rattle.radio_session.specs.Told.{draws_of}
 use Rattle.radio_events.specs.declared.entry.Entry.{Entry}
 use Rattle.radio_chronicle.specs.History.{IsRun}
 use Rattle.radio_headline.specs.Histories.{HistoriesAreLawful, draws_noted, events_noted}
-use Rattle.radio_headline.specs.Listeners.{DrawsAreStretches, IsLawful, draws_to}
+use Rattle.radio_headline.specs.Lawful.{IsLawful}
+use Rattle.radio_headline.specs.Listeners.{DrawsAreCut, DrawsAreStretches, draws_to}
 use Rattle.radio_headline.specs.Sources.{NobodyDelivers}
 
 noted_so : (w : World) (history : List Entry) (id : ℕ) → IsRun w history → draws_noted history id ≡ draws_to w (events_noted history) id
@@ -31,13 +32,15 @@ reply_so w (x ∷ before) after e run = reply_so (world_after w x.event) before 
 
 pub lawful_histories : ((settings : Settings) (lists : Lists) (events : List Event) (event : Event) → IsLawful settings lists events event)
     → ((settings : Settings) (lists : Lists) (events : List Event) (id : ℕ) → DrawsAreStretches settings lists events id)
+    → ((settings : Settings) (lists : Lists) (events : List Event) (id : ℕ) → DrawsAreCut settings lists events id)
     → ((settings : Settings) (lists : Lists) (events : List Event) → NobodyDelivers settings lists events) → HistoriesAreLawful
-lawful_histories lawful stretches nobody settings lists history run = record {
+lawful_histories lawful stretches cut nobody settings lists history run = record {
   replies = λ before after e parts. reply_so (opening settings lists) before after e (subst (IsRun (opening settings lists)) parts run);
   lawful = λ before after e parts. lawful settings lists (events_noted before) e.event;
   slices = λ id.
       let w = opening settings lists in
       subst (λ (draws : List Call). AreStretches (delivered w (events_noted history)) (sittings w (events_noted history) id) (sound_of_calls draws))
       (sym (noted_so w history id run)) (stretches settings lists (events_noted history) id);
+  cut = cut settings lists (events_noted history);
   nobody = nobody settings lists (events_noted history);
 }

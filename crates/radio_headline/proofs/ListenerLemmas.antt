@@ -56,10 +56,10 @@ use Rattle.radio_floor.specs.ScriptState.{ScriptState, connection_of}
 use Rattle.radio_deliveries.specs.declared.delivery.Delivery.{Delivery}
 use Rattle.radio_deliveries.specs.Given.{TranscriptLine, given}
 use Rattle.radio_headline.specs.Course.{Happening, events_in, on}
-use Rattle.radio_headline.specs.Listeners.{CommandIsAnswered, DrawsAreStretches, SitsWithASource, Hears, IsDenied, IsGiven, IsShown, IsTooLate, draws_to}
+use Rattle.radio_headline.specs.Listeners.{CommandIsAnswered, DrawsAreCut, DrawsAreStretches, SitsWithASource, Hears, IsDenied, IsGiven, IsShown, IsTooLate, draws_to}
 use Rattle.radio_headline.specs.Sources.{HasItsSource, brought}
 use Rattle.radio_headline.proofs.Gathered.{IsOnIt}
-use Rattle.radio_headline.proofs.Logs.{Entry, entry, after_joined, log_on, log_joined, replies, replies_joined, Each, each_as, each_joined, each_second, itself}
+use Rattle.radio_headline.proofs.Logs.{Entry, entry, after_joined, log_on, log_parted, replies, replies_joined, Each, each_as, each_joined, each_second, itself}
 use Rattle.radio_headline.proofs.AppliedLemmas.{IsOrderly, said_all, told_joined}
 use Rattle.radio_headline.proofs.ReplyForms.{ListenReply, IsOutOfPlace, HasFinished as IsFinishedReply, WasDenied, WasShown, WasSeated, listen_reply}
 use Rattle.radio_headline.proofs.RunLemmas.{HasNumber, IsIdling, IsNew, AllNowhere, IsMoment, moments_are_nobodys, are_on_first, arrives_and_idles, each_happening, one_owner, reached_opening}
@@ -184,6 +184,7 @@ module _ (web : WebAnswers) (settings : Settings) (lists : Lists)
   module _ (denied : (events : List Event) (event : Event) → DenialsAreThePolicys (run_after settings lists events) event)
       (begins : (events : List Event) (event : Event) → BeginsAtABlock (run_after settings lists events) event)
       (stretches : (events : List Event) (id : ℕ) → DrawsAreStretches settings lists events id)
+      (cut : (events : List Event) (id : ℕ) → DrawsAreCut settings lists events id)
       (follow : DrawsFollowTheHead) (plainly : PlainDrawsAreTheirData) (weave : JoinedDrawsAreWoven) (take : DrawsAreTakenOutAgain)
       (done : List Delivery) (last : ScriptState) (course : List Happening) (lines : List TranscriptLine)
       (world : last.world ≡ run_after settings lists (events_in course))
@@ -214,8 +215,7 @@ module _ (web : WebAnswers) (settings : Settings) (lists : Lists)
       behind = log_on (world_after w ask) later label
 
       in_order : log label ≡ before ++ (entry w ask) ∷ behind
-      in_order = ap (λ (hs : List Happening). log_on w0 hs label) parts ∙ log_joined w0 past (on label ask ∷ later) label
-          ∙ ap (λ (b : Bool). before ++ ((if b then (entry w ask) ∷ [] else []) ++ behind)) (itself label)
+      in_order = ap (λ (hs : List Happening). log_on w0 hs label) parts ∙ log_parted w0 past later label ask
 
       g : ByGet web (brought done label) (log label) (given lines label)
       g = by_get web (brought done label) (log label) (given lines label) before behind (entry w ask) in_order gets
@@ -354,4 +354,5 @@ module _ (web : WebAnswers) (settings : Settings) (lists : Lists)
           woven = λ n some. weave interval n (draws_to w0 (events_in course) asked.id) some;
           taken_out_again = λ n some. (take interval n (draws_to w0 (events_in course) asked.id) some).0;
           are_slices = stretches (events_in course) asked.id;
+          are_cut = cut (events_in course) asked.id;
         })

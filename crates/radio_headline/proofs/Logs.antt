@@ -63,6 +63,14 @@ log_joined w (h ∷ past) more label =
     ∙ sym (append_assoc (entry_on w h label) (log_on (world_after w h.event) past label)
     (log_on (world_after_all (world_after w h.event) (events_in past)) more label))
 
+-- cut where an event was asked on the label
+pub log_parted : (w : World) (past later : List Happening) (label : ℕ) (event : Event) → log_on w (past ++ on label event ∷ later) label
+    ≡ log_on w past label ++ entry (world_after_all w (events_in past)) event ∷ log_on (world_after (world_after_all w (events_in past)) event) later label
+log_parted w past later label event =
+    let now = world_after_all w (events_in past) in
+    log_joined w past (on label event ∷ later) label
+    ∙ ap (λ (b : Bool). log_on w past label ++ ((if b then entry now event ∷ [] else []) ++ log_on (world_after now event) later label)) (itself label)
+
 pub log_here : (w : World) (label : ℕ) (events : List Event) → log_on w (map (on label) events) label ≡ entries w events
 log_here w label [] = refl
 log_here w label (event ∷ events) =

@@ -36,7 +36,7 @@ use Rattle.radio_floor.specs.ScriptState.{ScriptState, connection_of}
 use Rattle.radio_headline.specs.Course.{Happening, events_in, on}
 use Rattle.radio_headline.specs.Sources.{DeliversItsSound, RelaysDeliverTheirSound, brought, pushed}
 use Rattle.radio_headline.proofs.Gathered.{IsOnIt}
-use Rattle.radio_headline.proofs.Logs.{Entry, entry, log_on, log_joined, Each, each_as, each_joined, itself}
+use Rattle.radio_headline.proofs.Logs.{Entry, entry, log_on, log_parted, Each, each_as, each_joined}
 use Rattle.radio_headline.proofs.RelayWords.{IsCut, IsNoUp, OfRelay, OwnRelay, number_stays}
 use Rattle.radio_headline.proofs.RunLemmas.{AllNowhere, IsMoment, HasNumber, IsIdling, Reached, given_here, reached_after, reached_all, reached_opening}
 use Rattle.radio_headline.proofs.Connections.{AsksForMount, AsksNothing, AtAnswer, ByGet, Facts, Feeds, HasAskedNothing, HasSentGet}
@@ -224,8 +224,7 @@ module _ (web : WebAnswers) (settled : IsSettled ShowsResponse) (within : HeadsL
     behind = log_on (world_after w event) later label
 
     in_order : log label ≡ before ++ entry w event ∷ behind
-    in_order = ap (λ (hs : List Happening). log_on w0 hs label) parts ∙ log_joined w0 past (on label event ∷ later) label
-        ∙ ap (λ (b : Bool). before ++ ((if b then entry w event ∷ [] else []) ++ behind)) (itself label)
+    in_order = ap (λ (hs : List Happening). log_on w0 hs label) parts ∙ log_parted w0 past later label event
 
     p : Pulls (brought done label) (log label)
     p = pulls_so web (brought done label) (log label) (given lines label) before behind (entry w event) in_order tt

@@ -13,7 +13,8 @@ use Rattle.radio_laws.specs.Stretches.{sittings, AreStretches}
 use Rattle.radio_session.specs.Told.{draws_of}
 use Rattle.radio_events.specs.declared.entry.Entry.{Entry}
 use Rattle.radio_chronicle.specs.History.{IsRun}
-use Rattle.radio_headline.specs.Listeners.{IsLawful}
+use Rattle.radio_headline.specs.Lawful.{IsLawful}
+use Rattle.radio_headline.specs.Listeners.{DrawsAreCut}
 use Rattle.radio_headline.specs.Sources.{NobodyDelivers}
 
 abbrev pub events_noted : List Entry → List Event
@@ -26,7 +27,7 @@ draws_noted (e ∷ history) id = of_client e.event id (draws_of (e.reply ∷ [])
 
 -- each reply that was noted is that of a step from the state after the entries before it, and lawful; and the data in the draws that were noted for a
 -- listener are slices, joined in order, one for each of his sittings, of what the source delivered in whose session he sat, or of nothing, where he waited
--- for a session
+-- for a session; and the split between two of them is where he sat down
 pub record IsLawfulHistory (settings : Settings) (lists : Lists) (history : List Entry) : Type 0 where
   pub replies : (before after : List Entry) (entry : Entry) → history ≡ before ++ entry ∷ after
       → entry.reply ≡ reply_to (run_after settings lists (events_noted before)) entry.event
@@ -34,6 +35,7 @@ pub record IsLawfulHistory (settings : Settings) (lists : Lists) (history : List
       → IsLawful settings lists (events_noted before) entry.event
   pub slices : (id : ℕ) → AreStretches (delivered (opening settings lists) (events_noted history))
       (sittings (opening settings lists) (events_noted history) id) (sound_of_calls (draws_noted history id))
+  pub cut : (id : ℕ) → DrawsAreCut settings lists (events_noted history) id
   pub nobody : NobodyDelivers settings lists (events_noted history)
 
 -- a history that is a run from the opening state is lawful

@@ -1,4 +1,5 @@
 pub mod Course
 pub mod Sources
+pub mod Lawful
 pub mod Listeners
 pub mod Histories

@@ -1,5 +1,5 @@
 -- What each listener of a script is given, from the bytes of the script to those of its transcript.
-use Rattle.std.specs.Prelude.{◌≡◌, ℕ, List, [], ◌∷◌, ◌++◌, Option, None, Some, Ok}
+use Rattle.std.specs.Prelude.{◌≡◌, ℕ, List, [], ◌∷◌, ◌++◌, flat_map, map, Option, None, Some, Ok}
 use Rattle.std.specs.List.{AllByRecursion}
 use Rattle.radio_values.specs.declared.field.Shown.{Shown}
 use Rattle.radio_settings.specs.declared.settings.Settings.{Settings}
@@ -24,14 +24,7 @@ use Rattle.radio_core.specs.Step.{reply_to, world_after}
 use Rattle.radio_core.specs.Ways.{rows_for}
 use Rattle.radio_house.specs.World.{World, opening}
 use Rattle.radio_laws.specs.Admission.{IsSeated}
-use Rattle.radio_laws.specs.Access.{AccessIsKept}
-use Rattle.radio_laws.specs.Commanded.{CommandsAreKept, OnlyWhoMayCommands}
-use Rattle.radio_laws.specs.Denials.{DenialsAreThePolicys}
-use Rattle.radio_laws.specs.Service.{Serves}
-use Rattle.radio_laws.specs.Shown.{OnlyWhoMayIsShown}
-use Rattle.radio_laws.specs.Stretches.{AreStretches, SeatsKeepTheirMounts, Sitting, sittings}
-use Rattle.radio_laws.specs.TitlesTold.{TitlesAreTold}
-use Rattle.radio_laws.specs.WalkingOn.{ListenersWalkOn}
+use Rattle.radio_laws.specs.Stretches.{AreSlices, AreStretches, Sitting, cut_at_sittings, sittings}
 use Rattle.radio_pull.specs.Laws.{ItemsAreOfTheirRelay}
 use Rattle.radio_answers.specs.declared.web_answers.WebAnswers.{WebAnswers}
 use Rattle.radio_session.specs.Bodies.{PlainBodiesAreHeard, SizedBodiesAreHeard, ChunkedBodiesAreHeard, FaultyBodiesAreHeard}
@@ -42,8 +35,10 @@ use Rattle.radio_session.specs.Told.{draws_of, taken_out}
 use Rattle.radio_deliveries.specs.declared.delivery.Delivery.{Delivery}
 use Rattle.radio_deliveries.specs.Given.{TranscriptLine, AreLines, given, written}
 use Rattle.radio_script.specs.Script.{deliveries_from, lines_of}
+use Rattle.radio_floor.specs.LastWords.{LastWordsAreTold}
 use Rattle.radio_floor.specs.Transcript.{IsTranscriptOf, PlaysScript}
 use Rattle.radio_headline.specs.Course.{Happening, ComesTo, events_in, on}
+use Rattle.radio_headline.specs.Lawful.{IsLawful}
 use Rattle.radio_headline.specs.Sources.{HasItsSource, IsRequest, RelaysDeliverTheirSound, SourcesDeliverTheirBodies, brought}
 
 -- the draws that the events hand to the listener of this number, in their order
@@ -57,6 +52,19 @@ abbrev pub DrawsAreStretches : Settings → Lists → List Event → ℕ → Typ
 DrawsAreStretches settings lists events id =
     let w = opening settings lists in
     AreStretches (delivered w events) (sittings w events id) (sound_of_calls (draws_to w events id))
+
+-- the draws that an event hands to the listener of this number
+abbrev pub draw_to : ℕ → World → Event → List Call
+draw_to id w event = of_client event id (draws_of (reply_to w event ∷ []))
+
+-- they are cut where he sits down: the data of the draws from one sitting to the next, or to the end, are one slice of what the source delivered in whose
+-- session he sat; those before the first have none; and joined in order they are all his draws
+abbrev pub DrawsAreCut : Settings → Lists → List Event → ℕ → Type 0
+DrawsAreCut settings lists events id =
+    let w = opening settings lists in
+    let cut = cut_at_sittings (draw_to id) w events id in
+    (sound_of_calls cut.before ≡ []) × AreSlices (delivered w events) (sittings w events id) (map sound_of_calls cut.each)
+    × (cut.before ++ flat_map (λ draws. draws) cut.each ≡ draws_to w events id)
 
 -- Of deliveries that come to a course.
 module _ (settings : Settings) (lists : Lists) (deliveries : List Delivery) (course : List Happening) where
@@ -85,6 +93,7 @@ module _ (settings : Settings) (lists : Lists) (deliveries : List Delivery) (cou
       pub taken_out_again : (n : ℕ) → interval_told interval ≡ Some n
           → sound_in (taken_out n behind) ≡ sound_of_calls (draws_to (opening settings lists) (events_in course) asked.id)
       pub are_slices : DrawsAreStretches settings lists (events_in course) asked.id
+      pub are_cut : DrawsAreCut settings lists (events_in course) asked.id
       pub sits_with_sources : AllByRecursion SitsWithASource (sittings (opening settings lists) (events_in course) asked.id)
 
     -- all that one is given who asked so, by the reply
@@ -140,23 +149,6 @@ pub record IsWrittenBy (text : List ℕ) (lines : List TranscriptLine) : Type 0 
   pub is_written : written lines ≡ text
   pub by_no_others : AreLines lines → (others : List TranscriptLine) → AreLines others → written others ≡ text → others ≡ lines
 
--- When this has happened, an event does what the laws of every run say of it.
-pub record IsLawful (settings : Settings) (lists : Lists) (events : List Event) (event : Event) : Type 0 where
-  -- what is handed out stands at the listener's place in a stream that is open to him, with its last title
-  pub access : AccessIsKept (run_after settings lists events) event
-  pub title : TitlesAreTold settings lists events event
-  -- what is denied is denied by the first rule that holds, and nothing else changes
-  pub denied : DenialsAreThePolicys (run_after settings lists events) event
-  -- what the policy allows happens: a draw hands out what is there, as much as there is room for
-  pub served : Serves (run_after settings lists events)
-  -- who is moved goes where his walk lands, or is finished by the rule that stops it
-  pub moves : ListenersWalkOn (run_after settings lists events) event
-  pub keeps : SeatsKeepTheirMounts (run_after settings lists events) event
-  -- what is shown tells what is there, to one who may see it; a command is done for one who may give it, and does what it names and no more
-  pub shown : OnlyWhoMayIsShown (run_after settings lists events) event
-  pub commanded : OnlyWhoMayCommands (run_after settings lists events) event
-  pub kept : CommandsAreKept (run_after settings lists events) event
-
 -- What the data of a source's body are (RFC 9112, section 6), and nothing that frames them: all of a plain one, so many bytes of a sized one, those of
 -- the chunks of a chunked one; and one with a byte that no chunked body has there ends by that fault.
 pub record BodiesAreHeard : Type 0 where
@@ -182,6 +174,8 @@ pub record HearsSlices (web : WebAnswers) (settings : Settings) (lists : Lists) 
   pub pulls : ItemsAreOfTheirRelay
   pub answers : SourcesAreAnswered settings lists deliveries course web lines
   pub relays : RelaysDeliverTheirSound settings lists deliveries course
+  -- at each delivery that shuts a client's connection, the word by which it is shut, and the bytes before it
+  pub last_words : LastWordsAreTold
 
 abbrev pub ListenersHearSlices : Type 0
 ListenersHearSlices = (web : WebAnswers) (settings : Settings) (lists : Lists) (deliveries : List Delivery) (text : List ℕ) (stop : Option ℕ)

@@ -4,21 +4,24 @@ ghost use Rattle.std.specs.Prelude.{ℕ, List};
 ghost use Rattle.radio_settings.specs.declared.settings.Settings.{Settings};
 ghost use Rattle.radio_access.specs.Lists.{Lists};
 ghost use Rattle.radio_events.specs.declared.event.Event.{Event};
-ghost use Rattle.radio_headline.specs.Listeners.{DrawsAreStretches, IsLawful, ListenersHearSlices, PlayedScriptsHearSlices};
+ghost use Rattle.radio_headline.specs.Lawful.{IsLawful};
+ghost use Rattle.radio_headline.specs.Listeners.{DrawsAreCut, DrawsAreStretches, ListenersHearSlices, PlayedScriptsHearSlices};
 ghost use Rattle.radio_headline.specs.Histories.{HistoriesAreLawful};
 ghost use Rattle.radio_headline.specs.Sources.{NobodyDelivers};
 
 use radio_blocks::laws::blocks_are_the_data;
 use radio_core::{
     clients_and_seats_add_up, clients_stand_by_their_events, events_are_of_their_clients,
-    sessions_are_their_sources,
+    nobody_lags, sessions_are_their_sources,
 };
+use radio_floor::last_words_are_told;
 use radio_heads::{heads_lie_within, settled};
 use radio_icy::laws::cut_streams;
 use radio_laws::{
-    access_is_kept, commands_are_done, denials_are_the_policys, listeners_are_told_titles,
-    listeners_begin_at_a_block, listeners_walk_on, sight_is_kept, stretches_are_whole,
-    who_left_is_gone, whoever_may_is_served,
+    access_is_kept, commands_are_done, denials_are_the_policys, finished_are_told, limits_are_kept,
+    listeners_are_told_titles, listeners_begin_at_a_block, listeners_walk_on, nobody_outstays,
+    sight_is_kept, stretches_are_whole, users_change_one_by_one, who_left_is_gone,
+    whoever_may_is_served,
 };
 use radio_policy::denials_name_the_first_rule;
 use radio_pull::items_are_of_their_relay;
@@ -31,6 +34,8 @@ pub fn draws_are_stretches()
     // over every run, the data in the draws that a listener is handed are slices, one for each of his
     // sittings, of what the source delivered in whose session he sat
     ensures slices { (settings : Settings) (lists : Lists) (events : List Event) (id : ℕ) → DrawsAreStretches settings lists events id }
+    // and they are cut where he sits down: from one sitting to the next, or to the end, they are one slice
+    ensures cut { (settings : Settings) (lists : Lists) (events : List Event) (id : ℕ) → DrawsAreCut settings lists events id }
     // and under the number of nobody, in whose session who waits for one sits, nothing is delivered
     ensures nobody { (settings : Settings) (lists : Lists) (events : List Event) → NobodyDelivers settings lists events }
 {
@@ -45,10 +50,16 @@ pub fn events_are_lawful()
     access_is_kept();
     commands_are_done();
     denials_are_the_policys();
+    finished_are_told();
+    limits_are_kept();
     listeners_are_told_titles();
+    listeners_begin_at_a_block();
     listeners_walk_on();
+    nobody_lags();
+    nobody_outstays();
     sight_is_kept();
     stretches_are_whole();
+    users_change_one_by_one();
     whoever_may_is_served();
 }
 
@@ -88,6 +99,7 @@ pub fn listeners_hear_slices()
     stretches_are_whole();
     whoever_may_is_served();
     listeners_are_told_what_they_draw();
+    last_words_are_told();
     transcripts_are_read_one_way();
     draws_are_stretches();
     events_are_lawful();

@@ -10,6 +10,7 @@ mod CommandRows
 mod CommandService
 mod CommandSteps
 mod DenialLemmas
+mod DeniedLemmas
 mod FallbackLemmas
 mod GoneLemmas
 mod GrantedLemmas

@@ -64,10 +64,10 @@ is_allowed : (v : Verdict) (denied : Change) (allowed : Outcome) → v ≡ Allow
 is_allowed Allow denied allowed e = refl
 is_allowed (Denied rule) denied allowed e = cc
 
-goes_undecided : (s : Standing) (peer : Peer) (go : Peer → Outcome) → s ≡ Undecided peer → if_undecided s go ≡ go peer
+pub goes_undecided : (s : Standing) (peer : Peer) (go : Peer → Outcome) → s ≡ Undecided peer → if_undecided s go ≡ go peer
 goes_undecided s peer go e = rw e refl
 
-goes_feeding : (s : Standing) (mount : List ℕ) (go : List ℕ → Outcome) → s ≡ Feeds mount → if_feeding s go ≡ go mount
+pub goes_feeding : (s : Standing) (mount : List ℕ) (go : List ℕ → Outcome) → s ≡ Feeds mount → if_feeding s go ≡ go mount
 goes_feeding s mount go e = rw e refl
 
 goes_sitting : (s : Standing) (go : Outcome) → s ≡ Sits → if_sitting s go ≡ go

@@ -26,14 +26,14 @@ use Rattle.radio_core.specs.Pages.{IsShownBy, IsListing, IsAtPath}
 use Rattle.radio_status.specs.Pages.{page_at, server_as}
 use Rattle.radio_events.specs.declared.reply.Reply.TheVariants.{Text as SaysText}
 use Rattle.radio_events.specs.declared.text.Text.{Text}
-use Rattle.radio_events.specs.declared.text.Text.TheVariants.{Json, Streams as StreamList, Public}
+use Rattle.radio_events.specs.declared.text.Text.TheVariants.{Streams as StreamList}
 use Rattle.radio_status.specs.Listings.{shown, mount_row, mount_rows, public_row}
 use Rattle.radio_parts.specs.Sessions.{Session}
 use Rattle.radio_core.specs.Step.{reply_to}
 use Rattle.radio_house.specs.World.{World}
 use Rattle.radio_laws.proofs.GrantedLemmas.{IsToldFor, ByShowing, ByDoing}
 use Rattle.radio_laws.proofs.ToldTexts.{told_for}
-use Rattle.radio_laws.specs.Shown.{Seen, seen, is_public, public_live, seen_by_all, LooksAlike, AreAnsweredAlike, AreVisitedAlike, SightIsKept}
+use Rattle.radio_laws.specs.Shown.{Seen, seen, is_public, public_live, seen_by_all, body_of, AreAnsweredAlike, AreVisitedAlike, SightIsKept}
 use Rattle.radio_laws.specs.Shown.{HiddenAreLeftOut, HiddenAreNotToldOnTheWeb}
 use Rattle.radio_laws.proofs.WebLaws.{is_on}
 
@@ -75,8 +75,9 @@ module _ (w : World) (asked : ListenRequest) (path : WebPath) (text : Text) (on 
     by_cause (ByShowing asker peer its undecided what) = page_so (Listen asked) text what refl
     by_cause (ByDoing command c said) = let other = sym c.is_event in cc
 
-answered : (w v : World) (listing : Listing) → shown w listing ≡ shown v listing → AreAnsweredAlike w v listing
-answered w v listing same asked other text said is its d e = sym (is_told w asked listing text is d) ∙ same ∙ is_told v other listing said its e
+answered : (w v : World) (listing : Listing) → body_of (shown w listing) ≡ body_of (shown v listing) → AreAnsweredAlike w v listing
+answered w v listing same asked other text said is its d e =
+    ap body_of (sym (is_told w asked listing text is d)) ∙ same ∙ ap body_of (is_told v other listing said its e)
 
 -- the row that everybody may see
 abbrev row_seen : Seen → PublicRow
@@ -150,25 +151,22 @@ module _ (alike : (rows others : List MountRow) → rows_shown rows ≡ rows_sho
   look_alike : seen_by_all w ≡ seen_by_all v → LookAlike (mount_rows w) (mount_rows v)
   look_alike same = alike (mount_rows w) (mount_rows v) (shown_rows w w.house.live ∙ ap (map row_seen) same ∙ sym (shown_rows v v.house.live))
 
-  public_alike : {a b : List ℕ} {o p : Option (List ℕ)} → a ≡ b → o ≡ p → Public a o ≡ Public b p
-  public_alike e f = cc
-
-  visited_alike : LooksAlike w v → AreVisitedAlike w v
+  visited_alike : seen_by_all w ≡ seen_by_all v → AreVisitedAlike w v
   visited_alike same asked other text said is its host address port d e =
       let there = is_on w asked.mount IcecastStatus is in
       let server : server_as w.house.settings asked.host ≡ server_as v.house.settings other.host = rw (host, address, port) refl in
-      sym (is_visited w asked IcecastStatus text there d)
-      ∙ public_alike ((look_alike same.mounts).icecast (server_as w.house.settings asked.host)
-      ∙ ap (λ (s : Server). icecast_text s (mount_rows v)) server) same.readers
-      ∙ is_visited v other IcecastStatus said (is_on v other.mount IcecastStatus its) e
+      ap body_of (sym (is_visited w asked IcecastStatus text there d))
+      ∙ (look_alike same).icecast (server_as w.house.settings asked.host)
+      ∙ ap (λ (s : Server). icecast_text s (mount_rows v)) server
+      ∙ ap body_of (is_visited v other IcecastStatus said (is_on v other.mount IcecastStatus its) e)
 
   pub sight_is_kept : SightIsKept w v
   sight_is_kept = record {
-    status = λ same. answered w v Status (public_alike (look_alike same.mounts).status same.readers);
+    status = λ same. answered w v Status (look_alike same).status;
     icecast = visited_alike;
-    streams = λ same. answered w v Streams (ap (λ (bytes : List ℕ). StreamList bytes) (look_alike same).streams);
+    streams = λ same. answered w v Streams (look_alike same).streams;
     stats = λ rows count. answered w v Stats
-        (ap (λ (n : ℕ). Json (stats_text n (mount_rows w))) count ∙ ap (λ (all : List MountRow). Json (stats_text (length v.house.clients) all)) rows);
-    mounts = λ rows. answered w v Mounts (ap (λ (all : List MountRow). Json (mounts_text all)) rows);
-    listeners = λ mount rows. answered w v (Clients mount) (ap (λ (all : List ListenerRow). Json (listeners_text mount all)) rows);
+        (ap (λ (n : ℕ). stats_text n (mount_rows w)) count ∙ ap (λ (all : List MountRow). stats_text (length v.house.clients) all) rows);
+    mounts = λ rows. answered w v Mounts (ap (λ (all : List MountRow). mounts_text all) rows);
+    listeners = λ mount rows. answered w v (Clients mount) (ap (λ (all : List ListenerRow). listeners_text mount all) rows);
   }

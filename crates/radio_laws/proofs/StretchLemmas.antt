@@ -1,9 +1,10 @@
 -- the law of stretches
 use Rattle.std.proofs.Common.{◌≡◌, ◌⊎◌, inl, inr, true, false, Bool, ℕ, ◌+◌, ◌<◌, ◌≤◌, ◌==◌, Option, Some, None, List, [], ◌∷◌, ◌++◌}
-use Rattle.std.proofs.Common.{length, take, drop, refl, ap, sym, subst, ◌∙◌, arith, append_assoc, length-append}
+use Rattle.std.proofs.Common.{length, refl, ap, sym, subst, ◌∙◌, arith, append_assoc, length-append}
 use Rattle.std.specs.Prelude.{if◌then◌else◌}
+use Rattle.std.specs.List.{concat}
+use Rattle.std.proofs.Math.Path.{fun_ext}
 use Rattle.std.proofs.lemmas.Bool.Decides.{nat_tests}
-use Rattle.std.proofs.lemmas.List.{append-nil}
 use Rattle.std.proofs.lemmas.Slice.Eq.{bytes_eq-Decides}
 use Rattle.std.specs.Str.{bytes_eq}
 use Rattle.radio_addr.specs.declared.peer.Peer.{Peer}
@@ -25,17 +26,14 @@ use Rattle.radio_parts.specs.Sessions.{Session, session_of}
 use Rattle.radio_core.specs.Sound.{IsSound}
 use Rattle.radio_core.specs.Step.{outcome, world_after}
 use Rattle.radio_parts.specs.Stream.{WholeStream, data_at, end_of}
-use Rattle.radio_laws.specs.Stretches.{between, Sitting, sitting_in, begun_sittings, sittings, AreStretches, StretchesAreWhole}
+use Rattle.radio_laws.specs.Stretches.{between, Sitting, sitting_in, begun_sittings, sittings, AreStretches, StretchesAreWhole, IsSlice, AreSlices, Cut, cut_behind, cut_at_sittings, StretchesAreCut}
 use Rattle.radio_core.proofs.FinishLemmas.{undecided_before}
 use Rattle.radio_core.proofs.OwnLemmas.{not_of, nothing_of}
 use Rattle.radio_laws.proofs.GoneLemmas.{his_own, with_nothing, last_rises}
 use Rattle.radio_changes.proofs.PartChanges.{is_taken_in}
 use Rattle.radio_core.specs.Moves.{moved_into}
 use Rattle.radio_core.proofs.SeatSteps.{seats_step}
-use Rattle.radio_parts.proofs.RisingLemmas.{burst_within}
 use Rattle.radio_core.specs.Finishes.{Finishes}
-use Rattle.radio_core.specs.Listen.{first_seat}
-use Rattle.radio_facts.specs.Streams.{burst_of}
 use Rattle.radio_core.specs.SeatSteps.{SeatStep, Stays, IsHanded, SitsDown, IsMoved, Leaves as HeLeaves, IsEnded as HeIsEnded, IsGiven}
 use Rattle.radio_policy.specs.declared.rule.Rule.{Rule}
 use Rattle.radio_core.proofs.SoundSessions.{grown_cases}
@@ -43,36 +41,8 @@ use Rattle.radio_core.proofs.SoundTitles.{titled_cases}
 use Rattle.radio_laws.proofs.ObeyLemmas.{was_live_then}
 use Rattle.radio_core.proofs.SoundRuns.{sound_after, sound_opening}
 use Rattle.radio_core.proofs.HeardLemmas.{heard_cases}
-use Rattle.radio_laws.proofs.HeardLaws.{rising_heard}
-use Rattle.radio_laws.proofs.SliceLemmas.{between_grown, grown_stretches, same_stretches, one_more, between_more, between_none}
+use Rattle.radio_laws.proofs.SliceLemmas.{between_grown, between_drawn, between_joined, between_none, cut_joined, joined_slices}
 use Rattle.radio_house.specs.Waiting.{heard_at}
-
--- how a listener has heard so far: what he has heard are stretches, the last of which ends at his place
-data Hears (sent : ℕ → List ℕ) : Option Seat → List Sitting → List ℕ → Type 0 where
-  Idle : (past : List Sitting) (heard : List ℕ) → AreStretches sent past heard → Hears sent None past heard
-  Listening : (seat : Seat) (before : List Sitting) (last : Sitting) (old : List ℕ) → AreStretches sent before old → last.source ≡ seat.session
-      → last.start ≤ seat.place → seat.place ≤ length (sent last.source)
-      → Hears sent (Some seat) (before ++ last ∷ []) (old ++ between last.start seat.place (sent last.source))
-
-heard_so_far : (sent : ℕ → List ℕ) (seat : Option Seat) (past : List Sitting) (heard : List ℕ) → Hears sent seat past heard → AreStretches sent past heard
-heard_so_far sent seat past heard (Idle _ _ stretches) = stretches
-heard_so_far sent seat past heard (Listening him before last old stretches source low high) = one_more sent before old last him.place stretches low high
-
-hears_as : (sent : ℕ → List ℕ) {seat now : Option Seat} {past later : List Sitting} {heard more : List ℕ} → seat ≡ now → past ≡ later → heard ≡ more
-    → Hears sent seat past heard → Hears sent now later more
-hears_as sent {seat} {now} {past} {later} {heard} {more} es ep eh h =
-    subst (λ (o : Option Seat). Hears sent o later more) es (subst (λ (xs : List Sitting). Hears sent seat xs more) ep
-    (subst (λ (xs : List ℕ). Hears sent seat past xs) eh h))
-
--- more was sent
-hears_grown : (sent more : ℕ → List ℕ) (seat : Option Seat) (past : List Sitting) (heard : List ℕ) → Hears sent seat past heard
-    → Hears (λ n. sent n ++ more n) seat past heard
-hears_grown sent more seat past heard (Idle _ _ stretches) = Idle past heard (grown_stretches sent more past heard stretches)
-hears_grown sent more seat past heard (Listening him before last old stretches source low high) =
-    hears_as (λ n. sent n ++ more n) refl refl
-    (ap (λ xs. old ++ xs) (between_grown last.start him.place (sent last.source) (more last.source) low high))
-    (Listening him before last old (grown_stretches sent more before old stretches) source low
-    (omega (arith, high, length-append (sent last.source) (more last.source))))
 
 -- a seat in the same session begins no sitting
 begun_same : (old seat : Seat) (b : Bool) → (old.session == seat.session) ≡ b → b ≡ true → (if b then [] else sitting_in seat ∷ []) ≡ []
@@ -83,86 +53,81 @@ begun_none : (old seat : Seat) → old.session ≡ seat.session → begun_sittin
 begun_none old seat same = let itself : (old.session == seat.session) ≡ true =
     grind (arith, nat_tests) in begun_same old seat (old.session == seat.session) refl itself
 
--- what an event does to his seat keeps all that he has heard stretches
-module _ (w : World) (s : IsSound w) (sent : ℕ → List ℕ) (whole : (mount : List ℕ) (session : Session) → heard_at w.house mount ≡ Some session
+-- what comes next for one who has this seat, or none: a slice from its place, or nothing
+abbrev IsNext : (ℕ → List ℕ) → Option Seat → List ℕ → Type 0
+IsNext sent None bytes = bytes ≡ []
+IsNext sent (Some seat) bytes = IsSlice sent (sitting_in seat) bytes
+
+abbrev IsCutSo : (ℕ → List ℕ) → Option Seat → List Sitting → Cut ℕ → Type 0
+IsCutSo sent seat sittings cut = IsNext sent seat cut.before × AreSlices sent sittings cut.each
+
+-- what an event hands out, and does to his seat, goes before what comes then; all that is sent in the end begins with what was sent so far
+module _ (w : World) (s : IsSound w) (sent more : ℕ → List ℕ) (whole : (mount : List ℕ) (session : Session) → heard_at w.house mount ≡ Some session
     → session.stream.bytes ≡ sent session.number) where
-  unchanged : (seat : Option Seat) (past more : List Sitting) (heard : List ℕ) → more ≡ [] → Hears sent seat past heard
-      → Hears sent seat (past ++ more) (heard ++ [])
-  unchanged seat past more heard none h = hears_as sent refl (sym (ap (λ xs. past ++ xs) none ∙ append-nil past)) (sym (append-nil heard)) h
+  abbrev all : ℕ → List ℕ
+  all n = sent n ++ more n
 
-  handed_on : (seat : Seat) (session : Session) (room : ℕ) → heard_at w.house seat.mount ≡ Some session → session.number ≡ seat.session
-      → seat.place + length (data_at session.stream seat.place room) ≤ end_of session.stream → (past : List Sitting) (heard : List ℕ)
-      → Hears sent (Some seat) past heard
-      → Hears sent (Some (record seat { place = seat.place + length (data_at session.stream seat.place room) })) past
-      (heard ++ data_at session.stream seat.place room)
-  handed_on seat session room live number within past heard (Listening _ before last old stretches source low high) =
-      let all = sent last.source in
-      let same : session.stream.bytes ≡ all = whole seat.mount session live ∙ ap sent (number ∙ sym source) in
-      let drawn : data_at session.stream seat.place room ≡ take room (drop seat.place all) = ap (λ xs. take room (drop seat.place xs)) same in
-      let far : ℕ = seat.place + length (data_at session.stream seat.place room) in
-      let end : far ≡ seat.place + length (take room (drop seat.place all)) = ap (λ xs. seat.place + length xs) drawn in
-      let joined : (old ++ between last.start seat.place all) ++ data_at session.stream seat.place room ≡ old ++ between last.start far all =
-      append_assoc old (between last.start seat.place all) (data_at session.stream seat.place room)
-      ∙ ap (λ xs. old ++ (between last.start seat.place all ++ xs)) drawn
-      ∙ ap (λ xs. old ++ xs) (between_more last.start seat.place room all low)
-      ∙ ap (λ n. old ++ between last.start n all) (sym end) in
-      let size : length session.stream.bytes ≡ length all = ap length same in
-      hears_as sent refl refl (sym joined) (Listening (record seat { place = far }) before last old stretches source (omega (arith, low))
-      (omega (arith, within, size)))
+  nothing_first : (id : ℕ) (seat : Seat) → seat_of w.seats id ≡ Some seat → IsSlice all (sitting_in seat) []
+  nothing_first id seat has =
+      let sits = s.seated id seat has in
+      let same : sits.session.stream.bytes ≡ sent seat.session = whole seat.mount sits.session sits.is_heard ∙ ap sent sits.his_session in
+      let size : end_of sits.session.stream ≡ length (sent seat.session) = ap length same in (
+        seat.place,
+        omega arith,
+        omega (arith, sits.within, size, length-append (sent seat.session) (more seat.session)),
+        sym (between_none seat.place (all seat.session)),
+      )
 
-  sits_in : (seat : Seat) (session : Session) → heard_at w.house seat.mount ≡ Some session → session.number ≡ seat.session
-      → seat.place ≤ end_of session.stream → (past : List Sitting) (heard : List ℕ) → Hears sent None past heard
-      → Hears sent (Some seat) (past ++ sitting_in seat ∷ []) (heard ++ [])
-  sits_in seat session live number within past heard (Idle _ _ stretches) =
-      let same : session.stream.bytes ≡ sent seat.session = whole seat.mount session live ∙ ap sent number in
-      let size : length session.stream.bytes ≡ length (sent seat.session) = ap length same in
-      hears_as sent refl refl (ap (λ xs. heard ++ xs) (between_none seat.place (sent seat.session)))
-      (Listening seat past (sitting_in seat) heard stretches refl (omega arith) (omega (arith, within, size)))
+  handed_first : (seat : Seat) (session : Session) (room : ℕ) → heard_at w.house seat.mount ≡ Some session → session.number ≡ seat.session
+      → seat.place + length (data_at session.stream seat.place room) ≤ end_of session.stream → (bytes : List ℕ)
+      → IsSlice all (sitting_in (record seat { place = seat.place + length (data_at session.stream seat.place room) })) bytes
+      → IsSlice all (sitting_in seat) (data_at session.stream seat.place room ++ bytes)
+  handed_first seat session room live number within bytes (stop, low, high, e) =
+      let so_far = sent seat.session in
+      let drawn = data_at session.stream seat.place room in
+      let far : ℕ = seat.place + length drawn in
+      let same : session.stream.bytes ≡ so_far = whole seat.mount session live ∙ ap sent number in
+      let size : length session.stream.bytes ≡ length so_far = ap length same in
+      let first : drawn ≡ between seat.place far (all seat.session) =
+      between_drawn seat.place room session.stream.bytes
+      ∙ ap (between seat.place far) same
+      ∙ sym (between_grown seat.place far so_far (more seat.session) (omega arith) (omega (arith, within, size))) in (
+        stop,
+        omega (arith, low),
+        high,
+        ap (λ xs. xs ++ bytes) first ∙ ap (λ xs. between seat.place far (all seat.session) ++ xs) e
+            ∙ between_joined seat.place far stop (all seat.session) (omega arith) low,
+      )
 
-  -- and more was sent by then, which is what the sessions have
-  module _ (event : Event) (more : ℕ → List ℕ)
-      (whole_then : (mount : List ℕ) (session : Session) → heard_at (world_after w event).house mount ≡ Some session
-      → session.stream.bytes ≡ sent session.number ++ more session.number) where
-    abbrev now : ℕ → List ℕ
-    now n = sent n ++ more n
+  cut_step : (event : Event) (C : Rule → Type 0) (id : ℕ) (before later : Option Seat) (bytes : List ℕ) → SeatStep w C event id before bytes later
+      → seat_of w.seats id ≡ before → (others : List Sitting) (cut : Cut ℕ) → IsCutSo all later others cut
+      → IsCutSo all before (begun_sittings before later ++ others) (cut_behind bytes (begun_sittings before later) cut)
+  cut_step event C id before later bytes (Stays None) has others cut h = h
+  cut_step event C id before later bytes (Stays (Some seat)) has others cut h =
+      subst (λ (begun : List Sitting). IsCutSo all (Some seat) (begun ++ others) (cut_behind [] begun cut)) (sym (begun_none seat seat refl)) h
+  cut_step event C id before later bytes (IsHanded seat session room asked live number within) has others cut h =
+      let far : Seat = record seat { place = seat.place + length (data_at session.stream seat.place room) } in
+      subst (λ (begun : List Sitting). IsCutSo all (Some seat) (begun ++ others) (cut_behind (data_at session.stream seat.place room) begun cut))
+      (sym (begun_none seat far refl)) (handed_first seat session room live number within cut.before h.0, h.1)
+  cut_step event C id before later bytes (SitsDown asked peer session e his undecided lands live allowed) has others cut h = (refl, h)
+  cut_step event C id before later bytes (IsMoved seat session takes why live opens apart) has others cut h =
+      let new = moved_into session seat in
+      let started : begun_sittings (Some seat) (Some new) ≡ sitting_in new ∷ [] = ap (λ (b : Bool). if b then [] else sitting_in new ∷ []) apart in
+      subst (λ (begun : List Sitting). IsCutSo all (Some seat) (begun ++ others) (cut_behind [] begun cut)) (sym started) (nothing_first id seat has, h)
+  cut_step event C id before later bytes (IsGiven seat session coming idle live empty waits start past_zero) has others cut h =
+      let new : Seat = record seat { session = session.number } in
+      let apart : (seat.session == session.number) ≡ false = ap (λ (n : ℕ). n == session.number) waits ∙ past_zero in
+      let started : begun_sittings (Some seat) (Some new) ≡ sitting_in new ∷ [] = ap (λ (b : Bool). if b then [] else sitting_in new ∷ []) apart in
+      subst (λ (begun : List Sitting). IsCutSo all (Some seat) (begun ++ others) (cut_behind [] begun cut)) (sym started) (nothing_first id seat has, h)
+  cut_step event C id before later bytes (HeLeaves seat left) has others cut h =
+      (subst (IsSlice all (sitting_in seat)) (sym h.0) (nothing_first id seat has), h.1)
+  cut_step event C id before later bytes (HeIsEnded seat rule cause) has others cut h =
+      (subst (IsSlice all (sitting_in seat)) (sym h.0) (nothing_first id seat has), h.1)
 
-    hears_step : (C : Rule → Type 0) (id : ℕ) (before later : Option Seat) (bytes : List ℕ) → SeatStep w C event id before bytes later
-        → (past : List Sitting) (heard : List ℕ) → Hears sent before past heard → Hears now later (past ++ begun_sittings before later) (heard ++ bytes)
-    hears_step C id before later bytes (Stays None) past heard h =
-        hears_grown sent more None (past ++ []) (heard ++ []) (unchanged None past [] heard refl h)
-    hears_step C id before later bytes (Stays (Some seat)) past heard h =
-        hears_grown sent more (Some seat) (past ++ begun_sittings (Some seat) (Some seat)) (heard ++ [])
-        (unchanged (Some seat) past (begun_sittings (Some seat) (Some seat)) heard (begun_none seat seat refl) h)
-    hears_step C id before later bytes (IsHanded seat session room asked live number within) past heard h =
-        let far : Seat = record seat { place = seat.place + length (data_at session.stream seat.place room) } in
-        hears_grown sent more (Some far) (past ++ begun_sittings (Some seat) (Some far)) (heard ++ data_at session.stream seat.place room)
-        (hears_as sent refl (sym (ap (λ xs. past ++ xs) (begun_none seat far refl) ∙ append-nil past)) refl
-        (handed_on seat session room live number within past heard h))
-    hears_step C id before later bytes (SitsDown asked peer session e his undecided lands live allowed) past heard h =
-        let seat = first_seat w.house asked peer session in
-        hears_grown sent more (Some seat) (past ++ sitting_in seat ∷ []) (heard ++ [])
-        (sits_in seat session live refl
-        (burst_within session.stream (burst_of w.house session.mount) (rising_heard w s session.mount session live)) past heard h)
-    hears_step C id before later bytes (IsMoved seat session takes why live opens apart) past heard h =
-        let new = moved_into session seat in
-        let started : begun_sittings (Some seat) (Some new) ≡ sitting_in new ∷ [] = ap (λ (b : Bool). if b then [] else sitting_in new ∷ []) apart in
-        let so_far = heard_so_far now (Some seat) past heard (hears_grown sent more (Some seat) past heard h) in
-        let size : end_of session.stream ≡ length (now session.number) = ap length (whole_then session.mount session live) in
-        hears_as now refl (ap (λ xs. past ++ xs) (sym started)) (ap (λ xs. heard ++ xs) (between_none new.place (now new.session)))
-        (Listening new past (sitting_in new) heard so_far refl (omega arith) (omega (arith, size)))
-    hears_step C id before later bytes (IsGiven seat session coming idle live empty waits start past_zero) past heard h =
-        let new : Seat = record seat { session = session.number } in
-        let apart : (seat.session == session.number) ≡ false = ap (λ (n : ℕ). n == session.number) waits ∙ past_zero in
-        let started : begun_sittings (Some seat) (Some new) ≡ sitting_in new ∷ [] = ap (λ (b : Bool). if b then [] else sitting_in new ∷ []) apart in
-        let so_far = heard_so_far now (Some seat) past heard (hears_grown sent more (Some seat) past heard h) in
-        hears_as now refl (ap (λ xs. past ++ xs) (sym started)) (ap (λ xs. heard ++ xs) (between_none new.place (now new.session)))
-        (Listening new past (sitting_in new) heard so_far refl (omega arith) (omega (arith, start)))
-    hears_step C id before later bytes (HeLeaves seat left) past heard h =
-        hears_grown sent more None (past ++ []) (heard ++ [])
-        (unchanged None past [] heard refl (Idle past heard (heard_so_far sent (Some seat) past heard h)))
-    hears_step C id before later bytes (HeIsEnded seat rule cause) past heard h =
-        hears_grown sent more None (past ++ []) (heard ++ [])
-        (unchanged None past [] heard refl (Idle past heard (heard_so_far sent (Some seat) past heard h)))
+  -- where nothing happens any more
+  nothing_next : (id : ℕ) (seat : Option Seat) → seat_of w.seats id ≡ seat → IsNext all seat []
+  nothing_next id None has = refl
+  nothing_next id (Some seat) has = nothing_first id seat has
 
 -- what was sent so far is what the sessions have
 
@@ -273,34 +238,41 @@ module _ (w : World) (s : IsSound w) (sent : ℕ → List ℕ) (h : Sent w sent)
     none_yet : (id : ℕ) (peer : Peer) → standing_of (world_after w event) id ≡ Undecided peer → sent id ++ delivered_at w event id ≡ []
     none_yet id peer e = by_before id peer (undecided_before w s event id peer e)
 
--- from any state on: what was heard so far and what the events hand out are stretches of what was sent so far and what they deliver
-all_stretches : (w : World) → IsSound w → (sent : ℕ → List ℕ) → Sent w sent → (id : ℕ) (past : List Sitting) (heard : List ℕ)
-    → Hears sent (seat_of w.seats id) past heard → (events : List Event)
-    → AreStretches (λ n. sent n ++ delivered w events n) (past ++ sittings w events id) (heard ++ handed w events id)
-all_stretches w s sent h id past heard so_far [] =
-    subst (λ (xs : List Sitting). AreStretches (λ n. sent n ++ []) xs (heard ++ [])) (sym (append-nil past))
-    (subst (λ (bytes : List ℕ). AreStretches (λ n. sent n ++ []) past bytes) (sym (append-nil heard))
-    (grown_stretches sent (λ n. []) past heard (heard_so_far sent (seat_of w.seats id) past heard so_far)))
-all_stretches w s sent h id past heard so_far (event ∷ events) =
+abbrev cut_from : World → List Event → ℕ → Cut ℕ
+cut_from w events id = cut_at_sittings (λ v event. handed_at v event id) w events id
+
+-- from any state on, what the events hand out is cut into slices of what was sent so far and what they deliver
+all_cut : (w : World) → IsSound w → (sent : ℕ → List ℕ) → Sent w sent → (id : ℕ) (events : List Event)
+    → IsCutSo (λ n. sent n ++ delivered w events n) (seat_of w.seats id) (sittings w events id) (cut_from w events id)
+all_cut w s sent h id [] = (nothing_next w s sent (λ n. []) (whole_heard w sent h) id (seat_of w.seats id) refl, tt)
+all_cut w s sent h id (event ∷ events) =
     let later = world_after w event in
-    let step = seats_step w s event id in
-    let begun = begun_sittings (seat_of w.seats id) (seat_of later.seats id) in
-    let bytes = handed_at w event id in
-    let more = λ (n : ℕ). delivered_at w event n in
-    let now = λ (n : ℕ). sent n ++ more n in
-    let sent_now = sent_step w s sent h event in
-    let heard_now = hears_step w s sent (whole_heard w sent h) event more (whole_heard later now sent_now) (Finishes w event id) id
-    (seat_of w.seats id) (seat_of later.seats id) bytes step past heard so_far in
-    let rest = all_stretches later (sound_after w s event) now sent_now id (past ++ begun) (heard ++ bytes) heard_now events in
-    same_stretches (λ n. now n ++ delivered later events n) (λ n. sent n ++ (more n ++ delivered later events n))
-    (λ n. append_assoc (sent n) (more n) (delivered later events n)) (past ++ (begun ++ sittings later events id))
-    (heard ++ (bytes ++ handed later events id))
-    (subst (λ (xs : List Sitting). AreStretches (λ n. now n ++ delivered later events n) xs (heard ++ (bytes ++ handed later events id)))
-    (append_assoc past begun (sittings later events id))
-    (subst (λ (xs : List ℕ). AreStretches (λ n. now n ++ delivered later events n) ((past ++ begun) ++ sittings later events id) xs)
-    (append_assoc heard bytes (handed later events id)) rest))
+    let comes = λ (n : ℕ). delivered_at w event n in
+    let more = λ (n : ℕ). delivered later events n in
+    let rest = all_cut later (sound_after w s event) (λ n. sent n ++ comes n) (sent_step w s sent h event) id events in
+    cut_step w s sent (λ n. comes n ++ more n) (whole_heard w sent h) event (Finishes w event id) id (seat_of w.seats id) (seat_of later.seats id)
+    (handed_at w event id) (seats_step w s event id) refl (sittings later events id) (cut_from later events id)
+    (subst (λ (all : ℕ → List ℕ). IsCutSo all (seat_of later.seats id) (sittings later events id) (cut_from later events id))
+    (fun_ext (λ n. append_assoc (sent n) (comes n) (more n))) rest)
+
+pub stretches_cut : (settings : Settings) (lists : Lists) (events : List Event) → StretchesAreCut settings lists events
+stretches_cut settings lists events id =
+    all_cut (opening settings lists) (sound_opening settings lists) (λ n. [])
+    (record { whole = λ mount session e. cc; by_nobody = refl; none_yet = λ n peer e. cc; none_above = λ n h. refl }) id events
+
+-- joined, they are all that is handed
+handed_cut : (w : World) (events : List Event) (id : ℕ) → (cut_from w events id).before ++ concat (cut_from w events id).each ≡ handed w events id
+handed_cut w [] id = refl
+handed_cut w (event ∷ events) id =
+    let later = world_after w event in
+    cut_joined (handed_at w event id) (begun_sittings (seat_of w.seats id) (seat_of later.seats id)) (cut_from later events id)
+    ∙ ap (λ (xs : List ℕ). handed_at w event id ++ xs) (handed_cut later events id)
 
 pub stretches_hold : (settings : Settings) (lists : Lists) (events : List Event) → StretchesAreWhole settings lists events
 stretches_hold settings lists events id =
-    all_stretches (opening settings lists) (sound_opening settings lists) (λ n. [])
-    (record { whole = λ mount session e. cc; by_nobody = refl; none_yet = λ n peer e. cc; none_above = λ n h. refl }) id [] [] (Idle [] [] refl) events
+    let w = opening settings lists in
+    let cut = cut_from w events id in
+    let slices = stretches_cut settings lists events id in
+    subst (AreStretches (delivered w events) (sittings w events id))
+    (ap (λ (xs : List ℕ). xs ++ concat cut.each) (sym slices.0) ∙ handed_cut w events id)
+    (joined_slices (delivered w events) (sittings w events id) cut.each slices.1)

@@ -1,5 +1,5 @@
 -- What is denied, and that it is denied by the policy.
-use Rattle.std.specs.Prelude.{◌≡◌, ℕ, true, false, Option, Some}
+use Rattle.std.specs.Prelude.{◌≡◌, ℕ, true, false, List, Option, Some}
 use Rattle.radio_policy.specs.declared.rule.Rule.{Rule}
 use Rattle.radio_policy.specs.declared.rule.Rule.TheVariants.{AddressDenied, AddressNotAllowed, NoMount}
 use Rattle.radio_policy.specs.Verdicts.{Denies}
@@ -7,22 +7,27 @@ use Rattle.radio_addr.specs.declared.peer.Peer.{Peer}
 use Rattle.radio_creds.specs.Credentials.{Credentials}
 use Rattle.radio_settings.specs.declared.settings.MountSetting.{MountSetting}
 use Rattle.radio_settings.specs.declared.settings.RelaySetting.{RelaySetting}
+use Rattle.radio_settings.specs.declared.web.WebPath.{WebPath}
 use Rattle.radio_settings.specs.Options.{options_for}
+use Rattle.radio_values.specs.declared.field.Shown.{Shown}
 use Rattle.radio_access.specs.Lists.{is_denied, is_allowed}
 use Rattle.radio_access.specs.ContentTypes.{is_refused_type}
 use Rattle.radio_tables.specs.Lists.{Has}
 use Rattle.radio_events.specs.declared.event.Event.{Event}
-use Rattle.radio_events.specs.declared.event.Event.TheVariants.{Arrive, Source, Listen}
+use Rattle.radio_events.specs.declared.event.Event.TheVariants.{Arrive, Source, Push, Listen, Command, RelayUp}
 use Rattle.radio_events.specs.declared.event.SourceRequest.{SourceRequest}
 use Rattle.radio_events.specs.declared.event.ListenRequest.{ListenRequest}
+use Rattle.radio_events.specs.declared.command.CommandRequest.{CommandRequest}
 use Rattle.radio_events.specs.declared.reply.Reply.TheVariants.{Feeding, Deny}
 use Rattle.radio_events.specs.Events.{client_in}
 use Rattle.radio_house.specs.declared.clients.ClientState.TheVariants.{Undecided, Answered}
+use Rattle.radio_house.specs.declared.standing.Standing.TheVariants.{Feeds}
 use Rattle.radio_house.specs.Clients.{Client, client_of}
 use Rattle.radio_parts.specs.Sessions.{Session, session_of}
 use Rattle.radio_core.specs.Step.{reply_to, world_after}
 use Rattle.radio_core.specs.Ways.{rows_for, IsUndecided}
-use Rattle.radio_house.specs.World.{World}
+use Rattle.radio_house.specs.World.{World, standing_of}
+use Rattle.radio_laws.specs.Shown.{IsPath}
 
 -- the state as it was, but that the client who asked, if he had asked for nothing before, has had his answer
 pub record IsOnlyAnswered (w later : World) (client : Option ℕ) : Type 0 where
@@ -42,6 +47,20 @@ pub record IsOnlyAnswered (w later : World) (client : Option ℕ) : Type 0 where
 abbrev pub DenialsAreThePolicys : World → Event → Type 0
 DenialsAreThePolicys w event = (rule : Rule) → reply_to w event ≡ Deny rule
     → Denies (rows_for w event) rule × IsOnlyAnswered w (world_after w event) (client_in event)
+
+-- the event asks the policy: a connection arrives; a client who has asked for nothing yet asks to feed a mount, or to listen at a path that is none of the
+-- web site's, or gives a command; a source sends a block; a relay comes up
+pub data AsksThePolicy (w : World) : Event → Type 0 where
+  ToArrive : (peer : Peer) → AsksThePolicy w (Arrive peer)
+  ToFeed : (asked : SourceRequest) → IsUndecided w asked.id → AsksThePolicy w (Source asked)
+  ToSend : (id : ℕ) (mount block : List ℕ) → standing_of w id ≡ Feeds mount → AsksThePolicy w (Push id block)
+  ToListen : (asked : ListenRequest) → IsUndecided w asked.id → ((path : WebPath) → IsPath w asked.mount path → ⊥) → AsksThePolicy w (Listen asked)
+  ToCommand : (asked : CommandRequest) → IsUndecided w asked.id → AsksThePolicy w (Command asked)
+  ToComeUp : (mount : List ℕ) (shown : Shown) → AsksThePolicy w (RelayUp mount shown)
+
+-- the policy is obeyed where it denies: the reply denies by the first rule whose condition holds
+abbrev pub ThePolicyDenies : World → Event → Type 0
+ThePolicyDenies w event = AsksThePolicy w event → (rule : Rule) → Denies (rows_for w event) rule → reply_to w event ≡ Deny rule
 
 -- whoever comes from an address that the deny list has is denied for it, whatever else holds; and where an allow list does not have it, for that
 pub record AddressesAreDenied (w : World) : Type 0 where

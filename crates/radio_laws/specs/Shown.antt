@@ -31,7 +31,7 @@ use Rattle.radio_events.specs.declared.event.ListenRequest.{ListenRequest}
 use Rattle.radio_events.specs.declared.reply.Reply.TheVariants.{Text as SaysText, Deny}
 use Rattle.radio_policy.specs.declared.rule.Rule.TheVariants.{BadMount}
 use Rattle.radio_events.specs.declared.text.Text.{Text}
-use Rattle.radio_events.specs.declared.text.Text.TheVariants.{Json, Streams as StreamList, Public, Page}
+use Rattle.radio_events.specs.declared.text.Text.TheVariants.{Done, Moved, Ended, Json, Streams as StreamList, Public, Page}
 use Rattle.radio_events.specs.Texts.{IsShort}
 use Rattle.radio_house.specs.declared.standing.Standing.TheVariants.{Undecided, Answered}
 use Rattle.radio_status.specs.Listings.{mount_rows, listener_rows}
@@ -188,27 +188,32 @@ public_live w = filter (is_public w) w.house.live
 abbrev pub seen_by_all : World → List Seen
 seen_by_all w = map (seen w) (public_live w)
 
--- in two states the two requests are answered by one text
+-- the bytes of a listing, without the headers that go before them
+abbrev pub body_of : Text → List ℕ
+body_of (Json bytes) = bytes
+body_of (StreamList bytes) = bytes
+body_of (Public bytes origin) = bytes
+body_of (Page origin) = []
+body_of Done = []
+body_of (Moved count) = []
+body_of (Ended count) = []
+
+-- in two states the two requests are answered by the same bytes
 abbrev pub AreAnsweredAlike : World → World → Listing → Type 0
 AreAnsweredAlike w v listing = (asked other : CommandRequest) (text said : Text) → asked.asked ≡ AsksFor listing → other.asked ≡ AsksFor listing
-    → reply_to w (Command asked) ≡ SaysText text → reply_to v (Command other) ≡ SaysText said → text ≡ said
+    → reply_to w (Command asked) ≡ SaysText text → reply_to v (Command other) ≡ SaysText said → body_of text ≡ body_of said
 
--- in two states those who ask for Icecast's status and call the server by one host are answered by one text, where the servers have one address
+-- in two states those who ask for Icecast's status and call the server by one host are answered by the same bytes, where the servers have one address
 abbrev pub AreVisitedAlike : World → World → Type 0
 AreVisitedAlike w v = (asked other : ListenRequest) (text said : Text) → IsPath w asked.mount IcecastStatus → IsPath v other.mount IcecastStatus → asked.host ≡ other.host
     → w.house.settings.listen.address ≡ v.house.settings.listen.address → w.house.settings.listen.port ≡ v.house.settings.listen.port
-    → reply_to w (Listen asked) ≡ SaysText text → reply_to v (Listen other) ≡ SaysText said → text ≡ said
+    → reply_to w (Listen asked) ≡ SaysText text → reply_to v (Listen other) ≡ SaysText said → body_of text ≡ body_of said
 
--- what everybody may see, and whose pages may read it
-pub record LooksAlike (w v : World) : Type 0 where
-  pub mounts : seen_by_all w ≡ seen_by_all v
-  pub readers : w.house.settings.web.allow_origin ≡ v.house.settings.web.allow_origin
-
--- two states that agree on what everybody may see show everybody and every relay the same, whatever else they hold; and those with equal rows
--- for a viewer show him the same
+-- two states that agree on what everybody may see of the live mounts show everybody and every relay the same bytes, whatever else they hold; and those with
+-- equal rows for a viewer show him the same
 pub record SightIsKept (w v : World) : Type 0 where
-  pub status : LooksAlike w v → AreAnsweredAlike w v Status
-  pub icecast : LooksAlike w v → AreVisitedAlike w v
+  pub status : seen_by_all w ≡ seen_by_all v → AreAnsweredAlike w v Status
+  pub icecast : seen_by_all w ≡ seen_by_all v → AreVisitedAlike w v
   pub streams : seen_by_all w ≡ seen_by_all v → AreAnsweredAlike w v Streams
   pub stats : mount_rows w ≡ mount_rows v → length w.house.clients ≡ length v.house.clients → AreAnsweredAlike w v Stats
   pub mounts : mount_rows w ≡ mount_rows v → AreAnsweredAlike w v Mounts

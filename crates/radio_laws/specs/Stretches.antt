@@ -4,7 +4,7 @@ use Rattle.radio_settings.specs.declared.settings.Settings.{Settings}
 use Rattle.radio_access.specs.Lists.{Lists}
 use Rattle.radio_events.specs.declared.event.Event.{Event}
 use Rattle.radio_seats.specs.declared.seat.Seat.{Seat}
-use Rattle.radio_core.specs.Handing.{handed, delivered}
+use Rattle.radio_core.specs.Handing.{handed, handed_at, delivered}
 use Rattle.radio_seats.specs.Seats.{seat_of}
 use Rattle.radio_parts.specs.Sessions.{Session, session_of}
 use Rattle.radio_core.specs.Step.{world_after}
@@ -38,6 +38,34 @@ abbrev pub sittings : World → List Event → ℕ → List Sitting
 sittings w [] id = []
 sittings w (event ∷ events) id = begun_sittings (seat_of w.seats id) (seat_of (world_after w event).seats id) ++ sittings (world_after w event) events id
 
+-- the bytes are one slice of the data that the source of the sitting has sent, from where the sitting began
+abbrev pub IsSlice : (ℕ → List ℕ) → Sitting → List ℕ → Type 0
+IsSlice sent sitting bytes = (stop : ℕ) × (sitting.start ≤ stop) × (stop ≤ length (sent sitting.source)) × (bytes ≡ between sitting.start stop (sent sitting.source))
+
+-- one slice for each sitting, in their order
+abbrev pub AreSlices : (ℕ → List ℕ) → List Sitting → List (List ℕ) → Type 0
+AreSlices sent [] [] = Unit {0}
+AreSlices sent (sitting ∷ others) (bytes ∷ rest) = IsSlice sent sitting bytes × AreSlices sent others rest
+AreSlices sent [] (bytes ∷ rest) = ⊥
+AreSlices sent (sitting ∷ others) [] = ⊥
+
+-- what comes to a listener, cut where it sits down: what comes before its first sitting, and what comes in each
+pub record Cut (A : Type 0) : Type 0 where
+  pub before : List A
+  pub each : List (List A)
+
+-- this comes first, and the listener sits down then, if these sittings say so
+abbrev pub cut_behind : {A : Type 0} → List A → List Sitting → Cut A → Cut A
+cut_behind xs [] later = record { before = xs ++ later.before; each = later.each }
+cut_behind xs (sitting ∷ others) later = record { before = xs; each = later.before ∷ later.each }
+
+-- what each event brings, cut where the listener sits down
+abbrev pub cut_at_sittings : {A : Type 0} → (World → Event → List A) → World → List Event → ℕ → Cut A
+cut_at_sittings brings w [] id = record { before = []; each = [] }
+cut_at_sittings brings w (event ∷ events) id =
+    cut_behind (brings w event) (begun_sittings (seat_of w.seats id) (seat_of (world_after w event).seats id))
+    (cut_at_sittings brings (world_after w event) events id)
+
 -- the bytes are stretches, joined in order: one for each sitting, contiguous in the data that its source has sent, from where the sitting began
 abbrev pub AreStretches : (ℕ → List ℕ) → List Sitting → List ℕ → Type 0
 AreStretches sent [] bytes = bytes ≡ []
@@ -48,6 +76,12 @@ AreStretches sent (sitting ∷ others) bytes = (stop : ℕ) × (rest : List ℕ)
 abbrev pub StretchesAreWhole : Settings → Lists → List Event → Type 0
 StretchesAreWhole settings lists events = (id : ℕ) → AreStretches (delivered (opening settings lists) events) (sittings (opening settings lists) events id)
     (handed (opening settings lists) events id)
+
+-- over every run, what a listener is handed from one sitting to the next, or to the end, is one slice of what the source delivered in whose session it
+-- sits, from where it sat down; and before the first it is handed nothing
+abbrev pub StretchesAreCut : Settings → Lists → List Event → Type 0
+StretchesAreCut settings lists events = (id : ℕ) → let w = opening settings lists in let cut = cut_at_sittings (λ v event. handed_at v event id) w events id in
+    (cut.before ≡ []) × AreSlices (delivered w events) (sittings w events id) cut.each
 
 -- through an event, a listener who keeps a seat keeps all of it but his place, which does not go back; or a session begins at his mount, which waited for
 -- one, and he hears it from its start; or a move that the event brings has taken him, at his turn, to the end of the stream of the mount where his walk

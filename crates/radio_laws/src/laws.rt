@@ -9,7 +9,7 @@ ghost use Rattle.radio_events.specs.declared.event.Event.{Event};
 ghost use Rattle.radio_events.specs.declared.event.ListenRequest.{ListenRequest};
 ghost use Rattle.radio_core.specs.Run.{run_after};
 ghost use Rattle.radio_events.specs.Events.{client_in};
-ghost use Rattle.radio_laws.specs.Denials.{DenialsAreThePolicys, AddressesAreDenied, OnlySourcesFeed, KnownMountsAreKnown};
+ghost use Rattle.radio_laws.specs.Denials.{DenialsAreThePolicys, ThePolicyDenies, AddressesAreDenied, OnlySourcesFeed, KnownMountsAreKnown};
 ghost use Rattle.radio_laws.specs.FinishesTold.{FinishedAreTold};
 ghost use Rattle.radio_laws.specs.Access.{AccessIsKept};
 ghost use Rattle.radio_laws.specs.LastMounts.{IsLastWhereHeSits, FinishedWhereHeSat, EndedByClockWhereTheySat, FinishedRowsStay};
@@ -18,7 +18,7 @@ ghost use Rattle.radio_laws.specs.LimitDenials.{DeniesByLimits};
 ghost use Rattle.radio_laws.specs.Admission.{BeginsAtABlock};
 ghost use Rattle.radio_laws.specs.Service.{Serves, ChangesNothing};
 ghost use Rattle.radio_laws.specs.OnDemand.{WaitsOnDemand, WantedAreSatAt};
-ghost use Rattle.radio_laws.specs.Stretches.{StretchesAreWhole, SeatsKeepTheirMounts};
+ghost use Rattle.radio_laws.specs.Stretches.{StretchesAreWhole, StretchesAreCut, SeatsKeepTheirMounts};
 ghost use Rattle.radio_laws.specs.WalkingOn.{ListenersWalkOn, MovesAreWhole};
 ghost use Rattle.radio_laws.specs.Commanded.{OnlyWhoMayCommands, WhoMayIsServed, CommandsAreKept, FallbacksStay, KilledHearNothing};
 ghost use Rattle.radio_laws.specs.Users.{UsersStep, SittersAreLetIn};
@@ -40,6 +40,8 @@ pub fn denials_are_the_policys()
     // nothing has changed but that an undecided client has had his answer
     ensures denied { (settings : Settings) (lists : Lists) (events : List Event) (event : Event)
         → DenialsAreThePolicys (run_after settings lists events) event }
+    // and what the policy denies is denied: where it is asked, the reply denies by its first rule
+    ensures denies { (settings : Settings) (lists : Lists) (events : List Event) (event : Event) → ThePolicyDenies (run_after settings lists events) event }
     // an address that the lists deny is denied for it, whatever else holds
     ensures addresses { (settings : Settings) (lists : Lists) (events : List Event) → AddressesAreDenied (run_after settings lists events) }
     // a source feeds only with the user and the password of the mount's source, byte for byte, and a type that is carried
@@ -125,6 +127,8 @@ pub fn stretches_are_whole()
     // each a contiguous slice, without gap or repeat, of what the source delivered in whose session
     // he sat
     ensures stretches { (settings : Settings) (lists : Lists) (events : List Event) → StretchesAreWhole settings lists events }
+    // and they are cut where he sits down: what he is handed from one sitting to the next is one of them, whole
+    ensures cut { (settings : Settings) (lists : Lists) (events : List Event) → StretchesAreCut settings lists events }
     // and through each event a listener who keeps a seat keeps all of it but his place, and does not go back; or a session
     // begins where he waited for one, and he hears it from its start; or a move takes him to the end of another stream
     ensures mounts { (settings : Settings) (lists : Lists) (events : List Event) (event : Event)

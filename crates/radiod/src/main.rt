@@ -22,7 +22,8 @@ use crate::help::{write_help, write_version};
 use crate::log::{ProgramLog, say, say_unknown};
 use crate::serving::{serve_station, web_of};
 use crate::words::read_words;
-use radio_floor::{Tally, play};
+use radio_floor::Tally;
+use radio_headline::play;
 use radio_startup::{
     Call, FileFault, SettingsText, Station, SystemFiles, read_station, read_text, warn,
 };

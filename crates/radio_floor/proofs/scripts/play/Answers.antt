@@ -1,6 +1,7 @@
 use Rattle.radio_script.specs.Plays.{Plays, Writes}
 use Rattle.radio_floor.specs.Transcript.{PlaysScript}
-use Rattle.radio_floor.proofs.ServerSimulation.{server_conduct, server_plays, known-weaker, writes-weaker}
+use Rattle.radio_floor.proofs.ServerSimulation.{server_conduct, server_plays}
+use Rattle.radio_floor.proofs.Weakened.{known-weaker, writes-weaker}
 use Rattle.radio_floor.proofs.scripts.play.Goals as goal
 
 pub returns-clause-plays : goal.returns-clause-plays

@@ -51,7 +51,7 @@ returns c web settings lists deliveries text stop transcript =
         is_request = listens_so web settled within joined places found settings lists fits adds steps deliveries came.performed came.rest came.parts transcript.0
             came.course came.told stands.each stands.nowhere label asked past later parts;
         is_given = given_by web settings lists fits adds steps access served (λ rows. (c.denials_name_the_first_rule.ensures.allows rows).0) denied seated
-            (c.draws_are_stretches.ensures.slices settings lists) c.listeners_are_told_what_they_draw.ensures.joined c.listeners_are_told_what_they_draw.ensures.plain
+            (c.draws_are_stretches.ensures.slices settings lists) (c.draws_are_stretches.ensures.cut settings lists) c.listeners_are_told_what_they_draw.ensures.joined c.listeners_are_told_what_they_draw.ensures.plain
             c.listeners_are_told_what_they_draw.ensures.woven c.listeners_are_told_what_they_draw.ensures.taken_out came.performed transcript.0 came.course came.told
             stands.world stands.each stands.nowhere deliveries
             (shown_by_source settings lists sessions mounts keeps nobody deliveries came.course bodies sounds stands.nowhere)
@@ -59,7 +59,7 @@ returns c web settings lists deliveries text stop transcript =
       };
       commands = λ label asked past later parts.
           answered_by web settings lists fits adds steps access served (λ rows. (c.denials_name_the_first_rule.ensures.allows rows).0) denied seated
-          (c.draws_are_stretches.ensures.slices settings lists) c.listeners_are_told_what_they_draw.ensures.joined c.listeners_are_told_what_they_draw.ensures.plain
+          (c.draws_are_stretches.ensures.slices settings lists) (c.draws_are_stretches.ensures.cut settings lists) c.listeners_are_told_what_they_draw.ensures.joined c.listeners_are_told_what_they_draw.ensures.plain
           c.listeners_are_told_what_they_draw.ensures.woven c.listeners_are_told_what_they_draw.ensures.taken_out came.performed transcript.0 came.course came.told
           stands.world stands.each stands.nowhere deliveries
           (shown_by_source settings lists sessions mounts keeps nobody deliveries came.course bodies sounds stands.nowhere)
@@ -76,4 +76,14 @@ returns c web settings lists deliveries text stop transcript =
           source_answered web settled within joined places found settings lists fits adds steps deliveries came.performed came.rest came.parts transcript.0
           came.course came.told stands.each stands.nowhere label asked past later parts denied;
       relays = sounds;
+      last_words = record {
+        arrivals = c.last_words_are_told.ensures.arrivals;
+        denied = c.last_words_are_told.ensures.denied;
+        refused = c.last_words_are_told.ensures.refused;
+        finished = c.last_words_are_told.ensures.finished;
+        command = c.last_words_are_told.ensures.command;
+        faulty = c.last_words_are_told.ensures.faulty;
+        whole = c.last_words_are_told.ensures.whole;
+        done = c.last_words_are_told.ensures.done;
+      };
     }

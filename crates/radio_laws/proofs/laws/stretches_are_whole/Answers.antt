@@ -1,11 +1,14 @@
 use Rattle.radio_core.specs.Run.{run_after}
 use Rattle.radio_core.proofs.SoundRuns.{sound_run}
 use Rattle.radio_laws.proofs.MountLemmas.{mounts_kept}
-use Rattle.radio_laws.proofs.StretchLemmas.{stretches_hold}
+use Rattle.radio_laws.proofs.StretchLemmas.{stretches_cut, stretches_hold}
 use Rattle.radio_laws.proofs.laws.stretches_are_whole.Goals as goal
 
 pub returns-clause-stretches : goal.returns-clause-stretches
 returns-clause-stretches c settings lists events = stretches_hold settings lists events
+
+pub returns-clause-cut : goal.returns-clause-cut
+returns-clause-cut c settings lists events = stretches_cut settings lists events
 
 pub returns-clause-mounts : goal.returns-clause-mounts
 returns-clause-mounts c settings lists events event = mounts_kept (run_after settings lists events) (sound_run settings lists events) event
