@@ -29,9 +29,9 @@ is_run opening entries taken (Ok history) same run is = subst (λ (xs : List Ent
 is_run opening entries taken (Err fault) same run is = tt
 
 -- a fault is that of a history that is a run
-pub shown : {T : Type 0} (opening : World) (stored : List Entry) (core : World) (passes : List (List ReceiptOf)) (result : Result T SettleFault)
-    → ∥ IsTold true opening stored core ∥₁ → IfErr result (λ fault. Shows (map Made stored) [] passes fault)
-    → IfErr result (λ fault. ∥ ((history : List Entry) × IsRun opening history × Shows (map Made history) [] passes fault) ∥₁)
-shown opening stored core passes (Ok history) told shows = tt
-shown opening stored core passes (Err fault) told shows =
+pub shown : {T : Type 0} (opening renewed : World) (stored : List Entry) (core : World) (passes : List (List ReceiptOf)) (result : Result T SettleFault)
+    → ∥ IsTold true opening stored core ∥₁ → IfErr result (λ fault. Shows renewed (map Made stored) [] passes fault)
+    → IfErr result (λ fault. ∥ ((history : List Entry) × IsRun opening history × Shows renewed (map Made history) [] passes fault) ∥₁)
+shown opening renewed stored core passes (Ok history) told shows = tt
+shown opening renewed stored core passes (Err fault) told shows =
     ∥∥₁_map told (λ (t : IsTold true opening stored core). (stored, subst (λ h. IsRun opening h) (sym (t.kept refl)) t.run, shows))

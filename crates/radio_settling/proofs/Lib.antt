@@ -1,3 +1,4 @@
 mod Settled
 mod ControlAlone
 mod Books
+mod Twins

@@ -8,6 +8,7 @@ use Rattle.std.proofs.lemmas.List.Elements.{All-cons, All-head, All-map, All-nil
 use Rattle.std.proofs.lemmas.List.Sums.{sum_by_more, sum_by-take-le}
 use Rattle.std.proofs.lemmas.List.Concat.{flat_map-append, length-flat_map}
 use Rattle.std.proofs.Math.Path.{fun_ext}
+use Rattle.radio_house.specs.World.{World}
 use Rattle.radio_chronicle.specs.declared.stamp.Stamp.{Stamp}
 use Rattle.radio_chronicle.specs.Stamps.{stamp}
 use Rattle.radio_book.specs.Receipts.{ReceiptOf}
@@ -15,7 +16,7 @@ use Rattle.radio_merge.specs.declared.family.MountItem.{MountItem}
 use Rattle.radio_merge.specs.Merged.{IsSubsequence}
 use Rattle.radio_merge.specs.declared.family.ControlLine.{ControlLine}
 use Rattle.radio_settling.specs.declared.fault.SettleFault.{SettleFault}
-use Rattle.radio_settling.specs.Settling.{AllRise, AllStand, IsCounted, Shows, all_places, all_stamps, is_same_place, stamps, times}
+use Rattle.radio_settling.specs.Settling.{AllRise, AllStand, AreMerged, IsCounted, IsEachOnce, Shows, all_places, all_stamps, is_same_place, stamps, times}
 
 -- the places of one pass more
 pub stamps_more : (passes : List (List ReceiptOf)) (i : ℕ) (d : List ReceiptOf) (before after : List Stamp) → i < length passes
@@ -70,10 +71,10 @@ copies_more passes i d copies copy below are one =
     ∙ sym (ap (λ (xs : List (List ReceiptOf)). map stamps xs) (take_more passes i d below) ∙ map-append stamps (take i passes) (get_or passes i d ∷ []))
 
 -- what a wrong count shows
-pub counted : (control : List ControlLine) (mounts : List (List MountItem)) (passes : List (List ReceiptOf)) (receipts : ℕ) (fault : SettleFault)
-    → AllStand control mounts passes → AllRise (length mounts + 1) passes → receipts ≡ sum_by length passes
-    → IsCounted (length (all_places control mounts)) receipts fault → Shows control mounts passes fault
-counted control mounts passes receipts fault stand rise are (inl refused) =
-    subst (λ (f : SettleFault). Shows control mounts passes f) (sym refused) tt
-counted control mounts passes receipts fault stand rise are (inr wrong) =
-    subst (λ (f : SettleFault). Shows control mounts passes f) (sym wrong) (stand, (rise, refl, are))
+pub counted : (opening : World) (control : List ControlLine) (mounts : List (List MountItem)) (passes : List (List ReceiptOf)) (receipts : ℕ) (fault : SettleFault)
+    → AllStand control mounts passes → IsEachOnce (all_stamps passes) → AllRise (length mounts + 1) passes → AreMerged opening control mounts passes
+    → receipts ≡ sum_by length passes → IsCounted (length (all_places control mounts)) receipts fault → Shows opening control mounts passes fault
+counted opening control mounts passes receipts fault stand once rise merged are (inl refused) =
+    subst (λ (f : SettleFault). Shows opening control mounts passes f) (sym refused) tt
+counted opening control mounts passes receipts fault stand once rise merged are (inr wrong) =
+    subst (λ (f : SettleFault). Shows opening control mounts passes f) (sym wrong) (stand, (once, rise, merged, refl, are))

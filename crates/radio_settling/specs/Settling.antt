@@ -3,8 +3,12 @@ use Rattle.std.specs.Prelude.{◌≡◌, ◌≢◌, ◌⊎◌, ℕ, ◌+◌, ◌
 use Rattle.std.specs.Prelude.{All, Any, count_by, filter, get_or, length, map, slice_get, sum_by}
 use Rattle.std.specs.List.{flat_map}
 use Rattle.std.specs.List.Sorted.{IsPermutation}
+use Rattle.std.specs.Ordering.{nat_cmp, ordering_then}
+use Rattle.std.specs.declared.cmp.Ordering.{Ordering}
 use Rattle.std.specs.Option.{is_some, option_and_then}
 use Rattle.radio_events.specs.declared.entry.Entry.{Entry}
+use Rattle.radio_house.specs.World.{World}
+use Rattle.radio_chronicle.specs.History.{IsRun}
 use Rattle.radio_chronicle.specs.declared.stamp.Stamp.{Stamp}
 use Rattle.radio_chronicle.specs.Stamps.{stamp}
 use Rattle.radio_merge.specs.declared.family.ControlLine.{ControlLine}
@@ -62,6 +66,14 @@ is_same_place a b = (a.list == b.list) && (a.serial == b.serial)
 abbrev pub times : Stamp → List Stamp → ℕ
 times at places = count_by (is_same_place at) places
 
+-- no place is there twice
+abbrev pub IsEachOnce : List Stamp → Type 0
+IsEachOnce places = (at : Stamp) → times at places ≤ 1
+
+-- places by their lists, and those of one list by their serials
+abbrev pub place_order : Stamp → Stamp → Ordering
+place_order one other = ordering_then (nat_cmp one.list other.list) (nat_cmp one.serial other.serial)
+
 -- no place is next to its equal
 abbrev pub HasNoTwins : List Stamp → Type 0
 HasNoTwins places = (i : ℕ) → i + 1 < length places → get_or places i (stamp 0 0) ≢ get_or places (i + 1) (stamp 0 0)
@@ -102,32 +114,44 @@ of_merge MergesOutOfMemory = OutOfMemory
 abbrev pub IsStrange : List ControlLine → List (List MountItem) → Stamp → ReceiptOf → Type 0
 IsStrange control mounts at receipt = (receipt.stamp ≡ at) × (StandsIn control mounts receipt → ⊥)
 
--- what the passes show over so many lists with so many entries when all receipts are at their places: a place twice, or a pass out of order in one list; or
--- that each pass is in order, if it is the merge that finds no order or another reply, or the count is wrong
-abbrev pub ShowsByPlaces : ℕ → ℕ → List (List ReceiptOf) → SettleFault → Type 0
-ShowsByPlaces lists entries passes (Twice at) = 2 ≤ times at (all_stamps passes)
-ShowsByPlaces lists entries passes (OutOfOrder seen got) = OneFalls seen got passes ⊎ AllRise lists passes
-ShowsByPlaces lists entries passes (Unlike at) = AllRise lists passes
-ShowsByPlaces lists entries passes (Count book receipts) = AllRise lists passes × (book ≡ entries) × (receipts ≡ sum_by length passes)
-ShowsByPlaces lists entries passes (Strange at) = ⊥
-ShowsByPlaces lists entries passes OutOfMemory = Unit {0}
-
--- what the lists and all passes show if this is their fault
-abbrev pub Shows : List ControlLine → List (List MountItem) → List (List ReceiptOf) → SettleFault → Type 0
-Shows control mounts passes OutOfMemory = Unit {0}
-Shows control mounts passes (Strange at) = Any (λ pass. Any (IsStrange control mounts at) pass) passes
-Shows control mounts passes fault =
-    AllStand control mounts passes × ShowsByPlaces (length mounts + 1) (length (all_places control mounts)) passes fault
-
--- so many entries have so many receipts, if it is this that is wrong
-abbrev pub IsCounted : ℕ → ℕ → SettleFault → Type 0
-IsCounted entries receipts fault = (fault ≡ OutOfMemory) ⊎ (fault ≡ Count entries receipts)
-
 -- the history is a merge of the lists, which keeps the order of each pass
 pub record MergesPasses (control : List ControlLine) (mounts : List (List MountItem)) (passes : List (List ReceiptOf)) (history : List Entry) : Type 0 where
   pub order : List Stamp
   pub merge : IsMerge control mounts order history
   pub keeps : All (λ pass. IsSubsequence (stamps pass) order) passes
+
+-- the lists merge in an order that keeps that of each pass, and a core that steps through them from this state gives the same replies
+abbrev pub AreMerged : World → List ControlLine → List (List MountItem) → List (List ReceiptOf) → Type 0
+AreMerged opening control mounts passes = (history : List Entry) × IsRun opening history × MergesPasses control mounts passes history
+
+-- Which fault is named: the first of this order that shows.
+--   Strange     a receipt is not at its place
+--   Twice       else two receipts have one place
+--   OutOfOrder  else a pass has two receipts of one list that do not rise
+--   OutOfOrder, Unlike  else the merge finds no order, or a core that steps through it gives another reply
+--   Count       else the lists have other entries than the passes have receipts
+
+-- what shows when each receipt is at its place
+abbrev pub ShowsByPlaces : World → List ControlLine → List (List MountItem) → List (List ReceiptOf) → SettleFault → Type 0
+ShowsByPlaces opening control mounts passes (Twice at) = 2 ≤ times at (all_stamps passes)
+ShowsByPlaces opening control mounts passes (OutOfOrder seen got) =
+    IsEachOnce (all_stamps passes) × (OneFalls seen got passes ⊎ AllRise (length mounts + 1) passes)
+ShowsByPlaces opening control mounts passes (Unlike at) = IsEachOnce (all_stamps passes) × AllRise (length mounts + 1) passes
+ShowsByPlaces opening control mounts passes (Count book receipts) =
+    IsEachOnce (all_stamps passes) × AllRise (length mounts + 1) passes × AreMerged opening control mounts passes
+    × (book ≡ length (all_places control mounts)) × (receipts ≡ sum_by length passes)
+ShowsByPlaces opening control mounts passes (Strange at) = ⊥
+ShowsByPlaces opening control mounts passes OutOfMemory = Unit {0}
+
+-- what the lists and all passes show if this is their fault
+abbrev pub Shows : World → List ControlLine → List (List MountItem) → List (List ReceiptOf) → SettleFault → Type 0
+Shows opening control mounts passes OutOfMemory = Unit {0}
+Shows opening control mounts passes (Strange at) = Any (λ pass. Any (IsStrange control mounts at) pass) passes
+Shows opening control mounts passes fault = AllStand control mounts passes × ShowsByPlaces opening control mounts passes fault
+
+-- so many entries have so many receipts, if it is this that is wrong
+abbrev pub IsCounted : ℕ → ℕ → SettleFault → Type 0
+IsCounted entries receipts fault = (fault ≡ OutOfMemory) ⊎ (fault ≡ Count entries receipts)
 
 -- All passes are settled as this history: it merges the lists, each receipt is at its place, and each place of an entry has one receipt in all passes together.
 pub record IsSettled (control : List ControlLine) (mounts : List (List MountItem)) (passes : List (List ReceiptOf)) (history : List Entry) : Type 0 where

@@ -32,7 +32,7 @@ pub fn settle<H: House>(
     ensures settled { IfOk result (λ history. IsSettled (map Made history.items) [] passes.items history.items) }
     ensures total { IfOk result (λ history. length history.items ≡ sum_by length passes.items) }
     // a fault comes only if the passes show it, over a history that is a run from the opening state
-    ensures fault { IfErr result (λ fault. ∥ ((history : List EntryOf) × IsRun H.opening history × Shows (map Made history) [] passes.items fault) ∥₁) }
+    ensures fault { IfErr result (λ fault. ∥ ((history : List EntryOf) × IsRun H.opening history × Shows (opening settings lists) (map Made history) [] passes.items fault) ∥₁) }
 {
     let book = hall.into_book();
     book.is_told();

@@ -1,7 +1,8 @@
 //! The receipts of all passes, by their places.
 
 ghost use Rattle.std.specs.Prelude.{◌≡◌, ◌<◌, ◌≤◌, ◌++◌, ℕ, All, Any, IfOk, IfNone, IfSome, OnOk, IsPermutation, map};
-ghost use Rattle.radio_settling.specs.Settling.{AllRise, AllStand, Falls, HasNoTwins, IsStrange, OneFalls, Rises, StandsIn, all_stamps, serials_in, stamps, times};
+ghost use Rattle.std.specs.List.Sorted.{IsSorted};
+ghost use Rattle.radio_settling.specs.Settling.{AllRise, AllStand, Falls, HasNoTwins, IsStrange, OneFalls, Rises, StandsIn, all_stamps, place_order, serials_in, stamps, times};
 
 use crate::OutOfMemory;
 use crate::places::stands_in;
@@ -56,7 +57,8 @@ pub(crate) fn sorted_stamps<H: House>(
     alloc: Global,
     passes: &[Pass<Kept, H>],
 ) -> Result<Vec<Stamp>, OutOfMemory>
-    ensures { IfOk result (λ sorted. IsPermutation (all_stamps passes.now) sorted.items) }
+    ensures permutation { IfOk result (λ sorted. IsPermutation (all_stamps passes.now) sorted.items) }
+    ensures sorted { IfOk result (λ sorted. IsSorted place_order sorted.items) }
 {
     let mut sorted = Vec::new(alloc);
     for pass in passes {

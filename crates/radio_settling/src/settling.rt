@@ -1,11 +1,11 @@
 //! All passes held against the lists of a server.
 
 ghost use Rattle.std.specs.Prelude.{◌≡◌, ◌+◌, length, map, IfOk, IfErr, OnErr, OnOk, IsTrue, List, IsPermutation, sum_by, []};
-ghost use Rattle.radio_house.specs.World.{opening};
+ghost use Rattle.radio_house.specs.World.{World, opening};
 ghost use Rattle.radio_chronicle.specs.History.{IsRun};
 ghost use Rattle.radio_merge.specs.declared.family.ControlLine.TheVariants.{Made};
 ghost use Rattle.radio_merge.specs.declared.fault.MergeFault.{MergeFault as MergeFaultOf};
-ghost use Rattle.radio_settling.specs.Settling.{AllRise, AllStand, IsCounted, IsSettled, MergesPasses, Shows, all_places, all_stamps, of_merge};
+ghost use Rattle.radio_settling.specs.Settling.{AllRise, AllStand, IsCounted, IsEachOnce, IsSettled, MergesPasses, Shows, all_places, all_stamps, of_merge};
 
 use crate::passes::{find_fall, find_strange, find_twins, sorted_stamps, stamps_of};
 use crate::places::all_places;
@@ -34,8 +34,8 @@ pub fn settle_family<H: House>(
     // it is a merge of the lists; each receipt is at its place, in the order of its pass, and nothing else is there
     ensures settled { IfOk result (λ history. IsSettled family.now.control.items family.now.mounts.items passes.now history.items) }
     ensures total { IfOk result (λ history. length history.items ≡ sum_by length passes.now) }
-    // a fault comes only if the lists and the passes show it, and no fault before it in the order but that of a place twice
-    ensures fault { IfErr result (λ fault. Shows family.now.control.items family.now.mounts.items passes.now fault) }
+    // a fault comes only if the lists and the passes show it, and no fault before it in the order
+    ensures fault { IfErr result (λ fault. Shows (opening settings lists) family.now.control.items family.now.mounts.items passes.now fault) }
 {
     match check_places(alloc, family, passes) {
         Ok(sorted) => settle_placed(alloc, settings, lists, family, passes, sorted),
@@ -55,8 +55,9 @@ fn check_places<H: House>(
 ) -> Result<Vec<Stamp>, SettleFault>
     ensures sorted { IfOk result (λ sorted. IsPermutation (all_stamps passes.now) sorted.items) }
     ensures stand { OnOk result (AllStand family.now.control.items family.now.mounts.items passes.now) }
+    ensures once { OnOk result (IsEachOnce (all_stamps passes.now)) }
     ensures rise { OnOk result (AllRise (length family.now.mounts.items + 1) passes.now) }
-    ensures fault { IfErr result (λ fault. Shows family.now.control.items family.now.mounts.items passes.now fault) }
+    ensures fault { (w : World) → IfErr result (λ fault. Shows w family.now.control.items family.now.mounts.items passes.now fault) }
 {
     if let Some(at) = find_strange(family, passes) {
         return Err(SettleFault::Strange(at));
@@ -84,11 +85,12 @@ fn settle_placed<H: House>(
 ) -> Result<Vec<Entry>, SettleFault>
     requires sorted { IsPermutation (all_stamps passes.now) sorted.items }
     requires stand { AllStand family.now.control.items family.now.mounts.items passes.now }
+    requires once { IsEachOnce (all_stamps passes.now) }
     requires rise { AllRise (length family.now.mounts.items + 1) passes.now }
     ensures run { IfOk result (λ history. IsRun (opening settings lists) history.items) }
     ensures settled { IfOk result (λ history. IsSettled family.now.control.items family.now.mounts.items passes.now history.items) }
     ensures total { IfOk result (λ history. length history.items ≡ sum_by length passes.now) }
-    ensures fault { IfErr result (λ fault. Shows family.now.control.items family.now.mounts.items passes.now fault) }
+    ensures fault { IfErr result (λ fault. Shows (opening settings lists) family.now.control.items family.now.mounts.items passes.now fault) }
 {
     match merge_all(alloc, settings, lists, family, passes) {
         Ok(history) => match check_count(alloc, family, sorted.as_slice(), history.len()) {
@@ -192,7 +194,7 @@ pub fn settle_book<H: House>(
     // each receipt of each pass is at its place, in the order of the pass, and nothing else is there
     ensures settled { IfOk result (λ history. IsSettled (map Made book.history) [] passes.items history.items) }
     ensures total { IfOk result (λ history. length history.items ≡ sum_by length passes.items) }
-    ensures fault { IfErr result (λ fault. Shows (map Made book.history) [] passes.items fault) }
+    ensures fault { IfErr result (λ fault. Shows (opening settings lists) (map Made book.history) [] passes.items fault) }
 {
     match family_of(alloc, book.into_history()) {
         Ok(family) => {

@@ -1,6 +1,7 @@
 use Rattle.std.proofs.Common.{length, subst, sym, ap, ◌∙◌, arith}
 use Rattle.std.specs.List.Sorted.{IsPermutation}
 use Rattle.std.proofs.lemmas.List.Sorted.{IsPermutation-sym, length_permutation}
+use Rattle.radio_house.specs.World.{opening}
 use Rattle.radio_settling.specs.Settling.{all_stamps}
 use Rattle.radio_settling.proofs.Settled.{counted, receipts_of_all}
 use Rattle.radio_settling.proofs.settling.settle_placed.Goals as goal
@@ -31,7 +32,7 @@ returns-in-Ok-check_count-clause-total g c =
 pub returns-in-Ok-clause-fault : goal.returns-in-Ok-clause-fault
 returns-in-Ok-clause-fault g c =
     let all = all_stamps c.args.passes.now in
-    counted c.args.family.now.control.items c.args.family.now.mounts.items c.args.passes.now (length c.as_slice.result.now) c.in-Err-check_count.fault
-    c.requires.stand c.requires.rise
+    counted (opening c.args.settings c.args.lists) c.args.family.now.control.items c.args.family.now.mounts.items c.args.passes.now (length c.as_slice.result.now) c.in-Err-check_count.fault
+    c.requires.stand c.requires.once c.requires.rise (c.in-Ok.history.items, c.in-Ok.ensures.run, c.in-Ok.ensures.merge)
     (ap length c.as_slice.ensures.value ∙ length_permutation all c.args.sorted.items c.requires.sorted ∙ receipts_of_all c.args.passes.now)
     c.in-Err-check_count.ensures.fault
