@@ -23,8 +23,8 @@ use Rattle.radio_laws.specs.Users.{SittersAreLetIn, UsersStep}
 use Rattle.radio_laws.specs.WalkingOn.{ListenersWalkOn, MovesAreWhole}
 
 module _ (settings : Settings) (lists : Lists) (events : List Event) (event : Event) where
-  -- Who is served: what the policy allows happens; data stands at the listener's place in a stream that is open to it, with its last title; who is moved goes
-  -- where its walk lands, or is finished by the rule that stops it.
+  -- Serving: what the policy allows happens. Data is what follows the listener's place in a stream that is open to it, with the last title. A listener that
+  -- is moved goes where its walk lands, or is finished by the rule that stops it.
   pub record IsServedLawfully : Type 0 where
     pub happens : Serves (run_after settings lists events)
     pub handed : AccessIsKept (run_after settings lists events) event
@@ -35,7 +35,7 @@ module _ (settings : Settings) (lists : Lists) (events : List Event) (event : Ev
     pub no_other_moves : MovesAreWhole (run_after settings lists events) event
     pub silent : KilledHearNothing (run_after settings lists events) event
 
-  -- Who is not: what the policy denies is denied, and nothing else is; by the first rule that holds, and nothing else changes. A client that reads that it
+  -- Denying: what the policy denies is denied by the first rule that holds. Nothing else is denied, and nothing else changes. A client that reads that it
   -- was finished was finished by that rule at an earlier event. What is out of place changes nothing.
   pub record IsDeniedLawfully : Type 0 where
     pub denied : DenialsAreThePolicys (run_after settings lists events) event
@@ -47,16 +47,16 @@ module _ (settings : Settings) (lists : Lists) (events : List Event) (event : Ev
     pub finished : FinishedAreTold settings lists events event
     pub nothing : ChangesNothing (run_after settings lists events) event
 
-  -- How many, how long and how far: after the event no mount has more listeners than it may, no user twice, and nobody is further behind than a queue is long;
-  -- and after a moment nobody is there whose time is over.
+  -- Limits: after the event no mount has more listeners than it may, nor a user twice if each may listen once. No listener is further behind than a queue is
+  -- long. After a moment nobody is there whose time is over.
   pub record IsWithinItsLimits : Type 0 where
     pub within : IsWithinLimits (world_after (run_after settings lists events) event)
     pub admits : AdmitsByLimits (run_after settings lists events) event
     pub near : NobodyLags (world_after (run_after settings lists events) event)
     pub in_time : (ms : ℕ) → NobodyOutstays (run_after settings lists events) ms
 
-  -- What is listed: what is there, to each who may see it, and to nobody else; nothing of a hidden mount, and the same after any two runs that agree on
-  -- what the viewer may see.
+  -- Listing: a client that may see a listing is shown what is there, and no other client is. What everybody or a relay is shown has no hidden mount.
+  -- Two runs that agree on what the viewer may see show the same bytes.
   pub record IsListedLawfully : Type 0 where
     pub only_who_may : OnlyWhoMayIsShown (run_after settings lists events) event
     pub who_may : WhoMayIsShown (run_after settings lists events)
@@ -66,8 +66,8 @@ module _ (settings : Settings) (lists : Lists) (events : List Event) (event : Ev
     pub hidden_on_the_web : HiddenAreNotToldOnTheWeb (run_after settings lists events)
     pub alike : (others : Settings) (files : Lists) (more : List Event) → SightIsKept (run_after settings lists events) (run_after others files more)
 
-  -- What is changed: by a command, for each who may give it, and for nobody else; what it names, and no more. Users change by commands alone, and nobody
-  -- sits after the event where the users do not let it in.
+  -- Changing: a command is done for each client that may give it, and for no other. It does what it names, and no more. Users change by commands alone, and
+  -- after the event no listener sits where the users do not let it in.
   pub record IsChangedLawfully : Type 0 where
     pub only_who_may : OnlyWhoMayCommands (run_after settings lists events) event
     pub who_may : WhoMayIsServed (run_after settings lists events)
