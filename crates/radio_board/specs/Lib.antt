@@ -1,7 +1,10 @@
+pub mod Boards
 pub mod Choices
 pub mod News
 pub mod NewsLaws
 pub mod Paces
+pub mod Reports
+pub mod ReportLaws
 pub mod Rests
 pub mod Serving
 pub mod States

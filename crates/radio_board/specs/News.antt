@@ -51,3 +51,9 @@ abbrev pub is_for : NewsFor → ℕ → Bool
 is_for Nobody number = false
 is_for (AllBut other) number = not (number == other)
 is_for All number = true
+
+-- whether it is for the listeners of some worker
+abbrev pub is_for_some : NewsFor → Bool
+is_for_some Nobody = false
+is_for_some (AllBut other) = true
+is_for_some All = true

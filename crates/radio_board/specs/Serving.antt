@@ -1,5 +1,5 @@
 -- The time that was served.
-use Rattle.std.specs.Prelude.{ℕ, ◌+◌, ◌-◌, ◌^◌, min, max}
+use Rattle.std.specs.Prelude.{ℕ, Bool, ◌+◌, ◌-◌, ◌^◌, min, max, nat_le}
 use Rattle.radio_board.specs.Rests.{most_rest}
 
 -- by so many milliseconds the served time grows from one turn to the next, at most
@@ -27,3 +27,7 @@ served_by clock told s = record { clock = clock; served = max s.served (min (gro
 -- up to which moment all may be told: it is as long ago as a worker waits at most
 abbrev pub settled : Served → ℕ
 settled s = s.served - most_rest
+
+-- a worker that began its last turn at one moment is served, if no worker has begun one so long after it
+abbrev pub is_served : ℕ → ℕ → Bool
+is_served turn latest = nat_le latest (turn + most_still)

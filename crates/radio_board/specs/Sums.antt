@@ -1,5 +1,5 @@
 -- What is made of what the desks of all workers say.
-use Rattle.std.specs.Prelude.{ℕ, ◌+◌, ◌-◌, ◌^◌, ◌%◌, min, max, nat_lt, Bool, if◌then◌else◌}
+use Rattle.std.specs.Prelude.{ℕ, ◌+◌, ◌-◌, ◌^◌, ◌%◌, min, max, nat_lt, Bool, Option, None, Some, not, ◌&&◌, if◌then◌else◌}
 
 -- the smaller of two numbers, of which the second is that of a worker, if that worker counts
 abbrev pub least_of : ℕ → Bool → ℕ → ℕ
@@ -34,3 +34,11 @@ left_to_draw received drawn has_listeners = if has_listeners then received - dra
 -- the number so many steps behind another, of so many in a ring: behind the last comes the first
 abbrev pub place_on : ℕ → ℕ → ℕ → ℕ
 place_on from step count = if nat_lt (from % count + step) count then from % count + step else (from % count + step) - count
+
+-- whether the first listeners of a worker have come, who had some or not, and has some or not
+abbrev pub first_come : Bool → Bool → Bool
+first_come had has = has && not had
+
+-- to which moment one that was told is raised: to this one, if it is later
+abbrev pub raised_from : ℕ → ℕ → Option ℕ
+raised_from told ms = if nat_lt told ms then Some ms else None

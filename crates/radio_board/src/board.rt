@@ -1,20 +1,22 @@
 //! What the workers and the acceptor tell each other.
 
+ghost use Rattle.std.specs.Prelude.{◌≡◌, ◌≤◌, ◌<◌, IfSome, OnSome, true, length, slice_get};
+ghost use Rattle.std.specs.Option.{option_copied};
+ghost use Rattle.radio_board.specs.Boards.{board_of};
+
 use crate::choice::{Chosen, least_loaded};
 use crate::desk::Desk;
 use crate::news::NewsFor;
 use crate::pace::{much_from, pace_of, slow_from};
-use crate::served::is_served;
-use crate::sums::{is_called, least_of, may_linger, most_of, place_on};
+use crate::state::Step;
+use crate::sums::{is_called, may_linger, place_on, raised_from};
 use mio::Waker;
 use radio_lines::{NewsCount, Pace};
 use radio_outlet::LogQueue;
 use std::alloc::Global;
+use std::marker::Model;
 use std::sync::atomic::{AtomicBool, AtomicU64, Ordering};
 use std::sync::{Arc, Wait};
-
-/// How often it is tried to raise the moment; where another raises it at the same time, it is tried again.
-const TRIES: usize = 16;
 
 /// What a station's service bounds.
 #[derive(Clone, Copy)]
@@ -26,6 +28,9 @@ pub struct Limits {
 }
 
 /// What the workers and the acceptor tell each other. It is shared by reference.
+///
+/// In contracts it is a `BoardOf`: its workers' desks and its bounds. What threads tell each other is in atomics, which no
+/// contract names.
 #[derive(Drop)]
 pub struct Board {
     alloc: Global,
@@ -35,7 +40,7 @@ pub struct Board {
     has_acceptor: AtomicBool,
     /// Whether the acceptor waits, or is about to.
     acceptor_sleeps: AtomicBool,
-    /// Up to which moment every worker has read his sockets, in milliseconds.
+    /// Up to which moment every worker has read its sockets, in milliseconds.
     moment_ms: AtomicU64,
     /// How many bytes have come from sources.
     received: AtomicU64,
@@ -57,15 +62,25 @@ pub struct Board {
     log: Arc<LogQueue>,
 }
 
+impl Model for Board {
+    ghost use Rattle.radio_board.specs.Boards.{BoardOf};
+
+    ghost Value = { BoardOf };
+
+    ghost view = { λ b. record { desks = b.desks.items; most_lingering = b.most_lingering; slow = b.slow_from; much = b.much_from } };
+}
+
 impl Board {
-    /// Of these workers, the acceptor with this waker, and the queue of the log. It takes no memory.
+    /// Returns that of these workers, the acceptor with this waker, and the queue of the log. It takes no memory.
     pub fn new(
         alloc: Global,
         desks: Vec<Desk>,
         acceptor: Waker,
         limits: Limits,
         log: Arc<LogQueue>,
-    ) -> Board {
+    ) -> Board
+        ensures { result ≡ board_of desks.items limits }
+    {
         Board {
             alloc,
             desks,
@@ -85,46 +100,44 @@ impl Board {
         }
     }
 
-    /// Where memory comes from.
+    /// Returns the allocator from which all memory of the station comes.
     pub fn alloc(&self) -> Global {
         self.alloc
     }
 
-    /// The desk of this worker.
-    pub fn desk(&self, number: usize) -> Option<&Desk> {
+    /// Returns the desk of this worker. `None` if there is none of the number.
+    pub fn desk(&self, number: usize) -> Option<&Desk>
+        ensures { option_copied result ≡ slice_get self.now.desks number }
+    {
         self.desks.get(number)
     }
 
-    /// Returns up to which moment each worker that has begun has read its sockets, and no later one than `settled_ms`. It never
-    /// goes back.
+    /// Returns up to which moment each worker that has begun has read its sockets, and no later one than `settled_ms`; or the one
+    /// that was told before, if that is later. It never goes back.
     pub fn moment(&self, settled_ms: u64) -> u64 {
         let mut least = settled_ms;
         for desk in &self.desks {
-            least = least_of(least, desk.works(), desk.read_ms());
+            least = desk.report().least_read(least);
         }
         self.raise(least)
     }
 
-    /// The latest moment that was told.
+    /// Returns the latest moment that was told, in milliseconds.
     pub fn told_ms(&self) -> u64 {
         self.moment_ms.load(Ordering::SeqCst)
     }
 
-    /// The moment is this one, unless it is later already. The moment then.
+    /// Tells this moment, unless a later one was told. Returns the one that is told then.
     fn raise(&self, ms: u64) -> u64 {
-        for _ in 0..TRIES {
-            let now = self.told_ms();
-            if now >= ms {
-                return now;
-            }
-            let raised = self
-                .moment_ms
-                .compare_exchange(now, ms, Ordering::SeqCst, Ordering::SeqCst);
-            if raised.is_ok() {
-                return ms;
-            }
+        let raised = self.moment_ms.fetch_update(
+            Ordering::SeqCst,
+            Ordering::SeqCst,
+            |told| raised_from(told, ms),
+        );
+        match raised {
+            Ok(_) => ms,
+            Err(told) => told,
         }
-        self.told_ms()
     }
 
     /// Notes at `now_us`, in microseconds, that so many bytes have come from sources, and that these listeners may have news.
@@ -133,11 +146,15 @@ impl Board {
         if count > 0 {
             self.received.fetch_add(count, Ordering::SeqCst);
         }
-        if let NewsFor::Nobody = news {
-            return;
+        if news.is_for_some() {
+            self.tell_news(news, now_us);
         }
+    }
+
+    /// Tells the workers whose listeners may have news.
+    fn tell_news(&self, news: NewsFor, now_us: u64) {
         for (number, desk) in self.desks.iter().enumerate() {
-            if news.is_for(number) && desk.has_listeners() {
+            if news.is_told(number, desk.has_listeners()) {
                 desk.tell_news(self.is_much(desk), now_us);
             }
         }
@@ -152,24 +169,27 @@ impl Board {
 
     /// Returns how often workers were told of news, and up to which of these times the listeners of each have drawn. A worker
     /// that is not served holds up nobody.
-    pub fn news_count(&self) -> NewsCount {
+    pub fn news_count(&self) -> NewsCount
+        ensures { result.drawn ≤ result.told }
+    {
         let told = self.told();
         let latest_ms = self.latest_ms();
         let mut drawn = told;
-        for desk in &self.desks {
-            let holds_up = !desk.state().has_drawn() && is_served(desk.turn_ms(), latest_ms);
-            drawn = least_of(drawn, holds_up, desk.drawn_news());
+        'desks: for desk in &self.desks {
+            drawn = desk.report().drawn_with(drawn, latest_ms);
         }
         NewsCount { told, drawn }
     }
 
-    /// Whether so much has come from sources which this worker's listeners have still to draw that they are told of it at
+    /// Returns whether so much has come from sources which this worker's listeners have still to draw that they are told of it at
     /// once.
-    pub fn is_much(&self, desk: &Desk) -> bool {
-        desk.behind(self.received()) >= self.much_from
+    pub fn is_much(&self, desk: &Desk) -> bool
+        ensures { self.now.much ≡ 0 → result ≡ true }
+    {
+        desk.report().is_much(self.much_from, self.received())
     }
 
-    /// How many bytes have come from sources.
+    /// Returns how many bytes have come from sources.
     pub fn received(&self) -> u64 {
         self.received.load(Ordering::SeqCst)
     }
@@ -181,27 +201,28 @@ impl Board {
         let latest_ms = self.latest_ms();
         let mut most = 0u64;
         for desk in &self.desks {
-            let holds_up = is_served(desk.turn_ms(), latest_ms);
-            most = most_of(most, holds_up, desk.behind(received));
+            most = desk.report().most_behind(most, received, latest_ms);
         }
         pace_of(most, self.slow_from)
     }
 
-    /// Returns when a worker began its turn last, by the system's clock.
+    /// Returns when a worker began its turn last, by the system's clock in milliseconds.
     fn latest_ms(&self) -> u64 {
         let mut latest_ms = 0u64;
         for desk in &self.desks {
-            latest_ms = latest_ms.max(desk.turn_ms());
+            latest_ms = latest_ms.max(desk.report().turn_ms);
         }
         latest_ms
     }
 
-    /// How many of this worker's connections may linger, where so many do.
-    pub fn most_lingering(&self, desk: &Desk, count: usize) -> usize {
+    /// Returns how many of this worker's connections may linger, if `count` wish to.
+    pub fn most_lingering(&self, desk: &Desk, count: usize) -> usize
+        ensures { result ≤ count }
+    {
         desk.set_lingering(count);
         let mut all = 0usize;
-        for each in &self.desks {
-            all = all.saturating_add(each.lingering());
+        'desks: for each in &self.desks {
+            all = all.saturating_add(each.report().lingering);
         }
         let most = may_linger(count, all, self.most_lingering);
         desk.set_lingering(most);
@@ -210,11 +231,13 @@ impl Board {
 
     /// Returns the worker that takes the next connection: of those that have begun and are served the one with the fewest
     /// connections, the first of these from the number `from` on. `None` if there is none.
-    pub fn next_desk(&self, from: usize) -> Option<usize> {
+    pub fn next_desk(&self, from: usize) -> Option<usize>
+        ensures { IfSome result (λ number. number < length self.now.desks) }
+    {
         let count = self.desks.len();
         let latest_ms = self.latest_ms();
         let mut best = None;
-        for step in 0..count {
+        'steps: for step in 0..count {
             let number = place_on(from, step, count);
             if let Some(load) = self.load_of(number, latest_ms) {
                 best = Some(least_loaded(best, Chosen { number, load }));
@@ -223,11 +246,18 @@ impl Board {
         Some(best?.number)
     }
 
+    /// Returns how many connections this worker has, if it takes newcomers. `None` too if there is none of the number.
+    fn load_of(&self, number: usize, latest_ms: u64) -> Option<usize>
+        ensures { OnSome result (number < length self.now.desks) }
+    {
+        self.desks.get(number)?.report().load_taken(latest_ms)
+    }
+
     /// Hands the newcomers of each worker that is not served to others, if there are any that are.
     pub fn move_newcomers(&self) {
         let latest_ms = self.latest_ms();
         for (number, desk) in self.desks.iter().enumerate() {
-            if desk.comings() > 0 && !is_served(desk.turn_ms(), latest_ms) {
+            if desk.report().loses_newcomers(latest_ms) {
                 self.move_from(number, desk);
             }
         }
@@ -243,7 +273,7 @@ impl Board {
         }
     }
 
-    /// How many connections were accepted that no worker has taken yet.
+    /// Returns how many connections were accepted that no worker has taken yet.
     pub fn comings(&self) -> usize {
         let mut all = 0usize;
         for desk in &self.desks {
@@ -252,31 +282,21 @@ impl Board {
         all
     }
 
-    /// Returns how many connections this worker has, if it has begun and is served.
-    fn load_of(&self, number: usize, latest_ms: u64) -> Option<usize> {
-        let desk = self.desks.get(number)?;
-        if desk.works() && is_served(desk.turn_ms(), latest_ms) {
-            Some(desk.load())
-        } else {
-            None
-        }
-    }
-
-    /// All stop.
+    /// Marks all as to stop, and ends their waits.
     pub fn stop(&self) {
         self.is_over.store(true, Ordering::SeqCst);
         for desk in &self.desks {
-            desk.wake();
+            desk.take_and_wake(Step::Wake);
         }
         self.wake_acceptor();
     }
 
-    /// Whether all are to stop.
+    /// Returns whether all are to stop.
     pub fn is_over(&self) -> bool {
         self.is_over.load(Ordering::SeqCst)
     }
 
-    /// A connection was closed.
+    /// Notes that a connection was closed, and ends the acceptor's wait if it waits for that.
     pub fn note_closed(&self) {
         self.has_closed.store(true, Ordering::SeqCst);
         if self.wants_closing.load(Ordering::SeqCst) {
@@ -284,27 +304,27 @@ impl Board {
         }
     }
 
-    /// Whether a connection was closed since this was asked the last time.
+    /// Returns whether a connection was closed since this was asked the last time.
     pub fn take_closed(&self) -> bool {
         self.has_closed.swap(false, Ordering::SeqCst)
     }
 
-    /// The acceptor waits for a connection to be closed, or he does not.
+    /// Notes whether the acceptor waits for a connection to be closed.
     pub fn set_wants_closing(&self, wants: bool) {
         self.wants_closing.store(wants, Ordering::SeqCst);
     }
 
-    /// The acceptor begins.
+    /// Notes that the acceptor begins.
     pub fn note_acceptor(&self) {
         self.has_acceptor.store(true, Ordering::SeqCst);
     }
 
-    /// Whether the acceptor has begun.
+    /// Returns whether the acceptor has begun.
     pub fn has_acceptor(&self) -> bool {
         self.has_acceptor.load(Ordering::SeqCst)
     }
 
-    /// From now on the acceptor waits, unless there is something to do: whether there is.
+    /// Marks the acceptor as waiting, then looks once more. Returns whether there is something to do.
     pub fn acceptor_lies_down(&self) -> bool {
         self.acceptor_sleeps.store(true, Ordering::SeqCst);
         let wants_closing = self.wants_closing.load(Ordering::SeqCst);
@@ -312,12 +332,12 @@ impl Board {
         is_called(self.is_over(), wants_closing, has_closed)
     }
 
-    /// The acceptor does not wait any more.
+    /// Marks the acceptor as awake.
     pub fn acceptor_gets_up(&self) {
         self.acceptor_sleeps.store(false, Ordering::SeqCst);
     }
 
-    /// Ends the acceptor's wait, if he waits.
+    /// Ends the acceptor's wait, if it waits.
     pub fn wake_acceptor(&self) {
         if self.acceptor_sleeps.swap(false, Ordering::SeqCst) {
             let _ = self.acceptor.wake();

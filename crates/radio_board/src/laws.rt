@@ -1,6 +1,7 @@
 //! Laws of news and of a worker's states. Each is a function that does nothing, and its contract is the law.
 
 ghost use Rattle.radio_board.specs.NewsLaws.{WaitsEnd, RoundsAreSpaced};
+ghost use Rattle.radio_board.specs.ReportLaws.{BegunAreWaitedFor, DrawnHoldUpNobody, NewcomersAreServed, StillHoldUpNobody, UndrawnHoldUp};
 ghost use Rattle.radio_board.specs.StateLaws.{NewsIsThere, NewsStays, NewsIsTaken, RoundsDraw, NewsKeepsAwake, NewsWakes};
 
 /// No news is lost, whatever a worker does when it comes.
@@ -24,4 +25,20 @@ pub fn rounds_are_spaced()
     ensures ends { WaitsEnd }
     // what does not wait came so long ago, or follows the last round after 20 times the shortest
     ensures spaced { RoundsAreSpaced }
+{}
+
+/// The end of a source waits for the listeners of workers that make turns, and for no others.
+pub fn ends_wait_for_listeners()
+    // not for those who have drawn all news
+    ensures drawn { DrawnHoldUpNobody }
+    // nor for those of a worker that makes no turns
+    ensures still { StillHoldUpNobody }
+    // but for those who have not drawn it
+    ensures undrawn { UndrawnHoldUp }
+{}
+
+/// Only workers that have begun are waited for, and only those that make turns take newcomers.
+pub fn newcomers_are_served()
+    ensures begun { BegunAreWaitedFor }
+    ensures served { NewcomersAreServed }
 {}

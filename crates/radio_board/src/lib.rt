@@ -2,8 +2,8 @@
 //!
 //! - [`Board`]: each worker's [`Desk`], the moment up to which all have read, how fast sources are read, whether all stop,
 //!   and the queue of the log. [`Limits`] bounds it.
-//! - [`State`]: what a worker does, as others see it; [`Step`]: what changes it. [`no_news_is_lost`], [`rounds_are_spaced`]: laws,
-//!   which run no code.
+//! - [`State`]: what a worker does, as others see it; [`Step`]: what changes it. [`no_news_is_lost`], [`rounds_are_spaced`],
+//!   [`ends_wait_for_listeners`], [`newcomers_are_served`]: laws, which run no code.
 //! - [`NewsPause`]: when a worker draws for its listeners; [`NewsFor`]: for whose. [`rest_for`]: how a worker waits ([`Rest`]).
 //! - [`ServedTime`]: a clock that counts what was served. [`is_served`]: whether a worker makes turns. [`least_loaded`]: which
 //!   worker takes a newcomer.
@@ -17,6 +17,7 @@ mod desk;
 mod laws;
 mod news;
 mod pace;
+mod report;
 mod rest;
 mod served;
 mod state;
@@ -25,7 +26,7 @@ mod sums;
 pub use board::{Board, Limits};
 pub use choice::{Chosen, least_loaded};
 pub use desk::Desk;
-pub use laws::{no_news_is_lost, rounds_are_spaced};
+pub use laws::{ends_wait_for_listeners, newcomers_are_served, no_news_is_lost, rounds_are_spaced};
 pub use news::{NewsFor, NewsPause};
 pub use rest::{MOST_REST_MS, Rest, rest_for};
 pub use served::{ServedTime, is_served};

@@ -1,7 +1,8 @@
 //! Whose listeners have news, and when a worker draws for them.
 
-ghost use Rattle.std.specs.Prelude.{◌≡◌};
-ghost use Rattle.radio_board.specs.News.{no_rounds, shortest, pause_end, wait_left, begun, ended, is_for};
+ghost use Rattle.std.specs.Prelude.{◌≡◌, ◌&&◌, if◌then◌else◌};
+ghost use Rattle.radio_board.specs.declared.news.NewsFor.TheVariants.{Nobody, All};
+ghost use Rattle.radio_board.specs.News.{is_for_some, no_rounds, shortest, pause_end, wait_left, begun, ended, is_for};
 
 use std::marker::Model;
 
@@ -26,8 +27,25 @@ pub enum NewsFor {
 }
 
 impl NewsFor {
-    /// Whether the listeners of the worker of this number may have news.
-    pub(crate) fn is_for(self, number: usize) -> bool
+    /// Returns whether the listeners of some worker may have news.
+    pub(crate) fn is_for_some(self) -> bool
+        ensures { result ≡ is_for_some self }
+    {
+        match self {
+            NewsFor::Nobody => false,
+            NewsFor::AllBut(_) | NewsFor::All => true,
+        }
+    }
+
+    /// Returns whether the worker of this number is told of the news: its listeners may have news, and it has some.
+    pub(crate) fn is_told(self, number: usize, has_listeners: bool) -> bool
+        ensures { result ≡ (is_for self number && has_listeners) }
+    {
+        self.is_for(number) && has_listeners
+    }
+
+    /// Returns whether the listeners of the worker of this number may have news.
+    fn is_for(self, number: usize) -> bool
         ensures { result ≡ is_for self number }
     {
         match self {
@@ -39,8 +57,10 @@ impl NewsFor {
 }
 
 impl From<bool> for NewsFor {
-    /// Everybody's, if there is news.
-    fn from(has_news: bool) -> NewsFor {
+    /// Returns everybody's, if there is news.
+    fn from(has_news: bool) -> NewsFor
+        ensures { result ≡ (if has_news then All else Nobody) }
+    {
         if has_news {
             NewsFor::All
         } else {

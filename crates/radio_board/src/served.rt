@@ -1,7 +1,7 @@
 //! The time that was served.
 
-ghost use Rattle.std.specs.Prelude.{◌≡◌, ◌≤◌, ◌+◌, max, nat_le};
-ghost use Rattle.radio_board.specs.Serving.{Served, most_step, most_still, served_by, settled};
+ghost use Rattle.std.specs.Prelude.{◌≡◌, ◌≤◌, ◌+◌, max};
+ghost use Rattle.radio_board.specs.Serving.{Served, is_served, most_step, served_by, settled};
 
 use crate::rest::MOST_REST_MS;
 use std::marker::Model;
@@ -78,7 +78,7 @@ impl ServedTime {
 /// Returns whether a worker that began its last turn at `turn_ms` makes turns, when another has begun one at `latest_ms`, by
 /// the system's clock in milliseconds.
 pub fn is_served(turn_ms: u64, latest_ms: u64) -> bool
-    ensures { result ≡ nat_le latest_ms (turn_ms + most_still) }
+    ensures { result ≡ is_served turn_ms latest_ms }
 {
     latest_ms.saturating_sub(turn_ms) <= MOST_STILL_MS
 }

@@ -1,6 +1,7 @@
 //! What a worker does, as those see it who tell it of news, and wake it.
 
 ghost use Rattle.std.specs.Prelude.{◌≡◌, ◌&&◌, not, if◌then◌else◌};
+ghost use Rattle.radio_board.specs.Reports.{has_to_do, number_after, step_of_news, step_to_wait};
 ghost use Rattle.radio_board.specs.States.{has_news, waits, has_drawn, after, number_of};
 ghost use Rattle.radio_board.specs.declared.state.Step.TheVariants.{News, MuchNews, Wake, LieDown, Pause, EndRound};
 
@@ -57,6 +58,26 @@ pub enum Step {
     BeginRound,
     /// Each of them has drawn all that there was.
     EndRound,
+}
+
+impl Step {
+    /// Returns the step by which a worker waits, with news or only without it.
+    pub(crate) fn to_wait(is_paused: bool) -> Step
+        ensures { result ≡ step_to_wait is_paused }
+    {
+        if is_paused {
+            Step::Pause
+        } else {
+            Step::LieDown
+        }
+    }
+
+    /// Returns the step by which a worker is told of news, and whether much has come.
+    pub(crate) fn of_news(is_much: bool) -> Step
+        ensures { result ≡ step_of_news is_much }
+    {
+        if is_much { Step::MuchNews } else { Step::News }
+    }
 }
 
 impl State {
@@ -157,6 +178,14 @@ impl State {
         self.waits() && !self.after(step).waits()
     }
 
+    /// Returns whether a worker that takes a step to wait has something to do all the same: it does not wait after it, or newcomers
+    /// wait for it.
+    pub(crate) fn has_to_do(self, step: Step, comings: usize) -> bool
+        ensures { result ≡ has_to_do step self comings }
+    {
+        !self.after(step).waits() || comings > 0
+    }
+
     /// Returns whether its listeners have drawn all the news that it was told of.
     pub fn has_drawn(self) -> bool
         ensures { result ≡ has_drawn self }
@@ -198,5 +227,13 @@ impl State {
             6 => State::Paused { has_news: true },
             _ => State::Awake { has_news: true },
         }
+    }
+
+    /// Returns the number of the state after a step, of the state of this number. `None` if it is the same.
+    pub(crate) fn number_after(number: u64, step: Step) -> Option<u64>
+        ensures { (state : State) → number ≡ number_of state → result ≡ number_after step state }
+    {
+        let after = State::of(number).after(step).number();
+        if after == number { None } else { Some(after) }
     }
 }

@@ -1,7 +1,7 @@
 //! What is made of what the desks of all workers say, as plain values.
 
 ghost use Rattle.std.specs.Prelude.{◌≡◌, ◌<◌, ◌+◌, ◌-◌, ◌^◌, ◌&&◌, ◌||◌};
-ghost use Rattle.radio_board.specs.Sums.{least_of, most_of, load_of, may_linger, drawn_after, left_to_draw, place_on};
+ghost use Rattle.radio_board.specs.Sums.{drawn_after, first_come, least_of, left_to_draw, load_of, may_linger, most_of, place_on, raised_from};
 
 /// How many bytes a draw brings at most.
 const DRAW_ROOM: u64 = 65_536;
@@ -80,4 +80,18 @@ pub(crate) fn is_called(is_over: bool, wants_closing: bool, has_closed: bool) ->
     ensures { result ≡ (is_over || (wants_closing && has_closed)) }
 {
     is_over || (wants_closing && has_closed)
+}
+
+/// Returns whether a worker's first listeners have come, if it `had` listeners and `has` them now.
+pub(crate) fn first_come(had: bool, has: bool) -> bool
+    ensures { result ≡ first_come had has }
+{
+    has && !had
+}
+
+/// Returns to which moment the one that was told is raised, if it is: to a later one.
+pub(crate) fn raised_from(told_ms: u64, ms: u64) -> Option<u64>
+    ensures { result ≡ raised_from told_ms ms }
+{
+    if told_ms < ms { Some(ms) } else { None }
 }

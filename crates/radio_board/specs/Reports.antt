@@ -1,0 +1,56 @@
+-- What follows from what the desk of a worker reports.
+use Rattle.std.specs.Prelude.{ℕ, ◌==◌, Bool, Option, None, Some, not, ◌&&◌, ◌||◌, nat_le, nat_lt, if◌then◌else◌}
+use Rattle.radio_board.specs.declared.report.Report.{Report}
+use Rattle.radio_board.specs.declared.state.State.{State}
+use Rattle.radio_board.specs.declared.state.Step.{Step}
+use Rattle.radio_board.specs.declared.state.Step.TheVariants.{News, MuchNews, LieDown, Pause}
+use Rattle.radio_board.specs.Serving.{is_served}
+use Rattle.radio_board.specs.States.{has_drawn, waits, after, number_of}
+use Rattle.radio_board.specs.Sums.{least_of, most_of, load_of, left_to_draw}
+
+-- a worker holds up the end of a source as long as its listeners have not drawn all news, and it is served
+abbrev pub holds_up : ℕ → Report → Bool
+holds_up latest report = not (has_drawn report.state) && is_served report.turn_ms latest
+
+-- of some number of times that workers were told of news, up to which this worker's listeners have drawn too
+abbrev pub drawn_with : ℕ → ℕ → Report → ℕ
+drawn_with drawn latest report = least_of drawn (holds_up latest report) report.drawn_news
+
+-- of so many bytes that came from sources, how many the listeners of this worker have still to draw, if these are more than the
+-- most of other workers, and it is served
+abbrev pub most_behind : ℕ → ℕ → ℕ → Report → ℕ
+most_behind most received latest report =
+    most_of most (is_served report.turn_ms latest) (left_to_draw received report.drawn report.has_listeners)
+
+-- up to which moment this worker has read its sockets too, if it has begun
+abbrev pub least_read : ℕ → Report → ℕ
+least_read least report = least_of least report.works report.read_ms
+
+-- how many connections it has, if it takes newcomers: it has begun, and is served
+abbrev pub load_taken : ℕ → Report → Option ℕ
+load_taken latest report =
+    if report.works && is_served report.turn_ms latest then Some (load_of report.connections report.comings) else None
+
+-- whether its newcomers go to others: there are some, and it is not served
+abbrev pub loses_newcomers : ℕ → Report → Bool
+loses_newcomers latest report = nat_lt 0 report.comings && not (is_served report.turn_ms latest)
+
+-- by which step a worker waits: with news, or only without it
+abbrev pub step_to_wait : Bool → Step
+step_to_wait is_paused = if is_paused then Pause else LieDown
+
+-- by which step it is told of news
+abbrev pub step_of_news : Bool → Step
+step_of_news is_much = if is_much then MuchNews else News
+
+-- whether a worker that takes a step to wait in this state has something to do all the same: it does not wait, or newcomers do
+abbrev pub has_to_do : Step → State → ℕ → Bool
+has_to_do step state comings = not (waits (after step state)) || nat_lt 0 comings
+
+-- the number of the state after a step, if that is another
+abbrev pub number_after : Step → State → Option ℕ
+number_after step state = if number_of (after step state) == number_of state then None else Some (number_of (after step state))
+
+-- whether so many bytes that came are much for its listeners: they have to draw so many of them still
+abbrev pub is_much : ℕ → ℕ → Report → Bool
+is_much much received report = nat_le much (left_to_draw received report.drawn report.has_listeners)

@@ -1,0 +1,91 @@
+//! What the desk of a worker reports, and what follows from it.
+
+ghost use Rattle.std.specs.Prelude.{◌≡◌};
+ghost use Rattle.radio_board.specs.Reports.{drawn_with, holds_up, is_much, least_read, load_taken, loses_newcomers, most_behind};
+
+use crate::served::is_served;
+use crate::state::State;
+use crate::sums::{least_of, left_to_draw, load_of, most_of};
+
+/// What the desk of a worker reports. Each number is read for itself, so others may have changed in between.
+#[derive(Clone, Copy)]
+pub(crate) struct Report {
+    /// Whether it has begun.
+    pub(crate) works: bool,
+    /// Its state.
+    pub(crate) state: State,
+    /// When it asked its sockets last, by the system's clock in milliseconds.
+    pub(crate) turn_ms: u64,
+    /// Up to which moment it has read all that had come on its sockets, in milliseconds.
+    pub(crate) read_ms: u64,
+    /// Of all times that workers were told of news, up to which its listeners have drawn.
+    pub(crate) drawn_news: u64,
+    /// Of all bytes that have come from sources, up to which its listeners have drawn.
+    pub(crate) drawn: u64,
+    /// Whether it has listeners.
+    pub(crate) has_listeners: bool,
+    /// How many connections it has, a source counted as several.
+    pub(crate) connections: usize,
+    /// How many connections were put for it that it has not taken.
+    pub(crate) comings: usize,
+    /// How many of its connections linger.
+    pub(crate) lingering: usize,
+}
+
+impl Report {
+    /// Returns whether the worker holds up the end of a source: its listeners have not drawn all news, and it is served. A worker
+    /// has begun its last turn at `latest_ms`.
+    fn holds_up(&self, latest_ms: u64) -> bool
+        ensures { result ≡ holds_up latest_ms self.now }
+    {
+        !self.state.has_drawn() && is_served(self.turn_ms, latest_ms)
+    }
+
+    /// Returns up to which of `drawn` times that workers were told of news this worker's listeners have drawn too.
+    pub(crate) fn drawn_with(&self, drawn: u64, latest_ms: u64) -> u64
+        ensures { result ≡ drawn_with drawn latest_ms self.now }
+    {
+        least_of(drawn, self.holds_up(latest_ms), self.drawn_news)
+    }
+
+    /// Returns how many of the `received` bytes that came from sources this worker's listeners have still to draw, if these are
+    /// more than `most`, and it is served; else `most`.
+    pub(crate) fn most_behind(&self, most: u64, received: u64, latest_ms: u64) -> u64
+        ensures { result ≡ most_behind most received latest_ms self.now }
+    {
+        let behind = left_to_draw(received, self.drawn, self.has_listeners);
+        most_of(most, is_served(self.turn_ms, latest_ms), behind)
+    }
+
+    /// Returns the smaller of `least` and the moment up to which the worker has read its sockets, if it has begun.
+    pub(crate) fn least_read(&self, least: u64) -> u64
+        ensures { result ≡ least_read least self.now }
+    {
+        least_of(least, self.works, self.read_ms)
+    }
+
+    /// Returns how many connections the worker has, if it takes newcomers: it has begun, and is served.
+    pub(crate) fn load_taken(&self, latest_ms: u64) -> Option<usize>
+        ensures { result ≡ load_taken latest_ms self.now }
+    {
+        if self.works && is_served(self.turn_ms, latest_ms) {
+            Some(load_of(self.connections, self.comings))
+        } else {
+            None
+        }
+    }
+
+    /// Returns whether the worker's newcomers go to others: there are some, and it is not served.
+    pub(crate) fn loses_newcomers(&self, latest_ms: u64) -> bool
+        ensures { result ≡ loses_newcomers latest_ms self.now }
+    {
+        self.comings > 0 && !is_served(self.turn_ms, latest_ms)
+    }
+
+    /// Returns whether the worker's listeners have to draw `much` or more still of the `received` bytes that came from sources.
+    pub(crate) fn is_much(&self, much: u64, received: u64) -> bool
+        ensures { result ≡ is_much much received self.now }
+    {
+        left_to_draw(received, self.drawn, self.has_listeners) >= much
+    }
+}
