@@ -59,6 +59,7 @@ impl Drop for Settings {
 }
 
 /// Passwords, users and address lists of the whole station.
+#[derive(Drop)]
 pub struct AccessSettings {
     /// What a source client sends, where its mount sets no password of its own.
     pub source_password: Text,
@@ -70,22 +71,8 @@ pub struct AccessSettings {
     pub addresses: AddressLists,
 }
 
-impl Drop for AccessSettings {
-    fn drop(self) {
-        let AccessSettings {
-            source_password,
-            admin,
-            relays,
-            addresses,
-        } = self;
-        drop(source_password);
-        drop(admin);
-        drop(relays);
-        drop(addresses);
-    }
-}
-
 /// A user and a password.
+#[derive(Drop)]
 pub struct Login {
     /// The user.
     pub username: Text,
@@ -93,15 +80,8 @@ pub struct Login {
     pub password: Text,
 }
 
-impl Drop for Login {
-    fn drop(self) {
-        let Login { username, password } = self;
-        drop(username);
-        drop(password);
-    }
-}
-
 /// Who may ask for the list of streams beside the admin: `relay-user` and `relay-password`.
+#[derive(Drop)]
 pub struct RelayAccess {
     /// The user.
     pub username: Text,
@@ -109,15 +89,8 @@ pub struct RelayAccess {
     pub password: Option<Text>,
 }
 
-impl Drop for RelayAccess {
-    fn drop(self) {
-        let RelayAccess { username, password } = self;
-        drop(username);
-        drop(password);
-    }
-}
-
 /// The lists of addresses that hold for all clients.
+#[derive(Drop)]
 pub struct AddressLists {
     /// The path of a list of addresses that are denied.
     pub deny_ip: Option<Text>,
@@ -125,15 +98,8 @@ pub struct AddressLists {
     pub allow_ip: Option<Text>,
 }
 
-impl Drop for AddressLists {
-    fn drop(self) {
-        let AddressLists { deny_ip, allow_ip } = self;
-        drop(deny_ip);
-        drop(allow_ip);
-    }
-}
-
 /// Where the server listens.
+#[derive(Drop)]
 pub struct ListenSettings {
     /// The address to bind.
     pub address: Text,
@@ -141,19 +107,6 @@ pub struct ListenSettings {
     pub port: Within<0, 65535>,
     /// How many threads serve.
     pub workers: Within<1, 64>,
-}
-
-impl Drop for ListenSettings {
-    fn drop(self) {
-        let ListenSettings {
-            address,
-            port,
-            workers,
-        } = self;
-        drop(address);
-        drop(port);
-        drop(workers);
-    }
 }
 
 /// The limits of the whole station.
@@ -231,6 +184,7 @@ pub struct ListenerOptions {
 }
 
 /// What the listeners of a mount are sent, and whether it is listed.
+#[derive(Drop)]
 pub struct StreamOptions {
     /// Whether the mount stands in no public listing.
     pub hidden: bool,
@@ -244,38 +198,13 @@ pub struct StreamOptions {
     pub genre: Option<Field>,
 }
 
-impl Drop for StreamOptions {
-    fn drop(self) {
-        let StreamOptions {
-            hidden: _,
-            burst_size,
-            mp3_metadata_interval,
-            stream_name,
-            genre,
-        } = self;
-        drop(burst_size);
-        drop(mp3_metadata_interval);
-        drop(stream_name);
-        drop(genre);
-    }
-}
-
 /// Who may listen to a mount.
+#[derive(Drop)]
 pub struct UserOptions {
     /// The path of its user list; `None` for an open mount.
     pub htpasswd: Option<Text>,
     /// Whether a user may listen twice at once.
     pub allow_duplicate_users: bool,
-}
-
-impl Drop for UserOptions {
-    fn drop(self) {
-        let UserOptions {
-            htpasswd,
-            allow_duplicate_users: _,
-        } = self;
-        drop(htpasswd);
-    }
 }
 
 /// A table `[[relay]]`: a mount of another server that is pulled in.
@@ -307,19 +236,12 @@ impl Drop for RelaySetting {
 }
 
 /// A server that streams are pulled from.
+#[derive(Drop)]
 pub struct Master {
     /// Its name or address.
     pub server: Field,
     /// Its port.
     pub port: Port,
-}
-
-impl Drop for Master {
-    fn drop(self) {
-        let Master { server, port } = self;
-        drop(server);
-        drop(port);
-    }
 }
 
 /// The table `[slave]`: a master whose mounts are all pulled in.
