@@ -105,7 +105,12 @@ impl Account {
     pub fn hear_reply(&self, log: &Log, notice: Notice, told: Told) {
         match told {
             Told::Nothing => drop(notice),
-            _ => self.hear_told(log, notice, told),
+            Told::Noted
+            | Told::Feeding
+            | Told::Seated
+            | Told::Text
+            | Told::Shown
+            | Told::Denied(_) => self.hear_told(log, notice, told),
         }
     }
 

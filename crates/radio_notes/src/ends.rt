@@ -1,6 +1,8 @@
 //! How a connection ends, and the words and codes that the log has for it.
 
-ghost use Rattle.std.specs.Prelude.{◌≡◌};
+ghost use Rattle.std.specs.Prelude.{◌≡◌, Some};
+ghost use Rattle.radio_events.specs.declared.state.Ending.TheVariants.{By as ByRule};
+ghost use Rattle.radio_notes.specs.declared.ends.End.TheVariants.{By};
 ghost use Rattle.radio_notes.specs.Ends.{code_of, code_of_end, end_word, mount_word};
 
 use radio_events::Ending;
@@ -47,9 +49,50 @@ pub(crate) fn mount_word(end: Option<End>) -> &'static str
     ensures { result.now ≡ mount_word end }
 {
     match end {
-        Some(End::By(Ending::By(Rule::SourceSilent))) => "source-silent",
-        Some(End::By(Ending::By(Rule::SourceKilled))) => "source-killed",
-        _ => "source-left",
+        Some(End::By(Ending::By(rule))) => mount_word_by(rule),
+        Some(End::By(Ending::Done)) | Some(End::By(Ending::BadBody)) => "source-left",
+        Some(End::By(Ending::BadPull)) | Some(End::Stalled) => "source-left",
+        Some(End::NoMemory) | None => "source-left",
+    }
+}
+
+/// The word for the end of a mount whose source was finished by this rule.
+fn mount_word_by(rule: Rule) -> &'static str
+    ensures { result.now ≡ mount_word (Some (By (ByRule rule))) }
+{
+    match rule {
+        Rule::SourceSilent => "source-silent",
+        Rule::SourceKilled => "source-killed",
+        Rule::AddressDenied
+        | Rule::AddressNotAllowed
+        | Rule::TooManyClients
+        | Rule::BadMount
+        | Rule::SourcePassword
+        | Rule::TooManySources
+        | Rule::MountInUse
+        | Rule::ContentType
+        | Rule::ListenerPassword
+        | Rule::NoMount
+        | Rule::UserTwice
+        | Rule::NotLive
+        | Rule::MountFull
+        | Rule::FallbackDepth
+        | Rule::NoCommand
+        | Rule::AdminPassword
+        | Rule::RelayPassword
+        | Rule::MissingArgument
+        | Rule::NoDestination
+        | Rule::SameMount
+        | Rule::NoClient
+        | Rule::NoUsers
+        | Rule::NoUser
+        | Rule::NumbersSpent
+        | Rule::BadHead
+        | Rule::BadMethod
+        | Rule::Lagged
+        | Rule::TimeOver
+        | Rule::HeaderTimeout
+        | Rule::Killed => "source-left",
     }
 }
 
