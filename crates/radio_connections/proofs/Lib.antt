@@ -8,3 +8,4 @@ pub mod DeedChains
 mod Workings
 mod TurnDeeds
 mod Comings
+mod RoomLemmas

@@ -6,3 +6,4 @@ pub mod Serving
 pub mod Answering
 pub mod Admission
 pub mod Leaving
+pub mod Rooms

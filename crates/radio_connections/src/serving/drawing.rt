@@ -1,8 +1,9 @@
 //! What there is for a connection.
 
-ghost use Rattle.std.specs.Prelude.{◌≡◌, ◌-◌, nat_le, true};
+ghost use Rattle.std.specs.Prelude.{◌≡◌, ◌-◌, length, nat_le, true};
 ghost use Rattle.radio_connections.specs.declared.conn.Fate.TheVariants.{Open};
 ghost use Rattle.radio_connections.specs.Leaving.{Draws, DrawsFor};
+ghost use Rattle.radio_connections.specs.Rooms.{draw_room, fills_room};
 
 use crate::serving::answering::answer;
 use crate::serving::{ASKED_AFTER_MS, Now};
@@ -48,17 +49,30 @@ fn is_due(status: Status, now: Now) -> bool
     now.is_past(status.asked_ms, ASKED_AFTER_MS)
 }
 
-/// Whether a draw has brought as much as it had room for, so that there may be more.
-pub fn fills_room(reply: &Reply) -> bool {
+/// Returns whether a draw has brought as much as it had room for, so that there may be more.
+pub fn fills_room(reply: &Reply) -> bool
+    ensures { result ≡ fills_room reply.now }
+{
     match reply {
         Reply::Drawn { pieces, .. } => is_full(pieces),
-        _ => false,
+        Reply::Arrived(_)
+        | Reply::Feeding
+        | Reply::Seated { .. }
+        | Reply::Noted
+        | Reply::Text(_)
+        | Reply::Deny(_)
+        | Reply::Finished(_)
+        | Reply::Stray => false,
     }
 }
 
-fn is_full(pieces: &Pieces) -> bool {
+/// Returns whether these are as many bytes as a listener has room for in a turn, or more.
+#[tactic(auto, using(crate::proofs::RoomLemmas::room_left))]
+fn is_full(pieces: &Pieces) -> bool
+    ensures { result ≡ nat_le draw_room (length pieces.now) }
+{
     let mut left = DRAW_ROOM as usize;
-    for slice in pieces.slices() {
+    'slices: for slice in pieces.slices() {
         left = left.saturating_sub(slice.len());
     }
     left == 0
