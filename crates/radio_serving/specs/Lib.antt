@@ -3,3 +3,4 @@ pub mod Turns
 pub mod Admission
 pub mod Kinds
 pub mod Sources
+pub mod Watching

@@ -1,5 +1,5 @@
 -- Who feeds a mount.
-use Rattle.std.specs.Prelude.{ℕ, ◌+◌, ◌==◌, Bool, true, false, List, [], ◌∷◌, ◌++◌, take, drop, Option, None, Some}
+use Rattle.std.specs.Prelude.{ℕ, ◌+◌, ◌==◌, ◌||◌, Bool, true, false, List, [], ◌∷◌, ◌++◌, take, drop, Option, None, Some}
 use Rattle.std.specs.List.{position}
 use Rattle.std.specs.Option.{is_some}
 
@@ -36,3 +36,7 @@ without_place (Some at) numbers = take at numbers ++ drop (at + 1) numbers
 -- without this client
 abbrev pub without_source : ℕ → Feeding → Feeding
 without_source id f = record f { numbers = without_place (place_among id f.numbers) f.numbers }
+
+-- whether a client may be one of them
+abbrev pub may_feed : ℕ → Feeding → Bool
+may_feed id f = f.is_blind || feeds id f

@@ -1,9 +1,12 @@
 //! Who feeds a mount.
 
-ghost use Rattle.std.specs.Prelude.{◌≡◌, ◌==◌, ◌||◌, length, if◌then◌else◌};
+ghost use Rattle.std.specs.Prelude.{◌≡◌, ◌==◌, length, if◌then◌else◌};
 ghost use Rattle.std.specs.List.{position};
-ghost use Rattle.radio_serving.specs.Sources.{nobody_feeds, feeds, with_source, blinded, without_source};
+ghost use Rattle.radio_serving.specs.Kinds.{FeedsAfter, source_leaves};
+ghost use Rattle.radio_serving.specs.Sources.{nobody_feeds, feeds, with_source, blinded, may_feed, without_source};
 
+use crate::kind::Kind;
+use radio_events::Reply;
 use std::alloc::Global;
 use std::marker::Model;
 
@@ -49,13 +52,28 @@ impl Sources {
     /// Leaves out the client of this number. Returns whether it was one of them, or may have been.
     pub(crate) fn remove(&mut self, id: u64) -> bool
         ensures rest { self.new ≡ without_source id self.old }
-        ensures was { result ≡ (self.old.is_blind || feeds id self.old) }
+        ensures was { result ≡ may_feed id self.old }
     {
         let Some(at) = place_of(self.numbers.as_slice(), id) else {
             return self.is_blind;
         };
         self.numbers.remove(at);
         true
+    }
+
+    /// Notes who feeds after an event of this kind had this reply. Returns whether its client leaves, and may have fed.
+    pub(crate) fn note(&mut self, kind: Kind, reply: &Reply) -> bool
+        ensures feeds { FeedsAfter kind reply.now self.old self.new }
+        ensures leaves { result ≡ source_leaves kind self.old }
+    {
+        match kind {
+            Kind::Feeds(id) if matches!(reply, Reply::Feeding) => {
+                self.add(id);
+                false
+            }
+            Kind::Leaves(id) => self.remove(id),
+            Kind::Feeds(_) | Kind::News | Kind::Command | Kind::Own => false,
+        }
     }
 
     /// Returns whether the client of this number is one of them, as far as memory was not refused.

@@ -1,84 +1,103 @@
 //! A server, and whether what was asked of it may bring something to listeners.
 
+use crate::found::Found;
 use crate::kind::kind_of;
-use crate::watch::Watch;
+use crate::sources::Sources;
 use crate::{OutOfMemory, Server};
 use radio_events::{Event, Reply};
 use radio_values::MountName;
 use std::alloc::Global;
+use std::cell::Cell;
 use std::marker::Model;
 
-/// A server, and whether what was asked of it may bring something to listeners. In contracts it is
-/// the server.
+/// A server, and whether what was asked of it may bring something to listeners. In contracts it is the server, and who feeds a
+/// mount by what was asked.
 #[derive(Drop)]
 pub struct Watched<S: Server + Drop> {
     server: S,
-    watch: Watch,
+    sources: Sources,
+    /// What was found since it was asked for last. What it becomes is decided by [`Found::after`].
+    found: Cell<Found>,
 }
 
 impl<S: Server + Drop> Model for Watched<S> {
-    ghost Value = { S };
+    ghost use Rattle.radio_serving.specs.Watching.{WatchedOf};
 
-    ghost view = { λ w. w.server };
+    ghost Value = { WatchedOf S };
+
+    ghost view = { λ w. record { server = w.server; feeding = w.sources } };
 }
 
 impl<S: Server + Drop> Watched<S> {
-    ghost use Rattle.std.specs.Prelude.{◌≡◌};
+    ghost use Rattle.std.specs.Prelude.{◌≡◌, length};
+    ghost use Rattle.radio_serving.specs.Sources.{feeds};
+    ghost use Rattle.radio_serving.specs.Watching.{watched_of};
 
-    /// This server, of which nothing was asked yet. It takes no memory.
+    /// Returns this server, of which nothing was asked yet. It takes no memory.
     pub fn new(alloc: Global, server: S) -> Watched<S>
-        ensures { result ≡ server }
+        ensures { result ≡ watched_of server }
     {
         Watched {
             server,
-            watch: Watch::new(alloc),
+            sources: Sources::new(alloc),
+            found: Cell::new(Found::nothing()),
         }
     }
 
-    /// Whether listeners may have news since this was asked the last time: a block or a title came, a
-    /// source has ended, a relay has come up or gone down, or a command was done.
+    /// Returns whether listeners may have news since this was asked the last time: a block or a title came, a source has ended, a
+    /// relay has come up or gone down, or a command was done.
     pub fn take_news(&self) -> bool {
-        self.watch.take_news()
+        let found = self.found.get();
+        self.found.set(found.without_news());
+        found.has_news
     }
 
-    /// Whether a draw has brought all that it had room for since this was asked the last time.
-    pub fn take_more(&self) -> bool {
-        self.watch.take_more()
+    /// Returns what was found since this was asked the last time, but for news that was asked for alone.
+    pub fn take_found(&self) -> Found {
+        self.found.replace(Found::nothing())
     }
 
-    /// Whether a client has begun to feed a mount since this was asked the last time.
-    pub fn take_started(&self) -> bool {
-        self.watch.take_started()
+    /// Returns whether the client of this number feeds a mount by what was asked, as far as memory was not refused for its number.
+    pub fn feeds(&self, id: u64) -> bool
+        ensures { result ≡ feeds id self.now.feeding }
+    {
+        self.sources.has(id)
     }
 
-    /// Whether the client of this number feeds a mount by what was asked, as far as memory was not refused for his number.
-    pub fn feeds(&self, id: u64) -> bool {
-        self.watch.feeds(id)
+    /// Returns how many clients feed a mount by what was asked, as far as memory was not refused for their numbers.
+    pub fn sources(&self) -> usize
+        ensures { result ≡ length self.now.feeding.numbers }
+    {
+        self.sources.count()
     }
 
-    /// How many clients feed a mount by what was asked, as far as memory was not refused for their numbers.
-    pub fn sources(&self) -> usize {
-        self.watch.sources()
-    }
-
-    /// The server.
+    /// Returns the server.
     pub fn into_server(self) -> S
-        ensures { result ≡ self }
+        ensures { result ≡ self.server }
     {
         self.server
     }
 }
 
 impl<S: Server + Drop> Server for Watched<S> {
-    ghost steps = { S.steps };
+    ghost use Rattle.std.specs.Prelude.{◌≡◌, IfOk, OnErr};
+    ghost use Rattle.radio_serving.specs.Watching.{WatchedSteps};
 
-    ghost refuses = { S.refuses };
+    ghost steps = { WatchedSteps S.steps };
 
-    fn apply(&mut self, event: Event) -> Result<Reply, OutOfMemory> {
+    ghost refuses = { λ watched event. S.refuses watched.server event };
+
+    /// Applies an event, and notes what it may bring. `OutOfMemory` where memory was refused; nothing has changed then.
+    fn apply(&mut self, event: Event) -> Result<Reply, OutOfMemory>
+        ensures ok { IfOk result (λ reply. WatchedSteps S.steps self.old event reply self.new) }
+        ensures err { OnErr result (self.new ≡ self.old) }
+        ensures refused { OnErr result (S.refuses self.old.server event) }
+    {
         let kind = kind_of(&event);
         match self.server.apply(event) {
             Ok(reply) => {
-                self.watch.note(kind, &reply);
+                let fed = self.sources.note(kind, &reply);
+                self.found.set(self.found.get().after(kind, &reply, fed));
                 Ok(reply)
             }
             Err(refused) => Err(refused),

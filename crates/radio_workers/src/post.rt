@@ -1,5 +1,7 @@
 //! Where a worker's turns come from.
 
+ghost use Rattle.std.specs.Prelude.{◌≡◌, ◌≤◌, true};
+
 use radio_addr::Peer;
 use radio_notes::Log;
 use radio_serving::{Line, Turn};
@@ -33,21 +35,23 @@ pub struct Seen {
 
 /// Where a worker's turns and lines come from: of connections, that wait as `T`, each becomes an `L`.
 pub trait Post<T, L: Line>: Drop {
-    /// Waits until there is something to do. What the next turn is told; `None` where he is to stop. The log is to be told
+    /// Waits until there is something to do. Returns what the next turn is told; `None` if the worker is to stop. It tells the log
     /// the moment.
     fn next(&mut self, log: &Log) -> Option<Call>;
 
-    /// The line of a connection that was taken, and its peer. `None` where it can't be served: it is closed then.
+    /// Returns the line of a connection that was taken, and its peer. `None` if it can't be served: it is closed then.
     fn open(&mut self, coming: T) -> Option<(L, Peer)>;
 
-    /// How many connections may linger, where so many do: of more, the oldest are closed.
-    fn most_lingering(&mut self, lingering: usize) -> usize;
+    /// Returns how many connections may linger, if `lingering` wish to. Of more the worker closes the oldest.
+    fn most_lingering(&mut self, lingering: usize) -> usize
+        ensures { result ≤ lingering };
 
-    /// The connections of sources were served in this turn. If it `brings` news, that is news to listeners, whichever worker
-    /// serves them. Whether a round of draws begins, in which his own are told of what there is: it does if the turn `is_told`
-    /// of news.
-    fn begins_round(&mut self, is_told: bool, brings: bool) -> bool;
+    /// Notes that the connections of sources were served in this turn. If it `brings` news, that is news to listeners, whichever
+    /// worker serves them. Returns whether a round of draws begins, in which its own draw what there is: it does if the turn
+    /// `is_told` of news.
+    fn begins_round(&mut self, is_told: bool, brings: bool) -> bool
+        ensures { is_told ≡ true → result ≡ true };
 
-    /// A turn is over, and this came of it. The lines of the log that wait are to be taken.
+    /// Notes that a turn is over, and what was seen. It takes the lines of the log that wait.
     fn note(&mut self, seen: Seen, log: &Log);
 }

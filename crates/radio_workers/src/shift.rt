@@ -1,25 +1,31 @@
 //! One worker, at his seat.
 
-ghost use Rattle.std.specs.Prelude.{◌≡◌, ◌+◌, ◌-◌, ◌^◌, min, length, filter};
-ghost use Rattle.radio_connections.specs.Connections.{lingers};
+ghost use Rattle.std.specs.Prelude.{◌≡◌, ◌⊎◌, ◌+◌, ◌*◌, ◌-◌, ◌^◌, ◌++◌, ◌∷◌, [], Bool, Some, min, length, filter, nat_lt};
+ghost use Rattle.radio_connections.specs.Connections.{Connection, lingers};
+ghost use Rattle.radio_serving.specs.Sources.{nobody_feeds};
+ghost use Rattle.radio_serving.specs.Turns.{IsTurn};
+ghost use Rattle.radio_serving.specs.Watching.{WatchedOf, WatchedSteps, watched_of};
+ghost use Rattle.radio_serving.specs.Workers.{WorkerOf};
 ghost use Rattle.radio_workers.specs.Hands.{HasTakenMore};
+ghost use Rattle.radio_workers.specs.Leaving.{LeavesAll};
+ghost use Rattle.radio_workers.specs.Shifts.{HasParted, first_source, has_listeners, without_oldest};
 
 use crate::leaving::leave_all;
 use crate::{Call, Post, Seat, Seen, Workplace};
 use radio_events::{Caller, SharedServer};
 use radio_intake::{Intake, IntakePass};
 use radio_serving::{
-    Conn, Gate, Line, Server, Turn, Watched, WebAnswers, Worker, close_first_lingering,
+    Conn, Found, Gate, Line, Server, Turn, Watched, WebAnswers, Worker, close_first_lingering,
     count_lingering,
 };
 use std::alloc::Global;
 use std::sync::Wait;
 
-/// A worker and his connections.
+/// A worker and its connections.
 #[derive(Drop)]
 struct Shift<S: Server + Drop, L: Line> {
     worker: Worker<Watched<S>>,
-    /// Those of clients who feed a mount, or have.
+    /// Those of clients that feed a mount, or have.
     sources: Vec<Conn<L>>,
     /// The others.
     conns: Vec<Conn<L>>,
@@ -42,8 +48,10 @@ pub(crate) fn work<R: Wait, S: SharedServer, T: Drop, L: Line, P: Post<T, L>, G:
     }
 }
 
-/// The pass stands at its seat again.
-fn put_back<A: Drop>(own: &mut Option<A>, pass: A) {
+/// Puts the pass back at its seat.
+fn put_back<A: Drop>(own: &mut Option<A>, pass: A)
+    ensures { own.new ≡ Some pass }
+{
     *own = Some(pass);
 }
 
@@ -92,8 +100,13 @@ where
 }
 
 impl<S: Server + Drop, L: Line> Shift<S, L> {
-    /// A worker who applies to this server and has this patience, without connections.
-    fn new(alloc: Global, server: S, web: WebAnswers, patience_s: u32) -> Shift<S, L> {
+    /// Returns a worker without connections, which applies to this server and has this patience, in seconds.
+    fn new(alloc: Global, server: S, web: WebAnswers, patience_s: u32) -> Shift<S, L>
+        ensures server { result.worker.server ≡ watched_of server }
+        ensures web { result.worker.web ≡ web }
+        ensures patience { result.worker.patience_ms ≡ patience_s * 1000 }
+        ensures nobody { (result.sources.items ≡ []) × (result.conns.items ≡ []) }
+    {
         let watched = Watched::new(alloc, server);
         Shift {
             worker: Worker::new(alloc, watched, web, patience_s),
@@ -179,25 +192,36 @@ impl<S: Server + Drop, L: Line> Shift<S, L> {
         }
     }
 
-    /// Takes one in. Who can't be served, or is refused memory, has had his line closed.
-    fn admit<T, P: Post<T, L>>(&mut self, post: &mut P, coming: T, ms: u64) {
+    /// Takes one in, behind the others. The line of one that can't be served, or is refused memory, is closed.
+    fn admit<T, P: Post<T, L>>(&mut self, post: &mut P, coming: T, ms: u64)
+        ensures sources { self.new.sources.items ≡ self.old.sources.items }
+        ensures others { (self.new.conns.items ≡ self.old.conns.items) ⊎ ((conn : Connection) × (self.new.conns.items ≡ self.old.conns.items ++ conn ∷ [])) }
+    {
         if let Some((line, peer)) = post.open(coming) {
             let _ = self.worker.admit(&mut self.conns, line, peer, ms);
         }
     }
 
-    /// Serves each connection once, closes those who linger too long, and tells what came of it.
+    /// Serves each connection once, closes those that are too many to linger, and tells the post what was seen.
     fn make_turn<T, P: Post<T, L>, G: Gate>(&mut self, gate: &G, post: &mut P, call: Call) {
         let before = self.count();
         self.serve_all(gate, post, call.turn);
-        self.part_sources();
+        let found = self.worker.server().take_found();
+        self.part_sources(found);
         self.close_oldest(post);
-        let seen = self.seen(before);
+        let seen = self.seen(before, found);
         post.note(seen, self.worker.log());
     }
 
     /// Serves sources first, so that the others draw in the same turn what these bring.
-    fn serve_all<T, P: Post<T, L>, G: Gate>(&mut self, gate: &G, post: &mut P, turn: Turn) {
+    fn serve_all<T, P: Post<T, L>, G: Gate>(&mut self, gate: &G, post: &mut P, turn: Turn)
+        // the others are told of news if the turn was, or the post says so
+        ensures { (news : Bool) × (between : WorkerOf (WatchedOf _))
+            × IsTurn (WatchedSteps S.steps) (λ watched event. S.refuses watched.server event) turn.ms turn.news
+            self.old.worker self.old.sources.items between self.new.sources.items
+            × IsTurn (WatchedSteps S.steps) (λ watched event. S.refuses watched.server event) turn.ms news
+            between self.old.conns.items self.new.worker self.new.conns.items }
+    {
         self.worker.serve_turn(&mut self.sources, gate, turn);
         let brings = self.worker.server().take_news();
         let Turn { ms, news } = turn;
@@ -206,28 +230,41 @@ impl<S: Server + Drop, L: Line> Shift<S, L> {
             .serve_turn(&mut self.conns, gate, Turn { ms, news });
     }
 
-    /// How many connections he has.
+    /// Returns how many connections it has.
     fn count(&self) -> usize
         ensures { result ≡ min (2 ^ 64 - 1) (length self.now.sources.items + length self.now.conns.items) }
     {
         self.sources.len().saturating_add(self.conns.len())
     }
 
-    /// What has come of a turn that began with so many connections.
-    fn seen(&self, before: usize) -> Seen {
+    /// Returns what is seen after a turn that began with `before` connections, and in which this was found.
+    fn seen(&self, before: usize, found: Found) -> Seen
+        ensures news { result.news ≡ found.has_news }
+        ensures more { result.more ≡ found.has_more }
+        ensures connections { result.connections ≡ min (2 ^ 64 - 1) (length self.now.sources.items + length self.now.conns.items) }
+        ensures sources { result.sources ≡ length self.now.worker.server.feeding.numbers }
+        ensures listeners { result.has_listeners ≡ has_listeners self.now.conns.items }
+        ensures closed { result.has_closed ≡ nat_lt result.connections before }
+    {
+        let connections = self.count();
         Seen {
-            news: self.worker.server().take_news(),
-            more: self.worker.server().take_more(),
-            connections: self.count(),
+            news: found.has_news,
+            more: found.has_more,
+            connections,
             sources: self.worker.server().sources(),
             has_listeners: has_listeners(self.conns.as_slice()),
-            has_closed: self.count() < before,
+            has_closed: connections < before,
         }
     }
 
-    /// Whoever has begun to feed a mount stands among the sources from now on, unless memory is refused for that.
-    fn part_sources(&mut self) {
-        if !self.worker.server().take_started() {
+    /// Moves the connections of clients that have begun to feed a mount behind those of sources, if some have; unless memory is
+    /// refused for that. None is lost.
+    #[tactic(auto, using(crate::proofs::Partings::parted_count))]
+    fn part_sources(&mut self, found: Found)
+        ensures all { length self.new.sources.items + length self.new.conns.items ≡ length self.old.sources.items + length self.old.conns.items }
+        ensures worker { self.new.worker ≡ self.old.worker }
+    {
+        if !found.has_started {
             return;
         }
         'started: for _ in 0..self.worker.server().sources() {
@@ -237,12 +274,15 @@ impl<S: Server + Drop, L: Line> Shift<S, L> {
         }
     }
 
-    /// The same of the first who stands among the others. Whether there was one.
-    fn part_source(&mut self) -> bool {
+    /// Moves the first of them that stands among the others. Returns whether there was one, and memory for it.
+    fn part_source(&mut self) -> bool
+        ensures parted { HasParted result self.old.worker.server.feeding self.old.sources.items self.old.conns.items self.new.sources.items self.new.conns.items }
+        ensures worker { self.new.worker ≡ self.old.worker }
+    {
         let Some(at) = first_source(self.worker.server(), self.conns.as_slice()) else {
             return false;
         };
-        if at >= self.conns.len() || self.sources.reserve(1).is_err() {
+        if self.sources.reserve(1).is_err() {
             return false;
         }
         let conn = self.conns.remove(at);
@@ -258,7 +298,7 @@ impl<S: Server + Drop, L: Line> Shift<S, L> {
         }
     }
 
-    /// How many linger.
+    /// Returns how many linger.
     fn count_lingering(&self) -> usize
         ensures { result ≡ min (2 ^ 64 - 1) (length (filter lingers self.now.sources.items) + length (filter lingers self.now.conns.items)) }
     {
@@ -266,8 +306,10 @@ impl<S: Server + Drop, L: Line> Shift<S, L> {
         sources.saturating_add(count_lingering(self.conns.as_slice()))
     }
 
-    /// Closes the first of those who linger, a source only where no other does.
-    fn close_first_lingering(&mut self) {
+    /// Closes the first of those that linger, a source's only if no other does.
+    fn close_first_lingering(&mut self)
+        ensures { (self.new.sources.items, self.new.conns.items) ≡ without_oldest self.old.sources.items self.old.conns.items }
+    {
         if count_lingering(self.conns.as_slice()) > 0 {
             close_first_lingering(&mut self.conns);
         } else {
@@ -275,8 +317,13 @@ impl<S: Server + Drop, L: Line> Shift<S, L> {
         }
     }
 
-    /// All who are here leave, and their connections are closed.
-    fn end(self) -> S {
+    /// Has all clients leave that have not, and closes their connections: those of sources first, then the others, each in order.
+    fn end(self) -> S
+        ensures { (between last : WatchedOf _)
+            × LeavesAll (WatchedSteps S.steps) (λ watched event. S.refuses watched.server event) self.worker.server self.sources.items between
+            × LeavesAll (WatchedSteps S.steps) (λ watched event. S.refuses watched.server event) between self.conns.items last
+            × (result ≡ last.server) }
+    {
         let mut server = self.worker.into_server();
         leave_all(&mut server, self.sources.as_slice());
         leave_all(&mut server, self.conns.as_slice());
@@ -286,15 +333,16 @@ impl<S: Server + Drop, L: Line> Shift<S, L> {
     }
 }
 
-/// Where the first of them stands who feeds a mount.
-fn first_source<S: Server + Drop, L: Line>(
-    server: &Watched<S>,
-    conns: &[Conn<L>],
-) -> Option<usize> {
+/// Returns where the first of them stands whose client feeds a mount.
+fn first_source<S: Server + Drop, L: Line>(server: &Watched<S>, conns: &[Conn<L>]) -> Option<usize>
+    ensures { result ≡ first_source server.now.feeding conns.now }
+{
     conns.iter().position(|conn| server.feeds(conn.id()))
 }
 
-/// Whether one of them has a seat.
-fn has_listeners<L: Line>(conns: &[Conn<L>]) -> bool {
+/// Returns whether one of them has a seat.
+fn has_listeners<L: Line>(conns: &[Conn<L>]) -> bool
+    ensures { result ≡ has_listeners conns.now }
+{
     conns.iter().any(|conn| conn.status().sits)
 }

@@ -40,8 +40,8 @@ impl Post<Manners, MemoryLine> for MemoryPost {
         ))
     }
 
-    fn most_lingering(&mut self, _lingering: usize) -> usize {
-        usize::MAX
+    fn most_lingering(&mut self, lingering: usize) -> usize {
+        lingering
     }
 
     fn begins_round(&mut self, is_told: bool, brings: bool) -> bool {

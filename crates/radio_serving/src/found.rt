@@ -1,0 +1,86 @@
+//! What a worker finds of what it asked the server.
+
+ghost use Rattle.std.specs.Prelude.{◌≡◌, ◌||◌, false};
+ghost use Rattle.radio_serving.specs.Kinds.{found_after, nothing_found};
+
+use crate::kind::Kind;
+use radio_connections::fills_room;
+use radio_events::Reply;
+
+/// What a worker has found since it last looked.
+#[derive(Clone, Copy)]
+pub struct Found {
+    /// Whether listeners may have news.
+    pub has_news: bool,
+    /// Whether a draw has brought all that it had room for.
+    pub has_more: bool,
+    /// Whether a client has begun to feed a mount.
+    pub has_started: bool,
+}
+
+impl Found {
+    /// Returns that of a worker which has found nothing.
+    pub(crate) fn nothing() -> Found
+        ensures { result ≡ nothing_found }
+    {
+        Found {
+            has_news: false,
+            has_more: false,
+            has_started: false,
+        }
+    }
+
+    /// Returns what is found once an event of this kind had this reply. `fed` is whether the client of a leave may have fed a
+    /// mount.
+    pub(crate) fn after(self, kind: Kind, reply: &Reply, fed: bool) -> Found
+        ensures { result ≡ found_after kind reply.now fed self }
+    {
+        match kind {
+            Kind::News => self.with_news(true),
+            Kind::Command => self.with_news(matches!(reply, Reply::Text(_))),
+            Kind::Feeds(_) => self.with_started(matches!(reply, Reply::Feeding)),
+            Kind::Leaves(_) => self.with_news(fed),
+            Kind::Own => self.with_more(fills_room(reply)),
+        }
+    }
+
+    /// Returns it once its news was taken.
+    pub(crate) fn without_news(self) -> Found
+        ensures { result ≡ record self { has_news = false } }
+    {
+        Found {
+            has_news: false,
+            ..self
+        }
+    }
+
+    /// Returns it with news, if there is some.
+    fn with_news(self, has_news: bool) -> Found
+        ensures { result ≡ record self { has_news = has_news || self.has_news } }
+    {
+        Found {
+            has_news: has_news || self.has_news,
+            ..self
+        }
+    }
+
+    /// Returns it with more to draw, if there is some.
+    fn with_more(self, has_more: bool) -> Found
+        ensures { result ≡ record self { has_more = has_more || self.has_more } }
+    {
+        Found {
+            has_more: has_more || self.has_more,
+            ..self
+        }
+    }
+
+    /// Returns it with a client that has begun to feed a mount, if one has.
+    fn with_started(self, has_started: bool) -> Found
+        ensures { result ≡ record self { has_started = has_started || self.has_started } }
+    {
+        Found {
+            has_started: has_started || self.has_started,
+            ..self
+        }
+    }
+}

@@ -1,0 +1,7 @@
+use Rattle.std.proofs.Common.{◌≡◌, ◌+◌, length}
+use Rattle.radio_workers.proofs.shift.Shift.part_sources.Given as goal
+
+abbrev pub invariant-started : goal.invariant-started
+invariant-started g l =
+    (length l.self.sources.items + length l.self.conns.items ≡ length l.initial.self.sources.items + length l.initial.self.conns.items)
+    × (l.self.worker ≡ l.initial.self.worker)
