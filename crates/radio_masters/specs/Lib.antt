@@ -6,3 +6,4 @@ pub mod Turns
 pub mod Listed
 pub mod Courses
 pub mod RelayFacts
+pub mod Askers

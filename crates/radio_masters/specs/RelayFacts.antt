@@ -3,7 +3,7 @@ use Rattle.std.specs.Prelude.{ℕ, Bool, ◌&&◌, not, List, [], ◌++◌, code
 use Rattle.radio_events.specs.declared.state.Ending.TheVariants.{By as ByRule}
 use Rattle.radio_events.specs.Endings.{ending_word}
 use Rattle.radio_log.specs.declared.facts.Fact.{Fact}
-use Rattle.radio_log.specs.declared.facts.Fact.TheVariants.{RelayUp, RelayGone, RelayFailed, MountGone, Warning}
+use Rattle.radio_log.specs.declared.facts.Fact.TheVariants.{RelayUp, RelayGone, RelayFailed, MountGone, Title, Warning}
 use Rattle.radio_policy.specs.declared.rule.Rule.TheVariants.{SourceSilent, SourceKilled}
 use Rattle.radio_settings.specs.declared.settings.Master.{Master}
 use Rattle.radio_masters.specs.declared.relay_end.RelayEnd.{RelayEnd}
@@ -33,6 +33,10 @@ master_text master = master.server ++ codes ":" ++ decimal master.port
 -- a relay feeds a mount, and the mount is live
 abbrev pub up_fact : List ℕ → List ℕ → List ℕ → Fact
 up_fact mount master content_type = RelayUp (record { mount = mount; master = master; content_type = content_type })
+
+-- a title is on the air at a mount
+abbrev pub title_fact : List ℕ → List ℕ → Fact
+title_fact mount title = Title (record { mount = mount; title = title })
 
 -- a relay feeds its mount no more
 abbrev pub gone_fact : List ℕ → List ℕ → List ℕ → PullEnd → ℕ → Fact

@@ -1,6 +1,7 @@
 //! A server, as a relay asks it.
 
 ghost use Rattle.std.specs.Prelude.{◌≡◌, IfOk};
+ghost use Rattle.radio_masters.specs.Askers.{HasEndedBy, asked_of};
 
 use crate::OutOfMemory;
 use crate::failing::Failing;
@@ -12,7 +13,7 @@ use radio_values::MountName;
 use std::alloc::Global;
 use std::marker::Model;
 
-/// A server, as a relay asks it; what is done is told in the log. In contracts it is that server.
+/// A server, as a relay asks it; what is done is told in the log. In contracts it is that server, and what is noted of the relay.
 #[derive(Drop)]
 pub struct Asked<S: Server + Drop> {
     server: S,
@@ -20,70 +21,84 @@ pub struct Asked<S: Server + Drop> {
 }
 
 impl<S: Server + Drop> Model for Asked<S> {
-    ghost Value = { S };
+    ghost use Rattle.radio_masters.specs.Askers.{AskedOf};
 
-    ghost view = { λ a. a.server };
+    ghost Value = { AskedOf S };
+
+    ghost view = { λ a. record { server = a.server; course = a.log.course } };
 }
 
 impl<S: Server + Drop> Asked<S> {
-    /// This server, as this relay asks it. `OutOfMemory` where memory was refused; the server is gone then.
+    /// Returns this server, as this relay asks it. `OutOfMemory` if memory is refused; the server is gone then.
     pub fn new(alloc: Global, server: S, relay: &RelaySetting) -> Result<Asked<S>, OutOfMemory>
-        ensures { IfOk result (λ asked. asked ≡ server) }
+        ensures { IfOk result (λ asked. asked ≡ asked_of server) }
     {
         let log = RelayLog::new(alloc, relay)?;
         Ok(Asked { server, log })
     }
 
-    /// The server.
+    /// Returns the server.
     pub fn server(&self) -> &S
-        ensures { result.now ≡ self.now }
+        ensures { result.now ≡ self.now.server }
     {
         &self.server
     }
 
-    /// What the log tells of the relay.
+    /// Returns what the log tells of the relay.
     pub fn log(&self) -> &RelayLog {
         &self.log
     }
 
     /// Tells in the log that the pull of the relay has ended so, or that the relay did not come up by it.
     pub fn tell_end(&mut self, end: PullEnd)
-        ensures { self.new ≡ self.old }
+        ensures { HasEndedBy end self.old self.new }
     {
         self.log.end(end);
     }
 
-    /// Whether the relay feeds its mount.
-    pub fn is_up(&self) -> bool {
+    /// Returns whether the relay feeds its mount.
+    pub fn is_up(&self) -> bool
+        ensures { result ≡ self.now.course.is_up }
+    {
         self.log.is_up()
     }
 
-    /// How the relay has failed, if it has since it was up last.
-    pub fn failing(&self) -> Option<Failing> {
+    /// Returns how the relay has failed, if it has since it was up last.
+    pub fn failing(&self) -> Option<Failing>
+        ensures { result ≡ self.now.course.failing }
+    {
         self.log.failing()
     }
 
     /// Notes that the relay has failed so before, or has not.
     pub fn set_failing(&mut self, failing: Option<Failing>)
-        ensures { self.new ≡ self.old }
+        ensures { self.new ≡ record self.old { course = record self.old.course { failing = failing } } }
     {
         self.log.set_failing(failing);
     }
 
-    /// The server, when the relay asks it no more.
+    /// Returns the server, when the relay asks it no more.
     pub fn into_server(self) -> S
-        ensures { result ≡ self }
+        ensures { result ≡ self.server }
     {
         self.server
     }
 }
 
 impl<S: Server + Drop> Server for Asked<S> {
-    ghost steps = { S.steps };
+    ghost use Rattle.std.specs.Prelude.{◌≡◌, IfOk, OnErr};
+    ghost use Rattle.radio_masters.specs.Askers.{AskedSteps};
 
-    ghost refuses = { S.refuses };
+    ghost steps = { AskedSteps S.steps };
 
-    fn apply(&mut self, event: Event) -> Result<Reply, OutOfMemory> {
+    ghost refuses = { λ asked event. S.refuses asked.server event };
+
+    /// Applies an event, and tells what of it is done. `OutOfMemory` if memory is refused; nothing has changed then.
+    fn apply(&mut self, event: Event) -> Result<Reply, OutOfMemory>
+        ensures ok { IfOk result (λ reply. AskedSteps S.steps self.old event reply self.new) }
+        ensures err { OnErr result (self.new ≡ self.old) }
+        ensures refused { OnErr result (S.refuses self.old.server event) }
+    {
         let saying = self.log.saying(&event);
         match self.server.apply(event) {
             Ok(reply) => {

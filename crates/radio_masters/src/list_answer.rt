@@ -43,7 +43,9 @@ impl From<OutOfMemory> for ListFault {
 
     ghost from_gives = { λ _ fault. fault ≡ NoMemory };
 
-    fn from(_error: OutOfMemory) -> ListFault {
+    fn from(_error: OutOfMemory) -> ListFault
+        ensures { result ≡ NoMemory }
+    {
         ListFault::OutOfMemory
     }
 }

@@ -2,8 +2,9 @@
 
 ghost use Rattle.std.specs.Prelude.{◌≡◌, IfOk};
 ghost use Rattle.std.specs.String.{string_bytes};
-ghost use Rattle.radio_masters.specs.Courses.{IsCopyOf, IsSayingOf, begun, due, said};
-ghost use Rattle.radio_masters.specs.RelayFacts.{failed_fact, gone_fact, master_text, mount_gone_fact, relay_word, up_fact};
+ghost use Rattle.radio_masters.specs.Courses.{HasEnded, IsCopyOf, IsSayingOf, begun, due, said};
+ghost use Rattle.radio_masters.specs.declared.relay_course.EndLine.{EndLine};
+ghost use Rattle.radio_masters.specs.RelayFacts.{failed_fact, gone_fact, master_text, mount_gone_fact, relay_word, title_fact, up_fact};
 
 use crate::failing::Failing;
 use crate::relay_course::{EndLine, RelayCourse, Saying};
@@ -76,27 +77,19 @@ impl RelayLog {
     {
         let told = saying.due(reply);
         self.course = self.course.after(&told);
-        self.tell(told);
-    }
-
-    fn tell(&self, told: Saying) {
+        let mount = self.mount.as_bytes();
         match told {
-            Saying::Up(content_type) => self.tell_up(content_type.as_slice()),
-            Saying::Title(title) => self.log.note(Fact::Title(Title {
-                mount: Text::of(self.mount.as_bytes()),
-                title: Text::of(title.as_slice()),
-            })),
+            Saying::Up(content_type) => {
+                let master = self.master.as_bytes();
+                self.log
+                    .note(up_fact(mount, master, content_type.as_slice()));
+                self.log.note(Fact::MountUp {
+                    mount: Text::of(mount),
+                });
+            }
+            Saying::Title(title) => self.log.note(title_fact(mount, title.as_slice())),
             Saying::Sound(_) | Saying::Nothing => (),
         }
-    }
-
-    fn tell_up(&self, content_type: &[u8]) {
-        let mount = self.mount.as_bytes();
-        self.log
-            .note(up_fact(mount, self.master.as_bytes(), content_type));
-        self.log.note(Fact::MountUp {
-            mount: Text::of(mount),
-        });
     }
 
     /// Whether the relay feeds its mount.
@@ -121,14 +114,26 @@ impl RelayLog {
     }
 
     /// Tells that the relay has ended so, or did not come up. A failure that lasts is told once an hour.
-    pub(crate) fn end(&mut self, end: PullEnd) {
+    pub(crate) fn end(&mut self, end: PullEnd)
+        ensures course { (line : EndLine) × HasEnded self.old.course end.why end.ms self.new.course line }
+        ensures mount { self.new.mount ≡ self.old.mount }
+        ensures master { self.new.master ≡ self.old.master }
+    {
         let (course, line) = self.course.ended(end.why, end.ms);
         let sound = self.course.sound;
         self.course = course;
-        let why = self.word_of(end.why);
+        let word = self.word_of(end.why);
+        let (mount, master) = (self.mount.as_bytes(), self.master.as_bytes());
         match line {
-            EndLine::Gone => self.tell_gone(&end, why.as_bytes(), sound),
-            EndLine::Failed(times) => self.tell_failed(why.as_bytes(), times),
+            EndLine::Gone => {
+                self.log
+                    .note(gone_fact(mount, master, word.as_bytes(), &end, sound));
+                self.log.note(mount_gone_fact(mount, &end));
+            }
+            EndLine::Failed(times) => {
+                self.log
+                    .note(failed_fact(mount, master, word.as_bytes(), times));
+            }
             EndLine::Nothing => (),
         }
     }
@@ -142,19 +147,6 @@ impl RelayLog {
             Err(_) => String::new(self.alloc),
         }
     }
-
-    fn tell_failed(&self, why: &[u8], times: u64) {
-        let mount = self.mount.as_bytes();
-        self.log
-            .note(failed_fact(mount, self.master.as_bytes(), why, times));
-    }
-
-    fn tell_gone(&self, end: &PullEnd, why: &[u8], sound: u64) {
-        let mount = self.mount.as_bytes();
-        self.log
-            .note(gone_fact(mount, self.master.as_bytes(), why, end, sound));
-        self.log.note(mount_gone_fact(mount, end));
-    }
 }
 
 /// A relay feeds this mount from now on.
@@ -165,6 +157,16 @@ fn up_fact<'a>(mount: &'a [u8], master: &'a [u8], content_type: &'a [u8]) -> Fac
         mount: Text::of(mount),
         master: Text::of(master),
         content_type: Text::of(content_type),
+    })
+}
+
+/// This title is on the air at this mount.
+fn title_fact<'a>(mount: &'a [u8], title: &'a [u8]) -> Fact<'a>
+    ensures { result ≡ title_fact mount.now title.now }
+{
+    Fact::Title(Title {
+        mount: Text::of(mount),
+        title: Text::of(title),
     })
 }
 
