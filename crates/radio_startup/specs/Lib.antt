@@ -2,6 +2,8 @@ pub mod FaultLines
 pub mod Doubts
 pub mod Columns
 pub mod Warnings
+pub mod Sayings
+pub mod Unread
 pub mod Misreadings
 pub mod Calls
 pub mod Files

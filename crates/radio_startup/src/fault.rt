@@ -1,8 +1,10 @@
 //! Why a file that the program reads first is not taken.
 
-ghost use Rattle.std.specs.Prelude.{◌≡◌, ◌++◌, codes};
+ghost use Rattle.std.specs.Prelude.{◌≡◌, ◌++◌, IfSome, codes};
+ghost use Rattle.std.specs.String.{string_bytes};
 ghost use Rattle.std.specs.Fmt.{IsPlainFormatter, WritesOnOk, decimal};
 ghost use Rattle.radio_startup.specs.FaultLines.{exit_status, file_of, key_of, place_of, settings_status};
+ghost use Rattle.radio_startup.specs.Sayings.{IsReasonOf};
 
 use crate::misreading::Misreading;
 use crate::notices::words_of;
@@ -98,7 +100,9 @@ impl FileFault {
     }
 
     /// The reason that the system, or the reader of TOML, gives; empty where none is known. `None` where memory is refused.
-    pub fn reason(&self, alloc: Global) -> Option<String> {
+    pub fn reason(&self, alloc: Global) -> Option<String>
+        ensures { IfSome result (λ reason. IsReasonOf self.now (string_bytes reason)) }
+    {
         match self {
             FileFault::CannotRead { error, .. } => words_of(alloc, error),
             FileFault::NotToml(misreading) => words_of(alloc, &misreading.reason.as_str()),

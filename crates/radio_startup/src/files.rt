@@ -3,8 +3,10 @@
 ghost use Rattle.std.specs.Prelude.{◌≡◌, ℕ, List, Ok, Some, IfOk, IfErr};
 ghost use Rattle.radio_documents.specs.Document.{reading_of};
 ghost use Rattle.radio_documents.specs.Web.{answers_told};
+ghost use Rattle.radio_startup.specs.declared.fault.FileFault.TheVariants.{OutOfMemory as NoMemory};
 ghost use Rattle.radio_startup.specs.Files.{AreListsOf, IsStationOf};
 ghost use Rattle.radio_startup.specs.SettingsFaults.{IsFaultOf, IsNotToml};
+ghost use Rattle.radio_startup.specs.Unread.{IsUnread};
 
 use crate::fault::FileFault;
 use crate::lists::read_lists;
@@ -52,7 +54,8 @@ pub fn read_station<F: ReadsFiles>(files: &F, path: &str) -> Result<Station, Fil
 
 /// The settings file of this path. The fault is that it cannot be read.
 pub fn read_text<F: ReadsFiles>(files: &F, path: &str) -> Result<SettingsText, FileFault>
-    ensures { IfOk result (λ text. F.holds files.now path.now text) }
+    ensures text { IfOk result (λ text. F.holds files.now path.now text) }
+    ensures fault { IfErr result (λ fault. IsUnread path.now fault) }
 {
     Ok(SettingsText {
         bytes: files.read(path)?,
@@ -79,7 +82,9 @@ impl SettingsText {
     }
 
     /// The keys that are passed over, each with its line. `OutOfMemory`: memory was refused.
-    pub fn unknown_keys(&self, alloc: Global) -> Result<Vec<UnknownKey>, FileFault> {
+    pub fn unknown_keys(&self, alloc: Global) -> Result<Vec<UnknownKey>, FileFault>
+        ensures { IfErr result (λ fault. fault ≡ NoMemory) }
+    {
         let found = match str::from_utf8(self.bytes.as_slice()) {
             Ok(text) => unknown_keys(alloc, text),
             Err(_) => Ok(Vec::new(alloc)),

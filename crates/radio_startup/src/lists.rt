@@ -4,6 +4,7 @@ ghost use Rattle.std.specs.Prelude.{◌≡◌, ℕ, List, IfOk, OnOk, Ok};
 ghost use Rattle.radio_addr.specs.Lists.{list_of};
 ghost use Rattle.radio_creds.specs.UserList.{users_of};
 ghost use Rattle.radio_startup.specs.Files.{AreAddresses, AreListsOf, HasUsersOf, ReadUsers, ReadsAddresses};
+ghost use Rattle.radio_startup.specs.Unread.{IsBadLine};
 
 use crate::fault::FileFault;
 use crate::reading::ReadsFiles;
@@ -107,7 +108,10 @@ fn read_users<F: ReadsFiles>(files: &F, path: &Text) -> Result<Users, FileFault>
     }
 }
 
-fn line_fault(alloc: Global, path: &str, line: usize) -> FileFault {
+/// This line of the file of this path is no address. `OutOfMemory` if memory is refused for the path.
+fn line_fault(alloc: Global, path: &str, line: usize) -> FileFault
+    ensures { IsBadLine path.now line result }
+{
     match String::from_str(alloc, path) {
         Ok(path) => FileFault::Line { path, line },
         Err(_) => FileFault::OutOfMemory,

@@ -1,5 +1,10 @@
 //! Lines of the log that the program itself writes.
 
+ghost use Rattle.std.specs.Prelude.{◌≡◌, ℕ, IfOk, IfSome, List, Option, Some, length};
+ghost use Rattle.std.specs.String.{string_bytes};
+ghost use Rattle.radio_startup.specs.Sayings.{TellsFact, started};
+ghost use Rattle.radio_startup.specs.Warnings.{warnings_of};
+
 use crate::OutOfMemory;
 use crate::limits::limit_named;
 use crate::warnings::warnings_of;
@@ -34,7 +39,9 @@ pub struct Dated {
 }
 
 /// Returns the line of a fact, of this moment; `None` if memory is refused.
-pub fn line_now<R: Clock + AllocGlobal>(rt: &R, fact: Fact<'_>) -> Option<Dated> {
+pub fn line_now<R: Clock + AllocGlobal>(rt: &R, fact: Fact<'_>) -> Option<Dated>
+    ensures { IfSome result (λ dated. TellsFact fact.entry dated) }
+{
     let seconds = seconds_now(rt);
     let note = Note {
         moment: Moment::at(seconds),
@@ -56,10 +63,17 @@ fn seconds_now<R: Clock>(rt: &R) -> u64 {
 
 /// Tells that the program listens at this address.
 pub fn tell_start<N: Notices>(notices: &N, address: &str) {
-    notices.tell(Fact::Started {
-        version: Text::of(VERSION.as_bytes()),
+    notices.tell(started(VERSION, address));
+}
+
+/// The program of this version listens at this address.
+fn started<'a>(version: &'a str, address: &'a str) -> Fact<'a>
+    ensures { result ≡ started version.now address.now }
+{
+    Fact::Started {
+        version: Text::of(version.as_bytes()),
         address: Text::of(address.as_bytes()),
-    });
+    }
 }
 
 /// Adds a line to the log for each warning of these settings, and of keys of them that are passed over. Returns how many there
@@ -69,7 +83,10 @@ pub fn warn<R: Files + AllocGlobal, N: Notices>(
     notices: &N,
     settings: &Settings,
     unknown: &[UnknownKey],
-) -> Result<usize, OutOfMemory> {
+) -> Result<usize, OutOfMemory>
+    // as many as there are by how many descriptors the system allows
+    ensures { IfOk result (λ count. (descriptors : Option ℕ) × (count ≡ length (warnings_of settings.now unknown.now descriptors))) }
+{
     let descriptors = limit_named(rt, LINE_OF_DESCRIPTORS);
     let told = warnings_of(rt.alloc(), settings, unknown, descriptors)?;
     let count = told.len();
@@ -79,8 +96,10 @@ pub fn warn<R: Files + AllocGlobal, N: Notices>(
     Ok(count)
 }
 
-/// What is said of this; `None` where memory is refused.
-pub fn words_of<T: Display>(alloc: Global, said: &T) -> Option<String> {
+/// Returns the text of this; `None` if memory is refused.
+pub fn words_of<T: Display>(alloc: Global, said: &T) -> Option<String>
+    ensures { (text : List ℕ) → T.output said.now ≡ Some text → IfSome result (λ words. string_bytes words ≡ text) }
+{
     match format!(in alloc; "{said}") {
         Ok(words) => Some(words),
         Err(_) => None,

@@ -1,6 +1,7 @@
 //! Where the files of a station are read.
 
-ghost use Rattle.std.specs.Prelude.{ℕ, List, IfOk};
+ghost use Rattle.std.specs.Prelude.{ℕ, List, IfErr, IfOk};
+ghost use Rattle.radio_startup.specs.Unread.{IsUnread};
 
 use crate::fault::FileFault;
 use std::alloc::{AllocGlobal, Global};
@@ -13,12 +14,13 @@ pub trait ReadsFiles {
     // a file of this path holds these bytes
     ghost holds: { Self → List ℕ → List ℕ → Type 0 };
 
-    /// Where memory comes from.
+    /// Returns the allocator from which memory comes.
     fn alloc(&self) -> Global;
 
     /// Returns all of the file of this path. The fault is that it cannot be read, or `OutOfMemory`.
     fn read(&self, path: &str) -> Result<Vec<u8>, FileFault>
-        ensures { IfOk result (λ bytes. holds self.now path.now bytes.items) };
+        ensures bytes { IfOk result (λ bytes. holds self.now path.now bytes.items) }
+        ensures fault { IfErr result (λ fault. IsUnread path.now fault) };
 }
 
 /// The files of the system. No contract says what they hold.
@@ -28,7 +30,7 @@ pub struct SystemFiles<'a, R: Files + AllocGlobal> {
 }
 
 impl<'a, R: Files + AllocGlobal> SystemFiles<'a, R> {
-    /// The files of the system, with the memory of this runtime.
+    /// Returns the files of the system, with the memory of this runtime.
     pub fn new(rt: &'a R) -> SystemFiles<'a, R> {
         SystemFiles { rt }
     }
@@ -41,8 +43,11 @@ impl<'a, R: Files + AllocGlobal> ReadsFiles for SystemFiles<'a, R> {
         self.rt.alloc()
     }
 
-    /// Want of memory is not told as a file that cannot be read.
-    fn read(&self, path: &str) -> Result<Vec<u8>, FileFault> {
+    /// Returns all of the file of this path. Want of memory is not told as a file that cannot be read.
+    fn read(&self, path: &str) -> Result<Vec<u8>, FileFault>
+        ensures bytes { IfOk result (λ _. Unit {0}) }
+        ensures fault { IfErr result (λ fault. IsUnread path.now fault) }
+    {
         match fs::read(self.rt, path) {
             Ok(bytes) => Ok(bytes),
             Err(error) if error.kind() == ErrorKind::OutOfMemory => Err(FileFault::OutOfMemory),
@@ -51,7 +56,10 @@ impl<'a, R: Files + AllocGlobal> ReadsFiles for SystemFiles<'a, R> {
     }
 }
 
-fn unreadable(alloc: Global, path: &str, error: io::Error) -> FileFault {
+/// The file of this path cannot be read, for this reason. `OutOfMemory` if memory is refused for the path.
+fn unreadable(alloc: Global, path: &str, error: io::Error) -> FileFault
+    ensures { IsUnread path.now result }
+{
     match String::from_str(alloc, path) {
         Ok(path) => FileFault::CannotRead { path, error },
         Err(_) => FileFault::OutOfMemory,
