@@ -1,11 +1,16 @@
 -- What the line on standard error says of a fault, after `radiod: `, and the status with which the program ends.
-use Rattle.std.specs.Prelude.{ℕ, List, [], codes}
+use Rattle.std.specs.Prelude.{◌≡◌, ℕ, List, [], codes}
 use Rattle.std.specs.String.{string_bytes}
+use Rattle.radio_log.specs.declared.facts.Fact.{Fact}
+use Rattle.radio_log.specs.declared.facts.Fact.TheVariants.{Fault as TellsFault}
 use Rattle.radio_log.specs.declared.facts.FaultyKey.{FaultyKey}
 use Rattle.radio_startup.specs.FaultLines.{fault_line as file_fault_text, exit_status as file_status, file_of as file_in, place_of as place_in, key_of as key_in, no_key}
+use Rattle.radio_startup.specs.Sayings.{IsReasonOf as IsReasonOfFile}
 use Rattle.radio_deliveries.specs.Words.{play_fault_text}
 use Rattle.radio_sockets.specs.Faults.{fault_line as serve_fault_text}
 use Rattle.radiod.specs.declared.fault.Fault.{Fault}
+use Rattle.radiod.specs.declared.fault.NotBound.{NotBound}
+use Rattle.radiod.specs.declared.fault.NotBound.TheVariants.{NoAddress, Refused}
 use Rattle.radiod.specs.declared.fault.Fault.TheVariants.{Usage, File, Play, CannotBind, Serve, Warnings, OutOfMemory}
 
 abbrev pub fault_line : Fault → List ℕ
@@ -44,3 +49,26 @@ key_of fault = no_key
 abbrev pub address_of : Fault → List ℕ
 address_of (CannotBind address reason) = string_bytes address
 address_of fault = []
+
+-- why an address cannot be bound, in words: the system's own if it refuses it
+abbrev pub IsBindReason : NotBound → List ℕ → Type 0
+IsBindReason NoAddress reason = reason ≡ codes "not an IP address"
+IsBindReason (Refused error) reason = Unit {0}
+
+-- the reason that is known of a fault; else it is empty
+abbrev pub IsReasonOf : Fault → List ℕ → Type 0
+IsReasonOf (File fault) reason = IsReasonOfFile fault reason
+IsReasonOf (CannotBind address why) reason = IsBindReason why reason
+IsReasonOf fault reason = reason ≡ []
+
+-- what the log says of a fault by which the program does not serve, by its words and its reason
+abbrev pub fault_fact : List ℕ → Fault → List ℕ → List ℕ → Fact
+fault_fact settings fault why reason = TellsFault (record {
+  why = why;
+  file = file_of fault settings;
+  line = (place_of fault).0;
+  column = (place_of fault).1;
+  address = address_of fault;
+  reason = reason;
+  at = key_of fault;
+})

@@ -1,3 +1,4 @@
 pub mod FaultLines
 pub mod Checks
 pub mod Binding
+pub mod Ends

@@ -1,6 +1,6 @@
 //! What `--version` and `--help` write on standard output.
 
-ghost use Rattle.std.specs.Prelude.{◌≡◌, MatchResult};
+ghost use Rattle.std.specs.Prelude.{◌≡◌, IfErr, MatchResult};
 ghost use Rattle.radio_deliveries.specs.declared.faults.PlayFault.TheVariants.{Write};
 ghost use Rattle.radiod.specs.declared.fault.Fault.TheVariants.{Play};
 
@@ -27,12 +27,16 @@ name, and 1 for other faults. With --strict it is 3 for warnings too.
 ";
 
 /// Writes the program's name and its version on standard output. Output that takes no more is the fault `Play(Write)`.
-pub fn write_version(rt: &HostRuntime) -> Result<(), Fault> {
+pub fn write_version(rt: &HostRuntime) -> Result<(), Fault>
+    ensures { IfErr result (λ fault. fault ≡ Play Write) }
+{
     written(println!(rt; "radiod {VERSION}"))
 }
 
 /// Writes the usage on standard output. Output that takes no more is the fault `Play(Write)`.
-pub fn write_help(rt: &HostRuntime) -> Result<(), Fault> {
+pub fn write_help(rt: &HostRuntime) -> Result<(), Fault>
+    ensures { IfErr result (λ fault. fault ≡ Play Write) }
+{
     written(print!(rt; "{HELP}"))
 }
 

@@ -1,7 +1,9 @@
 //! The log of the program, and its faults.
 
-ghost use Rattle.std.specs.Prelude.{◌≡◌};
-ghost use Rattle.radiod.specs.FaultLines.{address_of, file_of, key_of, place_of};
+ghost use Rattle.std.specs.Prelude.{◌≡◌, IfErr, IfSome};
+ghost use Rattle.std.specs.String.{string_bytes};
+ghost use Rattle.radiod.specs.declared.fault.Fault.TheVariants.{OutOfMemory as NoMemory};
+ghost use Rattle.radiod.specs.FaultLines.{IsBindReason, IsReasonOf, address_of, fault_fact, file_of, key_of, place_of};
 
 use crate::fault::{Fault, NotBound};
 use crate::output::LimitedFile;
@@ -26,7 +28,9 @@ pub struct ProgramLog<'a, W: Wait> {
 
 impl<'a, W: Clock + Threads + Wait + Copy + Drop + Send + 'static> ProgramLog<'a, W> {
     /// Starts the thread that writes the log to standard output. The fault `OutOfMemory` if memory or the thread is refused.
-    pub fn start(rt: &'a HostRuntime, waits: &'a W) -> Result<ProgramLog<'a, W>, Fault> {
+    pub fn start(rt: &'a HostRuntime, waits: &'a W) -> Result<ProgramLog<'a, W>, Fault>
+        ensures { IfErr result (λ fault. fault ≡ NoMemory) }
+    {
         let alloc = rt.alloc();
         let queue = match LimitedFile::standard_output(rt) {
             Some(file) => start_log(waits, alloc, file, rt.stderr()),
@@ -38,8 +42,10 @@ impl<'a, W: Clock + Threads + Wait + Copy + Drop + Send + 'static> ProgramLog<'a
         }
     }
 
-    /// Returns the queue, for a thread that adds lines to it.
-    pub fn queue(&self) -> Result<Arc<LogQueue>, Fault> {
+    /// Returns the queue, for a thread that adds lines to it. The fault is `OutOfMemory`.
+    pub fn queue(&self) -> Result<Arc<LogQueue>, Fault>
+        ensures { IfErr result (λ fault. fault ≡ NoMemory) }
+    {
         match self.queue.clone() {
             Ok(queue) => Ok(queue),
             Err(_) => Err(Fault::OutOfMemory),
@@ -85,23 +91,12 @@ impl<'a, W: Clock + Threads + Wait + Copy + Drop + Send + 'static> ProgramLog<'a
     /// `path` is that of the settings.
     pub fn tell_fault(&self, path: &str, fault: &Fault) {
         say(self.rt, fault);
-        let (Some(why), Some(reason)) = (
-            words_of(self.rt.alloc(), fault),
-            reason_of(self.rt, fault),
-        ) else {
-            return;
-        };
-        let (line, column) = place_of(fault);
-        self.tell(Fact::Fault(radio_log::Fault {
-            why: Text::of(why.as_bytes()),
-            file: Text::of(file_of(path, fault).as_bytes()),
-            line,
-            column,
-            address: Text::of(address_of(fault).as_bytes()),
-            reason: Text::of(reason.as_bytes()),
-            at: key_of(fault),
-        }));
-        self.queue.wait_written(self.waits, LAST_WAIT_MS);
+        let why = words_of(self.rt.alloc(), fault);
+        let reason = reason_of(self.rt, fault);
+        if let (Some(why), Some(reason)) = (why, reason) {
+            self.tell(fault_fact(path, fault, why.as_str(), reason.as_str()));
+            self.wait_written();
+        }
     }
 }
 
@@ -133,7 +128,12 @@ fn file_of<'a>(settings: &'a str, fault: &'a Fault) -> &'a str
 {
     match fault {
         Fault::File(fault) => fault.file(settings),
-        _ => "",
+        Fault::Usage
+        | Fault::Play(_)
+        | Fault::CannotBind { .. }
+        | Fault::Serve(_)
+        | Fault::Warnings
+        | Fault::OutOfMemory => "",
     }
 }
 
@@ -143,7 +143,12 @@ fn place_of(fault: &Fault) -> (u64, u64)
 {
     match fault {
         Fault::File(fault) => fault.place(),
-        _ => (0, 0),
+        Fault::Usage
+        | Fault::Play(_)
+        | Fault::CannotBind { .. }
+        | Fault::Serve(_)
+        | Fault::Warnings
+        | Fault::OutOfMemory => (0, 0),
     }
 }
 
@@ -173,20 +178,50 @@ fn address_of(fault: &Fault) -> &str
 {
     match fault {
         Fault::CannotBind { address, .. } => address.as_str(),
-        _ => "",
+        Fault::Usage
+        | Fault::File(_)
+        | Fault::Play(_)
+        | Fault::Serve(_)
+        | Fault::Warnings
+        | Fault::OutOfMemory => "",
     }
 }
 
-/// The reason that the system, or the reader of TOML, gives for a fault; empty where none is known. `None` where memory
-/// is refused.
-fn reason_of(rt: &HostRuntime, fault: &Fault) -> Option<String> {
+/// The reason that the system, or the reader of TOML, gives for a fault; empty if none is known. `None` if memory is refused.
+fn reason_of(rt: &HostRuntime, fault: &Fault) -> Option<String>
+    ensures { IfSome result (λ reason. IsReasonOf fault.now (string_bytes reason)) }
+{
     match fault {
         Fault::File(fault) => fault.reason(rt.alloc()),
-        Fault::CannotBind {
-            reason: NotBound::Refused(error),
-            ..
-        } => words_of(rt.alloc(), error),
-        Fault::CannotBind { .. } => words_of(rt.alloc(), &"not an IP address"),
-        _ => words_of(rt.alloc(), &""),
+        Fault::CannotBind { reason, .. } => reason_not_bound(rt, reason),
+        Fault::Usage | Fault::Play(_) | Fault::Serve(_) | Fault::Warnings | Fault::OutOfMemory =>
+            words_of(rt.alloc(), &""),
     }
+}
+
+/// The reason why an address cannot be bound, in words. `None` if memory is refused.
+fn reason_not_bound(rt: &HostRuntime, reason: &NotBound) -> Option<String>
+    ensures { IfSome result (λ words. IsBindReason reason.now (string_bytes words)) }
+{
+    match reason {
+        NotBound::Refused(error) => words_of(rt.alloc(), error),
+        NotBound::NoAddress => words_of(rt.alloc(), &"not an IP address"),
+    }
+}
+
+/// What the log says of a fault by which the program does not serve: these are its words and its reason, and `path` is that of the
+/// settings.
+fn fault_fact<'a>(path: &'a str, fault: &'a Fault, why: &'a str, reason: &'a str) -> Fact<'a>
+    ensures { result ≡ fault_fact path.now fault.now why.now reason.now }
+{
+    let (line, column) = place_of(fault);
+    Fact::Fault(radio_log::Fault {
+        why: Text::of(why.as_bytes()),
+        file: Text::of(file_of(path, fault).as_bytes()),
+        line,
+        column,
+        address: Text::of(address_of(fault).as_bytes()),
+        reason: Text::of(reason.as_bytes()),
+        at: key_of(fault),
+    })
 }

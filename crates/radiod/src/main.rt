@@ -6,9 +6,14 @@
 //! error, with status 2 for the words of the call, 3 for the settings and the files that they name, and else 1.
 #![tactic(auto)]
 
-ghost use Rattle.std.specs.Prelude.{◌≡◌};
+ghost use Rattle.std.specs.Prelude.{◌≡◌, ℕ, IfErr, IfOk, List, Ok, Option, length};
+ghost use Rattle.radio_documents.specs.Document.{reading_of};
+ghost use Rattle.radio_review.specs.declared.unknown.UnknownKey.{UnknownKey as UnknownKeyOf};
+ghost use Rattle.radio_settings.specs.declared.settings.Settings.{Settings as SettingsOf};
+ghost use Rattle.radio_startup.specs.Warnings.{warnings_of};
 ghost use Rattle.radiod.specs.declared.fault.Fault.TheVariants.{File};
 ghost use Rattle.radiod.specs.Checks.{verdict};
+ghost use Rattle.radiod.specs.Ends.{EndsCheck, EndsPlay, EndsService};
 
 mod fault;
 mod help;
@@ -70,7 +75,9 @@ fn serve_file<W: Clock + Threads + Wait + Sync + Copy + Drop + Send + 'static>(
     rt: &HostRuntime,
     waits: &W,
     path: &str,
-) -> Result<(), Fault> {
+) -> Result<(), Fault>
+    ensures { IfErr result EndsService }
+{
     match ProgramLog::start(rt, waits) {
         Ok(log) => serve_logged(rt, waits, &log, path),
         Err(fault) => said(rt, Err(fault)),
@@ -83,7 +90,9 @@ fn serve_logged<W: Clock + Threads + Wait + Sync + Copy + Drop + Send + 'static>
     waits: &W,
     log: &ProgramLog<'_, W>,
     path: &str,
-) -> Result<(), Fault> {
+) -> Result<(), Fault>
+    ensures { IfErr result EndsService }
+{
     match read_text(&SystemFiles::new(rt), path) {
         Ok(text) => Err(serve_text(rt, waits, log, path, &text)),
         Err(fault) => Err(told(log, path, fault)),
@@ -97,7 +106,9 @@ fn serve_text<W: Clock + Threads + Wait + Sync + Copy + Drop + Send + 'static>(
     log: &ProgramLog<'_, W>,
     path: &str,
     text: &SettingsText,
-) -> Fault {
+) -> Fault
+    ensures { EndsService result }
+{
     let unknown = match text.unknown_keys(rt.alloc()) {
         Ok(unknown) => unknown,
         Err(fault) => return told(log, path, fault),
@@ -132,19 +143,24 @@ fn check_file<W: Clock + Threads + Wait + Sync + Copy + Drop + Send + 'static>(
     waits: &W,
     path: &str,
     is_strict: bool,
-) -> Result<(), Fault> {
+) -> Result<(), Fault>
+    ensures { IfErr result EndsCheck }
+{
     match ProgramLog::start(rt, waits) {
         Ok(log) => check_logged(rt, &log, path, is_strict),
         Err(fault) => said(rt, Err(fault)),
     }
 }
 
+/// Reads what `serve` reads, and tells this log what is doubtful.
 fn check_logged<W: Clock + Threads + Wait + Copy + Drop + Send + 'static>(
     rt: &HostRuntime,
     log: &ProgramLog<'_, W>,
     path: &str,
     is_strict: bool,
-) -> Result<(), Fault> {
+) -> Result<(), Fault>
+    ensures { IfErr result EndsCheck }
+{
     match warnings_of(rt, log, path) {
         Ok(warnings) => {
             let verdict = verdict(is_strict, warnings);
@@ -173,7 +189,11 @@ fn warnings_of<W: Clock + Threads + Wait + Copy + Drop + Send + 'static>(
     rt: &HostRuntime,
     log: &ProgramLog<'_, W>,
     path: &str,
-) -> Result<usize, FileFault> {
+) -> Result<usize, FileFault>
+    // those of the settings that some bytes say, by some keys that are passed over and what the system allows
+    ensures { IfOk result (λ count. (bytes : List ℕ) × (settings : SettingsOf) × (unknown : List UnknownKeyOf) × (descriptors : Option ℕ)
+        × (reading_of bytes ≡ Ok settings) × (count ≡ length (warnings_of settings unknown descriptors))) }
+{
     let files = SystemFiles::new(rt);
     let text = read_text(&files, path)?;
     let unknown = text.unknown_keys(rt.alloc())?;
@@ -186,7 +206,9 @@ fn warnings_of<W: Clock + Threads + Wait + Copy + Drop + Send + 'static>(
 }
 
 /// Plays the script on standard input, with the settings of this file.
-fn play_script(rt: &HostRuntime, path: &str) -> Result<(), Fault> {
+fn play_script(rt: &HostRuntime, path: &str) -> Result<(), Fault>
+    ensures { IfErr result EndsPlay }
+{
     match read_station(&SystemFiles::new(rt), path) {
         Ok(station) => play_in(rt, station),
         Err(fault) => Err(Fault::File(fault)),
@@ -194,7 +216,9 @@ fn play_script(rt: &HostRuntime, path: &str) -> Result<(), Fault> {
 }
 
 /// Plays the script on standard input.
-fn play_in(rt: &HostRuntime, station: Station) -> Result<(), Fault> {
+fn play_in(rt: &HostRuntime, station: Station) -> Result<(), Fault>
+    ensures { IfErr result EndsPlay }
+{
     let Ok(input) = BufReader::new(rt.alloc(), rt.stdin()) else {
         drop(station);
         return Err(Fault::OutOfMemory);

@@ -1,5 +1,7 @@
 //! Standard output, as the log is written to it.
 
+ghost use Rattle.std.specs.Prelude.{◌≡◌, nat_le};
+
 use radio_startup::limit_named;
 use std::fs::{File, OpenOptions};
 use std::io::Write;
@@ -27,22 +29,18 @@ impl LimitedFile {
     /// opened by its name.
     pub fn standard_output(rt: &HostRuntime) -> Option<LimitedFile> {
         let limit = limit_named(rt, SIZE)?;
-        let Ok(metadata) = fs::metadata(rt, STANDARD_OUTPUT) else {
-            return None;
-        };
-        if !metadata.is_file() {
+        if !fs::metadata(rt, STANDARD_OUTPUT).ok()?.is_file() {
             return None;
         }
-        match OpenOptions::new().append(true).open(rt, STANDARD_OUTPUT) {
-            Ok(file) => Some(LimitedFile { file, limit }),
-            Err(_) => None,
-        }
+        let opened = OpenOptions::new().append(true).open(rt, STANDARD_OUTPUT);
+        let file = opened.ok()?;
+        Some(LimitedFile { file, limit })
     }
 }
 
 impl Write for LimitedFile {
     fn write(&mut self, bytes: &[u8]) -> io::Result<usize> {
-        if self.file.metadata()?.len() >= self.limit {
+        if is_full(self.file.metadata()?.len(), self.limit) {
             return Err(io::Error::from_raw_os_error(FILE_TOO_LARGE));
         }
         self.file.write(bytes)
@@ -51,4 +49,11 @@ impl Write for LimitedFile {
     fn flush(&mut self) -> io::Result<()> {
         self.file.flush()
     }
+}
+
+/// Returns whether a write would be at or beyond the limit of a file that has `length` bytes.
+fn is_full(length: u64, limit: u64) -> bool
+    ensures { result ≡ nat_le limit length }
+{
+    length >= limit
 }

@@ -1,8 +1,10 @@
 //! A station on the air.
 
-ghost use Rattle.std.specs.Prelude.{◌≡◌, ◌^◌};
+ghost use Rattle.std.specs.Prelude.{◌≡◌, ◌^◌, IfErr};
 ghost use Rattle.radio_house.specs.World.{opening};
 ghost use Rattle.radiod.specs.Binding.{IsNotBound};
+ghost use Rattle.radiod.specs.Ends.{EndsService};
+ghost use Rattle.radiod.specs.declared.fault.NotBound.{NotBound as NotBoundOf};
 
 use crate::fault::{Fault, NotBound};
 use crate::log::{ProgramLog, say_unknown};
@@ -31,7 +33,9 @@ pub fn serve_station<W: Clock + Threads + Wait + Sync + Copy + Drop + Send + 'st
     station: Station,
     again: &Settings,
     unknown: &[UnknownKey],
-) -> Fault {
+) -> Fault
+    ensures { EndsService result }
+{
     match bind(rt, log, &station.settings, unknown) {
         Ok((listening, queue)) => {
             let _warnings = warn(rt, log, &station.settings, unknown);
@@ -61,7 +65,9 @@ fn bind<W: Clock + Threads + Wait + Copy + Drop + Send + 'static>(
     log: &ProgramLog<'_, W>,
     settings: &Settings,
     unknown: &[UnknownKey],
-) -> Result<(Listening, Arc<LogQueue>), Fault> {
+) -> Result<(Listening, Arc<LogQueue>), Fault>
+    ensures { IfErr result (λ fault. (reason : NotBoundOf) × IsNotBound settings.now.listen reason fault) }
+{
     let listening = bind_socket(rt, settings)?;
     say_unknown(rt, unknown);
     if let Ok(address) = listening.address() {
@@ -79,7 +85,9 @@ fn bind<W: Clock + Threads + Wait + Copy + Drop + Send + 'static>(
 }
 
 /// Returns the bound socket.
-fn bind_socket(rt: &HostRuntime, settings: &Settings) -> Result<Listening, Fault> {
+fn bind_socket(rt: &HostRuntime, settings: &Settings) -> Result<Listening, Fault>
+    ensures { IfErr result (λ fault. (reason : NotBoundOf) × IsNotBound settings.now.listen reason fault) }
+{
     let (address, port) = bound_to(settings);
     match Listening::bind(rt, rt.alloc(), address, port) {
         Ok(listening) => Ok(listening),
