@@ -1,5 +1,7 @@
 -- How fast sources are read, and how long a thread's lines let its next turn wait.
-use Rattle.std.specs.Prelude.{ℕ, Bool, true, false, ◌==◌, nat_le, not, ◌&&◌, min, if◌then◌else◌}
+use Rattle.std.specs.Prelude.{ℕ, Bool, true, false, ◌==◌, nat_le, not, ◌&&◌, min}
+use Rattle.radio_lines.specs.declared.activity.Need.{Need}
+use Rattle.radio_lines.specs.declared.activity.Need.TheVariants.{Nothing, Held, More}
 use Rattle.radio_lines.specs.declared.pace.Pace.{Pace}
 use Rattle.radio_lines.specs.declared.pace.Pace.TheVariants.{Free, Slow, Stopped}
 
@@ -19,6 +21,19 @@ number_of Stopped = 2
 abbrev pub is_source : ℕ → Bool → Bool
 is_source gave passed_over = nat_le 16384 gave && not passed_over
 
+-- there is something to do in the next turn, or nothing
+abbrev pub more_if : Bool → Need
+more_if true = More
+more_if false = Nothing
+
+-- the number by which a need is shared
+abbrev pub need_number : Need → ℕ
+need_number Nothing = 0
+need_number Held = 1
+need_number More = 2
+
 -- for how many milliseconds the next turn waits at most: not at all if a line has something to do, one if a line was held back
-abbrev pub turn_wait : Bool → Bool → ℕ → ℕ
-turn_wait has_more was_held longest = if has_more then 0 else (if was_held then min longest 1 else longest)
+abbrev pub turn_wait : Need → ℕ → ℕ
+turn_wait Nothing longest = longest
+turn_wait Held longest = min longest 1
+turn_wait More longest = 0

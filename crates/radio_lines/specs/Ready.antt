@@ -1,5 +1,7 @@
 -- What a socket is ready for.
-use Rattle.std.specs.Prelude.{ℕ, ◌+◌, ◌-◌, ◌^◌, min, Bool, true, false, not, ◌&&◌, ◌||◌, if◌then◌else◌}
+use Rattle.std.specs.Prelude.{ℕ, ◌+◌, ◌-◌, ◌^◌, min, Bool, true, false, not, ◌&&◌, ◌||◌, nat_le, if◌then◌else◌}
+use Rattle.mio.specs.declared.event.event.Event.{Event}
+use Rattle.mio.specs.Event.{is_readable, is_writable, is_error, is_read_closed, is_write_closed}
 use Rattle.radio_lines.specs.declared.ready.Ready.{Ready}
 use Rattle.radio_lines.specs.declared.ready.Notice.{Notice}
 
@@ -36,3 +38,23 @@ has_more r = r.is_readable && not r.is_passed_over
 -- a write at this moment would have waited, or took a part: it is asked again when the system tells of room, or after a second
 abbrev pub without_room : ℕ → Ready → Ready
 without_room ms r = record r { is_writable = false; write_from_ms = later ms 1000 }
+
+-- a read would have waited
+abbrev pub without_bytes : Ready → Ready
+without_bytes r = record r { is_readable = false }
+
+-- nothing is wanted any more of what comes
+abbrev pub unwanted : Ready → Ready
+unwanted r = record r { is_passed_over = true }
+
+-- whether it is worth a read at a moment: it may have bytes, and is not left alone until later
+abbrev pub may_read : ℕ → Ready → Bool
+may_read ms r = r.is_readable && nat_le r.read_from_ms ms
+
+-- whether it is worth a write at a moment: it may have room, or has had none for long enough
+abbrev pub may_write : ℕ → Ready → Bool
+may_write ms r = r.is_writable || nat_le r.write_from_ms ms
+
+-- what an event of the system tells: it is over if it has failed, or a side of it was closed
+abbrev pub notice_of : Event → Notice
+notice_of e = record { reads = is_readable e; writes = is_writable e; is_over = is_error e || is_read_closed e || is_write_closed e }

@@ -1,25 +1,79 @@
 //! What all lines of a thread share with its loop.
 
 ghost use Rattle.std.specs.Prelude.{◌≡◌};
-ghost use Rattle.radio_lines.specs.Paces.{turn_wait};
+ghost use Rattle.radio_lines.specs.Paces.{more_if, need_number, turn_wait};
+ghost use Rattle.radio_lines.specs.declared.activity.Need.{Need};
 
 use crate::closing::NewsCount;
-use crate::pace::{Pace, SharedPace};
-use std::sync::atomic::{AtomicBool, AtomicU64, Ordering};
+use crate::pace::Pace;
+use std::sync::atomic::{AtomicU64, Ordering};
+
+/// What a line needs in the next turn.
+#[derive(Clone, Copy, Debug, PartialEq, Eq)]
+pub(crate) enum Need {
+    /// Nothing.
+    Nothing,
+    /// It was held back, and is to be asked in a millisecond.
+    Held,
+    /// It has something to do.
+    More,
+}
+
+impl Need {
+    /// Returns `More` if there is something to do, else `Nothing`.
+    pub(crate) fn more_if(has_more: bool) -> Need
+        ensures { result ≡ more_if has_more }
+    {
+        if has_more { Need::More } else { Need::Nothing }
+    }
+
+    /// Returns the number of the need, by which it is shared: what is more urgent has a higher one.
+    fn number(self) -> u64
+        ensures { result ≡ need_number self }
+    {
+        match self {
+            Need::Nothing => 0,
+            Need::Held => 1,
+            Need::More => 2,
+        }
+    }
+
+    /// Returns the need of this number: the most urgent, if there is none.
+    fn of(number: u64) -> Need
+        ensures { (need : Need) → number ≡ need_number need → result ≡ need }
+    {
+        match number {
+            0 => Need::Nothing,
+            1 => Need::Held,
+            _ => Need::More,
+        }
+    }
+}
+
+/// What lines know of a turn.
+#[derive(Clone, Copy, Debug, PartialEq, Eq)]
+pub(crate) struct LineTurn {
+    /// Its moment, in milliseconds.
+    pub(crate) ms: u64,
+    /// How fast sources are read.
+    pub(crate) pace: Pace,
+    /// How often listeners had been told of news when it began, and have drawn.
+    pub(crate) news: NewsCount,
+}
 
 /// What all lines of a thread share: the moment of a turn in milliseconds, how fast sources are read in it, and what listeners
 /// had drawn before it. The lines note whether one has something to do in the next turn, and how many bytes of sources came.
 #[derive(Drop)]
 pub struct Activity {
     now_ms: AtomicU64,
-    pace: SharedPace,
+    /// The number of the pace.
+    pace: AtomicU64,
     /// How often listeners had been told of news when the turn began.
     told: AtomicU64,
     /// Up to which of these times all had drawn.
     drawn: AtomicU64,
-    has_more: AtomicBool,
-    /// Whether a line was held back, which is to be asked in a millisecond.
-    was_held: AtomicBool,
+    /// The number of the most urgent need of a line.
+    need: AtomicU64,
     received: AtomicU64,
 }
 
@@ -28,11 +82,10 @@ impl Activity {
     pub(crate) fn new() -> Activity {
         Activity {
             now_ms: AtomicU64::new(0),
-            pace: SharedPace::new(),
+            pace: AtomicU64::new(Pace::Free.number()),
             told: AtomicU64::new(0),
             drawn: AtomicU64::new(0),
-            has_more: AtomicBool::new(false),
-            was_held: AtomicBool::new(false),
+            need: AtomicU64::new(0),
             received: AtomicU64::new(0),
         }
     }
@@ -40,19 +93,32 @@ impl Activity {
     /// It is this moment, in milliseconds, sources are read at this pace, and listeners were told of news, and have drawn, so often.
     pub fn begin_turn(&self, ms: u64, pace: Pace, news: NewsCount) {
         self.now_ms.store(ms, Ordering::SeqCst);
-        self.pace.set(pace);
+        self.pace.store(pace.number(), Ordering::SeqCst);
         self.told.store(news.told, Ordering::SeqCst);
         self.drawn.store(news.drawn, Ordering::SeqCst);
     }
 
-    /// For how many milliseconds the next turn waits at most: not at all where a line has had something to do since this
-    /// was asked the last time, one where a line was held back, and else so many.
-    pub fn wait_ms(&self, longest_ms: u64) -> u64 {
-        let was_held = take(&self.was_held);
-        turn_wait(take(&self.has_more), was_held, longest_ms)
+    /// Returns the turn that has begun.
+    pub(crate) fn turn(&self) -> LineTurn {
+        LineTurn {
+            ms: self.now_ms.load(Ordering::SeqCst),
+            pace: Pace::of(self.pace.load(Ordering::SeqCst)),
+            news: NewsCount {
+                told: self.told.load(Ordering::SeqCst),
+                drawn: self.drawn.load(Ordering::SeqCst),
+            },
+        }
     }
 
-    /// How many bytes have come from sources since this was asked the last time.
+    /// Returns for how many milliseconds the next turn waits at most: not at all if a line has had something to do since this
+    /// was asked the last time, one if a line was held back, and else so many.
+    pub fn wait_ms(&self, longest_ms: u64) -> u64
+        ensures { (need : Need) × (result ≡ turn_wait need longest_ms) }
+    {
+        turn_wait(Need::of(self.need.swap(0, Ordering::SeqCst)), longest_ms)
+    }
+
+    /// Returns how many bytes have come from sources since this was asked the last time.
     pub fn take_received(&self) -> u64 {
         if self.received.load(Ordering::SeqCst) == 0 {
             return 0;
@@ -60,57 +126,25 @@ impl Activity {
         self.received.swap(0, Ordering::SeqCst)
     }
 
-    /// The moment.
-    pub(crate) fn now_ms(&self) -> u64 {
-        self.now_ms.load(Ordering::SeqCst)
-    }
-
-    /// How fast sources are read.
-    pub(crate) fn pace(&self) -> Pace {
-        self.pace.get()
-    }
-
-    /// How often listeners had been told of news when the turn began.
-    pub(crate) fn told(&self) -> u64 {
-        self.told.load(Ordering::SeqCst)
-    }
-
-    /// Up to which of these times all had drawn.
-    pub(crate) fn drawn(&self) -> u64 {
-        self.drawn.load(Ordering::SeqCst)
-    }
-
-    /// A line has something to do in the next turn.
-    pub(crate) fn note_more(&self) {
-        self.has_more.store(true, Ordering::SeqCst);
-    }
-
-    /// A line was held back.
-    pub(crate) fn note_held(&self) {
-        self.was_held.store(true, Ordering::SeqCst);
-    }
-
-    /// So many bytes have come from a source.
-    pub(crate) fn note_received(&self, count: usize) {
-        self.received.fetch_add(count as u64, Ordering::SeqCst);
+    /// Notes what a line needs in the next turn, and that it gave so many bytes that count as those of a source.
+    pub(crate) fn note(&self, need: Need, sourced: usize) {
+        let number = need.number();
+        if self.need.load(Ordering::SeqCst) < number {
+            self.need.store(number, Ordering::SeqCst);
+        }
+        if sourced > 0 {
+            self.received.fetch_add(sourced as u64, Ordering::SeqCst);
+        }
     }
 }
 
-/// Whether the flag is set. It is not, from now on.
-fn take(flag: &AtomicBool) -> bool {
-    flag.load(Ordering::SeqCst) && flag.swap(false, Ordering::SeqCst)
-}
-
-/// Returns for how many milliseconds the next turn waits at most, if a line has something to do or not, and was held back or
-/// not.
-fn turn_wait(has_more: bool, was_held: bool, longest_ms: u64) -> u64
-    ensures { result ≡ turn_wait has_more was_held longest_ms }
+/// Returns for how many milliseconds the next turn waits at most, if this is the most urgent need of a line.
+fn turn_wait(need: Need, longest_ms: u64) -> u64
+    ensures { result ≡ turn_wait need longest_ms }
 {
-    if has_more {
-        0
-    } else if was_held {
-        longest_ms.min(1)
-    } else {
-        longest_ms
+    match need {
+        Need::Nothing => longest_ms,
+        Need::Held => longest_ms.min(1),
+        Need::More => 0,
     }
 }

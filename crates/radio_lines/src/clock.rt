@@ -1,9 +1,13 @@
 //! The clock of all threads.
 
+ghost use Rattle.std.specs.Prelude.{◌<◌, ◌*◌, ◌^◌};
+
 use std::time::Clock;
 
 /// Returns the clock's moment, in milliseconds; 0 where it tells none.
-pub fn moment<C: Clock>(clock: &C) -> u64 {
+pub fn moment<C: Clock>(clock: &C) -> u64
+    ensures { result * 1000 < 2 ^ 64 }
+{
     moment_us(clock) / 1000
 }
 

@@ -1,5 +1,8 @@
 //! Where connections come from.
 
+ghost use Rattle.std.specs.Prelude.{◌≡◌, nat_le};
+ghost use Rattle.radio_lines.specs.Entrances.{IsTried, answer_of, settled};
+
 use crate::accepts::{Accepts, Tried};
 
 /// What came of a try to accept.
@@ -17,25 +20,46 @@ pub enum Accepted<T: Drop> {
 
 /// Where connections come from.
 pub trait Entrance<T: Drop> {
+    ghost use Rattle.radio_lines.specs.declared.entrance.Accepted.{Accepted};
+
+    // a try may come to this
+    ghost accepts: { Self → Accepted T → Self → Type 0 };
+
     /// Tries to accept the next one.
-    fn accept(&mut self) -> Accepted<T>;
+    fn accept(&mut self) -> Accepted<T>
+        ensures { accepts self.old result self.new };
 }
 
 /// A hundred connections in a row could not be accepted.
 #[derive(Clone, Copy)]
 pub struct AcceptFault;
 
-/// The next connection at this moment, in milliseconds, if there is one and it may be tried: after a failure nothing
+/// Returns the next connection at this moment, in milliseconds, if there is one and it may be tried: after a failure nothing
 /// is tried for a tenth of a second. The hundredth failure in a row is the fault.
 pub fn accept_next<T: Drop, E: Entrance<T>>(
     entrance: &mut E,
     accepts: &mut Accepts,
     ms: u64,
-) -> Result<Option<T>, AcceptFault> {
+) -> Result<Option<T>, AcceptFault>
+    ensures { IsTried E.accepts (nat_le accepts.old.not_before ms) ms entrance.old accepts.old result entrance.new accepts.new }
+{
     if !accepts.may_try(ms) {
         return Ok(None);
     }
-    match entrance.accept() {
+    let accepted = entrance.accept();
+    settle(accepted, accepts, ms)
+}
+
+/// Notes what has come of a try at this moment, in milliseconds. Returns the connection, if there is one.
+fn settle<T: Drop>(
+    accepted: Accepted<T>,
+    accepts: &mut Accepts,
+    ms: u64,
+) -> Result<Option<T>, AcceptFault>
+    ensures accepts { accepts.new ≡ settled ms accepted accepts.old }
+    ensures result { result ≡ answer_of accepted accepts.new }
+{
+    match accepted {
         Accepted::One(one) => {
             accepts.note(Tried::Accepted, ms);
             Ok(Some(one))

@@ -17,6 +17,7 @@ mod accepts;
 mod activity;
 mod clock;
 mod closing;
+mod course;
 mod entrance;
 mod line;
 mod pace;

@@ -1,12 +1,12 @@
 //! A connection's socket as a line.
 
-ghost use Rattle.std.specs.Prelude.{◌≡◌, ◌<◌, length};
-ghost use Rattle.radio_connections.specs.Lines.{HasGiven, HasTaken};
+ghost use Rattle.std.specs.Prelude.{◌≡◌, ◌<◌, [], length};
+ghost use Rattle.radio_connections.specs.Lines.{HasGiven, HasTaken, after_read, after_write, no_calls};
+ghost use Rattle.radio_lines.specs.Courses.{begun};
 ghost use Rattle.radio_lines.specs.Streams.{IsGivenBy, IsTakenBy};
 
-use crate::activity::Activity;
-use crate::closing::{Closing, tells_closing};
-use crate::pace::is_source;
+use crate::activity::{Activity, Need};
+use crate::course::{Call, Course, Reading, writing_of};
 use crate::readiness::Readiness;
 use crate::stream::{Shut, read_once, write_once};
 use radio_connections::{CallCount, History, Line, Received, Sent};
@@ -25,12 +25,7 @@ pub struct SocketLine<S: Read + Write + Shut + Drop> {
     stream: S,
     readiness: Arc<Readiness>,
     activity: Arc<Activity>,
-    /// When it last gave something, in milliseconds.
-    gave_ms: u64,
-    /// How many bytes it gave.
-    gave: u64,
-    /// That the peer has closed, once it was found.
-    closing: Option<Closing>,
+    course: Course,
     given: History,
     taken: History,
     calls: CallCount,
@@ -42,14 +37,18 @@ impl<S: Read + Write + Shut + Drop> SocketLine<S> {
         stream: S,
         readiness: Arc<Readiness>,
         activity: Arc<Activity>,
-    ) -> SocketLine<S> {
+    ) -> SocketLine<S>
+        ensures stream { result.stream ≡ stream }
+        ensures course { result.course ≡ begun }
+        ensures given { result.given.items ≡ [] }
+        ensures taken { result.taken.items ≡ [] }
+        ensures calls { result.calls ≡ no_calls }
+    {
         SocketLine {
             stream,
             readiness,
             activity,
-            gave_ms: 0,
-            gave: 0,
-            closing: None,
+            course: Course::begun(),
             given: History::new(),
             taken: History::new(),
             calls: CallCount::new(),
@@ -63,45 +62,36 @@ impl<S: Read + Write + Shut + Drop> SocketLine<S> {
         ensures taken { self.new.taken ≡ self.old.taken }
         ensures calls { self.new.calls ≡ self.old.calls }
     {
-        let ms = self.activity.now_ms();
-        if !self.readiness.is_readable(ms) {
-            return Received::Nothing;
-        }
-        if self.is_held(ms) {
-            return Received::Nothing;
-        }
-        let received = read_once(&mut self.stream, buffer, &self.readiness);
-        if let Received::Closed = received {
-            if self.holds_closing(ms) {
+        let turn = self.activity.turn();
+        let mut ready = self.readiness.load();
+        match self.course.call(ready, turn) {
+            Call::Skipped => return Received::Nothing,
+            Call::Held => {
+                self.activity.note(Need::Held, 0);
                 return Received::Nothing;
             }
+            Call::Made => (),
         }
+        let received = read_once(&mut self.stream, buffer, &mut ready);
+        let reading = self.course.reading(received, buffer.len(), ready, turn);
+        self.carry_out(reading);
         if let Received::Bytes(count) = received {
-            self.count_given(count, ms);
-            self.note_received(count == buffer.len(), ms);
             self.given.note(&buffer[..count]);
         }
-        received
+        reading.received
     }
 
-    /// Returns whether it is not answered yet at this moment that the peer has closed.
-    fn holds_closing(&mut self, ms: u64) -> bool
+    /// Notes what becomes of the line and its socket by a read.
+    fn carry_out(&mut self, reading: Reading)
+        ensures course { self.new.course ≡ reading.course }
         ensures stream { self.new.stream ≡ self.old.stream }
         ensures given { self.new.given ≡ self.old.given }
         ensures taken { self.new.taken ≡ self.old.taken }
         ensures calls { self.new.calls ≡ self.old.calls }
     {
-        if self.gave == 0 || self.readiness.is_passed_over() {
-            return false;
-        }
-        let told = self.activity.told();
-        let found = self.closing.unwrap_or(Closing { ms, told });
-        self.closing = Some(found);
-        if tells_closing(found, self.activity.drawn(), ms) {
-            return false;
-        }
-        self.activity.note_held();
-        true
+        self.course = reading.course;
+        self.readiness.store(reading.ready);
+        self.activity.note(reading.need, reading.sourced);
     }
 
     /// Writes to the socket, where it may be asked: what it took by that one call.
@@ -112,61 +102,19 @@ impl<S: Read + Write + Shut + Drop> SocketLine<S> {
         ensures given { self.new.given ≡ self.old.given }
         ensures calls { self.new.calls ≡ self.old.calls }
     {
-        let ms = self.activity.now_ms();
-        if !self.readiness.is_writable(ms) {
+        let turn = self.activity.turn();
+        let mut ready = self.readiness.load();
+        if !ready.may_write(turn.ms) {
             return Sent::Nothing;
         }
-        let sent = write_once(&mut self.stream, bytes, &self.readiness, ms);
+        let sent = write_once(&mut self.stream, bytes, &mut ready, turn.ms);
+        let writing = writing_of(sent, bytes.len(), ready, turn.ms);
+        self.readiness.store(writing.ready);
+        self.activity.note(writing.need, 0);
         if let Sent::Took(count) = sent {
-            self.note_sent(count < bytes.len(), ms);
             self.taken.note(&bytes[..count]);
         }
         sent
-    }
-
-    /// Whether it has given as much as only sources do, and what it gives is wanted.
-    fn is_source(&self) -> bool {
-        is_source(self.gave, self.readiness.is_passed_over())
-    }
-
-    /// Whether it gives nothing more at this moment, so that listeners can follow.
-    fn is_held(&self, ms: u64) -> bool {
-        let is_held = self.is_source() && self.activity.pace().holds(self.gave_ms, ms);
-        if is_held {
-            self.activity.note_held();
-        }
-        is_held
-    }
-
-    /// It gave so many bytes at this moment.
-    fn count_given(&mut self, count: usize, ms: u64)
-        ensures stream { self.new.stream ≡ self.old.stream }
-        ensures given { self.new.given ≡ self.old.given }
-        ensures taken { self.new.taken ≡ self.old.taken }
-        ensures calls { self.new.calls ≡ self.old.calls }
-    {
-        self.gave_ms = ms;
-        self.gave = self.gave.saturating_add(count as u64);
-        if self.is_source() {
-            self.activity.note_received(count);
-        }
-    }
-
-    /// The socket gave bytes, and filled the buffer or not.
-    fn note_received(&self, is_filled: bool, ms: u64) {
-        if self.readiness.has_read(is_filled, ms) {
-            self.activity.note_more();
-        }
-    }
-
-    /// The socket took all or a part. Where what comes is wanted, something may be to be done next.
-    fn note_sent(&self, is_part: bool, ms: u64) {
-        if is_part {
-            self.readiness.has_no_room(ms);
-        }
-        if !self.readiness.is_passed_over() {
-            self.activity.note_more();
-        }
     }
 }
 
@@ -177,24 +125,47 @@ impl<S: Read + Write + Shut + Drop> Line for SocketLine<S> {
 
     ghost calls = { λ line. line.calls };
 
-    fn read(&mut self, buffer: &mut [u8]) -> Received {
+    fn read(&mut self, buffer: &mut [u8]) -> Received
+        ensures stream { IsGivenBy (S.remaining self.old.stream) (S.remaining self.new.stream) buffer.new result }
+        ensures given { HasGiven result buffer.new self.old.given.items self.new.given.items }
+        ensures taken { self.new.taken.items ≡ self.old.taken.items }
+        ensures calls { self.new.calls ≡ after_read result (length buffer.new) self.old.calls }
+    {
         let received = self.receive(buffer);
         self.calls.count_read(received, buffer);
         received
     }
 
-    fn write(&mut self, bytes: &[u8]) -> Sent {
+    fn write(&mut self, bytes: &[u8]) -> Sent
+        requires { 0 < length bytes.now }
+        ensures stream { IsTakenBy (S.contents self.old.stream) (S.contents self.new.stream) bytes.now result }
+        ensures taken { HasTaken result bytes.now self.old.taken.items self.new.taken.items }
+        ensures given { self.new.given.items ≡ self.old.given.items }
+        ensures calls { self.new.calls ≡ after_write result self.old.calls }
+    {
         let sent = self.send(bytes);
         self.calls.count_write(sent);
         sent
     }
 
-    fn pass_over(&mut self) {
-        self.readiness.pass_over();
+    fn pass_over(&mut self)
+        ensures stream { self.new.stream ≡ self.old.stream }
+        ensures course { self.new.course ≡ self.old.course }
+        ensures given { self.new.given.items ≡ self.old.given.items }
+        ensures taken { self.new.taken.items ≡ self.old.taken.items }
+        ensures calls { self.new.calls ≡ self.old.calls }
+    {
+        self.readiness.store(self.readiness.load().unwanted());
     }
 
-    fn finish(&mut self) {
-        self.readiness.pass_over();
+    fn finish(&mut self)
+        ensures stream { self.new.stream ≡ self.old.stream }
+        ensures course { self.new.course ≡ self.old.course }
+        ensures given { self.new.given.items ≡ self.old.given.items }
+        ensures taken { self.new.taken.items ≡ self.old.taken.items }
+        ensures calls { self.new.calls ≡ self.old.calls }
+    {
+        self.readiness.store(self.readiness.load().unwanted());
         self.stream.shut();
     }
 }

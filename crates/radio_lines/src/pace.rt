@@ -3,8 +3,6 @@
 ghost use Rattle.std.specs.Prelude.{◌≡◌};
 ghost use Rattle.radio_lines.specs.Paces.{holds, is_source, number_of};
 
-use std::sync::atomic::{AtomicU64, Ordering};
-
 /// How fast sources are read, so that listeners can follow.
 #[derive(Clone, Copy, Debug, PartialEq, Eq)]
 pub enum Pace {
@@ -29,7 +27,7 @@ impl Pace {
     }
 
     /// Returns the number of the pace, by which it is shared.
-    fn number(self) -> u64
+    pub(crate) fn number(self) -> u64
         ensures { result ≡ number_of self }
     {
         match self {
@@ -40,7 +38,7 @@ impl Pace {
     }
 
     /// Returns the pace of this number: the slowest, if there is none.
-    fn of(number: u64) -> Pace
+    pub(crate) fn of(number: u64) -> Pace
         ensures { (pace : Pace) → number ≡ number_of pace → result ≡ pace }
     {
         match number {
@@ -59,32 +57,4 @@ pub(crate) fn is_source(gave: u64, is_passed_over: bool) -> bool
     ensures { result ≡ is_source gave is_passed_over }
 {
     gave >= MOST_OF_OTHERS && !is_passed_over
-}
-
-/// A pace that threads share.
-#[derive(Drop)]
-pub(crate) struct SharedPace {
-    number: AtomicU64,
-}
-
-impl SharedPace {
-    /// Free.
-    pub(crate) fn new() -> SharedPace {
-        SharedPace {
-            number: AtomicU64::new(Pace::Free.number()),
-        }
-    }
-
-    /// It is this one from now on.
-    pub(crate) fn set(&self, pace: Pace) {
-        let number = pace.number();
-        if self.number.load(Ordering::SeqCst) != number {
-            self.number.store(number, Ordering::SeqCst);
-        }
-    }
-
-    /// The pace.
-    pub(crate) fn get(&self) -> Pace {
-        Pace::of(self.number.load(Ordering::SeqCst))
-    }
 }

@@ -1,5 +1,7 @@
 //! The net, as threads reach it.
 
+ghost use Rattle.std.specs.Prelude.{◌≡◌};
+
 use mio::Poll;
 use mio::net::TcpStream;
 use std::alloc::Global;
@@ -26,7 +28,9 @@ pub struct SystemNet<'a, R: Net> {
 
 impl<'a, R: Net> SystemNet<'a, R> {
     /// By this runtime.
-    pub fn new(rt: &'a R) -> SystemNet<'a, R> {
+    pub fn new(rt: &'a R) -> SystemNet<'a, R>
+        ensures { result.rt.now ≡ rt.entry.now }
+    {
         SystemNet { rt }
     }
 }

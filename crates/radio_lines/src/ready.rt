@@ -1,7 +1,9 @@
 //! What a socket is ready for, as plain values.
 
-ghost use Rattle.std.specs.Prelude.{◌≡◌, ◌&&◌, ◌||◌, nat_le};
-ghost use Rattle.radio_lines.specs.Ready.{fresh, after_told, brings_work, after_read, has_more, without_room};
+ghost use Rattle.std.specs.Prelude.{◌≡◌};
+ghost use Rattle.radio_lines.specs.Ready.{fresh, after_told, brings_work, after_read, has_more, may_read, may_write, notice_of, unwanted, without_bytes, without_room};
+
+use mio::event::Event;
 
 /// For how long nothing is read from a line of which nothing is wanted, in milliseconds.
 const PASS_OVER_MS: u64 = 100;
@@ -36,6 +38,19 @@ pub(crate) struct Notice {
     pub(crate) writes: bool,
     /// That it has failed, or a side of it was closed.
     pub(crate) is_over: bool,
+}
+
+impl Notice {
+    /// Returns what an event of the system tells.
+    pub(crate) fn of(event: &Event) -> Notice
+        ensures { result ≡ notice_of event.now }
+    {
+        Notice {
+            reads: event.is_readable(),
+            writes: event.is_writable(),
+            is_over: event.is_error() || event.is_read_closed() || event.is_write_closed(),
+        }
+    }
 }
 
 impl Ready {
@@ -109,20 +124,39 @@ impl Ready {
             ..self
         }
     }
-}
 
-/// Returns whether a socket is worth a read at this moment that may have something to read, or has not, and from which nothing
-/// is read before `from_ms`.
-pub(crate) fn may_read(is_readable: bool, from_ms: u64, ms: u64) -> bool
-    ensures { result ≡ (is_readable && nat_le from_ms ms) }
-{
-    is_readable && from_ms <= ms
-}
+    /// Returns the readiness once a read would have waited.
+    pub(crate) fn without_bytes(self) -> Ready
+        ensures { result ≡ without_bytes self }
+    {
+        Ready {
+            is_readable: false,
+            ..self
+        }
+    }
 
-/// Returns whether a socket is worth a write at this moment that may have room, or has none, and that is written to from
-/// `from_ms` on all the same.
-pub(crate) fn may_write(is_writable: bool, from_ms: u64, ms: u64) -> bool
-    ensures { result ≡ (is_writable || nat_le from_ms ms) }
-{
-    is_writable || from_ms <= ms
+    /// Returns the readiness once nothing is wanted any more of what comes.
+    pub(crate) fn unwanted(self) -> Ready
+        ensures { result ≡ unwanted self }
+    {
+        Ready {
+            is_passed_over: true,
+            ..self
+        }
+    }
+
+    /// Returns whether the socket is worth a read at this moment: it may have something to read, and is not left alone until
+    /// later.
+    pub(crate) fn may_read(self, ms: u64) -> bool
+        ensures { result ≡ may_read ms self }
+    {
+        self.is_readable && self.read_from_ms <= ms
+    }
+
+    /// Returns whether the socket is worth a write at this moment: it may have room, or has had none for long enough.
+    pub(crate) fn may_write(self, ms: u64) -> bool
+        ensures { result ≡ may_write ms self }
+    {
+        self.is_writable || self.write_from_ms <= ms
+    }
 }

@@ -1,12 +1,21 @@
 //! A thread's sockets, as the system tells of them.
 
-use crate::activity::Activity;
+ghost use Rattle.std.specs.Prelude.{◌≡◌, ◌<◌, ◌+◌, ◌/◌, nat_lt, if◌then◌else◌, [], vec_len, IfOk, IfSome};
+ghost use Rattle.std.specs.Arc.{arc_value};
+ghost use Rattle.std.specs.List.{list_any};
+ghost use Rattle.mio.specs.Event.{event_token};
+ghost use Rattle.mio.specs.Events.{items};
+ghost use Rattle.radio_lines.specs.Waits.{ends_wait, heard_at, is_waker};
+
+use crate::activity::{Activity, Need};
 use crate::clock::moment_us;
 use crate::reach::Reach;
 use crate::readiness::Readiness;
+use crate::ready::{Notice, Ready};
 use crate::{OutOfMemory, SocketLine};
 use mio::net::TcpStream;
 use mio::{Events, Interest, Poll, Token, Waker};
+use radio_connections::Line;
 use std::alloc::Global;
 use std::io;
 use std::net::SocketAddr;
@@ -43,14 +52,23 @@ struct Told {
 }
 
 impl Told {
-    /// What was heard, at this moment in microseconds.
-    fn at(self, us: u64) -> Heard {
+    /// Returns what was heard, at this moment in microseconds.
+    fn at(self, us: u64) -> Heard
+        ensures { result ≡ heard_at us self }
+    {
         Heard {
             ms: us / 1000,
             us,
             is_ready: self.is_ready,
             is_called: self.is_called,
         }
+    }
+
+    /// Returns whether a wait until `ends_ms` ends with this, at this moment in microseconds.
+    fn ends_wait(self, us: u64, ends_ms: u64) -> bool
+        ensures { result ≡ ends_wait us ends_ms self }
+    {
+        self.is_ready || self.is_called || us / 1000 >= ends_ms
     }
 }
 
@@ -75,7 +93,9 @@ impl Sockets {
     pub fn new<N: Reach>(
         net: &N,
         alloc: Global,
-    ) -> Result<io::Result<(Sockets, Waker)>, OutOfMemory> {
+    ) -> Result<io::Result<(Sockets, Waker)>, OutOfMemory>
+        ensures { IfOk result (λ made. IfOk made (λ own. vec_len own.0.readiness ≡ 0)) }
+    {
         let sockets = match Sockets::with_room(net, alloc, EVENTS)? {
             Ok(sockets) => sockets,
             Err(error) => return Ok(Err(error)),
@@ -88,7 +108,9 @@ impl Sockets {
 
     /// Those of one who has none yet, will have few, and is woken by nobody; the system's fault where it tells nothing of
     /// sockets, or memory was refused.
-    pub fn alone<N: Reach>(net: &N, alloc: Global) -> io::Result<Sockets> {
+    pub fn alone<N: Reach>(net: &N, alloc: Global) -> io::Result<Sockets>
+        ensures { IfOk result (λ own. vec_len own.readiness ≡ 0) }
+    {
         Sockets::with_room(net, alloc, FEW_EVENTS)?
     }
 
@@ -97,7 +119,9 @@ impl Sockets {
         net: &N,
         alloc: Global,
         events: usize,
-    ) -> Result<io::Result<Sockets>, OutOfMemory> {
+    ) -> Result<io::Result<Sockets>, OutOfMemory>
+        ensures { IfOk result (λ made. IfOk made (λ own. vec_len own.readiness ≡ 0)) }
+    {
         let events = Events::with_capacity(alloc, events)?;
         let activity = Arc::new(alloc, Activity::new())?;
         match net.poll() {
@@ -114,19 +138,23 @@ impl Sockets {
     }
 
     /// What the lines share.
-    pub fn activity(&self) -> &Activity {
+    pub fn activity(&self) -> &Activity
+        ensures { result.now ≡ arc_value self.now.activity }
+    {
         &self.activity
     }
 
     /// Hears from the system what is ready, and waits until a line has something to do or the waker is called, so many
     /// milliseconds at most. The system's fault where it tells nothing any more.
-    pub fn hear<C: Clock>(&mut self, clock: &C, wait_ms: u64) -> io::Result<Heard> {
+    pub fn hear<C: Clock>(&mut self, clock: &C, wait_ms: u64) -> io::Result<Heard>
+        ensures { IfOk result (λ heard. heard.ms ≡ heard.us / 1000) }
+    {
         let mut us = moment_us(clock);
         let ends_ms = (us / 1000).saturating_add(wait_ms);
         for _ in 0..EVENTS {
             let told = self.poll(ends_ms.saturating_sub(us / 1000))?;
             us = moment_us(clock);
-            if told.is_ready || told.is_called || us / 1000 >= ends_ms {
+            if told.ends_wait(us, ends_ms) {
                 return Ok(told.at(us));
             }
         }
@@ -138,23 +166,31 @@ impl Sockets {
     }
 
     /// Notes what the system tells within so many milliseconds.
-    fn poll(&mut self, wait_ms: u64) -> io::Result<Told> {
+    fn poll(&mut self, wait_ms: u64) -> io::Result<Told>
+        ensures { IfOk result (λ told. told.is_called ≡ list_any (λ e. is_waker (event_token e)) (items self.new.events)) }
+    {
         let wait = Duration::from_millis(wait_ms);
         self.poll.poll(&mut self.events, Some(wait))?;
-        let mut told = Told {
-            is_ready: false,
-            is_called: false,
-        };
+        let mut is_ready = false;
         for event in &self.events {
-            if event.token() == WAKER {
-                told.is_called = true;
-            } else if let Some(readiness) = self.readiness.get(event.token().0) {
-                if readiness.mark(event) {
-                    told.is_ready = true;
-                }
+            if let Some(readiness) = self.readiness.get(event.token().0) {
+                let before = readiness.load();
+                let notice = Notice::of(event);
+                readiness.store(before.after_told(notice));
+                is_ready = is_ready || before.brings_work(notice);
             }
         }
-        Ok(told)
+        Ok(Told {
+            is_ready,
+            is_called: self.is_called(),
+        })
+    }
+
+    /// Returns whether the system has told last that the waker was called.
+    fn is_called(&self) -> bool
+        ensures { result ≡ list_any (λ e. is_waker (event_token e)) (items self.now.events) }
+    {
+        self.events.iter().any(|event| is_waker(event.token()))
     }
 
     /// The line to this address. It is being connected: until it is, the line takes and gives nothing. The system's fault
@@ -163,43 +199,48 @@ impl Sockets {
         &mut self,
         net: &N,
         address: SocketAddr,
-    ) -> io::Result<SocketLine<TcpStream>> {
+    ) -> io::Result<SocketLine<TcpStream>>
+        ensures { IfOk result (λ line. (⟦<SocketLine<TcpStream> as Line>⟧.given line ≡ []) × (⟦<SocketLine<TcpStream> as Line>⟧.taken line ≡ [])) }
+    {
         let stream = net.connect(address)?;
         let line = self.line_of(stream)?;
-        self.activity.note_more();
+        self.activity.note(Need::More, 0);
         Ok(line)
     }
 
     /// The line of a socket that does not wait. Its bytes are sent as they come. The system's fault where it does not tell
     /// of it, or memory was refused.
-    pub fn line_of(&mut self, mut stream: TcpStream) -> io::Result<SocketLine<TcpStream>> {
+    pub fn line_of(&mut self, mut stream: TcpStream) -> io::Result<SocketLine<TcpStream>>
+        ensures { IfOk result (λ line. (⟦<SocketLine<TcpStream> as Line>⟧.given line ≡ []) × (⟦<SocketLine<TcpStream> as Line>⟧.taken line ≡ [])) }
+    {
         stream.set_nodelay(true)?;
         let (number, readiness) = self.free_readiness()?;
-        self.register(&mut stream, number)?;
-        readiness.reset();
+        let both = Interest::READABLE | Interest::WRITABLE;
+        self.poll
+            .registry()
+            .register(&mut stream, Token(number), both)?;
+        readiness.store(Ready::fresh());
         let activity = self.activity.clone()?;
         Ok(SocketLine::new(stream, readiness, activity))
     }
 
-    /// From now on the system tells of the socket, by this number.
-    fn register(&self, stream: &mut TcpStream, number: usize) -> io::Result<()> {
-        let both = Interest::READABLE | Interest::WRITABLE;
-        self.poll.registry().register(stream, Token(number), both)
-    }
-
-    /// A number that no line has, behind the one that was given last, and what is told of it.
-    fn free_readiness(&mut self) -> Result<(usize, Arc<Readiness>), OutOfMemory> {
+    /// Returns a number that no line has, and what is told of it. `OutOfMemory` if memory was refused.
+    fn free_readiness(&mut self) -> Result<(usize, Arc<Readiness>), OutOfMemory>
+        ensures { IfOk result (λ free. free.0 < vec_len self.new.readiness) }
+    {
         match self.unused_readiness()? {
             Some(unused) => Ok(unused),
             None => self.new_readiness(),
         }
     }
 
-    /// The same among those that a line has had, if one is free.
-    fn unused_readiness(&mut self) -> Result<Option<(usize, Arc<Readiness>)>, OutOfMemory> {
+    /// Returns the same among those that a line has had, if one is free: the first behind the one that was given last.
+    fn unused_readiness(&mut self) -> Result<Option<(usize, Arc<Readiness>)>, OutOfMemory>
+        ensures { IfOk result (λ unused. IfSome unused (λ free. free.0 < vec_len self.new.readiness)) }
+    {
         let count = self.readiness.len();
         for _ in 0..count {
-            self.next = if self.next < count { self.next + 1 } else { 0 };
+            self.next = next_in_ring(self.next, count);
             if let Some(readiness) = self.readiness.get(self.next) {
                 if Arc::strong_count(readiness) == 1 {
                     return Ok(Some((self.next, readiness.clone()?)));
@@ -209,12 +250,28 @@ impl Sockets {
         Ok(None)
     }
 
-    /// One more.
-    fn new_readiness(&mut self) -> Result<(usize, Arc<Readiness>), OutOfMemory> {
-        let readiness = Arc::new(self.alloc, Readiness::new())?;
+    /// Adds one more.
+    fn new_readiness(&mut self) -> Result<(usize, Arc<Readiness>), OutOfMemory>
+        ensures { IfOk result (λ free. (free.0 ≡ vec_len self.old.readiness) × (free.0 < vec_len self.new.readiness)) }
+    {
+        let readiness = Arc::new(self.alloc, Readiness::new(Ready::fresh()))?;
         let shared = readiness.clone()?;
         let number = self.readiness.len();
         self.readiness.push(readiness)?;
         Ok((number, shared))
     }
+}
+
+/// Returns whether this is the name of a thread's waker.
+fn is_waker(token: Token) -> bool
+    ensures { result ≡ is_waker token }
+{
+    token.0 == WAKER.0
+}
+
+/// Returns the number behind this one, of `count` and one more that follow one another in a ring.
+fn next_in_ring(number: usize, count: usize) -> usize
+    ensures { result ≡ (if nat_lt number count then number + 1 else 0) }
+{
+    if number < count { number + 1 } else { 0 }
 }

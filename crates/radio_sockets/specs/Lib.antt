@@ -1,2 +1,5 @@
+pub mod Entering
 pub mod Faults
+pub mod Names
+pub mod Peers
 pub mod Steps

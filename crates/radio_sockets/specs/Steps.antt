@@ -1,5 +1,6 @@
 -- What a worker's post decides. Moments are in milliseconds.
-use Rattle.std.specs.Prelude.{ℕ, ◌+◌, ◌-◌, ◌*◌, ◌^◌, ◌==◌, min, nat_le, nat_lt, Bool, not, ◌&&◌, ◌||◌, if◌then◌else◌}
+use Rattle.std.specs.Prelude.{ℕ, ℤ, pos, ◌+◌, ◌-◌, ◌*◌, ◌^◌, ◌==◌, min, nat_le, nat_lt, Bool, not, ◌&&◌, ◌||◌, if◌then◌else◌}
+use Rattle.std.specs.Ordering.{int_eq}
 use Rattle.radio_sockets.specs.declared.steps.Called.{Called}
 use Rattle.radio_board.specs.declared.news.NewsFor.{NewsFor}
 use Rattle.radio_board.specs.declared.news.NewsFor.TheVariants.{AllBut, All}
@@ -28,3 +29,23 @@ is_turn_due now last = nat_le 500 (now - last)
 -- whose listeners have news if the sources of the worker of this number have brought something
 abbrev pub news_for : ℕ → Bool → NewsFor
 news_for number may_tell = if may_tell then AllBut number else All
+
+-- for how long the acceptor waits: not at all if it is called, shorter if a connection may be accepted soon, or newcomers wait
+abbrev pub acceptor_wait : Bool → Bool → ℕ → ℕ
+acceptor_wait called may_accept comings = if called then 0 else if may_accept then 50 else if nat_lt 0 comings then 250 else 1000
+
+-- whether a worker that has served for so long ends the server, since the acceptor has not begun
+abbrev pub is_alone : ℕ → Bool → Bool
+is_alone served has_acceptor = nat_lt 10000 served && not has_acceptor
+
+-- whether a worker has something to do, apart from its sockets: news that waits no more, newcomers, or the end of all
+abbrev pub has_to_do : Bool → ℕ → ℕ → Bool → Bool
+has_to_do news left comings over = (news && (left == 0)) || nat_lt 0 comings || over
+
+-- whether the worker's log is told the moment at this one, and when it was told last then
+abbrev pub told_at : ℕ → ℕ → ℕ
+told_at told clock = if is_time_to_tell told clock then clock else told
+
+-- whether the system's fault of this number is that there is no descriptor left, for the process or at all
+abbrev pub lacks_descriptors : ℤ → Bool
+lacks_descriptors code = int_eq code (pos 24) || int_eq code (pos 23)

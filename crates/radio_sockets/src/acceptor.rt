@@ -1,9 +1,11 @@
 //! The thread that accepts connections.
 
-ghost use Rattle.std.specs.Prelude.{◌≡◌};
+ghost use Rattle.std.specs.Prelude.{◌≡◌, ◌⊎◌, false};
+ghost use Rattle.radio_lines.specs.Accepting.{closed_in};
 
 use crate::ServeFault;
 use crate::doors::{Coming, Doors};
+use crate::steps::acceptor_wait;
 use mio::Waker;
 use radio_board::Board;
 use radio_intake::{Intake, IntakePass, ROOM};
@@ -11,15 +13,6 @@ use radio_lines::{Accepts, accept_next, moment};
 use std::io;
 use std::sync::Wait;
 use std::time::Clock;
-
-/// How long the acceptor waits at most, in milliseconds.
-const WAIT_MS: u64 = 1000;
-
-/// How long he waits where a connection may wait that can't be accepted yet.
-const PAUSE_MS: u64 = 50;
-
-/// How long he waits where newcomers wait for a worker that may not be served.
-const NEWCOMERS_MS: u64 = 250;
 
 /// Who accepts connections, and hands them to the workers.
 #[derive(Drop)]
@@ -34,7 +27,9 @@ pub struct Acceptor {
 
 impl Acceptor {
     /// One who has accepted nothing yet.
-    pub fn new(doors: Doors) -> Acceptor {
+    pub fn new(doors: Doors) -> Acceptor
+        ensures { result.accepts ≡ record { failed = 0; not_before = 0; is_short = false } }
+    {
         Acceptor {
             doors,
             accepts: Accepts::new(),
@@ -95,16 +90,12 @@ impl Acceptor {
     }
 
     /// Hears what there is, and waits for it, if there is nothing to do.
-    fn hear<R: Clock + Wait>(&mut self, rt: &R, board: &Board) -> Result<(), ServeFault> {
-        let wait_ms = if board.acceptor_lies_down() {
-            0
-        } else if self.doors.is_asked() {
-            PAUSE_MS
-        } else if board.comings() > 0 {
-            NEWCOMERS_MS
-        } else {
-            WAIT_MS
-        };
+    fn hear<R: Clock + Wait>(&mut self, rt: &R, board: &Board) -> Result<(), ServeFault>
+        ensures accepts { (self.new.accepts ≡ self.old.accepts) ⊎ (self.new.accepts ≡ closed_in self.old.accepts) }
+        ensures next { self.new.next ≡ self.old.next }
+    {
+        let is_called = board.acceptor_lies_down();
+        let wait_ms = acceptor_wait(is_called, self.doors.is_asked(), board.comings());
         let heard = self.doors.hear(wait_ms);
         board.acceptor_gets_up();
         self.clock_ms = moment(rt);

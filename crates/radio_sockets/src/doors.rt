@@ -1,5 +1,14 @@
 //! The bound socket, as the system tells of it.
 
+ghost use Rattle.std.specs.Prelude.{◌≡◌, ◌||◌, true, IfOk, IfErr, OnOk};
+ghost use Rattle.std.specs.List.{list_any};
+ghost use Rattle.std.specs.IoError.{raw_os_error};
+ghost use Rattle.mio.specs.Event.{event_token};
+ghost use Rattle.mio.specs.Events.{items};
+ghost use Rattle.radio_sockets.specs.declared.fault.BindFault.TheVariants.{NoAddress};
+ghost use Rattle.radio_sockets.specs.Names.{is_listener, is_out_of_descriptors};
+ghost use Rattle.radio_sockets.specs.Peers.{IsNoIp};
+
 use crate::address::{address_of, peer_at};
 use crate::steps::lacks_descriptors;
 use crate::{BindFault, OutOfMemory, ServeFault};
@@ -46,12 +55,10 @@ impl Doors {
     ///
     /// `NoAddress` where the address is no IP address; `Refused` where the system does not bind it
     /// with this port, or tells nothing of sockets; `OutOfMemory` where memory was refused.
-    pub fn bind<R: Net>(
-        rt: &R,
-        alloc: Global,
-        address: &str,
-        port: u16,
-    ) -> Result<Doors, BindFault> {
+    pub fn bind<R: Net>(rt: &R, alloc: Global, address: &str, port: u16) -> Result<Doors, BindFault>
+        ensures asked { IfOk result (λ doors. doors.is_asked ≡ true) }
+        ensures fault { IfErr result (λ fault. fault ≡ NoAddress → IsNoIp address.now) }
+    {
         let Some(address) = address_of(address, port) else {
             return Err(BindFault::NoAddress);
         };
@@ -74,7 +81,9 @@ impl Doors {
         alloc: Global,
         poll: Poll,
         mut listener: TcpListener,
-    ) -> Result<io::Result<Doors>, OutOfMemory> {
+    ) -> Result<io::Result<Doors>, OutOfMemory>
+        ensures { IfOk result (λ made. IfOk made (λ doors. doors.is_asked ≡ true)) }
+    {
         let events = Events::with_capacity(alloc, EVENTS)?;
         let registered = poll
             .registry()
@@ -100,28 +109,48 @@ impl Doors {
         Waker::new(self.poll.registry(), WAKER)
     }
 
-    /// Whether a connection may wait to be accepted.
-    pub(crate) fn is_asked(&self) -> bool {
+    /// Returns whether a connection may wait to be accepted.
+    pub(crate) fn is_asked(&self) -> bool
+        ensures { result ≡ self.now.is_asked }
+    {
         self.is_asked
     }
 
     /// Hears from the system what there is, within so many milliseconds.
-    pub(crate) fn hear(&mut self, wait_ms: u64) -> Result<(), ServeFault> {
+    pub(crate) fn hear(&mut self, wait_ms: u64) -> Result<(), ServeFault>
+        ensures { OnOk result (self.new.is_asked ≡ (self.old.is_asked || list_any (λ e. is_listener (event_token e)) (items self.new.events))) }
+    {
         let wait = Duration::from_millis(wait_ms);
         if self.poll.poll(&mut self.events, Some(wait)).is_err() {
             return Err(ServeFault::Accept);
         }
-        for event in &self.events {
-            if event.token() == LISTENER {
-                self.is_asked = true;
-            }
-        }
+        self.is_asked = self.is_asked || self.is_told();
         Ok(())
+    }
+
+    /// Returns whether the system has told last that a connection may wait.
+    fn is_told(&self) -> bool
+        ensures { result ≡ list_any (λ e. is_listener (event_token e)) (items self.now.events) }
+    {
+        self.events.iter().any(|event| is_listener(event.token()))
     }
 }
 
+/// Returns whether this is the name of the bound socket.
+fn is_listener(token: Token) -> bool
+    ensures { result ≡ is_listener token }
+{
+    token.0 == LISTENER.0
+}
+
 impl Entrance<Coming> for Doors {
-    fn accept(&mut self) -> Accepted<Coming> {
+    ghost use Rattle.radio_sockets.specs.Entering.{IsEntered};
+
+    ghost accepts = { IsEntered };
+
+    fn accept(&mut self) -> Accepted<Coming>
+        ensures { IsEntered self.old result self.new }
+    {
         if !self.is_asked {
             return Accepted::Nothing;
         }
@@ -140,10 +169,12 @@ impl Entrance<Coming> for Doors {
     }
 }
 
-/// Whether there is no descriptor left. Those who are there go on, and may leave some.
-fn is_out_of_descriptors(error: &io::Error) -> bool {
-    match error.raw_os_error().map(u32::try_from) {
-        Some(Ok(code)) => lacks_descriptors(code),
-        Some(Err(_)) | None => false,
+/// Returns whether a fault of the system is that there is no descriptor left. Those who are there go on, and may leave some.
+fn is_out_of_descriptors(error: &io::Error) -> bool
+    ensures { result ≡ is_out_of_descriptors (raw_os_error error.now) }
+{
+    match error.raw_os_error() {
+        Some(code) => lacks_descriptors(code),
+        None => false,
     }
 }

@@ -1,7 +1,16 @@
 //! Where a worker's turns come from: his sockets, and what the others tell him.
 
+ghost use Rattle.std.specs.Prelude.{◌≡◌, ◌≤◌, ◌-◌, ◌&&◌, ◌||◌, ℕ, true, false, IfSome};
+ghost use Rattle.radio_board.specs.declared.rest.Rest.TheVariants.{Turn as TakesTurn};
+ghost use Rattle.radio_board.specs.Rests.{is_turn, longest, most_rest};
+ghost use Rattle.radio_board.specs.Serving.{served_by};
+ghost use Rattle.radio_sockets.specs.Steps.{called_of, told_at};
+
 use crate::doors::Coming;
-use crate::steps::{begins_round, called_of, is_time_to_tell, is_turn_due, news_for, weight_of};
+use crate::steps::{
+    begins_round, called_of, ends_wait, has_to_do, is_alone, is_time_to_tell, is_turn_due,
+    news_for, weight_of,
+};
 use mio::net::TcpStream;
 use radio_addr::Peer;
 use radio_board::{Board, Desk, MOST_REST_MS, NewsFor, NewsPause, Rest, ServedTime, rest_for};
@@ -14,9 +23,6 @@ use std::time::Clock;
 
 /// After how many such waits a turn is made, even where the moment has stood still.
 const MOST_WAITS: usize = 8;
-
-/// For how long a worker waits for the acceptor to begin.
-const MOST_ALONE_MS: u64 = 10_000;
 
 /// Where a worker's turns come from. Moments are in milliseconds.
 #[derive(Drop)]
@@ -56,14 +62,19 @@ pub struct SocketPost<'a, R: Clock + Wait> {
 }
 
 impl<'a, R: Clock + Wait> SocketPost<'a, R> {
-    /// That of a worker at this desk of this number, with these sockets. It takes no memory.
+    /// Returns the post of a worker at this desk of this number, with these sockets. It takes no memory.
     pub(crate) fn new(
         rt: &'a R,
         board: &'a Board,
         desk: &'a Desk,
         number: usize,
         sockets: Sockets,
-    ) -> SocketPost<'a, R> {
+    ) -> SocketPost<'a, R>
+        ensures number { result.number ≡ number }
+        ensures sockets { result.sockets ≡ sockets }
+        ensures begun { result.has_begun ≡ false }
+        ensures called { (result.called ≡ 0) × (result.puts_off ≡ false) }
+    {
         SocketPost {
             rt,
             board,
@@ -87,8 +98,11 @@ impl<'a, R: Clock + Wait> SocketPost<'a, R> {
         }
     }
 
-    /// He begins, at the moment up to which the others have read.
-    fn begin(&mut self) {
+    /// Begins to serve, at the moment up to which the others have read.
+    fn begin(&mut self)
+        ensures begun { self.new.has_begun ≡ true }
+        ensures called { (self.new.called ≡ self.old.called) × (self.new.puts_off ≡ self.old.puts_off) }
+    {
         self.has_begun = true;
         let (clock_ms, since_ms) = (moment(self.rt), self.board.told_ms());
         self.time = ServedTime::new(clock_ms, since_ms);
@@ -96,11 +110,12 @@ impl<'a, R: Clock + Wait> SocketPost<'a, R> {
         self.board.wake_acceptor();
     }
 
-    /// Waits until there is something to do, or a turn is due. What was heard then; `None` where he is to stop.
+    /// Waits until there is something to do, or a turn is due. Returns what was heard then; `None` where it is to stop.
     fn wait(&mut self) -> Option<Heard> {
         let mut heard = self.hear()?;
         for _ in 1..MOST_WAITS {
-            if heard.is_ready || self.is_due() || self.board.is_over() {
+            let is_due = is_turn_due(self.moment(), self.turn_ms);
+            if ends_wait(heard.is_ready, is_due, self.board.is_over()) {
                 return Some(heard);
             }
             heard = self.hear()?;
@@ -110,44 +125,47 @@ impl<'a, R: Clock + Wait> SocketPost<'a, R> {
 
     /// Hears what the system has to tell, and waits for it, if there is nothing to do. `None` where the system tells
     /// nothing any more.
-    fn hear(&mut self) -> Option<Heard> {
+    fn hear(&mut self) -> Option<Heard>
+        ensures clock { IfSome result (λ heard. self.new.clock_us ≡ heard.us) }
+    {
         // What was heard before was read since.
         self.desk.set_read(self.time.served_ms());
         let rest = self.rest();
-        let wait_ms = if self.lies_down(rest) {
-            0
-        } else {
-            rest.most_ms()
-        };
+        let is_called = self.lies_down(rest);
+        let wait_ms = if is_called { 0 } else { rest.most_ms() };
         let told = self.sockets.hear(self.rt, wait_ms);
         if !rest.is_turn() {
             self.desk.gets_up();
         }
-        match told {
-            Ok(heard) => {
-                self.advance(heard);
-                Some(Heard {
-                    is_ready: heard.is_ready || rest.is_turn() || self.has_to_do(),
-                    ..heard
-                })
-            }
-            Err(_) => {
-                self.board.stop();
-                None
-            }
-        }
+        let Ok(heard) = told else {
+            self.board.stop();
+            return None;
+        };
+        self.advance(heard);
+        Some(Heard {
+            is_ready: heard.is_ready || rest.is_turn() || self.has_to_do(),
+            ..heard
+        })
     }
 
-    /// How it waits for the next turn.
-    fn rest(&self) -> Rest {
+    /// Returns how it waits for the next turn: not at all if a listener of its own has more to draw.
+    fn rest(&self) -> Rest
+        ensures more { self.now.has_more ≡ true → result ≡ TakesTurn 0 }
+        ensures bound { longest result ≤ most_rest }
+    {
         let lines_ms = self.sockets.activity().wait_ms(MOST_REST_MS);
-        let lines_ms = if self.has_more { 0 } else { lines_ms };
+        if self.has_more {
+            return Rest::Turn(0);
+        }
         let is_expected = self.desk.state().has_news() || self.pause.was_early();
         rest_for(lines_ms, self.left_us(), is_expected)
     }
 
-    /// Marks the worker as waiting so, then looks once more. Whether there is something to do.
-    fn lies_down(&self, rest: Rest) -> bool {
+    /// Marks the worker as waiting so, then looks once more. Returns whether there is something to do. The order matters: what
+    /// comes between the two would be lost otherwise.
+    fn lies_down(&self, rest: Rest) -> bool
+        ensures { is_turn rest ≡ true → result ≡ false }
+    {
         match rest {
             Rest::Turn(_) => false,
             Rest::Asleep(_) => self.desk.lies_down(false) || self.board.is_over(),
@@ -155,10 +173,11 @@ impl<'a, R: Clock + Wait> SocketPost<'a, R> {
         }
     }
 
-    /// Whether there is something to do, beside what his sockets tell.
+    /// Returns whether there is something to do, apart from what its sockets tell.
     fn has_to_do(&self) -> bool {
-        let has_news = self.desk.state().has_news() && self.left_us() == 0;
-        has_news || self.desk.comings() > 0 || self.board.is_over()
+        let has_news = self.desk.state().has_news();
+        let comings = self.desk.comings();
+        has_to_do(has_news, self.left_us(), comings, self.board.is_over())
     }
 
     /// When the news came that waits, in microseconds; this moment if there is none.
@@ -176,8 +195,11 @@ impl<'a, R: Clock + Wait> SocketPost<'a, R> {
         self.pause.left_us(self.clock_us, self.came_us(), is_much)
     }
 
-    /// A round of draws begins: his listeners are told of all news that there is.
-    fn begin_round(&mut self) {
+    /// A round of draws begins: its listeners are told of all news that there is.
+    fn begin_round(&mut self)
+        ensures drawing { self.new.is_drawing ≡ true }
+        ensures may { self.new.may_tell ≡ self.old.may_tell }
+    {
         let came_us = self.came_us();
         self.desk.begin_round();
         self.received = self.board.received();
@@ -188,7 +210,11 @@ impl<'a, R: Clock + Wait> SocketPost<'a, R> {
     }
 
     /// The turn is over, and with it the round, if one has begun: unless somebody has drawn all that he had room for.
-    fn end_round(&mut self, has_more: bool) {
+    fn end_round(&mut self, has_more: bool)
+        ensures drawing { self.new.is_drawing ≡ false }
+        ensures more { self.new.has_more ≡ self.old.has_more }
+        ensures called { self.new.called ≡ self.old.called }
+    {
         if self.is_drawing {
             self.is_drawing = false;
             self.clock_us = moment_us(self.rt);
@@ -199,18 +225,11 @@ impl<'a, R: Clock + Wait> SocketPost<'a, R> {
         }
     }
 
-    /// Whether the last turn was so long ago that another is due.
-    fn is_due(&self) -> bool {
-        is_turn_due(self.moment(), self.turn_ms)
-    }
-
-    /// Whether the acceptor has not begun for so long that he can't.
-    fn is_alone(&self) -> bool {
-        self.time.served_ms() > MOST_ALONE_MS && !self.board.has_acceptor()
-    }
-
     /// It is the moment at which this was heard. His own time goes on from it.
-    fn advance(&mut self, heard: Heard) {
+    fn advance(&mut self, heard: Heard)
+        ensures clock { self.new.clock_us ≡ heard.us }
+        ensures time { (told : ℕ) × (self.new.time ≡ served_by heard.ms told self.old.time) }
+    {
         self.clock_us = heard.us;
         self.desk.set_turn(heard.ms);
         let told_ms = self.moment();
@@ -229,7 +248,10 @@ impl<'a, R: Clock + Wait> SocketPost<'a, R> {
 
     /// How many are taken in before a turn at this moment: none where the last turn was long ago, and this one tells the
     /// server the moment first.
-    fn comings(&mut self, ms: u64) -> usize {
+    fn comings(&mut self, ms: u64) -> usize
+        ensures called { (waiting : ℕ) × (record { count = result; puts_off = self.new.puts_off } ≡ called_of waiting (ms - self.old.turn_ms) self.old.puts_off) }
+        ensures count { self.new.called ≡ result }
+    {
         let passed_ms = ms.saturating_sub(self.turn_ms);
         let called = called_of(self.desk.comings(), passed_ms, self.puts_off);
         self.puts_off = called.puts_off;
@@ -238,13 +260,18 @@ impl<'a, R: Clock + Wait> SocketPost<'a, R> {
     }
 
     /// So many of those that he was called to take are taken, by him or others.
-    fn note_taken(&mut self, count: usize) {
+    fn note_taken(&mut self, count: usize)
+        ensures called { self.new.called ≡ self.old.called - count }
+        ensures more { self.new.has_more ≡ self.old.has_more }
+    {
         self.called = self.called.saturating_sub(count);
         self.desk.note_taken(count);
     }
 
     /// Tells the log the moment, if the clock tells it, and some time has passed.
-    fn tell_moment(&mut self, log: &Log, clock_ms: u64) {
+    fn tell_moment(&mut self, log: &Log, clock_ms: u64)
+        ensures { self.new.told_ms ≡ told_at self.old.told_ms clock_ms }
+    {
         if !is_time_to_tell(self.told_ms, clock_ms) {
             return;
         }
@@ -256,7 +283,11 @@ impl<'a, R: Clock + Wait> SocketPost<'a, R> {
     }
 
     /// Notes what his listeners have drawn, and whether there are any: the first of them have drawn all that has come.
-    fn note_listeners(&mut self, seen: Seen) {
+    fn note_listeners(&mut self, seen: Seen)
+        ensures called { self.new.called ≡ self.old.called }
+        ensures more { self.new.has_more ≡ self.old.has_more }
+        ensures drawing { self.new.is_drawing ≡ self.old.is_drawing }
+    {
         if !self.desk.has_listeners() {
             self.received = self.board.received();
         }
@@ -282,12 +313,16 @@ impl<'a, R: Clock + Wait> SocketPost<'a, R> {
 }
 
 impl<'a, R: Clock + Wait> Post<Coming, SocketLine<TcpStream>> for SocketPost<'a, R> {
-    fn next(&mut self, log: &Log) -> Option<Call> {
+    fn next(&mut self, log: &Log) -> Option<Call>
+        ensures turn { IfSome result (λ call. self.new.turn_ms ≡ call.turn.ms) }
+        ensures called { IfSome result (λ call. self.new.called ≡ call.comings) }
+        ensures news { IfSome result (λ call. call.turn.news ≡ true → self.new.may_tell ≡ true) }
+    {
         if !self.has_begun {
             self.begin();
         }
         let heard = self.wait()?;
-        if self.is_alone() {
+        if is_alone(self.time.served_ms(), self.board.has_acceptor()) {
             self.board.stop();
         }
         if self.board.is_over() {
@@ -305,7 +340,10 @@ impl<'a, R: Clock + Wait> Post<Coming, SocketLine<TcpStream>> for SocketPost<'a,
         })
     }
 
-    fn open(&mut self, coming: Coming) -> Option<(SocketLine<TcpStream>, Peer)> {
+    fn open(&mut self, coming: Coming) -> Option<(SocketLine<TcpStream>, Peer)>
+        ensures called { self.new.called ≡ self.old.called - 1 }
+        ensures peer { IfSome result (λ opened. opened.1 ≡ coming.peer) }
+    {
         self.note_taken(1);
         let Coming { stream, peer } = coming;
         match self.sockets.line_of(stream) {
@@ -318,7 +356,11 @@ impl<'a, R: Clock + Wait> Post<Coming, SocketLine<TcpStream>> for SocketPost<'a,
         self.board.most_lingering(self.desk, lingering)
     }
 
-    fn begins_round(&mut self, is_told: bool, brings: bool) -> bool {
+    fn begins_round(&mut self, is_told: bool, brings: bool) -> bool
+        ensures told { is_told ≡ true → result ≡ true }
+        ensures begins { result ≡ (is_told || (brings && self.old.may_tell)) }
+        ensures drawing { result ≡ true → self.new.is_drawing ≡ true }
+    {
         if brings {
             self.tell(news_for(self.number, self.may_tell));
         }
@@ -329,7 +371,11 @@ impl<'a, R: Clock + Wait> Post<Coming, SocketLine<TcpStream>> for SocketPost<'a,
         begins
     }
 
-    fn note(&mut self, seen: Seen, log: &Log) {
+    fn note(&mut self, seen: Seen, log: &Log)
+        ensures called { self.new.called ≡ 0 }
+        ensures more { self.new.has_more ≡ seen.more }
+        ensures drawing { self.new.is_drawing ≡ false }
+    {
         // Where the intake was empty before, others have taken them.
         self.note_taken(self.called);
         self.has_more = seen.more;

@@ -1,6 +1,6 @@
 //! The workers' seats, before they begin.
 
-ghost use Rattle.std.specs.Prelude.{◌≡◌, ◌+◌, ◌≤◌, All, IfOk, OnOk};
+ghost use Rattle.std.specs.Prelude.{◌≡◌, ◌+◌, ◌-◌, ◌≤◌, ◌<◌, All, IfOk, IfSome, OnOk, take, vec_len};
 ghost use Rattle.radio_intake.specs.Passes.{all_parts};
 
 use crate::doors::Coming;
@@ -24,10 +24,13 @@ pub fn open_desks<N: Reach>(
     net: &N,
     alloc: Global,
     workers: u32,
-) -> Result<(Vec<Sockets>, Vec<Desk>), ServeFault> {
+) -> Result<(Vec<Sockets>, Vec<Desk>), ServeFault>
+    ensures pairs { IfOk result (λ opened. vec_len opened.0 ≡ vec_len opened.1) }
+    ensures some { IfOk result (λ opened. 0 < vec_len opened.1) }
+{
     let mut sockets = Vec::new(alloc);
     let mut desks = Vec::new(alloc);
-    for _ in 0..workers {
+    'workers: for _ in 0..workers {
         if add_desk(net, alloc, &mut sockets, &mut desks).is_err() {
             return Err(ServeFault::OutOfMemory);
         }
@@ -38,12 +41,16 @@ pub fn open_desks<N: Reach>(
     Ok((sockets, desks))
 }
 
+/// Adds the sockets and the desk of one more worker, if the system tells of its sockets. `OutOfMemory` if memory was refused.
 fn add_desk<N: Reach>(
     net: &N,
     alloc: Global,
     sockets: &mut Vec<Sockets>,
     desks: &mut Vec<Desk>,
-) -> Result<(), OutOfMemory> {
+) -> Result<(), OutOfMemory>
+    requires { vec_len sockets.old ≡ vec_len desks.old }
+    ensures { OnOk result (vec_len sockets.new ≡ vec_len desks.new) }
+{
     if let Ok((own, waker)) = Sockets::new(net, alloc)? {
         sockets.push(own)?;
         desks.push(Desk::new(waker))?;
@@ -100,7 +107,10 @@ fn next_post<'a, R: Clock + Wait>(
     rt: &'a R,
     board: &'a Board,
     sockets: &mut Vec<Sockets>,
-) -> Option<SocketPost<'a, R>> {
+) -> Option<SocketPost<'a, R>>
+    ensures number { IfSome result (λ post. post.number ≡ vec_len sockets.new) }
+    ensures rest { sockets.new.items ≡ take (vec_len sockets.old - 1) sockets.old.items }
+{
     let own = sockets.pop()?;
     let number = sockets.len();
     let desk = board.desk(number)?;

@@ -1,7 +1,7 @@
 //! What a worker's post decides, as plain values. Moments are in milliseconds.
 
-ghost use Rattle.std.specs.Prelude.{◌≡◌, ◌&&◌, ◌||◌, ◌==◌};
-ghost use Rattle.radio_sockets.specs.Steps.{called_of, weight_of, is_time_to_tell, is_turn_due, news_for};
+ghost use Rattle.std.specs.Prelude.{◌≡◌, ◌&&◌, ◌||◌};
+ghost use Rattle.radio_sockets.specs.Steps.{acceptor_wait, called_of, has_to_do, lacks_descriptors, is_alone, weight_of, is_time_to_tell, is_turn_due, news_for};
 
 use radio_board::NewsFor;
 
@@ -21,6 +21,18 @@ const TELL_AFTER_MS: u64 = 100;
 /// As how many connections more a source counts, where the next one is for the worker that has the fewest: the others wait for
 /// what it has pushed, so it is to have less beside.
 const SOURCE_WEIGHT: usize = 4;
+
+/// For how long a worker waits for the acceptor to begin.
+const MOST_ALONE_MS: u64 = 10_000;
+
+/// How long the acceptor waits at most.
+const ACCEPTOR_MS: u64 = 1000;
+
+/// How long it waits if a connection may wait that can't be accepted yet.
+const PAUSE_MS: u64 = 50;
+
+/// How long it waits if newcomers wait for a worker that may not be served.
+const NEWCOMERS_MS: u64 = 250;
 
 /// How many of those who have come are taken in before a turn.
 #[derive(Clone, Copy, Debug, PartialEq, Eq)]
@@ -77,6 +89,44 @@ pub(crate) fn news_for(number: usize, may_tell: bool) -> NewsFor
     }
 }
 
+/// Returns for how many milliseconds the acceptor waits at most: not at all if it `is_called`, shorter if a connection may wait that
+/// can't be accepted yet, or one waits for a worker that may not be served.
+pub(crate) fn acceptor_wait(is_called: bool, may_accept: bool, comings: usize) -> u64
+    ensures { result ≡ acceptor_wait is_called may_accept comings }
+{
+    if is_called {
+        0
+    } else if may_accept {
+        PAUSE_MS
+    } else if comings > 0 {
+        NEWCOMERS_MS
+    } else {
+        ACCEPTOR_MS
+    }
+}
+
+/// Returns whether a worker that has served for so long ends the server: the acceptor has not begun, and so can't.
+pub(crate) fn is_alone(served_ms: u64, has_acceptor: bool) -> bool
+    ensures { result ≡ is_alone served_ms has_acceptor }
+{
+    served_ms > MOST_ALONE_MS && !has_acceptor
+}
+
+/// Returns whether a worker ends its wait for a turn: there is something to do, a turn is due, or all are to stop.
+pub(crate) fn ends_wait(is_ready: bool, is_due: bool, is_over: bool) -> bool
+    ensures { result ≡ (is_ready || is_due || is_over) }
+{
+    is_ready || is_due || is_over
+}
+
+/// Returns whether a worker has something to do, apart from what its sockets tell: news that waits no more, newcomers, or the
+/// end of all.
+pub(crate) fn has_to_do(has_news: bool, left_us: u64, comings: usize, is_over: bool) -> bool
+    ensures { result ≡ has_to_do has_news left_us comings is_over }
+{
+    (has_news && left_us == 0) || comings > 0 || is_over
+}
+
 /// Returns whether a round of draws begins: the turn was told of news, or its sources have brought something and its listeners
 /// may be told.
 pub(crate) fn begins_round(is_told: bool, brings: bool, may_tell: bool) -> bool
@@ -87,8 +137,8 @@ pub(crate) fn begins_round(is_told: bool, brings: bool, may_tell: bool) -> bool
 
 /// Returns whether the system's fault of this number says that there is no descriptor left, for the process (24, `EMFILE`) or
 /// at all (23, `ENFILE`).
-pub(crate) fn lacks_descriptors(code: u32) -> bool
-    ensures { result ≡ (code == 24 || code == 23) }
+pub(crate) fn lacks_descriptors(code: i32) -> bool
+    ensures { result ≡ lacks_descriptors code }
 {
     code == 24 || code == 23
 }

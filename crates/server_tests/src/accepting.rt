@@ -1,5 +1,7 @@
 //! A listener that fails, and one that has no descriptor for anybody: when they are tried, and when they are given up.
 
+ghost use Rattle.std.specs.Prelude.{⊤};
+
 use radio_lines::{Accepted, Accepts, Entrance, accept_next};
 
 /// A listener that fails so many times, and then gives one connection after another. It counts how
@@ -11,6 +13,8 @@ struct Failing {
 }
 
 impl Entrance<u64> for Failing {
+    ghost accepts = { λ _ _ _. ⊤ };
+
     fn accept(&mut self) -> Accepted<u64> {
         self.asked = self.asked.saturating_add(1);
         if self.asked <= self.failures {
@@ -28,6 +32,8 @@ struct Short {
 }
 
 impl Entrance<u64> for Short {
+    ghost accepts = { λ _ _ _. ⊤ };
+
     fn accept(&mut self) -> Accepted<u64> {
         self.asked = self.asked.saturating_add(1);
         Accepted::NoDescriptor

@@ -1,0 +1,13 @@
+-- What the system tells a server that accepts connections.
+use Rattle.std.specs.Prelude.{ℕ, ℤ, Bool, false, ◌-◌, ◌^◌, ◌==◌, Option, None, Some}
+use Rattle.mio.specs.declared.token.Token.{Token}
+use Rattle.radio_sockets.specs.Steps.{lacks_descriptors}
+
+-- the name of the bound socket
+abbrev pub is_listener : Token → Bool
+is_listener token = token.0 == 2 ^ 64 - 1
+
+-- whether a fault of this number, or of none, is that there is no descriptor left
+abbrev pub is_out_of_descriptors : Option ℤ → Bool
+is_out_of_descriptors None = false
+is_out_of_descriptors (Some code) = lacks_descriptors code
