@@ -1,15 +1,27 @@
 //! Which relays are to run, and which of them may begin now.
 
+ghost use Rattle.std.specs.Prelude.{◌≡◌, ◌-◌, false, not, ◌&&◌, List, [], ◌++◌, filter, length, map, reverse, take, if◌then◌else◌, IsTrue, OnOk, OnErr};
+ghost use Rattle.std.specs.Arc.{arc_value};
+ghost use Rattle.std.specs.BTreeMap.{is_at};
+ghost use Rattle.std.specs.Map.{set_value};
+ghost use Rattle.radio_relay.specs.Orders.{orders};
+ghost use Rattle.radio_relay.specs.StreamList.{name_order};
+ghost use Rattle.radio_settings.specs.declared.settings.RelaySetting.{RelaySetting};
+ghost use Rattle.radio_tries.specs.Tries.{ended, is_known, kept_after, kept_at, no_trials, not_started, queue, tried_at};
+ghost use Rattle.radio_tries.specs.Wishes.{in_order, started_by};
+ghost use Rattle.radio_tries.specs.Pauses.{later, rest};
+ghost use Rattle.radio_pullers.specs.Running.{IsChosen, are_same, mounts_of};
+
 use crate::OutOfMemory;
 use crate::roster::Roster;
 use crate::running::RunningRelay;
 use crate::station::Station;
-use crate::tries::Tries;
 use radio_events::SharedServer;
 use radio_lines::{Reach, moment};
-use radio_masters::{Waiting, in_turn};
-use radio_relay::{RelayOrder, plan};
+use radio_masters::Waiting;
+use radio_relay::plan;
 use radio_settings::{RelaySetting, Settings};
+use radio_tries::{Outcome, REST_MS, Tries, after, free_places, wishes_of};
 use radio_values::MountName;
 use std::alloc::Global;
 use std::collections::BTreeSet;
@@ -36,8 +48,13 @@ pub(crate) struct Keeper {
 }
 
 impl Keeper {
-    /// None runs yet. It takes no memory.
-    pub(crate) fn new(alloc: Global) -> Keeper {
+    /// Returns the keeper of a station of which no relay runs. It takes no memory.
+    pub(crate) fn new(alloc: Global) -> Keeper
+        ensures planned { result.is_planned ≡ false }
+        ensures wished { result.wished.items ≡ [] }
+        ensures tries { result.tries ≡ no_trials }
+        ensures running { result.roster.running.items ≡ [] }
+    {
         Keeper {
             alloc,
             names: BTreeSet::new(alloc),
@@ -58,146 +75,160 @@ impl Keeper {
         station: &Station<'_, N, S>,
     ) {
         self.note_ends(rt);
-        self.note_list(rt, station);
+        if let Some(names) = station.list.lock(rt).take() {
+            self.note_list(station.settings, names);
+        }
         if let Ok(wanted) = station.server.wanted(rt) {
             self.note_wanted(wanted);
         }
-        if !self.is_planned {
-            self.is_planned = self.make_plan(station.settings).is_ok();
-        }
-        let ms = moment(rt);
-        let places = self.free_places(station.settings, ms);
-        self.chosen = match self.choose(places, ms) {
-            Ok(chosen) => chosen,
-            Err(_) => Vec::new(self.alloc),
-        };
+        self.plan_anew(station.settings);
+        let _ = self.choose(station.settings, moment(rt));
     }
 
     /// Notes how threads of relays have ended. One that was to stop may be wished again by now.
-    fn note_ends<R: Wait>(&mut self, rt: &R) {
-        for _ in 0..self.roster.len() {
-            let Some(relay) = self.roster.take_ended() else {
+    fn note_ends<R: Wait>(&mut self, rt: &R)
+        ensures names { self.new.names ≡ self.old.names }
+        ensures wanted { self.new.wanted ≡ self.old.wanted }
+        ensures wished { self.new.wished ≡ self.old.wished }
+        ensures chosen { self.new.chosen ≡ self.old.chosen }
+    {
+        'ends: for _ in 0..self.roster.len() {
+            let Some(ended) = self.roster.take_ended(rt) else {
                 return;
             };
-            if let Some(outcome) = relay.outcome(rt) {
-                self.tries.note_end(relay.mount(), outcome);
-            }
-            if relay.is_stopped() {
-                self.is_planned = false;
-            }
+            let was_stopped = ended.relay.is_stopped();
+            let _ = self.note_end(ended.relay.mount(), ended.outcome, was_stopped);
         }
     }
 
-    /// Takes the newest list, if one has come.
-    fn note_list<R: Wait, N: Reach, S>(&mut self, rt: &R, station: &Station<'_, N, S>) {
-        if let Some(names) = station.list.take(rt) {
-            self.tries.forget_others(station.settings, &names);
-            self.names = names;
-            self.is_planned = false;
-        }
+    /// Notes that the thread of the relay of this mount has ended so, which was to stop or not.
+    ///
+    /// `OutOfMemory` if memory was refused to keep its place.
+    fn note_end(
+        &mut self,
+        mount: &MountName,
+        outcome: Outcome,
+        was_stopped: bool,
+    ) -> Result<(), OutOfMemory>
+        ensures planned { self.new.is_planned ≡ (self.old.is_planned && not was_stopped) }
+        ensures tried { self.new.tries.tried ≡ set_value (is_at (name_order mount.now)) self.old.tries.tried (ended outcome) }
+        ensures kept { OnOk result (self.new.tries.kept ≡ kept_after outcome self.old.tries.kept) }
+        ensures names { self.new.names ≡ self.old.names }
+        ensures wanted { self.new.wanted ≡ self.old.wanted }
+        ensures wished { self.new.wished ≡ self.old.wished }
+        ensures chosen { self.new.chosen ≡ self.old.chosen }
+        ensures running { self.new.roster ≡ self.old.roster }
+    {
+        self.is_planned = self.is_planned && !was_stopped;
+        self.tries.note_end(mount, outcome)
     }
 
-    /// These mounts are wanted.
-    fn note_wanted(&mut self, wanted: Vec<MountName>) {
+    /// Takes this list for the newest one, and forgets relays that nothing knows any more.
+    fn note_list(&mut self, settings: &Settings, names: BTreeSet<MountName>)
+        ensures names { self.new.names ≡ names }
+        ensures planned { self.new.is_planned ≡ false }
+        ensures tries { self.new.tries ≡ record self.old.tries { tried = filter (λ e. is_known settings.now names.keys e.0) self.old.tries.tried } }
+        ensures wished { self.new.wished ≡ self.old.wished }
+        ensures running { self.new.roster ≡ self.old.roster }
+    {
+        self.tries.forget_others(settings, &names);
+        self.names = names;
+        self.is_planned = false;
+    }
+
+    /// Notes that somebody waits at these mounts, if they are others than before.
+    fn note_wanted(&mut self, wanted: Vec<MountName>)
+        ensures wanted { self.new.wanted.items ≡ (if are_same wanted.items self.old.wanted.items then self.old.wanted.items else wanted.items) }
+        ensures planned { self.new.is_planned ≡ (self.old.is_planned && are_same wanted.items self.old.wanted.items) }
+        ensures names { self.new.names ≡ self.old.names }
+        ensures wished { self.new.wished ≡ self.old.wished }
+        ensures running { self.new.roster ≡ self.old.roster }
+        ensures tries { self.new.tries ≡ self.old.tries }
+    {
         if wanted.as_slice() != self.wanted.as_slice() {
             self.wanted = wanted;
             self.is_planned = false;
         }
     }
 
-    /// Stops the relays that are not wished any more, and notes those that are.
-    fn make_plan(&mut self, settings: &Settings) -> Result<(), OutOfMemory> {
-        let orders = self.orders(settings)?;
-        let mut wished = self.carry_out(settings, orders)?;
-        self.roster.add_settings(&mut wished)?;
-        self.wished = wished;
+    /// Plans which relays are wished, unless that is known. Where memory is refused, it is planned again with the next look.
+    fn plan_anew(&mut self, settings: &Settings)
+        ensures { IsTrue self.old.is_planned → self.new ≡ self.old }
+    {
+        if !self.is_planned {
+            self.is_planned = self.make_plan(settings).is_ok();
+        }
+    }
+
+    /// Stops the relays that are not wished any more, and notes those that are. `OutOfMemory` if memory was refused.
+    fn make_plan(&mut self, settings: &Settings) -> Result<(), OutOfMemory>
+        ensures wished { OnOk result ((rest : List RelaySetting) × (map arc_value self.new.wished.items ≡
+            in_order settings.now (started_by (orders settings.now self.old.names.keys (mounts_of (map arc_value self.old.roster.running.items)) self.old.wanted.items)) ++ rest)) }
+        ensures tries { self.new.tries ≡ self.old.tries }
+        ensures running { self.new.roster ≡ self.old.roster }
+    {
+        let live = self.roster.live()?;
+        let orders = plan(
+            self.alloc,
+            settings,
+            &self.names,
+            live.as_slice(),
+            self.wanted.as_slice(),
+        )?;
+        let mut wishes = wishes_of(self.alloc, settings, orders)?;
+        for mount in &wishes.stops {
+            self.roster.stop(mount);
+        }
+        self.roster.add_settings(&mut wishes.starts)?;
+        self.wished = wishes.starts;
         Ok(())
     }
 
-    /// What is to be done with relays.
-    fn orders(&self, settings: &Settings) -> Result<Vec<RelayOrder>, OutOfMemory> {
-        let live = self.roster.live()?;
-        let wanted = self.wanted.as_slice();
-        plan(self.alloc, settings, &self.names, live.as_slice(), wanted)
+    /// Notes which of the relays that are wished begin at `ms`, in milliseconds, in the places that are free. `OutOfMemory` if
+    /// memory was refused: none begins then.
+    fn choose(&mut self, settings: &Settings, ms: u64) -> Result<(), OutOfMemory>
+        ensures ok { OnOk result (IsChosen ms settings.now.limits.sources (length self.old.roster.running.items) (length (kept_at ms self.old.tries.kept)) (queue self.new.tries (map arc_value self.old.wished.items)) (reverse self.new.chosen.items)) }
+        ensures err { OnErr result (self.new.chosen.items ≡ []) }
+        ensures wished { self.new.wished ≡ self.old.wished }
+        ensures running { self.new.roster ≡ self.old.roster }
+    {
+        let kept = self.tries.kept_places(ms);
+        let sources = settings.limits.sources.get() as usize;
+        let places = free_places(sources, self.roster.len(), kept);
+        self.chosen = Vec::new(self.alloc);
+        self.chosen = self
+            .tries
+            .begin(self.alloc, self.wished.as_slice(), places, ms)?;
+        Ok(())
     }
 
-    /// Stops the relays that are to stop. Those that are to start, of the settings and then of the list.
-    fn carry_out(
-        &self,
-        settings: &Settings,
-        orders: Vec<RelayOrder>,
-    ) -> Result<Vec<Arc<RelaySetting>>, OutOfMemory> {
-        let mut own = Vec::new(self.alloc);
-        let mut listed = Vec::new(self.alloc);
-        for order in orders {
-            match order {
-                RelayOrder::Stop(mount) => self.roster.stop(&mount),
-                RelayOrder::Start(relay) => {
-                    let is_own = settings.relays.get(&relay.local_mount).is_some();
-                    let relays = if is_own { &mut own } else { &mut listed };
-                    add(self.alloc, relays, relay)?;
-                }
-            }
-        }
-        own.append(&mut listed)?;
-        Ok(own)
-    }
-
-    /// How many more relays may run at this moment: as many as there may be sources run at once.
-    fn free_places(&mut self, settings: &Settings, ms: u64) -> usize {
-        let places = settings.limits.sources.get() as usize;
-        places
-            .saturating_sub(self.roster.len())
-            .saturating_sub(self.tries.kept_places(ms))
-    }
-
-    /// Which of the relays that are wished begin now in so many places, the last one first.
-    fn choose(&self, places: usize, ms: u64) -> Result<Vec<Waiting>, OutOfMemory> {
-        let mut waiting = Vec::new(self.alloc);
-        if places == 0 {
-            return Ok(waiting);
-        }
-        for (number, relay) in self.wished.iter().enumerate() {
-            let due_ms = self.tries.due_ms(&relay.local_mount);
-            if due_ms <= ms {
-                waiting.push(Waiting { due_ms, number })?;
-            }
-        }
-        let mut chosen = in_turn(waiting, places, ms)?;
-        chosen.reverse();
-        Ok(chosen)
-    }
-
-    /// The next relay that begins now; `None` where there is none, or memory is refused for it.
-    pub(crate) fn next_start(&mut self) -> Option<Arc<RunningRelay>> {
+    /// Returns the next relay that begins now; `None` where there is none, or memory is refused for it.
+    pub(crate) fn next_start(&mut self) -> Option<Arc<RunningRelay>>
+        ensures chosen { self.new.chosen.items ≡ take (length self.old.chosen.items - 1) self.old.chosen.items }
+        ensures wished { self.new.wished ≡ self.old.wished }
+    {
         let chosen = self.chosen.pop()?;
-        let relay = self.wished.get(chosen.number)?;
+        let relay = self.wished.get(chosen.number)?.clone().ok()?;
         let mount = relay.local_mount;
-        let relay = relay.clone().ok()?;
         self.tries.note_start(mount).ok()?;
         match self.roster.add(relay, self.tries.failing(&mount)) {
             Ok(running) => Some(running),
             Err(_) => {
-                self.tries.note_no_thread(&mount, 0);
+                self.tries.note_not_started(&mount, 0);
                 None
             }
         }
     }
 
-    /// No thread could be had for the relay that was to begin last: none begins any more now.
-    pub(crate) fn note_no_thread(&mut self, mount: &MountName, ms: u64) {
+    /// Notes that no thread could be had at `ms`, in milliseconds, for the relay that was to begin last: it rests, and none
+    /// begins any more now.
+    pub(crate) fn note_no_thread(&mut self, mount: &MountName, ms: u64)
+        ensures chosen { self.new.chosen.items ≡ [] }
+        ensures running { self.new.roster.running.items ≡ take (length self.old.roster.running.items - 1) self.old.roster.running.items }
+        ensures tried { self.new.tries.tried ≡ set_value (is_at (name_order mount.now)) self.old.tries.tried (not_started (later ms rest) (tried_at mount.now self.old.tries)) }
+    {
         self.roster.forget_last();
-        self.tries.note_no_thread(mount, ms);
+        self.tries.note_not_started(mount, after(ms, REST_MS));
         self.chosen.clear();
     }
-}
-
-/// Adds a relay behind others.
-fn add(
-    alloc: Global,
-    relays: &mut Vec<Arc<RelaySetting>>,
-    relay: RelaySetting,
-) -> Result<(), OutOfMemory> {
-    relays.push(Arc::new(alloc, relay)?)?;
-    Ok(())
 }

@@ -8,15 +8,13 @@
 #![tactic(auto)]
 
 mod keeper;
-mod list_desk;
 mod list_fetch;
-mod master;
 mod puller;
 mod relays;
 mod roster;
 mod running;
 mod station;
-mod tries;
+mod waits;
 
 pub use relays::{has_relays, keep_relays};
 

@@ -1,21 +1,30 @@
 //! A relay's thread: a pull of its master, again and again.
 
+ghost use Rattle.std.specs.Prelude.{◌≡◌, ◌⊎◌, [], IfOk, IfErr, IfSome, OnOk};
+ghost use Rattle.radio_masters.specs.declared.relay_end.RelayEnd.TheVariants.{NoAnswer, NotWished, OutOfMemory as NoMemory};
+ghost use Rattle.radio_pull.specs.Course.{GoesDown};
+ghost use Rattle.radio_pull.specs.Pulling.{begun};
+ghost use Rattle.radio_relay.specs.Request.{request_text};
+ghost use Rattle.radio_masters.specs.Askers.{AskedSteps};
+ghost use Rattle.radio_serving.specs.Watching.{WatchedSteps, watched_of};
+ghost use Rattle.radio_pullers.specs.Turns.{MayTurn};
+
 use crate::OutOfMemory;
-use crate::master::{MOST_SILENT_MS, addresses_of};
-use crate::running::{Outcome, RunningRelay};
+use crate::running::RunningRelay;
 use crate::station::Station;
+use crate::waits::waits_until;
 use mio::net::TcpStream;
 use radio_board::{Board, NewsFor};
 use radio_events::{Caller, SharedServer};
 use radio_lines::{Reach, SocketLine, Sockets, moment, moment_us};
-use radio_masters::{Asked, MountPull, PullEnd, PullTurn, RelayEnd};
+use radio_masters::{Asked, MountPull, RelayEnd};
 use radio_serving::{Server, Watched};
+use radio_tries::{Outcome, REST_MS, after, end_of, has_had_no_answer, pull_end};
 use std::alloc::Global;
 use std::io;
 use std::net::SocketAddr;
 use std::sync::Wait;
-use std::thread::sleep;
-use std::time::{Clock, Duration};
+use std::time::Clock;
 
 /// How many bytes are read at once.
 const READ_ROOM: usize = 16_384;
@@ -23,9 +32,6 @@ const READ_ROOM: usize = 16_384;
 /// How long a relay waits at once, in milliseconds: as often it looks whether it is to stop, and asks whether the server
 /// has finished it.
 const WAIT_MS: u64 = 500;
-
-/// For how many such waits a relay rests before it is pulled again.
-const RESTS: u32 = 10;
 
 /// A relay's thread.
 #[derive(Drop)]
@@ -49,43 +55,18 @@ pub(crate) fn pull_relay<R: Clock + Wait, N: Reach, S: SharedServer>(
     station: &Station<'_, N, S>,
     relay: &RunningRelay,
 ) {
-    let outcome = match station.server.pass(rt) {
-        Some(pass) => {
-            let caller = Caller::new(rt, station.server, pass);
-            pull_as(rt, station.net, station.board, relay, caller)
-        }
+    let outcome = match Puller::begun(rt, station, relay) {
+        Some(mut puller) => puller.work(),
         None => not_begun(rt, relay),
     };
-    relay.note_end(rt, outcome);
+    let _ = relay.outcome.lock(rt).replace(outcome);
 }
 
-/// The same, by asking this server. How it has ended.
-fn pull_as<R: Clock + Wait, N: Reach, S: Server + Drop>(
-    rt: &R,
-    net: &N,
-    board: &Board,
-    relay: &RunningRelay,
-    server: S,
-) -> Outcome {
-    match Puller::new(rt, net, board, relay, server) {
-        Ok(mut puller) => puller.work(),
-        Err(_) => not_begun(rt, relay),
-    }
-}
-
-/// This server, as this relay asks it.
-fn asked_for<S: Server + Drop>(
-    alloc: Global,
-    relay: &RunningRelay,
-    server: S,
-) -> Result<Asked<Watched<S>>, OutOfMemory> {
-    let mut asked = Asked::new(alloc, Watched::new(alloc, server), relay.setting())?;
-    asked.set_failing(relay.failing());
-    Ok(asked)
-}
-
-/// That memory, or a socket, was refused before anything was tried.
-fn not_begun<R: Clock>(rt: &R, relay: &RunningRelay) -> Outcome {
+/// Returns how a relay's thread has ended that was refused memory, a pass or a socket before anything was tried.
+fn not_begun<R: Clock>(rt: &R, relay: &RunningRelay) -> Outcome
+    ensures why { result.why ≡ NoMemory }
+    ensures failing { result.failing ≡ relay.now.failing }
+{
     Outcome {
         why: RelayEnd::OutOfMemory,
         ms: moment(rt),
@@ -93,16 +74,48 @@ fn not_begun<R: Clock>(rt: &R, relay: &RunningRelay) -> Outcome {
     }
 }
 
+/// Returns this server, as this relay asks it. `OutOfMemory` if memory was refused.
+fn asked_for<S: Server + Drop>(
+    alloc: Global,
+    relay: &RunningRelay,
+    server: S,
+) -> Result<Asked<Watched<S>>, OutOfMemory>
+    ensures server { IfOk result (λ asked. asked.server ≡ watched_of server) }
+    ensures failing { IfOk result (λ asked. asked.course.failing ≡ relay.now.failing) }
+{
+    let mut asked = Asked::new(alloc, Watched::new(alloc, server), relay.setting())?;
+    asked.set_failing(relay.failing());
+    Ok(asked)
+}
+
+impl<'a, R: Clock + Wait, N: Reach, S: SharedServer> Puller<'a, R, N, Caller<'a, R, S>> {
+    /// Returns the thread of this relay, with a pass of its own; `None` if there is none, or memory or a socket was refused.
+    fn begun(
+        rt: &'a R,
+        station: &Station<'a, N, S>,
+        relay: &'a RunningRelay,
+    ) -> Option<Puller<'a, R, N, Caller<'a, R, S>>>
+        ensures { IfSome result (λ puller. puller.began_ms ≡ 0) }
+    {
+        let pass = station.server.pass(rt)?;
+        let caller = Caller::new(rt, station.server, pass);
+        Puller::new(rt, station.net, station.board, relay, caller).ok()
+    }
+}
+
 impl<'a, R: Clock + Wait, N: Reach, S: Server + Drop> Puller<'a, R, N, S> {
-    /// That of this relay, who asks this server. The system's fault where it tells nothing of sockets, or memory was
-    /// refused.
+    /// Returns the thread of this relay, which asks this server. The system's fault where it tells nothing of sockets, or
+    /// memory was refused.
     fn new(
         rt: &'a R,
         net: &'a N,
         board: &'a Board,
         relay: &'a RunningRelay,
         server: S,
-    ) -> io::Result<Puller<'a, R, N, S>> {
+    ) -> io::Result<Puller<'a, R, N, S>>
+        ensures server { IfOk result (λ puller. puller.asked.server ≡ watched_of server) }
+        ensures began { IfOk result (λ puller. puller.began_ms ≡ 0) }
+    {
         let alloc = board.alloc();
         let asked = asked_for(alloc, relay, server)?;
         let sockets = Sockets::alone(net, alloc)?;
@@ -118,7 +131,7 @@ impl<'a, R: Clock + Wait, N: Reach, S: Server + Drop> Puller<'a, R, N, S> {
         })
     }
 
-    /// Pull after pull, until it is to stop, or a pull has not brought it up. How it has ended.
+    /// Pulls again and again, until it is to stop, or a pull has not brought it up. Returns how it has ended.
     fn work(&mut self) -> Outcome {
         let mut why = RelayEnd::NotWished;
         'pulls: for _ in self.rt.forever() {
@@ -130,49 +143,66 @@ impl<'a, R: Clock + Wait, N: Reach, S: Server + Drop> Puller<'a, R, N, S> {
         self.outcome(why)
     }
 
-    /// Tells that a pull has ended so, and rests. Whether another is to follow: the relay was up, and is not to stop.
-    fn goes_on(&mut self, why: RelayEnd) -> bool {
+    /// Tells that a pull has ended so, and rests. Returns whether another is to follow: the relay was up, and is not to stop.
+    fn goes_on(&mut self, why: RelayEnd) -> bool
+        ensures server { self.new.asked.server ≡ self.old.asked.server }
+        ensures began { self.new.began_ms ≡ self.old.began_ms }
+    {
         let was_up = self.asked.is_up();
         self.tell_end(why);
-        was_up && self.rests()
+        let until_ms = after(moment(self.rt), REST_MS);
+        was_up && waits_until(self.rt, self.board, Some(self.relay), until_ms)
     }
 
-    fn outcome(&self, why: RelayEnd) -> Outcome {
-        Outcome {
-            why: if self.relay.is_stopped() {
-                RelayEnd::NotWished
-            } else {
-                why
-            },
-            ms: moment(self.rt),
-            failing: self.asked.failing(),
-        }
+    /// Returns how the thread has ended whose last pull has ended so.
+    fn outcome(&self, why: RelayEnd) -> Outcome
+        ensures { (result.why ≡ why) ⊎ (result.why ≡ NotWished) }
+    {
+        let failing = self.asked.failing();
+        Outcome::of(self.relay.is_stopped(), why, moment(self.rt), failing)
     }
 
-    /// Pulls from the first address of the master that answers. Why the pull has ended.
+    /// Pulls from the first address of the master that answers. Returns why the pull has ended.
     fn pull(&mut self) -> RelayEnd {
-        let master = &self.relay.setting().master;
-        let addresses = addresses_of(self.net, self.board.alloc(), master);
         let mut why = RelayEnd::NoAddress;
-        'addresses: for address in addresses {
+        'addresses: for address in self.addresses() {
             why = self.pull_at(address);
-            if why != RelayEnd::NoAnswer {
+            if !has_had_no_answer(why) {
                 return why;
             }
         }
         why
     }
 
+    /// Returns the addresses of the master, as the system knows them by its name.
+    fn addresses(&self) -> Vec<SocketAddr> {
+        let master = &self.relay.setting().master;
+        let port = master.port.get() as u16;
+        self.net
+            .addresses(self.board.alloc(), master.server.as_str(), port)
+    }
+
+    /// Pulls from this address. Returns why the pull has ended; then the relay is down.
     fn pull_at(&mut self, address: SocketAddr) -> RelayEnd {
         self.began_ms = moment(self.rt);
         match self.begin(address) {
-            Ok(pull) => self.pull_through(pull),
+            Ok(mut pull) => {
+                let why = self.turns(&mut pull);
+                // No end is refused. Who has gone down already is not known any more.
+                let _ = self.end(&pull);
+                why
+            }
             Err(why) => why,
         }
     }
 
-    /// A pull from this address, of which nothing has come yet; why there is none.
-    fn begin(&mut self, address: SocketAddr) -> Result<MountPull<SocketLine<TcpStream>>, RelayEnd> {
+    /// Begins a pull from this address, of which nothing has come yet. `NoAnswer` if nothing can be connected, `OutOfMemory` if
+    /// memory was refused.
+    fn begin(&mut self, address: SocketAddr) -> Result<MountPull<SocketLine<TcpStream>>, RelayEnd>
+        ensures asked { self.new.asked ≡ self.old.asked }
+        ensures pull { IfOk result (λ pull. (pull.relay ≡ begun self.old.relay.now.setting.local_mount) × (pull.owed ≡ request_text self.old.relay.now.setting) × (pull.front ≡ [])) }
+        ensures why { IfErr result (λ why. (why ≡ NoAnswer) ⊎ (why ≡ NoMemory)) }
+    {
         let Ok(line) = self.sockets.connect(self.net, address) else {
             return Err(RelayEnd::NoAnswer);
         };
@@ -182,24 +212,19 @@ impl<'a, R: Clock + Wait, N: Reach, S: Server + Drop> Puller<'a, R, N, S> {
         }
     }
 
-    fn pull_through(&mut self, pull: MountPull<SocketLine<TcpStream>>) -> RelayEnd {
-        let mut pull = pull;
-        let why = self.pull_to_end(&mut pull);
-        drop(pull);
-        why
-    }
-
-    /// Turn after turn, until the pull has ended; then the relay goes down, if it is up. Why.
-    fn pull_to_end(&mut self, pull: &mut MountPull<SocketLine<TcpStream>>) -> RelayEnd {
-        let why = self.turns(pull);
-        // No end is refused. Who has gone down already is not known any more.
-        let _ = pull.close(&mut self.asked);
+    /// Has the relay of a pull that has ended go down, if it is up. `OutOfMemory` if memory was refused for that.
+    fn end(&mut self, pull: &MountPull<SocketLine<TcpStream>>) -> Result<(), OutOfMemory>
+        ensures { OnOk result (GoesDown (AskedSteps (WatchedSteps S.steps)) pull.now.relay.number self.old.asked self.new.asked) }
+    {
+        let ended = pull.close(&mut self.asked);
         self.tell_others();
-        why
+        ended
     }
 
-    /// Turn after turn, until the pull has ended. Why.
-    fn turns(&mut self, pull: &mut MountPull<SocketLine<TcpStream>>) -> RelayEnd {
+    /// Makes turn after turn, until the pull has ended. Returns why.
+    fn turns(&mut self, pull: &mut MountPull<SocketLine<TcpStream>>) -> RelayEnd
+        ensures { self.new.began_ms ≡ self.old.began_ms }
+    {
         let mut buffer = [0u8; READ_ROOM];
         'turns: for _ in self.rt.forever() {
             if let Some(why) = self.turn(pull, &mut buffer) {
@@ -209,26 +234,32 @@ impl<'a, R: Clock + Wait, N: Reach, S: Server + Drop> Puller<'a, R, N, S> {
         RelayEnd::Left
     }
 
-    /// Waits until there is something to do, and does it. Why the pull has ended, if it has.
+    /// Waits until there is something to do, and does it. Returns why the pull has ended, if it has.
     fn turn(
         &mut self,
         pull: &mut MountPull<SocketLine<TcpStream>>,
         buffer: &mut [u8],
-    ) -> Option<RelayEnd> {
+    ) -> Option<RelayEnd>
+        ensures turn { MayTurn (AskedSteps (WatchedSteps S.steps)) self.old.began_ms pull.old self.old.asked result pull.new self.new.asked }
+        ensures began { self.new.began_ms ≡ self.old.began_ms }
+    {
         let Some(ms) = self.hear() else {
             return Some(RelayEnd::Left);
         };
-        if self.is_over() {
+        if self.relay.is_stopped() || self.board.is_over() {
             return Some(RelayEnd::NotWished);
         }
         let turn = pull.turn(&mut self.asked, buffer);
         self.tell_others();
-        let is_late = ms.saturating_sub(self.began_ms) >= MOST_SILENT_MS;
-        end_of(turn, pull, is_late)
+        end_of(turn, pull, self.began_ms, ms)
     }
 
-    /// Hears what there is on the socket, and waits for it. The moment then; `None` where the system tells nothing.
-    fn hear(&mut self) -> Option<u64> {
+    /// Hears what there is on the socket, and waits for it. Returns the moment then, in milliseconds; `None` where the system
+    /// tells nothing.
+    fn hear(&mut self) -> Option<u64>
+        ensures asked { self.new.asked ≡ self.old.asked }
+        ensures began { self.new.began_ms ≡ self.old.began_ms }
+    {
         let wait_ms = self.sockets.activity().wait_ms(WAIT_MS);
         let heard = self.sockets.hear(self.rt, wait_ms).ok()?;
         self.sockets
@@ -254,46 +285,12 @@ impl<'a, R: Clock + Wait, N: Reach, S: Server + Drop> Puller<'a, R, N, S> {
     }
 
     /// Tells in the log that the pull has ended.
-    fn tell_end(&mut self, why: RelayEnd) {
-        let ms = moment(self.rt);
-        self.asked.tell_end(PullEnd {
-            why,
-            seconds: ms.saturating_sub(self.began_ms) / 1000,
-            ms,
-        });
+    fn tell_end(&mut self, why: RelayEnd)
+        ensures server { self.new.asked.server ≡ self.old.asked.server }
+        ensures began { self.new.began_ms ≡ self.old.began_ms }
+    {
+        let end = pull_end(why, self.began_ms, moment(self.rt));
+        self.asked.tell_end(end);
         self.tell_others();
-    }
-
-    /// Rests, until the pull is to begin again. Whether it is.
-    fn rests(&self) -> bool {
-        for _ in 0..RESTS {
-            if self.is_over() {
-                return false;
-            }
-            let _ = sleep(self.rt, Duration::from_millis(WAIT_MS));
-        }
-        !self.is_over()
-    }
-
-    /// Whether the relay is to stop.
-    fn is_over(&self) -> bool {
-        self.relay.is_stopped() || self.board.is_over()
-    }
-}
-
-/// Why this pull has ended with this turn, if it has: one that is not up has had no answer, and one that is late has none.
-fn end_of(
-    turn: PullTurn,
-    pull: &MountPull<SocketLine<TcpStream>>,
-    is_late: bool,
-) -> Option<RelayEnd> {
-    let is_up = pull.number().is_some();
-    match turn {
-        PullTurn::Running if is_late && !is_up => Some(RelayEnd::NoAnswer),
-        PullTurn::Running => None,
-        PullTurn::Shut(ending) => Some(RelayEnd::of(ending, pull.status())),
-        PullTurn::Closed | PullTurn::Failed if is_up => Some(RelayEnd::Left),
-        PullTurn::Closed | PullTurn::Failed => Some(RelayEnd::NoAnswer),
-        PullTurn::OutOfMemory => Some(RelayEnd::OutOfMemory),
     }
 }

@@ -1,9 +1,9 @@
 //! The relays of a station, each in a thread of its own.
 
+ghost use Rattle.std.specs.Prelude.{◌≡◌, ◌==◌, ◌||◌, not, length, is_some};
 ghost use Rattle.std.specs.Thread.{IsSync};
 
 use crate::keeper::Keeper;
-use crate::list_desk::ListDesk;
 use crate::list_fetch::keep_list;
 use crate::puller::pull_relay;
 use crate::running::RunningRelay;
@@ -12,7 +12,7 @@ use radio_board::Board;
 use radio_events::SharedServer;
 use radio_lines::{Reach, moment};
 use radio_settings::{Settings, SlaveSetting};
-use std::sync::{Arc, Wait};
+use std::sync::{Arc, Mutex, Wait};
 use std::thread;
 use std::thread::{Scope, Threads, sleep};
 use std::time::{Clock, Duration};
@@ -21,7 +21,9 @@ use std::time::{Clock, Duration};
 const ROUND_MS: u64 = 500;
 
 /// Whether these settings wish relays, now or later.
-pub fn has_relays(settings: &Settings) -> bool {
+pub fn has_relays(settings: &Settings) -> bool
+    ensures { result ≡ (not (length settings.now.relays == 0) || is_some settings.now.slave) }
+{
     !settings.relays.as_slice().is_empty() || settings.slave.is_some()
 }
 
@@ -42,22 +44,15 @@ where
     S: SharedServer + Sync,
     S::Pass: Send,
 {
-    let mut keeper = Keeper::new(board.alloc());
-    let kept = &mut keeper;
-    let list = ListDesk::new();
-    let station = &Station {
-        net,
-        server,
-        board,
-        settings,
-        list: &list,
-    };
+    let keeper = &mut Keeper::new(board.alloc());
+    let list = Mutex::new(None);
+    let station = &Station::new(net, server, board, settings, &list);
     thread::scope(
         thread::scope_env(),
         rt,
         move |scope|
             requires { IsSync R.row × IsSync N.row × IsSync S.row }
-        { start_relays(scope, kept, rt, station) },
+        { start_relays(scope, keeper, rt, station) },
     )
 }
 
@@ -79,13 +74,9 @@ where
         if station.board.is_over() {
             return;
         }
-        if let Some(asking) = slave {
-            if begin_list(scope, rt, station, asking) {
-                slave = None;
-            }
-        }
+        slave = begin_list(scope, rt, station, slave);
         start_due(scope, keeper, rt, station);
-        rest(rt);
+        sleep(rt, Duration::from_millis(ROUND_MS));
     }
 }
 
@@ -114,23 +105,24 @@ where
     }
 }
 
-/// Asks for this slave's list by a thread of the scope. Whether there is one for it.
+/// Asks for the list of this slave, if there is one, by a thread of the scope. Returns the slave if there is no thread for it.
 fn begin_list<'s, E, R, N, S>(
     scope: &Scope<'s, E>,
     rt: &'s R,
     station: &'s Station<'s, N, S>,
-    slave: &'s SlaveSetting,
-) -> bool
+    slave: Option<&'s SlaveSetting>,
+) -> Option<&'s SlaveSetting>
 where
     R: Clock + Threads + Wait + Sync,
     N: Reach + Sync,
     S: SharedServer + Sync,
     S::Pass: Send,
 {
-    let thread = scope.spawn(move || keep_list(rt, station, slave));
+    let asking = slave?;
+    let thread = scope.spawn(move || keep_list(rt, station, asking));
     let has_begun = thread.is_ok();
     drop(thread);
-    has_begun
+    if has_begun { None } else { slave }
 }
 
 /// Pulls this relay in by a thread of the scope. Whether there is one for it.
@@ -150,9 +142,4 @@ where
     let has_begun = thread.is_ok();
     drop(thread);
     has_begun
-}
-
-/// Waits until it is to be looked again which relays are wished.
-fn rest(clock: &impl Clock) {
-    sleep(clock, Duration::from_millis(ROUND_MS));
 }

@@ -1,82 +1,74 @@
 //! A relay that runs, and what its thread and the one that started it tell each other.
 
-use radio_masters::{Failing, RelayEnd};
-use radio_settings::RelaySetting;
-use radio_values::MountName;
-use std::sync::atomic::{AtomicBool, Ordering};
-use std::sync::{Arc, Mutex, Wait};
+ghost use Rattle.std.specs.Prelude.{◌≡◌};
+ghost use Rattle.std.specs.Arc.{arc_value};
 
-/// How the thread of a relay has ended.
-#[derive(Clone, Copy)]
-pub(crate) struct Outcome {
-    /// Why.
-    pub(crate) why: RelayEnd,
-    /// When, in milliseconds.
-    pub(crate) ms: u64,
-    /// How the relay has failed, if it has since it was up last.
-    pub(crate) failing: Option<Failing>,
-}
+use radio_masters::Failing;
+use radio_settings::RelaySetting;
+use radio_tries::Outcome;
+use radio_values::MountName;
+use std::marker::Model;
+use std::sync::atomic::{AtomicBool, Ordering};
+use std::sync::{Arc, Mutex};
 
 /// A relay that runs, whether it is to stop, and how its thread has ended.
+///
+/// In contracts it is its setting, and how it had failed before it began.
 #[derive(Drop)]
 pub(crate) struct RunningRelay {
     setting: Arc<RelaySetting>,
     failing: Option<Failing>,
-    is_stopped: AtomicBool,
-    has_ended: AtomicBool,
-    outcome: Mutex<Option<Outcome>>,
+    /// Whether it is to stop.
+    pub(crate) is_stopped: AtomicBool,
+    /// How its thread has ended, once it has.
+    pub(crate) outcome: Mutex<Option<Outcome>>,
+}
+
+impl Model for RunningRelay {
+    ghost use Rattle.std.specs.Arc.{arc_value};
+    ghost use Rattle.radio_pullers.specs.Running.{Begun};
+
+    ghost Value = { Begun };
+
+    ghost view = { λ r. record { setting = arc_value r.setting; failing = r.failing } };
 }
 
 impl RunningRelay {
-    /// One whose thread begins, and which has failed so before.
-    pub(crate) fn new(setting: Arc<RelaySetting>, failing: Option<Failing>) -> RunningRelay {
+    /// Returns one whose thread begins, and which has failed so before.
+    pub(crate) fn new(setting: Arc<RelaySetting>, failing: Option<Failing>) -> RunningRelay
+        ensures { result ≡ record { setting = arc_value setting; failing = failing } }
+    {
         RunningRelay {
             setting,
             failing,
             is_stopped: AtomicBool::new(false),
-            has_ended: AtomicBool::new(false),
             outcome: Mutex::new(None),
         }
     }
 
-    /// What the settings, or the slave's list, say of it.
-    pub(crate) fn setting(&self) -> &Arc<RelaySetting> {
+    /// Returns what the settings, or the slave's list, say of it.
+    pub(crate) fn setting(&self) -> &Arc<RelaySetting>
+        ensures { arc_value result.now ≡ self.now.setting }
+    {
         &self.setting
     }
 
-    /// The mount that it feeds.
-    pub(crate) fn mount(&self) -> &MountName {
+    /// Returns the mount that it feeds.
+    pub(crate) fn mount(&self) -> &MountName
+        ensures { result.now ≡ self.now.setting.local_mount }
+    {
         &self.setting.local_mount
     }
 
-    /// How it has failed before it began.
-    pub(crate) fn failing(&self) -> Option<Failing> {
+    /// Returns how it had failed before it began.
+    pub(crate) fn failing(&self) -> Option<Failing>
+        ensures { result ≡ self.now.failing }
+    {
         self.failing
     }
 
-    /// It is to stop.
-    pub(crate) fn stop(&self) {
-        self.is_stopped.store(true, Ordering::SeqCst);
-    }
-
-    /// Whether it is to stop.
+    /// Returns whether it is to stop.
     pub(crate) fn is_stopped(&self) -> bool {
         self.is_stopped.load(Ordering::SeqCst)
-    }
-
-    /// Its thread ends so.
-    pub(crate) fn note_end<W: Wait>(&self, waits: &W, outcome: Outcome) {
-        let _ = self.outcome.lock(waits).replace(outcome);
-        self.has_ended.store(true, Ordering::SeqCst);
-    }
-
-    /// Whether its thread has ended.
-    pub(crate) fn has_ended(&self) -> bool {
-        self.has_ended.load(Ordering::SeqCst)
-    }
-
-    /// How its thread has ended, if it has.
-    pub(crate) fn outcome<W: Wait>(&self, waits: &W) -> Option<Outcome> {
-        *self.outcome.lock(waits)
     }
 }

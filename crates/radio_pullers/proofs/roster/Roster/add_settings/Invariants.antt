@@ -1,0 +1,7 @@
+use Rattle.std.proofs.Common.{◌≡◌, ◌++◌, List, map}
+use Rattle.std.specs.Arc.{arc_value}
+use Rattle.radio_settings.specs.declared.settings.RelaySetting.{RelaySetting}
+use Rattle.radio_pullers.proofs.roster.Roster.add_settings.Given as goal
+
+abbrev pub invariant-relays : goal.invariant-relays
+invariant-relays l = (rest : List RelaySetting) × (map arc_value l.others.items ≡ map arc_value l.initial.others.items ++ rest)

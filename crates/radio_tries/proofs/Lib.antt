@@ -1,0 +1,3 @@
+pub mod Entries
+pub mod Orders
+pub mod Queues

@@ -1,0 +1,7 @@
+use Rattle.std.proofs.Common.{◌≡◌, map, take}
+use Rattle.std.specs.Arc.{arc_value}
+use Rattle.radio_tries.specs.Tries.{queue}
+use Rattle.radio_tries.proofs.tries.Tries.waiting.Given as goal
+
+abbrev pub invariant-relays : goal.invariant-relays
+invariant-relays l = l.waiting.items ≡ queue l.self (map arc_value (take l.number l.wished))

@@ -1,0 +1,16 @@
+use Rattle.std.proofs.Common.{ℕ, List, [], ◌∷◌, ◌++◌, ap, sym, ◌∙◌}
+use Rattle.radio_settings.specs.declared.settings.RelaySetting.{RelaySetting}
+use Rattle.radio_tries.specs.Wishes.{stopped_by, own_of, others_of}
+use Rattle.radio_tries.proofs.Orders.{stopped-append, own-append, others-append}
+use Rattle.radio_tries.proofs.wishes.sorted_by.Goals as goal
+
+pub orders-preserved : goal.orders-preserved
+orders-preserved c =
+    let settings = c.args.settings.now in
+    let past = c.orders.yielded in
+    let this = c.in-Some.order ∷ [] in
+    record {
+      stops = c.in_ok-add.ensures.stops ∙ ap (λ (xs : List (List ℕ)). xs ++ stopped_by this) c.orders.invariant.stops ∙ sym (stopped-append past this);
+      own = c.in_ok-add.ensures.own ∙ ap (λ (xs : List RelaySetting). xs ++ own_of settings this) c.orders.invariant.own ∙ sym (own-append settings past this);
+      listed = c.in_ok-add.ensures.listed ∙ ap (λ (xs : List RelaySetting). xs ++ others_of settings this) c.orders.invariant.listed ∙ sym (others-append settings past this);
+    }

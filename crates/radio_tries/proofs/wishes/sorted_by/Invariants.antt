@@ -1,0 +1,5 @@
+use Rattle.radio_tries.specs.Wishes.{Sorts}
+use Rattle.radio_tries.proofs.wishes.sorted_by.Given as goal
+
+abbrev pub invariant-orders : goal.invariant-orders
+invariant-orders l = Sorts l.settings l.yielded l.sorted

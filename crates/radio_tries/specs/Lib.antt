@@ -1,0 +1,5 @@
+pub mod Laws
+pub mod Pauses
+pub mod Pulls
+pub mod Tries
+pub mod Wishes
