@@ -1,7 +1,11 @@
 //! A bound socket, and the service behind it.
 
-ghost use Rattle.std.specs.Prelude.{◌≡◌, ◌+◌, ◌≤◌, All};
+ghost use Rattle.std.specs.Prelude.{◌≡◌, ◌+◌, ◌≤◌, ◌<◌, ℕ, All, IfErr, IfOk, if◌then◌else◌, length, slice_index_or, vec_len};
 ghost use Rattle.radio_intake.specs.Passes.{all_parts};
+ghost use Rattle.radio_sockets.specs.declared.fault.BindFault.TheVariants.{NoAddress};
+ghost use Rattle.radio_sockets.specs.declared.fault.ServeFault.TheVariants.{OutOfMemory as NoMemory};
+ghost use Rattle.radio_sockets.specs.Peers.{IsNoIp};
+ghost use Rattle.radio_workers.specs.Hands.{HasTakenMore};
 
 use crate::{BindFault, ServeFault};
 use mio::net::TcpStream;
@@ -53,7 +57,9 @@ impl Listening {
         alloc: Global,
         address: &str,
         port: u16,
-    ) -> Result<Listening, BindFault> {
+    ) -> Result<Listening, BindFault>
+        ensures { IfErr result (λ fault. fault ≡ NoAddress → IsNoIp address.now) }
+    {
         let doors = Doors::bind(rt, alloc, address, port)?;
         Ok(Listening { alloc, doors })
     }
@@ -109,6 +115,7 @@ where
     N: Reach + Sync,
     S: SharedServer + Sync,
     S::Pass: Send,
+    ensures { IfErr opened (λ fault. result ≡ fault) }
 {
     match opened {
         Ok((board, mut sockets)) => {
@@ -121,7 +128,7 @@ where
                     service,
                     board: &board,
                 };
-                serve_at(&station, &mut sockets, acceptor)
+                serve_all(&station, &mut sockets, acceptor)
             };
             drop(sockets);
             drop(board);
@@ -138,7 +145,9 @@ fn open_board<N: Reach>(
     acceptor: &Acceptor,
     service: Service,
     log: Arc<LogQueue>,
-) -> Result<(Board, Vec<Sockets>), ServeFault> {
+) -> Result<(Board, Vec<Sockets>), ServeFault>
+    ensures { IfOk result (λ opened. 0 < vec_len opened.1) }
+{
     let (sockets, desks) = open_desks(net, alloc, service.workers)?;
     let limits = Limits {
         most_lingering: service.most_lingering,
@@ -159,21 +168,6 @@ struct Station<'a, R, N: Reach, S> {
     settings: &'a Settings,
     service: Service,
     board: &'a Board,
-}
-
-/// Serves connections by workers with these sockets, whom this acceptor hands them, and writes the rest of the log.
-fn serve_at<R, N, S>(
-    station: &Station<'_, R, N, S>,
-    sockets: &mut Vec<Sockets>,
-    acceptor: &mut Acceptor,
-) -> ServeFault
-where
-    R: Clock + Threads + Wait + Sync,
-    N: Reach + Sync,
-    S: SharedServer + Sync,
-    S::Pass: Send,
-{
-    serve_all(station, sockets, acceptor)
 }
 
 /// Serves connections through an intake, until all stop. `OutOfMemory` where memory was refused for it, or for the
@@ -216,10 +210,18 @@ where
     S::Pass: Send,
     requires own { pass.old.intake ≡ intake.now }
     requires parts { all_parts ≤ pass.old.parts }
+    ensures { pass.new.intake ≡ intake.now }
 {
     let mut hand = intake.split(pass);
     let (fault, are_seated) = work_together(station, intake, &mut hand, pass, sockets, acceptor);
     drop(hand);
+    fault_of(fault, are_seated)
+}
+
+/// Returns why a server ends whose acceptor has ended so: if there was no memory for the workers' seats, that is why.
+fn fault_of(fault: ServeFault, are_seated: bool) -> ServeFault
+    ensures { result ≡ (if are_seated then fault else NoMemory) }
+{
     if are_seated {
         fault
     } else {
@@ -245,14 +247,18 @@ where
     requires hand { hand.old.intake ≡ intake.now }
     requires own { pass.old.intake ≡ intake.now }
     requires parts { all_parts ≤ pass.old.parts + 1 }
+    ensures hand { hand.new.intake ≡ intake.now }
+    ensures own { pass.new.intake ≡ intake.now }
 {
     join_mut(
         station.rt,
         &mut || -> ServeFault
             requires { hand.now.intake ≡ intake.now }
+            ensures { hand.exit.now.intake ≡ intake.entry.now }
         { accept(station, intake, hand, acceptor) },
         &mut || -> bool
             requires { (pass.now.intake ≡ intake.now) × (all_parts ≤ pass.now.parts + 1) }
+            ensures { pass.exit.now.intake ≡ intake.entry.now }
         { work_beside_relays(station, intake, pass, sockets) },
     )
 }
@@ -268,6 +274,7 @@ where
     R: Clock + Wait,
     N: Reach,
     requires { hand.old.intake ≡ intake.now }
+    ensures { hand.new.intake ≡ intake.now }
 {
     acceptor.work(station.rt, station.board, intake, hand)
 }
@@ -287,35 +294,28 @@ where
     S::Pass: Send,
     requires own { pass.old.intake ≡ intake.now }
     requires parts { all_parts ≤ pass.old.parts + 1 }
+    ensures { pass.new.intake ≡ intake.now }
 {
     if !has_relays(station.settings) {
         return work_at(station, intake, pass, sockets);
     }
     let (_, are_seated) = join_mut(
         station.rt,
-        &mut || keep_all(station),
+        &mut || {
+            keep_relays(
+                station.rt,
+                station.net,
+                station.server,
+                station.board,
+                station.settings,
+            )
+        },
         &mut || -> bool
             requires { (pass.now.intake ≡ intake.now) × (all_parts ≤ pass.now.parts + 1) }
+            ensures { pass.exit.now.intake ≡ intake.entry.now }
         { work_at(station, intake, pass, sockets) },
     );
     are_seated
-}
-
-/// Relays are kept running, until all are to stop.
-fn keep_all<R, N, S>(station: &Station<'_, R, N, S>)
-where
-    R: Clock + Threads + Wait + Sync,
-    N: Reach + Sync,
-    S: SharedServer + Sync,
-    S::Pass: Send,
-{
-    keep_relays(
-        station.rt,
-        station.net,
-        station.server,
-        station.board,
-        station.settings,
-    )
 }
 
 /// The workers with these sockets work, until all are to stop. Whether there was memory for their seats.
@@ -332,6 +332,7 @@ where
     S::Pass: Send,
     requires own { pass.old.intake ≡ intake.now }
     requires parts { all_parts ≤ pass.old.parts + 1 }
+    ensures { pass.new.intake ≡ intake.now }
 {
     match seats_of(
         station.rt,
@@ -364,6 +365,8 @@ where
     S: SharedServer + Sync,
     S::Pass: Send,
     requires { All (λ seat. seat.hand.intake ≡ intake.now) seats.old }
+    // each tells behind what it told what was taken at its seat
+    ensures { (i : ℕ) (d : _) → i < length seats.old → HasTakenMore (slice_index_or seats.old i d).hand (slice_index_or seats.new i d).hand }
 {
     let place = Workplace {
         server: station.server,
