@@ -9,7 +9,8 @@ use Rattle.radio_events.specs.Servers.{Steps, Chain}
 use Rattle.radio_connections.specs.Connections.{Connection, is_open}
 use Rattle.radio_connections.specs.declared.conn.Fate.TheVariants.{Open, Closed, Cut}
 use Rattle.radio_connections.specs.Duties.{IsReadOnce, LacksMemory}
-use Rattle.radio_connections.specs.Duties.{HasEnded, HasLeft, AreAtMostHeard, IsUnasked, IsAtMostDraw, room_for, draw_room}
+use Rattle.radio_connections.specs.Duties.{HasEnded, HasLeft, AreAtMostHeard, IsUnasked, IsAtMostDraw, room_for}
+use Rattle.radio_connections.specs.Rooms.{draw_room}
 use Rattle.radio_connections.specs.Serving.{IsServed, IsOneDraw}
 use Rattle.radio_connections.specs.Answering.{IsUnwritten, AreOf, IsHeardOn}
 use Rattle.radio_connections.specs.Leaving.{IsSame, Listens, Leaves, DrawsFor, Draws}

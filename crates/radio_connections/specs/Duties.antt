@@ -9,6 +9,7 @@ use Rattle.radio_session.specs.Hearing.{Heard, IsHeard}
 use Rattle.radio_connections.specs.declared.conn.Fate.{Fate}
 use Rattle.radio_connections.specs.declared.conn.Fate.TheVariants.{Open, Ended, Closed, Cut}
 use Rattle.radio_connections.specs.Connections.{Connection}
+use Rattle.radio_connections.specs.Rooms.{draw_room}
 
 -- what is owed is still written
 abbrev pub IsWritten : Fate → Type 0
@@ -182,10 +183,6 @@ pub record AreHeard (c : Connection) (entries : List Entry) (c' : Connection) : 
 -- nothing, or what was heard
 abbrev pub AreAtMostHeard : Connection → List Entry → Connection → Type 0
 AreAtMostHeard c entries c' = (entries ≡ []) ⊎ AreHeard c entries c'
-
--- for how many bytes a listener has room in a turn
-abbrev pub draw_room : ℕ
-draw_room = 65536
 
 -- the room of a draw for who has a seat, and for who has none
 abbrev pub room_for : Bool → ℕ

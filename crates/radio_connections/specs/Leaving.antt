@@ -10,7 +10,8 @@ use Rattle.radio_connections.specs.declared.line.Received.TheVariants.{Bytes, No
 use Rattle.radio_connections.specs.Lines.{Calls}
 use Rattle.radio_connections.specs.Connections.{Connection, Refused, is_open, one_refusal}
 use Rattle.radio_connections.specs.Duties.{IsWritten, IsUnread, IsReadOnce, IsAskedOnce, IsGiven, IsAtMostLeaving, HasStalled, HasTakenSome, IsFinishedNow}
-use Rattle.radio_connections.specs.Duties.{LacksMemory, HasEnded, WhyClosed, Lingers, HasLeft, AreAtMostHeard, room_for, IsAtMostDraw, IsUnasked, NotesAsking, draw_room}
+use Rattle.radio_connections.specs.Duties.{LacksMemory, HasEnded, WhyClosed, Lingers, HasLeft, AreAtMostHeard, room_for, IsAtMostDraw, IsUnasked, NotesAsking}
+use Rattle.radio_connections.specs.Rooms.{draw_room}
 use Rattle.radio_connections.specs.Answering.{IsSpared, IsUnwritten}
 use Rattle.radio_connections.specs.Serving.{IsServed, IsOneDraw, HasDrawn}
 

@@ -11,7 +11,8 @@ use Rattle.radio_connections.specs.declared.conn.Fate.TheVariants.{Open, Closed,
 use Rattle.radio_connections.specs.Connections.{Connection}
 use Rattle.radio_connections.specs.Course.{Standing, Course}
 use Rattle.radio_connections.specs.Duties.{IsLater, IsAsked, IsAskedOnce, IsGiven, HasWaited, IsCutFor, IsInTime, HasMoved, HasNotMoved, NotesTaking, IsClosedFor}
-use Rattle.radio_connections.specs.Duties.{IsLetGo, IsFinishedFor, HasLeft, IsOneTurn, IsAskedFor, NotesAsking, draw_room}
+use Rattle.radio_connections.specs.Duties.{IsLetGo, IsFinishedFor, HasLeft, IsOneTurn, IsAskedFor, NotesAsking}
+use Rattle.radio_connections.specs.Rooms.{draw_room}
 
 -- What the line took, followed by what is owed to it, is what was told. Once it is closed, it took all; where it was cut off, the front.
 abbrev pub IsHanded : Fate → List ℕ → List ℕ → List ℕ → Type 0

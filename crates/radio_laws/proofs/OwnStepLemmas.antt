@@ -2,6 +2,7 @@
 use Rattle.std.proofs.Common.{◌≡◌, ◌+◌, Bool, true, false, ℕ, ◌==◌, Option, Some, None, List, length, refl, ap, sym, subst, ◌∙◌, arith, length-append}
 use Rattle.std.specs.Prelude.{find, filter, not, ◌&&◌, nat_lt, if◌then◌else◌}
 use Rattle.std.specs.Option.{option_map, option_map_or}
+use Rattle.std.specs.Str.{bytes_eq}
 use Rattle.std.proofs.lemmas.Bool.{eqb-true}
 use Rattle.radio_tables.proofs.FindLaws.{found_has}
 use Rattle.radio_attachments.specs.declared.attachment.Attachment.{Attachment}
@@ -45,7 +46,7 @@ use Rattle.radio_core.specs.Sound.{IsSound}
 use Rattle.radio_core.specs.StandsFor.{StandsFor}
 use Rattle.radio_core.specs.Step.{outcome, reply_to, world_after, Represents}
 use Rattle.radio_laws.specs.Locality.{IsLeftAlone}
-use Rattle.radio_laws.specs.OwnSteps.{PartStands, is_mount_of, IsServersStep, OwnStepsAreTheServers, IsOwn, OwnStepsAreAnswered}
+use Rattle.radio_laws.specs.OwnSteps.{PartStands, IsServersStep, OwnStepsAreTheServers, IsOwn, OwnStepsAreAnswered}
 use Rattle.radio_laws.specs.Parts.{seat_if, seat_at, IsPartOf, IsPartsStep}
 use Rattle.radio_laws.proofs.PartLemmas.{sits_there, those_kept, judged, noted_title, parts_receive, parts_titled}
 use Rattle.radio_laws.proofs.OwnDrawLemmas.{of_whole as its_whole, has_then, draws_as_the_server}
@@ -68,7 +69,7 @@ module _ (core w : World) (for : StandsFor core w) where
 
   module _ (p : MountPart) (stands : PartStands w p) where
     -- nothing has changed
-    alone : IsLeftAlone (is_mount_of p) w w
+    alone : IsLeftAlone (λ mount. bytes_eq mount p.mount) w w
     alone = record { sessions = λ mount beyond. refl; seats = λ id seat beyond. (λ e. e, λ e. e) }
 
     -- what the source of the mount's session sends
@@ -160,7 +161,7 @@ module _ (core w : World) (for : StandsFor core w) where
           here = subst (PartStands (changed w (outcome w (Push session.number block)).change))
               (sym (ap (λ (b : Bool). if b then (if is_spent_with block p then p else lagged) else p) fed ∙ ap (λ (b : Bool). if b then p else lagged) spent))
               (subst (λ (later : World). PartStands later p) (sym same) stands);
-          there = subst (λ (later : World). IsLeftAlone (is_mount_of p) w later) (sym same) alone;
+          there = subst (λ (later : World). IsLeftAlone (λ mount. bytes_eq mount p.mount) w later) (sym same) alone;
         } where
           lagged : MountPart
           lagged = part_lagged (end_in (part_fed queue w.house.time block p).session) queue (part_fed queue w.house.time block p)

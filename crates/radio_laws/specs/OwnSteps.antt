@@ -1,5 +1,5 @@
 -- A mount's part steps by itself as the server does: a draw of one who sits there, a block and a title of its source.
-use Rattle.std.specs.Prelude.{◌≡◌, ℕ, Bool, List, Some, find}
+use Rattle.std.specs.Prelude.{◌≡◌, ℕ, Some, find}
 use Rattle.std.specs.Option.{option_map}
 use Rattle.std.specs.Str.{bytes_eq}
 use Rattle.radio_attachments.specs.Rows.{is_attached, AreInOrder}
@@ -27,9 +27,6 @@ pub record PartStands (w : World) (p : MountPart) : Type 0 where
   pub attached : (id : ℕ) → place_in (find (is_attached id) p.attachments) ≡ option_map (λ (seat : Seat). seat.place) (seat_at p.mount w.seats id)
   pub once : AreInOrder p.attachments
 
-abbrev pub is_mount_of : MountPart → List ℕ → Bool
-is_mount_of p mount = bytes_eq mount p.mount
-
 -- The part's own step is the server's.
 pub record IsServersStep (w : World) (p : MountPart) (event : Event) (reply : Reply) : Type 0 where
   -- the contract of the part's step speaks of this event
@@ -37,7 +34,7 @@ pub record IsServersStep (w : World) (p : MountPart) (event : Event) (reply : Re
   pub replied : reply ≡ reply_to w event
   -- the part has then what the state has after the event, and each other mount is left alone
   pub here : PartStands (world_after w event) (part_after w.house.settings.limits.queue_size w.house.time p event)
-  pub there : IsLeftAlone (is_mount_of p) w (world_after w event)
+  pub there : IsLeftAlone (λ mount. bytes_eq mount p.mount) w (world_after w event)
 
 -- whatever a part that has what the state has at its mount replies to by itself
 abbrev pub OwnStepsAreTheServers : World → Type 0
