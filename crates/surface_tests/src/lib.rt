@@ -3,11 +3,14 @@
 //!
 //! - `access`: lists of users and of addresses.
 //! - `seats`: who sits where. `walks`: where a walk lands, and whom a move carries.
+//! - `sessions`: bytes as events, and replies as bytes.
 #![tactic(auto)]
 
 #[cfg(test)]
 mod access;
 #[cfg(test)]
 mod seats;
+#[cfg(test)]
+mod sessions;
 #[cfg(test)]
 mod walks;
