@@ -7,15 +7,15 @@ use radio_values::MountName;
 use std::alloc::{AllocGlobal, Global};
 
 /// The user `ann` with the password `abc`.
-const ANN: &[u8] = b"ann:900150983cd24fb0d6963f7d28e17f72\n";
+pub const ANN: &[u8] = b"ann:900150983cd24fb0d6963f7d28e17f72\n";
 
 /// What she sends, and what one sends who has another password.
-const HER_VALUE: &[u8] = b"Basic YW5uOmFiYw==";
+pub const HER_VALUE: &[u8] = b"Basic YW5uOmFiYw==";
 
-const OTHER_VALUE: &[u8] = b"Basic YW5uOmFiZA==";
+pub const OTHER_VALUE: &[u8] = b"Basic YW5uOmFiZA==";
 
 /// The pair of a header's value.
-fn pair_of(alloc: Global, value: &[u8]) -> Option<Pair> {
+pub fn pair_of(alloc: Global, value: &[u8]) -> Option<Pair> {
     match basic(alloc, value) {
         Ok(pair) => pair,
         Err(_) => None,
