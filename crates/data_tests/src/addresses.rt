@@ -1,6 +1,6 @@
-//! Peers that are made of numbers, and their texts. What texts are read as is in the end-to-end scripts.
+//! Peers that are made of numbers, their texts, and a list of addresses. More texts and lists are in the end-to-end scripts.
 
-use radio_addr::Peer;
+use radio_addr::{AddressList, ListFault, Peer};
 use std::alloc::Global;
 
 /// Peers, and how they are written. One in `::ffff:0:0/96` is an IPv4 peer.
@@ -25,4 +25,24 @@ fn made_and_written(rt: HostRuntime) {
     for (number, text) in WRITTEN {
         assert!(rt; is_written(rt.alloc(), *number, text));
     }
+}
+
+/// A list of two lines.
+const LIST: &[u8] = b"10.0.0.0/8\r\n2001:db8::/32\n";
+
+/// Which peers are in it: two of IPv4, and one of IPv6.
+fn listed(alloc: Global, list: &[u8]) -> Result<[bool; 3], ListFault> {
+    let list = AddressList::read(alloc, list)?;
+    Ok([
+        list.contains(Peer::of_v4(0x0aff_0001)),
+        list.contains(Peer::of_v4(0x0b00_0001)),
+        list.contains(Peer::of_v6(0x2001_0db8 << 96)),
+    ])
+}
+
+#[test]
+fn a_list_of_addresses(rt: HostRuntime) {
+    assert!(rt; listed(rt.alloc(), LIST) == Ok([true, false, true]));
+    let fault = ListFault::LineFault { line: 2 };
+    assert!(rt; listed(rt.alloc(), b"10.0.0.0/8\nx") == Err(fault));
 }

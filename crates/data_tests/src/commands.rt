@@ -89,7 +89,7 @@ const ROWS: &[(&[u8], &[u8], &str)] = &[
         b"mount=/a&action=set&username=ann&password=x",
         "missing argument of /admin/users at /a",
     ),
-    (b"/status.json", b"", "no command"),
+    (b"/status.json", b"", "status"),
     (b"/admin/", b"mount=/a", "no command"),
 ];
 
@@ -196,6 +196,7 @@ fn shown_fault(alloc: Global, fault: &AdminFault) -> Result<String, OutOfMemory>
 
 fn shown_command(alloc: Global, command: &Command) -> Result<String, OutOfMemory> {
     match command {
+        Command::Status => "status".to_string(alloc),
         Command::Stats => "stats".to_string(alloc),
         Command::ListMounts => "list mounts".to_string(alloc),
         Command::StreamList => "stream list".to_string(alloc),

@@ -1,5 +1,6 @@
 //! Blocks of all sizes in a queue, which packs the small ones, compared with a plain list of where blocks begin and end.
 
+use crate::queue::push_block;
 use bytes::Bytes;
 use radio_blocks::{Block, BlockQueue, DrawFault, OutOfMemory, Pieces, Place};
 use std::alloc::Global;
@@ -123,7 +124,7 @@ fn push_one(
     let Some(block) = block_at(alloc, end, size)? else {
         return Ok(end);
     };
-    queue.push(block)?;
+    push_block(queue, block)?;
     let end = end.saturating_add(size);
     bounds.push(end)?;
     Ok(end)

@@ -45,9 +45,19 @@ fn queue_of(
 fn push(alloc: Global, queue: &mut BlockQueue, bytes: &[u8]) -> Result<(), OutOfMemory> {
     let shared = Bytes::copy_from_slice(alloc, bytes)?;
     match Block::new(shared) {
-        Some(block) => queue.push(block)?,
-        None => return Ok(()),
+        Some(block) => push_block(queue, block),
+        None => Ok(()),
     }
+}
+
+/// Pushes a block where the stream has room for it, as each test's has.
+pub fn push_block(queue: &mut BlockQueue, block: Block) -> Result<(), OutOfMemory> {
+    let end = queue.end().bytes_before();
+    if end.checked_add(block.len() as u64).is_none() {
+        drop(block);
+        return Ok(());
+    }
+    queue.push(block)?;
     Ok(())
 }
 
@@ -59,7 +69,7 @@ fn offset_of(alloc: Global, first: u64, other: u64, blocks: &[&[u8]]) -> Result<
 /// Pushes so many handles on a block.
 fn push_shared(queue: &mut BlockQueue, block: &Block, count: u32) -> Result<(), OutOfMemory> {
     for _ in 0..count {
-        queue.push(block.share()?)?;
+        push_block(queue, block.share()?)?;
     }
     Ok(())
 }

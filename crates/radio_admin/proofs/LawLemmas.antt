@@ -33,6 +33,7 @@ path_of_kind path k e = (bytes_eq-Decides path (path_of k)).0 (found_passes (λ 
 
 kind_at : (k : CommandKind) → kind_of (path_of k) ≡ Some k
 unfolding kind_of
+kind_at kind.Status = refl
 kind_at kind.Stats = refl
 kind_at kind.ListMounts = refl
 kind_at kind.ListClients = refl
@@ -79,6 +80,7 @@ action_made mount query command None e = absurd (cc)
 
 -- a command is of the kind that made it
 kind_made : (k : CommandKind) (mount : Option (List ℕ)) (query : List ℕ) (command : Command) → command_of k mount query ≡ Some command → kind_in command ≡ k
+kind_made kind.Status mount query command e = let same : asks.Status ≡ command = cc in ap kind_in (sym same)
 kind_made kind.Stats mount query command e = let same : asks.Stats ≡ command = cc in ap kind_in (sym same)
 kind_made kind.ListMounts mount query command e = let same : asks.ListMounts ≡ command = cc in ap kind_in (sym same)
 kind_made kind.ListClients mount query command e = map_makes (λ (c : Command). kind_in c ≡ kind.ListClients) (λ m. asks.ListClients m) (λ m. refl) mount command e

@@ -27,6 +27,7 @@ users_command action mount query =
 
 -- the command of a kind, with its arguments, of which `mount` has been read
 abbrev pub command_of : CommandKind → Option (List ℕ) → List ℕ → Option Command
+command_of kind.Status mount query = Some asks.Status
 command_of kind.Stats mount query = Some asks.Stats
 command_of kind.ListMounts mount query = Some asks.ListMounts
 command_of kind.ListClients mount query = option_map (λ m. asks.ListClients m) mount
@@ -55,6 +56,7 @@ command_in path query = command_at (kind_of path) (mount_in (codes "mount") quer
 
 -- which command it is
 abbrev pub kind_in : Command → CommandKind
+kind_in asks.Status = kind.Status
 kind_in asks.Stats = kind.Stats
 kind_in asks.ListMounts = kind.ListMounts
 kind_in (asks.ListClients mount) = kind.ListClients
@@ -69,6 +71,7 @@ kind_in (asks.DeleteUser asked) = kind.Users
 
 -- the mount that a command names
 abbrev pub mount_named : Command → Option (List ℕ)
+mount_named asks.Status = None
 mount_named asks.Stats = None
 mount_named asks.ListMounts = None
 mount_named (asks.ListClients mount) = Some mount

@@ -3,11 +3,12 @@ use Rattle.std.specs.Prelude.{ℕ, List, [], ◌∷◌, Option, codes}
 use Rattle.std.specs.List.{find}
 use Rattle.std.specs.Str.{bytes_eq}
 use Rattle.radio_admin.specs.declared.kind.CommandKind.{CommandKind}
-use Rattle.radio_admin.specs.declared.kind.CommandKind.TheVariants.{Stats, ListMounts, ListClients, MoveClients, KillClient}
+use Rattle.radio_admin.specs.declared.kind.CommandKind.TheVariants.{Status, Stats, ListMounts, ListClients, MoveClients, KillClient}
 use Rattle.radio_admin.specs.declared.kind.CommandKind.TheVariants.{KillSource, Metadata, Fallbacks, StreamList, Users}
 
 -- the path of each command
 abbrev pub path_of : CommandKind → List ℕ
+path_of Status = codes "/status.json"
 path_of Stats = codes "/admin/stats"
 path_of ListMounts = codes "/admin/listmounts"
 path_of ListClients = codes "/admin/listclients"
@@ -22,7 +23,7 @@ path_of Users = codes "/admin/users"
 -- every command
 abbrev pub kinds : List CommandKind
 kinds =
-    Stats ∷ ListMounts ∷ ListClients ∷ MoveClients ∷ KillClient
+    Status ∷ Stats ∷ ListMounts ∷ ListClients ∷ MoveClients ∷ KillClient
     ∷ KillSource ∷ Metadata ∷ Fallbacks ∷ StreamList ∷ Users ∷ []
 
 -- the command that a path names

@@ -9,6 +9,8 @@ use std::marker::Model;
 /// A command, with its arguments.
 #[derive(Drop)]
 pub enum Command {
+    /// Asks for what everybody may see of the station.
+    Status,
     /// Asks what the server does as a whole.
     Stats,
     /// Asks for the live mounts.
@@ -118,6 +120,7 @@ impl Command {
         ensures { result ≡ kind_in self.now }
     {
         match self {
+            Command::Status => CommandKind::Status,
             Command::Stats => CommandKind::Stats,
             Command::ListMounts => CommandKind::ListMounts,
             Command::ListClients(_) => CommandKind::ListClients,
@@ -131,12 +134,12 @@ impl Command {
         }
     }
 
-    /// The mount that it names; `None` for the three that name none.
+    /// The mount that it names; `None` for the four that name none.
     pub fn mount(&self) -> Option<MountName>
         ensures { result ≡ mount_named self.now }
     {
         match self {
-            Command::Stats | Command::ListMounts | Command::StreamList => None,
+            Command::Status | Command::Stats | Command::ListMounts | Command::StreamList => None,
             Command::ListClients(mount) | Command::KillSource(mount) => Some(*mount),
             Command::MoveClients(asked) => Some(asked.mount),
             Command::KillClient(asked) => Some(asked.mount),

@@ -10,6 +10,8 @@ use std::fmt;
 /// Which command it is. `Display` writes its path.
 #[derive(Clone, Copy, Debug, PartialEq, Eq)]
 pub enum CommandKind {
+    /// What everybody may see of the station.
+    Status,
     /// What the server does as a whole.
     Stats,
     /// The live mounts.
@@ -33,7 +35,8 @@ pub enum CommandKind {
 }
 
 /// Every command, in the order of the table in `docs/FORMATS.md`.
-const KINDS: [CommandKind; 10] = [
+const KINDS: [CommandKind; 11] = [
+    CommandKind::Status,
     CommandKind::Stats,
     CommandKind::ListMounts,
     CommandKind::ListClients,
@@ -52,6 +55,7 @@ impl CommandKind {
         ensures { result.now ≡ path_of self }
     {
         match self {
+            CommandKind::Status => "/status.json",
             CommandKind::Stats => "/admin/stats",
             CommandKind::ListMounts => "/admin/listmounts",
             CommandKind::ListClients => "/admin/listclients",

@@ -71,6 +71,7 @@ fn command_of(
     ensures { IfOk result (λ command. command ≡ command_of kind mount query.now) }
 {
     match kind {
+        CommandKind::Status => Ok(Some(Command::Status)),
         CommandKind::Stats => Ok(Some(Command::Stats)),
         CommandKind::ListMounts => Ok(Some(Command::ListMounts)),
         CommandKind::ListClients => Ok(list_clients(mount)),

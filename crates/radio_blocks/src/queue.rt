@@ -1,5 +1,5 @@
 //! A bounded queue of blocks: the tail of a stream that is kept in memory.
-ghost use Rattle.std.specs.Prelude.{◌≡◌, ◌+◌, ◌-◌, ◌<◌, ◌≤◌, ◌++◌, ◌↔◌, ℕ, List, min, length, take, drop, IsTrue, IsFalse, IfOk, IfErr, OnOk, OnErr};
+ghost use Rattle.std.specs.Prelude.{◌≡◌, ◌+◌, ◌-◌, ◌^◌, ◌<◌, ◌≤◌, ◌++◌, ◌↔◌, ℕ, List, min, length, take, drop, IsTrue, IsFalse, IfOk, IfErr, OnOk, OnErr};
 ghost use Rattle.std.specs.List.{concat};
 ghost use Rattle.std.specs.declared.result.Result.TheVariants.{Err};
 ghost use Rattle.radio_blocks.specs.declared.queue.DrawFault.TheVariants.{Trimmed};
@@ -106,18 +106,16 @@ impl BlockQueue {
         Place::new(self.blocks.start_within(self.offset, self.end, burst))
     }
 
-    /// Appends a block, and drops the blocks at the front that are not needed for `limit` bytes.
-    /// `Err` has the block where memory was refused, and where the stream would have 2^64 bytes; the queue is unchanged
-    /// then.
+    /// Appends a block, and drops the blocks at the front that are not needed for `limit` bytes. The stream must not come to
+    /// 2^64 bytes by it. `Err` has the block if memory was refused; the queue is unchanged then.
     pub fn push(&mut self, block: Block) -> Result<(), AllocFailed<Block>>
+        requires grows { kept_end self.old + length block < 2 ^ 64 }
         ensures ok { OnOk result (self.new ≡ with_pushed self.old block) }
         ensures err { OnErr result (self.new ≡ self.old) }
         // and the block is handed back
         ensures handed_back { IfErr result (λ refused. refused.value ≡ block) }
     {
-        let Some(end) = self.end.checked_add(block.len() as u64) else {
-            return Err(AllocFailed { value: block });
-        };
+        let end = self.end + block.len() as u64;
         if let Err(refused) = self.blocks.push(block) {
             return Err(refused);
         }

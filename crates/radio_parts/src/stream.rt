@@ -62,6 +62,10 @@ impl Stream {
         ensures ok { OnOk result (self.new ≡ kept_stream limit (with_block self.old block)) }
         ensures err { OnErr result (self.new ≡ self.old) }
     {
+        if self.end().checked_add(block.len() as u64).is_none() {
+            drop(block);
+            return Err(AllocError);
+        }
         self.queue.set_limit(limit);
         self.queue.push(block)?;
         Ok(())

@@ -13,7 +13,9 @@ use Rattle.radio_heads.specs.Headers.{value_of}
 use Rattle.radio_answers.specs.declared.web_answers.WebAnswers.{WebAnswers}
 use Rattle.radio_session.specs.Browsers.{is_refused_pair}
 use Rattle.radio_session.specs.Framing.{is_word}
-use Rattle.radio_session.specs.Commands.{asked_in, is_status}
+use Rattle.radio_admin.specs.Kinds.{path_of}
+use Rattle.radio_admin.specs.declared.kind.CommandKind.TheVariants.{Status}
+use Rattle.radio_session.specs.Commands.{asked_in}
 use Rattle.radio_events.specs.declared.command.Asked.{Asked}
 use Rattle.radio_events.specs.declared.event.Event.{Event}
 use Rattle.radio_events.specs.declared.event.Event.TheVariants.{Source, Listen, Command}
@@ -47,7 +49,7 @@ query_in request = unwrap_or request.query []
 
 -- a path of commands, or of what everybody may see of the station
 abbrev pub is_for_commands : List ℕ → Bool
-is_for_commands path = starts_with nat_eq path (codes "/admin/") || is_status path
+is_for_commands path = starts_with nat_eq path (codes "/admin/") || bytes_eq path (path_of Status)
 
 -- a client asks to feed the mount of his path
 abbrev pub asks_to_feed : ℕ → RequestParts → Event

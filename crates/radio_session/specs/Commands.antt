@@ -1,6 +1,5 @@
 -- What the path of a command and its arguments ask of the server.
-use Rattle.std.specs.Prelude.{ℕ, Bool, if◌then◌else◌, List, codes, Option, Result, Ok, Err}
-use Rattle.std.specs.Str.{bytes_eq}
+use Rattle.std.specs.Prelude.{ℕ, List, Option, Result, Ok, Err}
 use Rattle.radio_admin.specs.declared.command.Command.{Command as Read}
 use Rattle.radio_admin.specs.declared.command.Command.TheVariants as read
 use Rattle.radio_admin.specs.declared.kind.CommandKind.{CommandKind}
@@ -25,6 +24,7 @@ asked_with (read.Metadata sent) = Command (asks.SetTitle sent.mount (cleaned max
 asked_with (read.Fallbacks sent) = Command (asks.SetFallback sent.mount sent.fallback)
 asked_with (read.AddUser sent) = Command (asks.AddUser sent.mount sent.user sent.password)
 asked_with (read.DeleteUser sent) = Command (asks.DeleteUser sent.mount sent.user)
+asked_with read.Status = Listing shows.Status
 asked_with read.Stats = Listing shows.Stats
 asked_with read.ListMounts = Listing shows.Mounts
 asked_with (read.ListClients mount) = Listing (shows.Clients mount)
@@ -43,10 +43,6 @@ asked_by (Ok command) = asked_with command
 asked_by (Err (fault.MissingArgument kind mount)) = lacking kind mount
 asked_by (Err other) = NoCommand
 
--- the path of what everybody may see of the station
-abbrev pub is_status : List ℕ → Bool
-is_status path = bytes_eq path (codes "/status.json")
-
 -- a path, and the query behind it
 abbrev pub asked_in : List ℕ → List ℕ → Asked
-asked_in path query = if is_status path then Listing shows.Status else asked_by (command_in path query)
+asked_in path query = asked_by (command_in path query)

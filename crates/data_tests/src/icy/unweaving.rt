@@ -133,3 +133,16 @@ fn a_mebibyte(rt: HostRuntime) {
         assert!(rt; is_told_again(rt.alloc(), interval) == Ok(true));
     }
 }
+
+/// A stream with a title, and what is told of it.
+const TITLED: &[u8] = b"abcd\x01StreamTitle='X';efgh\0";
+
+const TOLD: &[u8] = b"abcd<StreamTitle='X';>efgh";
+
+/// As a whole, and a byte at a time.
+#[test]
+fn a_title_in_pieces(rt: HostRuntime) {
+    for piece in [TITLED.len(), 1] {
+        assert!(rt; is_told(rt.alloc(), 4, TITLED, piece, TOLD) == Ok(true));
+    }
+}

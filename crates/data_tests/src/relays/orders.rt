@@ -128,3 +128,66 @@ fn are_planned(alloc: Global) -> Result<bool, OutOfMemory> {
 fn plans(rt: HostRuntime) {
     assert!(rt; are_planned(rt.alloc()) == Ok(true));
 }
+
+/// A station whose only relay is pulled on demand.
+const ON_DEMAND: &str = "source-password = 'a'
+admin-password = 'b'
+[[relay]]
+server = 's'
+mount = '/far'
+local-mount = '/a'
+on-demand = true
+";
+
+/// What relays feed, what somebody waits for, and what is ordered then.
+const DEMANDS: &[(&[u8], &[u8], &[u8])] = &[
+    (b"", b"/a", b"+/a=s:/far "),
+    (b"/a", b"", b"-/a "),
+    (b"", b"", b""),
+    (b"/a", b"/a", b""),
+];
+
+fn is_ordered_on_demand(
+    alloc: Global,
+    station: &Settings,
+    live: &[MountName],
+    wanted: &[MountName],
+    want: &[u8],
+) -> Result<bool, OutOfMemory> {
+    let orders = plan(alloc, station, &BTreeSet::new(alloc), live, wanted)?;
+    are_told(alloc, orders.as_slice(), want)
+}
+
+/// Whether that is ordered for these names of what relays feed, and of what somebody waits for.
+fn is_demanded(
+    alloc: Global,
+    station: &Settings,
+    live: &[u8],
+    wanted: &[u8],
+    want: &[u8],
+) -> Result<bool, OutOfMemory> {
+    let live = names(alloc, live)?;
+    let wanted = names(alloc, wanted)?;
+    is_ordered_on_demand(alloc, station, live.as_slice(), wanted.as_slice(), want)
+}
+
+fn all_demanded(alloc: Global, station: &Settings) -> Result<bool, OutOfMemory> {
+    for (live, wanted, want) in DEMANDS {
+        if !is_demanded(alloc, station, live, wanted, want)? {
+            return Ok(false);
+        }
+    }
+    Ok(true)
+}
+
+fn are_demanded(alloc: Global) -> Result<bool, OutOfMemory> {
+    let station = settings(alloc, ON_DEMAND)?;
+    let demanded = all_demanded(alloc, &station);
+    drop(station);
+    demanded
+}
+
+#[test]
+fn relays_on_demand(rt: HostRuntime) {
+    assert!(rt; are_demanded(rt.alloc()) == Ok(true));
+}

@@ -5,11 +5,11 @@ ghost use Rattle.radio_session.specs.Asking.{pair_of, value_or, shown_by, wants_
 ghost use Rattle.radio_session.specs.Asking.{asks_to_feed, asks_by_get, asks_to_hear, gives_command, host_for, is_for_commands, pair_for};
 
 use crate::session::browsers::is_refused_pair;
-use crate::session::commands::{STATUS, asked_in};
+use crate::session::commands::asked_in;
 use crate::session::framing::is_word;
 use crate::{OutOfMemory, WebAnswers};
 use bytes::Bytes;
-use radio_admin::read_path;
+use radio_admin::{CommandKind, read_path};
 use radio_creds::{Pair, basic};
 use radio_events::{Asked, Boxed, CommandRequest, Event, ListenRequest, SourceRequest};
 use radio_heads::Head;
@@ -64,7 +64,7 @@ pub(crate) fn asks_by_get(
 fn is_for_commands(path: &[u8]) -> bool
     ensures { result ≡ is_for_commands path.now }
 {
-    path.starts_with(COMMANDS) || path == STATUS
+    path.starts_with(COMMANDS) || path == CommandKind::Status.path().as_bytes()
 }
 
 /// The event of a client who asks to hear the mount of this path. `OutOfMemory` where memory was

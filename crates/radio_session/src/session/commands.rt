@@ -11,17 +11,11 @@ use radio_events::{Asked, Command, Listing, OpenedBy};
 use radio_values::{MountName, Title};
 use std::alloc::{AllocError, Global};
 
-/// The path of what everybody may see of the station.
-pub(super) const STATUS: &[u8] = b"/status.json";
-
-/// What a decoded path of commands, or of the status, and the query behind it, ask for. `OutOfMemory` where memory was
+/// What a decoded path, and the query behind it, ask for. `OutOfMemory` where memory was
 /// refused.
 pub(super) fn asked_in(alloc: Global, path: &[u8], query: &[u8]) -> Result<Asked, OutOfMemory>
     ensures { IfOk result (λ asked. asked ≡ asked_in path.now query.now) }
 {
-    if path == STATUS {
-        return Ok(Asked::Listing(Listing::Status));
-    }
     match read_command(alloc, path, query) {
         Ok(command) => asked_with(alloc, &command),
         Err(AdminFault::NoCommand) => Ok(Asked::NoCommand),
@@ -57,6 +51,7 @@ fn asked_with(alloc: Global, command: &Read) -> Result<Asked, OutOfMemory>
             mount: sent.mount,
             user: Bytes::copy_from_slice(alloc, sent.user.as_bytes())?,
         })),
+        Read::Status => Ok(Asked::Listing(Listing::Status)),
         Read::Stats => Ok(Asked::Listing(Listing::Stats)),
         Read::ListMounts => Ok(Asked::Listing(Listing::Mounts)),
         Read::ListClients(mount) => Ok(Asked::Listing(Listing::Clients(*mount))),

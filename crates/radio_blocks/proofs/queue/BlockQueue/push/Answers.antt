@@ -4,5 +4,5 @@ use Rattle.radio_blocks.proofs.queue.BlockQueue.push.Goals as goal
 
 pub invariant_of-self-2 : goal.invariant_of-self-2
 invariant_of-self-2 c =
-    let sizes = one_more c.self.inside.blocks c.push.new.self c.args.block c.in_default-push.ensures.ok in
-    omega (arith, sizes, c.self.invariant, c.in-Some.ensures, c.len.ensures.value)
+    let sizes = one_more c.self.inside.blocks c.push.new.self c.args.block c.in_default.ensures.ok in
+    omega (arith, sizes, c.self.invariant, c.len.ensures.value)

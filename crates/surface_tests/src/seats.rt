@@ -1,0 +1,113 @@
+//! Who sits where.
+
+ghost use Rattle.std.specs.Prelude.{◌≡◌, IfOk};
+
+use radio_addr::Peer;
+use radio_blocks::Place;
+use radio_creds::basic;
+use radio_listeners::{ListenerStanding, Seats};
+use radio_policy::Rule;
+use radio_seats::{KeptName, OutOfMemory, Seat};
+use radio_values::MountName;
+use std::alloc::{AllocGlobal, Global};
+
+/// A seat at the mount, of a listener who asked for it as the user `ann`, at the place 4 of session 1.
+fn seat_at(alloc: Global, mount: &MountName) -> Result<Seat, OutOfMemory>
+    ensures { IfOk result (λ seat. seat.mount ≡ mount.now) }
+{
+    Ok(Seat {
+        place: Place::new(4),
+        mount: *mount,
+        session: 1,
+        home: KeptName::new(alloc, *mount)?,
+        peer: Peer::of_v4(0x0a00_0001),
+        pair: basic(alloc, b"Basic YW5uOmFiYw==")?,
+        interval: None,
+        since: 0,
+    })
+}
+
+/// The client of this number sits at the mount from now on. Nothing changes if memory is refused.
+pub fn come(
+    alloc: Global,
+    seats: &mut Seats,
+    mount: &MountName,
+    id: u64,
+) -> Result<(), OutOfMemory> {
+    let seat = seat_at(alloc, mount)?;
+    match seats.prepare(mount) {
+        Ok(()) => seats.add(id, seat),
+        Err(refused) => {
+            drop(seat);
+            Err(refused)
+        }
+    }
+}
+
+/// Whether the client sits at the mount, in this session, and has heard so far.
+pub fn sits_at(seats: &Seats, id: u64, mount: &MountName, session: u64, place: u64) -> bool {
+    match seats.seat(id) {
+        Some(seat) => {
+            *seat.mount == *mount && seat.session == session && seat.place == Place::new(place)
+        }
+        None => false,
+    }
+}
+
+/// Whether the client has lost its seat by the rule.
+pub fn has_lost(seats: &Seats, id: u64, rule: Rule) -> bool {
+    match seats.standing(id) {
+        Some(ListenerStanding::HasLost(by)) => by == rule,
+        Some(ListenerStanding::HasSeat) | None => false,
+    }
+}
+
+/// Who has come sits there, and is counted.
+fn are_there(seats: &Seats, one: &MountName, other: &MountName) -> bool {
+    let is_counted = seats.count(one) == 2 && seats.count(other) == 1;
+    let has_user = seats.user_at(one, b"ann") && !seats.user_at(one, b"bob");
+    is_counted && has_user && sits_at(seats, 3, one, 1, 4) && sits_at(seats, 4, other, 1, 4)
+}
+
+/// Who loses its seat is not counted, and is forgotten in the end.
+fn loses_seat(seats: &mut Seats, one: &MountName) -> bool {
+    seats.end(3, Rule::Killed);
+    let has_lost = has_lost(seats, 3, Rule::Killed) && seats.count(one) == 0;
+    seats.remove(3);
+    has_lost && seats.standing(3).is_none()
+}
+
+/// Three come, of whom one moves and another loses its seat. Whether all are where they should be.
+fn are_seated(alloc: Global, one: &MountName, other: &MountName) -> Result<bool, OutOfMemory> {
+    let mut seats = Seats::new(alloc);
+    come(alloc, &mut seats, one, 3)?;
+    come(alloc, &mut seats, one, 5)?;
+    come(alloc, &mut seats, other, 4)?;
+    let are_there = are_there(&seats, one, other);
+    seats.prepare(other)?;
+    seats.shift(5, other, 2, Place::new(7));
+    let has_moved = sits_at(&seats, 5, other, 2, 7) && seats.count(other) == 2;
+    Ok(are_there && has_moved && loses_seat(&mut seats, one))
+}
+
+/// Who sits at the mount, by its numbers.
+fn are_listed(alloc: Global, mount: &MountName) -> Result<bool, OutOfMemory> {
+    let mut seats = Seats::new(alloc);
+    come(alloc, &mut seats, mount, 9)?;
+    come(alloc, &mut seats, mount, 7)?;
+    let guests = seats.guests_at(alloc, mount)?;
+    match guests.as_slice() {
+        [first, second] => Ok(first.id == 7 && second.id == 9),
+        _ => Ok(false),
+    }
+}
+
+#[test]
+fn seats_of_mounts(rt: HostRuntime) {
+    let (Some(one), Some(other)) = (MountName::read(b"/a"), MountName::read(b"/b")) else {
+        assert!(rt; false);
+        return;
+    };
+    assert!(rt; are_seated(rt.alloc(), &one, &other) == Ok(true));
+    assert!(rt; are_listed(rt.alloc(), &one) == Ok(true));
+}
