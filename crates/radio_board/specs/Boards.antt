@@ -1,20 +1,23 @@
 -- What a station's board has beside what threads tell it.
 use Rattle.std.specs.Prelude.{ℕ, List}
+use Rattle.std.specs.declared.alloc.Global.{Global}
 use Rattle.radio_board.specs.declared.board.Limits.{Limits}
 use Rattle.radio_board.specs.declared.desk.Desk.{Desk}
 use Rattle.radio_board.specs.Paces.{slow_at, much_at}
 
--- the desks of its workers; how many connections may linger, of all together; and from how many bytes on that listeners are behind
+-- where its memory comes from; the desks of its workers; how many connections may linger, of all together; and from how many bytes on that listeners are behind
 -- sources are read slowly, and listeners are told of news at once
 pub record BoardOf : Type 0 where
+  pub alloc : Global
   pub desks : List Desk
   pub most_lingering : ℕ
   pub slow : ℕ
   pub much : ℕ
 
 -- that of these workers, within these limits
-abbrev pub board_of : List Desk → Limits → BoardOf
-board_of desks limits = record {
+abbrev pub board_of : Global → List Desk → Limits → BoardOf
+board_of alloc desks limits = record {
+  alloc = alloc;
   desks = desks;
   most_lingering = limits.most_lingering;
   slow = slow_at limits.queue_size;

@@ -1,5 +1,6 @@
 pub mod Boards
 pub mod Choices
+pub mod Marking
 pub mod News
 pub mod NewsLaws
 pub mod Paces

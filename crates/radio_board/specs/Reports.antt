@@ -1,12 +1,15 @@
 -- What follows from what the desk of a worker reports.
 use Rattle.std.specs.Prelude.{ℕ, ◌==◌, Bool, Option, None, Some, not, ◌&&◌, ◌||◌, nat_le, nat_lt, if◌then◌else◌}
+use Rattle.radio_board.specs.declared.news.NewsFor.{NewsFor}
 use Rattle.radio_board.specs.declared.report.Report.{Report}
+use Rattle.radio_board.specs.declared.report.TurnDone.{TurnDone}
 use Rattle.radio_board.specs.declared.state.State.{State}
 use Rattle.radio_board.specs.declared.state.Step.{Step}
 use Rattle.radio_board.specs.declared.state.Step.TheVariants.{News, MuchNews, LieDown, Pause}
 use Rattle.radio_board.specs.Serving.{is_served}
-use Rattle.radio_board.specs.States.{has_drawn, waits, after, number_of}
-use Rattle.radio_board.specs.Sums.{least_of, most_of, load_of, left_to_draw}
+use Rattle.radio_board.specs.News.{is_for}
+use Rattle.radio_board.specs.States.{has_drawn, has_news, waits, after, number_of}
+use Rattle.radio_board.specs.Sums.{drawn_after, first_come, least_of, most_of, load_of, left_to_draw}
 
 -- a worker holds up the end of a source as long as its listeners have not drawn all news, and it is served
 abbrev pub holds_up : ℕ → Report → Bool
@@ -54,3 +57,23 @@ number_after step state = if number_of (after step state) == number_of state the
 -- whether so many bytes that came are much for its listeners: they have to draw so many of them still
 abbrev pub is_much : ℕ → ℕ → Report → Bool
 is_much much received report = nat_le much (left_to_draw received report.drawn report.has_listeners)
+
+-- whether the worker of this number is told of news: its listeners may have some, and it has listeners
+abbrev pub is_told : NewsFor → ℕ → Report → Bool
+is_told news number report = is_for news number && report.has_listeners
+
+-- when the news came that waits; this moment, if none does
+abbrev pub news_came : ℕ → Report → ℕ
+news_came now report = if has_news report.state then report.came_us else now
+
+-- what a worker reports once a turn came to this: what its listeners have drawn, and what it serves
+abbrev pub after_turn : TurnDone → Report → Report
+after_turn done report = record report {
+  drawn = drawn_after report.drawn done.received done.has_more;
+  connections = done.connections;
+  has_listeners = done.has_listeners;
+}
+
+-- the step that a worker takes between two reports: its first listeners are told of news
+abbrev pub step_between : Report → Report → Option Step
+step_between before next = if first_come before.has_listeners next.has_listeners then Some News else None

@@ -1,5 +1,6 @@
 -- What is made of what the desks of all workers say.
-use Rattle.std.specs.Prelude.{ℕ, ◌+◌, ◌-◌, ◌^◌, ◌%◌, min, max, nat_lt, Bool, Option, None, Some, not, ◌&&◌, if◌then◌else◌}
+use Rattle.std.specs.Prelude.{ℕ, ◌+◌, ◌-◌, ◌^◌, ◌%◌, min, max, nat_lt, Bool, Option, None, Some, unwrap_or, not, ◌&&◌, if◌then◌else◌}
+use Rattle.radio_connections.specs.Rooms.{draw_room}
 
 -- the smaller of two numbers, of which the second is that of a worker, if that worker counts
 abbrev pub least_of : ℕ → Bool → ℕ → ℕ
@@ -18,10 +19,6 @@ load_of connections comings = min (2 ^ 64 - 1) (connections + comings)
 abbrev pub may_linger : ℕ → ℕ → ℕ → ℕ
 may_linger count all most = count - (all - most)
 
--- so many bytes a draw brings at most
-abbrev pub draw_room : ℕ
-draw_room = 65536
-
 -- up to which of all bytes listeners have drawn who had drawn some before: as many as had come, but no more than a draw brings if
 -- one of them has more to draw; there are at most 64 bits
 abbrev pub drawn_after : ℕ → ℕ → Bool → ℕ
@@ -39,6 +36,10 @@ place_on from step count = if nat_lt (from % count + step) count then from % cou
 abbrev pub first_come : Bool → Bool → Bool
 first_come had has = has && not had
 
--- to which moment one that was told is raised: to this one, if it is later
-abbrev pub raised_from : ℕ → ℕ → Option ℕ
-raised_from told ms = if nat_lt told ms then Some ms else None
+-- how many newcomers are left of so many, of which so many at most are taken; nothing changes if none is
+abbrev pub comings_left : ℕ → ℕ → Option ℕ
+comings_left comings most = if nat_lt 0 (min comings most) then Some (comings - most) else None
+
+-- which worker is told of a newcomer: the one that takes newcomers next, or the one for which it was put
+abbrev pub taker_of : Option ℕ → ℕ → ℕ
+taker_of next own = unwrap_or next own

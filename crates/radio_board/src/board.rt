@@ -1,15 +1,20 @@
 //! What the workers and the acceptor tell each other.
 
-ghost use Rattle.std.specs.Prelude.{◌≡◌, ◌≤◌, ◌<◌, IfSome, OnSome, true, length, slice_get};
+ghost use Rattle.std.specs.Prelude.{◌≡◌, ◌≤◌, ◌<◌, ℕ, IfSome, OnSome, true, length, slice_get};
 ghost use Rattle.std.specs.Option.{option_copied};
 ghost use Rattle.radio_board.specs.Boards.{board_of};
+ghost use Rattle.radio_board.specs.declared.marks.Marks.{Marks as MarksOf};
+ghost use Rattle.radio_board.specs.Marking.{calls_acceptor};
+ghost use Rattle.radio_board.specs.Paces.{pace_at};
+ghost use Rattle.radio_board.specs.Sums.{may_linger};
 
 use crate::choice::{Chosen, least_loaded};
 use crate::desk::Desk;
+use crate::marks::{Mark, Marks};
 use crate::news::NewsFor;
 use crate::pace::{much_from, pace_of, slow_from};
 use crate::state::Step;
-use crate::sums::{is_called, may_linger, place_on, raised_from};
+use crate::sums::{may_linger, place_on, taker_of};
 use mio::Waker;
 use radio_lines::{NewsCount, Pace};
 use radio_outlet::LogQueue;
@@ -25,6 +30,15 @@ pub struct Limits {
     pub most_lingering: usize,
     /// How many bytes of a stream are kept at least.
     pub queue_size: u64,
+}
+
+/// How often something has come, of which all workers know.
+#[derive(Clone, Copy, Debug, PartialEq, Eq)]
+pub struct Counts {
+    /// How many bytes have come from sources.
+    pub received: u64,
+    /// How often workers were told of news.
+    pub told: u64,
 }
 
 /// What the workers and the acceptor tell each other. It is shared by reference.
@@ -67,7 +81,7 @@ impl Model for Board {
 
     ghost Value = { BoardOf };
 
-    ghost view = { λ b. record { desks = b.desks.items; most_lingering = b.most_lingering; slow = b.slow_from; much = b.much_from } };
+    ghost view = { λ b. record { alloc = b.alloc; desks = b.desks.items; most_lingering = b.most_lingering; slow = b.slow_from; much = b.much_from } };
 }
 
 impl Board {
@@ -79,7 +93,7 @@ impl Board {
         limits: Limits,
         log: Arc<LogQueue>,
     ) -> Board
-        ensures { result ≡ board_of desks.items limits }
+        ensures { result ≡ board_of alloc desks.items limits }
     {
         Board {
             alloc,
@@ -101,7 +115,9 @@ impl Board {
     }
 
     /// Returns the allocator from which all memory of the station comes.
-    pub fn alloc(&self) -> Global {
+    pub fn alloc(&self) -> Global
+        ensures { result ≡ self.now.alloc }
+    {
         self.alloc
     }
 
@@ -113,7 +129,7 @@ impl Board {
     }
 
     /// Returns up to which moment each worker that has begun has read its sockets, and no later one than `settled_ms`; or the one
-    /// that was told before, if that is later. It never goes back.
+    /// that was told before, if that is later. It never goes back. With 0 it is the one that was told before.
     pub fn moment(&self, settled_ms: u64) -> u64 {
         let mut least = settled_ms;
         for desk in &self.desks {
@@ -122,22 +138,15 @@ impl Board {
         self.raise(least)
     }
 
-    /// Returns the latest moment that was told, in milliseconds.
-    pub fn told_ms(&self) -> u64 {
-        self.moment_ms.load(Ordering::SeqCst)
-    }
-
     /// Tells this moment, unless a later one was told. Returns the one that is told then.
-    fn raise(&self, ms: u64) -> u64 {
-        let raised = self.moment_ms.fetch_update(
-            Ordering::SeqCst,
-            Ordering::SeqCst,
-            |told| raised_from(told, ms),
-        );
-        match raised {
-            Ok(_) => ms,
-            Err(told) => told,
+    fn raise(&self, ms: u64) -> u64
+        ensures { ms ≤ result }
+    {
+        let told = self.moment_ms.load(Ordering::SeqCst);
+        if ms <= told {
+            return told;
         }
+        self.moment_ms.fetch_max(ms, Ordering::SeqCst).max(ms)
     }
 
     /// Notes at `now_us`, in microseconds, that so many bytes have come from sources, and that these listeners may have news.
@@ -154,7 +163,7 @@ impl Board {
     /// Tells the workers whose listeners may have news.
     fn tell_news(&self, news: NewsFor, now_us: u64) {
         for (number, desk) in self.desks.iter().enumerate() {
-            if news.is_told(number, desk.has_listeners()) {
+            if desk.report().is_told(news, number) {
                 desk.tell_news(self.is_much(desk), now_us);
             }
         }
@@ -162,9 +171,12 @@ impl Board {
         self.told.fetch_add(1, Ordering::SeqCst);
     }
 
-    /// Returns how often workers were told of news.
-    pub fn told(&self) -> u64 {
-        self.told.load(Ordering::SeqCst)
+    /// Returns how many bytes have come from sources, and how often workers were told of news.
+    pub fn counts(&self) -> Counts {
+        Counts {
+            received: self.received.load(Ordering::SeqCst),
+            told: self.told.load(Ordering::SeqCst),
+        }
     }
 
     /// Returns how often workers were told of news, and up to which of these times the listeners of each have drawn. A worker
@@ -172,7 +184,7 @@ impl Board {
     pub fn news_count(&self) -> NewsCount
         ensures { result.drawn ≤ result.told }
     {
-        let told = self.told();
+        let told = self.counts().told;
         let latest_ms = self.latest_ms();
         let mut drawn = told;
         'desks: for desk in &self.desks {
@@ -186,18 +198,17 @@ impl Board {
     pub fn is_much(&self, desk: &Desk) -> bool
         ensures { self.now.much ≡ 0 → result ≡ true }
     {
-        desk.report().is_much(self.much_from, self.received())
-    }
-
-    /// Returns how many bytes have come from sources.
-    pub fn received(&self) -> u64 {
-        self.received.load(Ordering::SeqCst)
+        desk.report()
+            .is_much(self.much_from, self.counts().received)
     }
 
     /// Returns how fast sources are read, by what the listeners of each worker have still to draw. A worker that is not served
     /// holds up nobody.
-    pub fn pace(&self) -> Pace {
-        let received = self.received();
+    pub fn pace(&self) -> Pace
+        // by how many bytes the listeners are behind that are behind the most
+        ensures { (behind : ℕ) × (result ≡ pace_at behind self.now.slow) }
+    {
+        let received = self.counts().received;
         let latest_ms = self.latest_ms();
         let mut most = 0u64;
         for desk in &self.desks {
@@ -215,18 +226,18 @@ impl Board {
         latest_ms
     }
 
-    /// Returns how many of this worker's connections may linger, if `count` wish to.
+    /// Returns how many of this worker's connections may linger, if `count` wish to, and notes them at its desk.
     pub fn most_lingering(&self, desk: &Desk, count: usize) -> usize
-        ensures { result ≤ count }
+        ensures few { result ≤ count }
+        // those of all workers that are too many are its own
+        ensures all { (all : ℕ) × (result ≡ may_linger count all self.now.most_lingering) }
     {
-        desk.set_lingering(count);
+        let _ = desk.linger(count);
         let mut all = 0usize;
         'desks: for each in &self.desks {
             all = all.saturating_add(each.report().lingering);
         }
-        let most = may_linger(count, all, self.most_lingering);
-        desk.set_lingering(most);
-        most
+        desk.linger(may_linger(count, all, self.most_lingering))
     }
 
     /// Returns the worker that takes the next connection: of those that have begun and are served the one with the fewest
@@ -265,10 +276,10 @@ impl Board {
 
     /// Hands the newcomers of this worker, which is not served, to others.
     fn move_from(&self, number: usize, desk: &Desk) {
-        for _ in 0..desk.take_comings() {
-            match self.next_desk(number).and_then(|other| self.desk(other)) {
-                Some(other) => other.send(),
-                None => desk.send(),
+        for _ in 0..desk.take_comings(usize::MAX) {
+            let taker = taker_of(self.next_desk(number), number);
+            if let Some(desk) = self.desk(taker) {
+                desk.send();
             }
         }
     }
@@ -277,14 +288,14 @@ impl Board {
     pub fn comings(&self) -> usize {
         let mut all = 0usize;
         for desk in &self.desks {
-            all = all.saturating_add(desk.comings());
+            all = all.saturating_add(desk.report().comings);
         }
         all
     }
 
     /// Marks all as to stop, and ends their waits.
     pub fn stop(&self) {
-        self.is_over.store(true, Ordering::SeqCst);
+        let _ = self.mark(Mark::Over, true);
         for desk in &self.desks {
             desk.take_and_wake(Step::Wake);
         }
@@ -296,50 +307,47 @@ impl Board {
         self.is_over.load(Ordering::SeqCst)
     }
 
+    /// Returns what is marked.
+    pub fn marks(&self) -> Marks {
+        Marks {
+            is_over: self.is_over(),
+            has_acceptor: self.has_acceptor.load(Ordering::SeqCst),
+            acceptor_sleeps: self.acceptor_sleeps.load(Ordering::SeqCst),
+            has_closed: self.has_closed.load(Ordering::SeqCst),
+            wants_closing: self.wants_closing.load(Ordering::SeqCst),
+        }
+    }
+
+    /// Sets this mark, or takes it away. Returns whether it was set.
+    pub fn mark(&self, mark: Mark, is_set: bool) -> bool {
+        match mark {
+            Mark::Over => self.is_over.swap(is_set, Ordering::SeqCst),
+            Mark::AcceptorBegun => self.has_acceptor.swap(is_set, Ordering::SeqCst),
+            Mark::AcceptorSleeps => self.acceptor_sleeps.swap(is_set, Ordering::SeqCst),
+            Mark::Closed => self.has_closed.swap(is_set, Ordering::SeqCst),
+            Mark::ClosingWanted => self.wants_closing.swap(is_set, Ordering::SeqCst),
+        }
+    }
+
     /// Notes that a connection was closed, and ends the acceptor's wait if it waits for that.
     pub fn note_closed(&self) {
-        self.has_closed.store(true, Ordering::SeqCst);
-        if self.wants_closing.load(Ordering::SeqCst) {
+        let _ = self.mark(Mark::Closed, true);
+        if self.marks().calls_acceptor() {
             self.wake_acceptor();
         }
     }
 
-    /// Returns whether a connection was closed since this was asked the last time.
-    pub fn take_closed(&self) -> bool {
-        self.has_closed.swap(false, Ordering::SeqCst)
-    }
-
-    /// Notes whether the acceptor waits for a connection to be closed.
-    pub fn set_wants_closing(&self, wants: bool) {
-        self.wants_closing.store(wants, Ordering::SeqCst);
-    }
-
-    /// Notes that the acceptor begins.
-    pub fn note_acceptor(&self) {
-        self.has_acceptor.store(true, Ordering::SeqCst);
-    }
-
-    /// Returns whether the acceptor has begun.
-    pub fn has_acceptor(&self) -> bool {
-        self.has_acceptor.load(Ordering::SeqCst)
-    }
-
     /// Marks the acceptor as waiting, then looks once more. Returns whether there is something to do.
-    pub fn acceptor_lies_down(&self) -> bool {
-        self.acceptor_sleeps.store(true, Ordering::SeqCst);
-        let wants_closing = self.wants_closing.load(Ordering::SeqCst);
-        let has_closed = self.has_closed.load(Ordering::SeqCst);
-        is_called(self.is_over(), wants_closing, has_closed)
-    }
-
-    /// Marks the acceptor as awake.
-    pub fn acceptor_gets_up(&self) {
-        self.acceptor_sleeps.store(false, Ordering::SeqCst);
+    pub fn acceptor_lies_down(&self) -> bool
+        ensures { (marks : MarksOf) × (result ≡ calls_acceptor marks) }
+    {
+        let _ = self.mark(Mark::AcceptorSleeps, true);
+        self.marks().calls_acceptor()
     }
 
     /// Ends the acceptor's wait, if it waits.
     pub fn wake_acceptor(&self) {
-        if self.acceptor_sleeps.swap(false, Ordering::SeqCst) {
+        if self.mark(Mark::AcceptorSleeps, false) {
             let _ = self.acceptor.wake();
         }
     }

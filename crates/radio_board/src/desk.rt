@@ -1,10 +1,23 @@
 //! What one worker tells the others, and what they tell it.
 
-use crate::report::Report;
+ghost use Rattle.std.specs.Prelude.{◌≡◌, ◌≤◌, ℕ};
+ghost use Rattle.radio_board.specs.Reports.{has_to_do, step_to_wait};
+ghost use Rattle.radio_board.specs.declared.state.State.{State as StateOf};
+
+use crate::report::{Report, TurnDone};
 use crate::state::{State, Step};
-use crate::sums::{drawn_after, first_come};
+use crate::sums::comings_left;
 use mio::Waker;
 use std::sync::atomic::{AtomicBool, AtomicU64, AtomicUsize, Ordering};
+
+/// A moment that a worker notes.
+#[derive(Clone, Copy, Debug, PartialEq, Eq)]
+pub enum Stamp {
+    /// Up to which it has read all that had come on its sockets.
+    Read,
+    /// When it asked its sockets last, by the system's clock.
+    Turn,
+}
 
 /// What one worker tells the others, and what they tell it. Each is an atomic, so no contract names what it holds: a [`Report`] is
 /// a copy of it, from which contracts say what follows.
@@ -56,44 +69,38 @@ impl Desk {
 
     /// Notes that the worker begins at `clock_ms` of the system's clock, and has read all up to `ms`, in milliseconds.
     pub fn begin(&self, clock_ms: u64, ms: u64) {
-        self.set_turn(clock_ms);
-        self.set_read(ms);
+        self.stamp(Stamp::Turn, clock_ms);
+        self.stamp(Stamp::Read, ms);
         self.works.store(true, Ordering::SeqCst);
     }
 
     /// Returns what the desk reports. The state is read before what was drawn: a round that ends in between has set that first.
-    pub(crate) fn report(&self) -> Report {
+    pub fn report(&self) -> Report {
         Report {
             works: self.works.load(Ordering::SeqCst),
-            state: self.state(),
+            state: State::of(self.state.load(Ordering::SeqCst)),
+            came_us: self.came_us.load(Ordering::SeqCst),
             turn_ms: self.turn_ms.load(Ordering::SeqCst),
             read_ms: self.read_ms.load(Ordering::SeqCst),
             drawn_news: self.drawn_news.load(Ordering::SeqCst),
             drawn: self.drawn.load(Ordering::SeqCst),
-            has_listeners: self.has_listeners(),
+            has_listeners: self.has_listeners.load(Ordering::SeqCst),
             connections: self.connections.load(Ordering::SeqCst),
-            comings: self.comings(),
+            comings: self.comings.load(Ordering::SeqCst),
             lingering: self.lingering.load(Ordering::SeqCst),
         }
     }
 
-    /// Notes that the worker has read all up to this moment, in milliseconds.
-    pub fn set_read(&self, ms: u64) {
-        self.read_ms.store(ms, Ordering::SeqCst);
-    }
-
-    /// Notes that the worker has asked its sockets at `clock_ms` of the system's clock, in milliseconds.
-    pub fn set_turn(&self, clock_ms: u64) {
-        self.turn_ms.store(clock_ms, Ordering::SeqCst);
-    }
-
-    /// Returns the worker's state.
-    pub fn state(&self) -> State {
-        State::of(self.state.load(Ordering::SeqCst))
+    /// Notes that what this names was at `ms`, in milliseconds.
+    pub fn stamp(&self, stamp: Stamp, ms: u64) {
+        match stamp {
+            Stamp::Read => self.read_ms.store(ms, Ordering::SeqCst),
+            Stamp::Turn => self.turn_ms.store(ms, Ordering::SeqCst),
+        }
     }
 
     /// Takes a step. Returns the state before.
-    fn take(&self, step: Step) -> State {
+    pub fn take(&self, step: Step) -> State {
         let taken = self
             .state
             .fetch_update(Ordering::SeqCst, Ordering::SeqCst, |number| {
@@ -114,33 +121,22 @@ impl Desk {
 
     /// Marks the worker as waiting, with news or only without it. Returns whether there is something to do all the same. The
     /// order matters: who puts a connection for it looks at the mark afterwards.
-    pub fn lies_down(&self, is_paused: bool) -> bool {
+    pub fn lies_down(&self, is_paused: bool) -> bool
+        // by the state that it had, and the newcomers that wait then
+        ensures { (state : StateOf) × (comings : ℕ) × (result ≡ has_to_do (step_to_wait is_paused) state comings) }
+    {
         let step = Step::to_wait(is_paused);
-        self.take(step).has_to_do(step, self.comings())
-    }
-
-    /// Marks the worker as awake.
-    pub fn gets_up(&self) {
-        let _ = self.take(Step::Wake);
+        let before = self.take(step);
+        before.has_to_do(step, self.comings.load(Ordering::SeqCst))
     }
 
     /// Notes that the worker's listeners may have news since `now_us`, in microseconds, and whether much has come for them. Ends
     /// its wait if it waits for that.
     pub(crate) fn tell_news(&self, is_much: bool, now_us: u64) {
-        if !self.state().has_news() {
+        if !self.report().state.has_news() {
             self.came_us.store(now_us, Ordering::SeqCst);
         }
         self.take_and_wake(Step::of_news(is_much));
-    }
-
-    /// Returns when the news came that waits for the worker, in microseconds.
-    pub fn came_us(&self) -> u64 {
-        self.came_us.load(Ordering::SeqCst)
-    }
-
-    /// Notes that a round begins, in which the worker's listeners draw all news that it was told of.
-    pub fn begin_round(&self) {
-        let _ = self.take(Step::BeginRound);
     }
 
     /// Notes that the round is over, if there is one. When it began workers had been told of news `told` times.
@@ -155,60 +151,43 @@ impl Desk {
         self.take_and_wake(Step::Wake);
     }
 
-    /// Notes that `count` of the connections that were put for the worker are not to be taken any more: it has taken them, or
-    /// others have.
-    pub fn note_taken(&self, count: usize) {
+    /// Takes from the count of those that were put for the worker, `most` of them at most: it has taken them itself, or others have.
+    /// Returns how many.
+    pub fn take_comings(&self, most: usize) -> usize
+        ensures { result ≤ most }
+    {
         let taken = self
             .comings
             .fetch_update(Ordering::SeqCst, Ordering::SeqCst, |comings| {
-                Some(comings.saturating_sub(count))
+                comings_left(comings, most)
             });
-        // The closure always answers a count.
-        let _ = taken;
-    }
-
-    /// Takes the count of those that were put for the worker, for others.
-    pub(crate) fn take_comings(&self) -> usize {
-        self.comings.swap(0, Ordering::SeqCst)
-    }
-
-    /// Returns how many connections were put for the worker that it has not taken.
-    pub fn comings(&self) -> usize {
-        self.comings.load(Ordering::SeqCst)
-    }
-
-    /// Notes how many connections the worker has, a source counted as several, and whether one of them is a listener's.
-    pub fn set_connections(&self, connections: usize, has_listeners: bool) {
-        self.connections.store(connections, Ordering::SeqCst);
-        let had_listeners = self.has_listeners();
-        if has_listeners != had_listeners {
-            self.has_listeners.store(has_listeners, Ordering::SeqCst);
-        }
-        if first_come(had_listeners, has_listeners) {
-            // What has come since the first of them drew was told to nobody.
-            let _ = self.take(Step::News);
+        match taken {
+            Ok(comings) => comings.min(most),
+            Err(_) => 0,
         }
     }
 
-    /// Returns whether the worker has listeners. One that has none is told of no news.
-    pub fn has_listeners(&self) -> bool {
-        self.has_listeners.load(Ordering::SeqCst)
-    }
-
-    /// Notes how many of the worker's connections linger.
-    pub(crate) fn set_lingering(&self, count: usize) {
+    /// Notes how many of the worker's connections linger. Returns that.
+    pub(crate) fn linger(&self, count: usize) -> usize
+        ensures { result ≡ count }
+    {
         if count != self.lingering.load(Ordering::SeqCst) {
             self.lingering.store(count, Ordering::SeqCst);
         }
+        count
     }
 
-    /// Notes that a turn is over at whose beginning `received` bytes had come. The worker's listeners have drawn all of them; or
-    /// one of them has more to draw, and each has drawn as much as a draw brings.
-    pub fn note_drawn(&self, received: u64, has_more: bool) {
-        let before = self.drawn.load(Ordering::SeqCst);
-        let drawn = drawn_after(before, received, has_more);
-        if drawn != before {
-            self.drawn.store(drawn, Ordering::SeqCst);
+    /// Notes what a turn of the worker came to. Its first listeners are told of news: what has come since the first of them drew was
+    /// told to nobody.
+    pub fn note_turn(&self, done: TurnDone) {
+        let before = self.report();
+        let after = before.after_turn(done);
+        self.drawn.store(after.drawn, Ordering::SeqCst);
+        self.connections.store(after.connections, Ordering::SeqCst);
+        self.has_listeners
+            .store(after.has_listeners, Ordering::SeqCst);
+        if let Some(step) = before.step_to(after) {
+            let _ = self.take(step);
         }
     }
 }

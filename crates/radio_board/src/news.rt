@@ -1,6 +1,6 @@
 //! Whose listeners have news, and when a worker draws for them.
 
-ghost use Rattle.std.specs.Prelude.{◌≡◌, ◌&&◌, if◌then◌else◌};
+ghost use Rattle.std.specs.Prelude.{◌≡◌, if◌then◌else◌};
 ghost use Rattle.radio_board.specs.declared.news.NewsFor.TheVariants.{Nobody, All};
 ghost use Rattle.radio_board.specs.News.{is_for_some, no_rounds, shortest, pause_end, wait_left, begun, ended, is_for};
 
@@ -37,15 +37,8 @@ impl NewsFor {
         }
     }
 
-    /// Returns whether the worker of this number is told of the news: its listeners may have news, and it has some.
-    pub(crate) fn is_told(self, number: usize, has_listeners: bool) -> bool
-        ensures { result ≡ (is_for self number && has_listeners) }
-    {
-        self.is_for(number) && has_listeners
-    }
-
     /// Returns whether the listeners of the worker of this number may have news.
-    fn is_for(self, number: usize) -> bool
+    pub(crate) fn is_for(self, number: usize) -> bool
         ensures { result ≡ is_for self number }
     {
         match self {

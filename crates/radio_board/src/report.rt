@@ -1,35 +1,51 @@
 //! What the desk of a worker reports, and what follows from it.
 
 ghost use Rattle.std.specs.Prelude.{◌≡◌};
-ghost use Rattle.radio_board.specs.Reports.{drawn_with, holds_up, is_much, least_read, load_taken, loses_newcomers, most_behind};
+ghost use Rattle.radio_board.specs.Reports.{after_turn, drawn_with, holds_up, is_much, is_told, least_read, load_taken, loses_newcomers, most_behind, news_came, step_between};
 
+use crate::news::NewsFor;
 use crate::served::is_served;
-use crate::state::State;
-use crate::sums::{least_of, left_to_draw, load_of, most_of};
+use crate::state::{State, Step};
+use crate::sums::{drawn_after, first_come, least_of, left_to_draw, load_of, most_of};
 
 /// What the desk of a worker reports. Each number is read for itself, so others may have changed in between.
 #[derive(Clone, Copy)]
-pub(crate) struct Report {
+pub struct Report {
     /// Whether it has begun.
-    pub(crate) works: bool,
+    pub works: bool,
     /// Its state.
-    pub(crate) state: State,
+    pub state: State,
+    /// When the news came that waits for it, or waited last, in microseconds.
+    pub came_us: u64,
     /// When it asked its sockets last, by the system's clock in milliseconds.
-    pub(crate) turn_ms: u64,
+    pub turn_ms: u64,
     /// Up to which moment it has read all that had come on its sockets, in milliseconds.
-    pub(crate) read_ms: u64,
+    pub read_ms: u64,
     /// Of all times that workers were told of news, up to which its listeners have drawn.
-    pub(crate) drawn_news: u64,
+    pub drawn_news: u64,
     /// Of all bytes that have come from sources, up to which its listeners have drawn.
-    pub(crate) drawn: u64,
+    pub drawn: u64,
     /// Whether it has listeners.
-    pub(crate) has_listeners: bool,
+    pub has_listeners: bool,
     /// How many connections it has, a source counted as several.
-    pub(crate) connections: usize,
+    pub connections: usize,
     /// How many connections were put for it that it has not taken.
-    pub(crate) comings: usize,
+    pub comings: usize,
     /// How many of its connections linger.
-    pub(crate) lingering: usize,
+    pub lingering: usize,
+}
+
+/// What a turn of a worker came to.
+#[derive(Clone, Copy)]
+pub struct TurnDone {
+    /// How many bytes had come from sources when its last round of draws began.
+    pub received: u64,
+    /// Whether one of its listeners has more to draw of these, and each has drawn as much as a draw brings.
+    pub has_more: bool,
+    /// How many connections it has, a source counted as several.
+    pub connections: usize,
+    /// Whether one of them is a listener's.
+    pub has_listeners: bool,
 }
 
 impl Report {
@@ -87,5 +103,46 @@ impl Report {
         ensures { result ≡ is_much much received self.now }
     {
         left_to_draw(received, self.drawn, self.has_listeners) >= much
+    }
+
+    /// Returns whether the worker of this number is told of news: its listeners may have some, and it has listeners.
+    pub(crate) fn is_told(&self, news: NewsFor, number: usize) -> bool
+        ensures { result ≡ is_told news number self.now }
+    {
+        news.is_for(number) && self.has_listeners
+    }
+
+    /// Returns when the news came that waits for the worker, in microseconds; `now_us` if none waits.
+    pub fn news_came_us(&self, now_us: u64) -> u64
+        ensures { result ≡ news_came now_us self.now }
+    {
+        if self.state.has_news() {
+            self.came_us
+        } else {
+            now_us
+        }
+    }
+
+    /// Returns what is reported once a turn came to this.
+    pub(crate) fn after_turn(self, done: TurnDone) -> Report
+        ensures { result ≡ after_turn done self }
+    {
+        Report {
+            drawn: drawn_after(self.drawn, done.received, done.has_more),
+            connections: done.connections,
+            has_listeners: done.has_listeners,
+            ..self
+        }
+    }
+
+    /// Returns the step that the worker takes if this is reported next: its first listeners are told of news.
+    pub(crate) fn step_to(self, next: Report) -> Option<Step>
+        ensures { result ≡ step_between self next }
+    {
+        if first_come(self.has_listeners, next.has_listeners) {
+            Some(Step::News)
+        } else {
+            None
+        }
     }
 }

@@ -1,10 +1,9 @@
 //! What is made of what the desks of all workers say, as plain values.
 
 ghost use Rattle.std.specs.Prelude.{◌≡◌, ◌<◌, ◌+◌, ◌-◌, ◌^◌, ◌&&◌, ◌||◌};
-ghost use Rattle.radio_board.specs.Sums.{drawn_after, first_come, least_of, left_to_draw, load_of, may_linger, most_of, place_on, raised_from};
+ghost use Rattle.radio_board.specs.Sums.{comings_left, drawn_after, first_come, least_of, left_to_draw, load_of, may_linger, most_of, place_on, taker_of};
 
-/// How many bytes a draw brings at most.
-const DRAW_ROOM: u64 = 65_536;
+use radio_connections::DRAW_ROOM;
 
 /// Returns the smaller of `least` and a worker's number, if that worker counts.
 pub(crate) fn least_of(least: u64, counts: bool, number: u64) -> u64
@@ -42,7 +41,7 @@ pub(crate) fn drawn_after(before: u64, received: u64, has_more: bool) -> u64
     ensures { result ≡ drawn_after before received has_more }
 {
     if has_more {
-        received.min(before.saturating_add(DRAW_ROOM))
+        received.min(before.saturating_add(DRAW_ROOM as u64))
     } else {
         received
     }
@@ -74,14 +73,6 @@ pub(crate) fn place_on(from: usize, step: usize, count: usize) -> usize
     }
 }
 
-/// Returns whether an acceptor that is about to wait has something to do: all are to stop, or it wanted a connection to be
-/// closed, and one was.
-pub(crate) fn is_called(is_over: bool, wants_closing: bool, has_closed: bool) -> bool
-    ensures { result ≡ (is_over || (wants_closing && has_closed)) }
-{
-    is_over || (wants_closing && has_closed)
-}
-
 /// Returns whether a worker's first listeners have come, if it `had` listeners and `has` them now.
 pub(crate) fn first_come(had: bool, has: bool) -> bool
     ensures { result ≡ first_come had has }
@@ -89,9 +80,21 @@ pub(crate) fn first_come(had: bool, has: bool) -> bool
     has && !had
 }
 
-/// Returns to which moment the one that was told is raised, if it is: to a later one.
-pub(crate) fn raised_from(told_ms: u64, ms: u64) -> Option<u64>
-    ensures { result ≡ raised_from told_ms ms }
+/// Returns how many newcomers are left of so many, if `most` of them at most are taken. `None` if none is taken.
+pub(crate) fn comings_left(comings: usize, most: usize) -> Option<usize>
+    ensures { result ≡ comings_left comings most }
 {
-    if told_ms < ms { Some(ms) } else { None }
+    if comings.min(most) == 0 {
+        None
+    } else {
+        Some(comings.saturating_sub(most))
+    }
+}
+
+/// Returns which worker is told of a newcomer that was put for the worker of the number `own`: the one that takes newcomers next, or
+/// that worker again if none does.
+pub(crate) fn taker_of(next: Option<usize>, own: usize) -> usize
+    ensures { result ≡ taker_of next own }
+{
+    next.unwrap_or(own)
 }

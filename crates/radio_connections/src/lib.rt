@@ -4,7 +4,8 @@
 //! - [`CallCount`], [`History`]: what a line notes for proofs alone.
 //! - [`Conn`]: a connection. [`Conn::admitted`] makes it of an arrival, and [`serve`] serves it, at a moment ([`Now`]),
 //!   with what its worker lends it ([`Workspace`]).
-//! - [`Server`]: whom a connection asks. [`WebAnswers`]: what the settings say of its answers. [`fills_room`]: whether there may be more than it drew.
+//! - [`Server`]: whom a connection asks. [`WebAnswers`]: what the settings say of its answers. [`DRAW_ROOM`]: how much a
+//!   listener draws in a turn; [`fills_room`]: whether there may be more than it drew.
 //! - [`count_lingering`], [`close_first_lingering`]: those on which nothing more is written.
 #![tactic(auto)]
 
@@ -25,7 +26,7 @@ pub use line::{Gate, Line, OpenGate, Received, Sent};
 pub use lingering::{close_first_lingering, count_lingering};
 pub use radio_session::{Server, WebAnswers};
 pub use serving::Now;
-pub use serving::drawing::fills_room;
+pub use serving::drawing::{DRAW_ROOM, fills_room};
 pub use serving::moment::serve;
 pub use workspace::Workspace;
 

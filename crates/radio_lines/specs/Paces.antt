@@ -26,6 +26,14 @@ abbrev pub more_if : Bool → Need
 more_if true = More
 more_if false = Nothing
 
+-- the more urgent of two needs
+abbrev pub more_urgent : Need → Need → Need
+more_urgent Nothing other = other
+more_urgent Held Nothing = Held
+more_urgent Held Held = Held
+more_urgent Held More = More
+more_urgent More other = More
+
 -- the number by which a need is shared
 abbrev pub need_number : Need → ℕ
 need_number Nothing = 0

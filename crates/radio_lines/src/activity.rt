@@ -1,8 +1,9 @@
 //! What all lines of a thread share with its loop.
 
 ghost use Rattle.std.specs.Prelude.{◌≡◌};
-ghost use Rattle.radio_lines.specs.Paces.{more_if, need_number, turn_wait};
+ghost use Rattle.radio_lines.specs.Paces.{more_if, more_urgent, need_number, turn_wait};
 ghost use Rattle.radio_lines.specs.declared.activity.Need.{Need};
+ghost use Rattle.radio_lines.specs.declared.activity.Need.TheVariants.{Held};
 
 use crate::closing::NewsCount;
 use crate::pace::Pace;
@@ -25,6 +26,27 @@ impl Need {
         ensures { result ≡ more_if has_more }
     {
         if has_more { Need::More } else { Need::Nothing }
+    }
+
+    /// Returns the more urgent of two needs.
+    fn or(self, other: Need) -> Need
+        ensures { result ≡ more_urgent self other }
+    {
+        match self {
+            Need::Nothing => other,
+            Need::Held => Need::more_or_held(other),
+            Need::More => Need::More,
+        }
+    }
+
+    /// Returns the more urgent of this need and that of a line that was held back.
+    fn more_or_held(self) -> Need
+        ensures { result ≡ more_urgent Held self }
+    {
+        match self {
+            Need::Nothing | Need::Held => Need::Held,
+            Need::More => Need::More,
+        }
     }
 
     /// Returns the number of the need, by which it is shared: what is more urgent has a higher one.
@@ -128,9 +150,10 @@ impl Activity {
 
     /// Notes what a line needs in the next turn, and that it gave so many bytes that count as those of a source.
     pub(crate) fn note(&self, need: Need, sourced: usize) {
-        let number = need.number();
-        if self.need.load(Ordering::SeqCst) < number {
-            self.need.store(number, Ordering::SeqCst);
+        let before = Need::of(self.need.load(Ordering::SeqCst));
+        let after = before.or(need);
+        if after != before {
+            self.need.store(after.number(), Ordering::SeqCst);
         }
         if sourced > 0 {
             self.received.fetch_add(sourced as u64, Ordering::SeqCst);

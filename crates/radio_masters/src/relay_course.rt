@@ -46,11 +46,15 @@ impl Saying {
     pub(crate) fn due(self, reply: &Reply) -> Saying
         ensures { result ≡ due reply.now self }
     {
-        match (reply, self) {
-            (Reply::Arrived(_), Saying::Up(content_type)) => Saying::Up(content_type),
-            (Reply::Noted, Saying::Sound(count)) => Saying::Sound(count),
-            (Reply::Noted, Saying::Title(title)) => Saying::Title(title),
-            _ => Saying::Nothing,
+        match self {
+            Saying::Up(content_type) if matches!(reply, Reply::Arrived(_)) => {
+                Saying::Up(content_type)
+            }
+            Saying::Sound(count) if matches!(reply, Reply::Noted) => Saying::Sound(count),
+            Saying::Title(title) if matches!(reply, Reply::Noted) => Saying::Title(title),
+            Saying::Up(_) | Saying::Sound(_) | Saying::Title(_) | Saying::Nothing => {
+                Saying::Nothing
+            }
         }
     }
 }

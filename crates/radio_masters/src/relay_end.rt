@@ -1,7 +1,8 @@
 //! Why a relay has ended, or did not come up.
 
 ghost use Rattle.std.specs.Prelude.{◌≡◌};
-ghost use Rattle.radio_events.specs.declared.state.Ending.TheVariants.{BadPull};
+ghost use Rattle.radio_events.specs.declared.state.Ending.TheVariants.{BadPull, By as ByRule};
+ghost use Rattle.radio_masters.specs.declared.relay_end.RelayEnd.TheVariants.{By};
 ghost use Rattle.radio_masters.specs.Ends.{end_by, keeps_place};
 ghost use Rattle.radio_masters.specs.RelayFacts.{mount_word};
 
@@ -53,9 +54,16 @@ impl RelayEnd {
         ensures { result.now ≡ mount_word self }
     {
         match self {
-            RelayEnd::By(Ending::By(Rule::SourceSilent)) => "source-silent",
-            RelayEnd::By(Ending::By(Rule::SourceKilled)) => "source-killed",
-            _ => "source-left",
+            RelayEnd::By(Ending::By(rule)) => word_of_rule(rule),
+            RelayEnd::By(Ending::Done)
+            | RelayEnd::By(Ending::BadBody)
+            | RelayEnd::By(Ending::BadPull)
+            | RelayEnd::NoAddress
+            | RelayEnd::NoAnswer
+            | RelayEnd::Status(_)
+            | RelayEnd::Left
+            | RelayEnd::NotWished
+            | RelayEnd::OutOfMemory => "source-left",
         }
     }
 }
@@ -67,6 +75,46 @@ fn of_answer(status: Option<u16>) -> RelayEnd
     match status {
         Some(status) if status != 200 => RelayEnd::Status(status),
         Some(_) | None => RelayEnd::By(Ending::BadPull),
+    }
+}
+
+/// The word for the end of a mount whose relay was finished by this rule.
+fn word_of_rule(rule: Rule) -> &'static str
+    ensures { result.now ≡ mount_word (By (ByRule rule)) }
+{
+    match rule {
+        Rule::SourceSilent => "source-silent",
+        Rule::SourceKilled => "source-killed",
+        Rule::AddressDenied
+        | Rule::AddressNotAllowed
+        | Rule::TooManyClients
+        | Rule::BadMount
+        | Rule::SourcePassword
+        | Rule::TooManySources
+        | Rule::MountInUse
+        | Rule::ContentType
+        | Rule::ListenerPassword
+        | Rule::NoMount
+        | Rule::UserTwice
+        | Rule::NotLive
+        | Rule::MountFull
+        | Rule::FallbackDepth
+        | Rule::NoCommand
+        | Rule::AdminPassword
+        | Rule::RelayPassword
+        | Rule::MissingArgument
+        | Rule::NoDestination
+        | Rule::SameMount
+        | Rule::NoClient
+        | Rule::NoUsers
+        | Rule::NoUser
+        | Rule::NumbersSpent
+        | Rule::BadHead
+        | Rule::BadMethod
+        | Rule::Lagged
+        | Rule::TimeOver
+        | Rule::HeaderTimeout
+        | Rule::Killed => "source-left",
     }
 }
 

@@ -11,7 +11,8 @@ use Rattle.radio_notes.specs.declared.notice.Notice.TheVariants.{Nothing, Block,
 use Rattle.radio_notes.specs.declared.told.Told.{Told}
 use Rattle.radio_notes.specs.declared.told.Told.TheVariants.{Noted, Feeding, Text, Shown}
 use Rattle.radio_notes.specs.Facts.{facts_of}
-use Rattle.radio_notes.specs.Lines.{lines_at}
+use Rattle.radio_notes.specs.Lines.{IsAdded, lines_at, losing}
+use Rattle.radio_notes.specs.Waiting.{Waiting}
 
 -- the lines of these facts, or, if memory was refused for them, how many they are
 abbrev pub IsMadeOf : Moment → List Fact → Notice → Type 0
@@ -55,3 +56,15 @@ due Feeding notice = if_answered notice
 due Text notice = if_answered notice
 due Shown notice = if_answered notice
 due told notice = Nothing
+
+-- how many bytes of a stream have come by what is told
+abbrev pub fed : Notice → ℕ
+fed (Block count) = count
+fed notice = 0
+
+-- lines that are told wait behind the others, or are lost; those for which memory was refused are lost; all else leaves the log alone
+abbrev pub IsToldOf : Moment → Notice → Waiting → Waiting → Type 0
+IsToldOf moment (Lines lines count) old new = IsAdded moment lines.items count old new
+IsToldOf moment (Lost count) old new = new ≡ losing count old
+IsToldOf moment Nothing old new = new ≡ old
+IsToldOf moment (Block count) old new = new ≡ old

@@ -117,12 +117,9 @@ impl Account {
     /// The same, where something of the reply is noted. It is no part of what is done for each draw.
     #[cold]
     fn hear_told(&self, log: &Log, notice: Notice, told: Told) {
-        match notice.due(told) {
-            Notice::Block(count) => self.note(Happening::Fed(count)),
-            Notice::Lines { lines, count } => log.push(lines.as_slice(), count),
-            Notice::Lost(count) => log.lose(count),
-            Notice::Nothing => (),
-        }
+        let due = notice.due(told);
+        self.note(Happening::Fed(due.fed()));
+        log.tell(due);
         self.note_reply(told);
     }
 

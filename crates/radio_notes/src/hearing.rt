@@ -56,7 +56,18 @@ fn read(alloc: Global, head: &[u8], events: &[Event]) -> Option<Request>
 {
     match events.first() {
         Some(Event::Listen(asked)) => Request::of_listener(alloc, asked, agent_in(head)),
-        _ => read_again(alloc, head),
+        Some(Event::Arrive { .. })
+        | Some(Event::Source(_))
+        | Some(Event::Push { .. })
+        | Some(Event::SourceEnd { .. })
+        | Some(Event::Title { .. })
+        | Some(Event::Draw { .. })
+        | Some(Event::Command(_))
+        | Some(Event::Leave { .. })
+        | Some(Event::RelayUp { .. })
+        | Some(Event::RelayDown { .. })
+        | Some(Event::Clock { .. })
+        | None => read_again(alloc, head),
     }
 }
 

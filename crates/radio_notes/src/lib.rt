@@ -27,7 +27,6 @@ mod visit;
 
 pub use account::Account;
 pub use ends::End;
-pub use lines::MOST_WAITING;
 pub use log::Log;
 pub use notice::Notice;
 pub use told::Told;

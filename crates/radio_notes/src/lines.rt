@@ -2,16 +2,17 @@
 
 ghost use Rattle.std.specs.Prelude.{◌≡◌, ◌+◌, ◌++◌, [], true, false, IfOk, if◌then◌else◌};
 ghost use Rattle.radio_notes.specs.Lines.{IsAdded, IsNoted, IsPushed, line_at, report_of};
+ghost use Rattle.radio_notes.specs.Notices.{IsToldOf};
 ghost use Rattle.radio_notes.specs.Counts.{capped};
 
-use crate::OutOfMemory;
+use crate::{Notice, OutOfMemory};
 use radio_log::{Fact, Moment, Note, line};
 use std::alloc::Global;
 use std::marker::Model;
 use std::mem;
 
 /// How many bytes of lines wait at most.
-pub const MOST_WAITING: usize = 65536;
+const MOST_WAITING: usize = 65536;
 
 /// The lines that wait, one behind the other, and how many were lost since a loss was told last.
 ///
@@ -62,9 +63,20 @@ impl Lines {
         }
     }
 
+    /// Adds the lines of a notice at this moment, or counts as lost those for which memory was refused.
+    pub(crate) fn tell(&mut self, alloc: Global, moment: Moment, notice: Notice)
+        ensures { IsToldOf moment notice self.old self.new }
+    {
+        match notice {
+            Notice::Lines { lines, count } => self.push(alloc, moment, lines.as_slice(), count),
+            Notice::Lost(count) => self.lose(count),
+            Notice::Nothing | Notice::Block(_) => (),
+        }
+    }
+
     /// Adds these lines, so many of them, at this moment: behind those that wait, and behind one that tells how many were lost,
     /// if some were. They are lost if there is no room or no memory for them.
-    pub(crate) fn push(&mut self, alloc: Global, moment: Moment, lines: &[u8], count: u64)
+    fn push(&mut self, alloc: Global, moment: Moment, lines: &[u8], count: u64)
         ensures { IsAdded moment lines.now count self.old self.new }
     {
         match report(alloc, moment, self.lost) {
@@ -96,7 +108,7 @@ impl Lines {
     }
 
     /// Counts so many lines more as lost.
-    pub(crate) fn lose(&mut self, count: u64)
+    fn lose(&mut self, count: u64)
         ensures { self.new ≡ record self.old { lost = capped (self.old.lost + count) } }
     {
         self.lost = self.lost.saturating_add(count);

@@ -3,6 +3,7 @@
 ghost use Rattle.std.specs.Prelude.{◌≤◌, length};
 ghost use Rattle.radio_notes.specs.Waiting.{most_waiting};
 
+use crate::Notice;
 use crate::lines::Lines;
 use radio_log::{Fact, Moment};
 use std::alloc::Global;
@@ -68,17 +69,10 @@ impl Log {
         self.lines.set(lines);
     }
 
-    /// These lines wait, so many of them.
-    pub(crate) fn push(&self, pushed: &[u8], count: u64) {
+    /// The lines of a notice wait, or are lost.
+    pub(crate) fn tell(&self, notice: Notice) {
         let mut lines = self.lines.replace(Lines::new(self.alloc));
-        lines.push(self.alloc, Moment::at(self.seconds.get()), pushed, count);
-        self.lines.set(lines);
-    }
-
-    /// So many lines are lost.
-    pub(crate) fn lose(&self, count: u64) {
-        let mut lines = self.lines.replace(Lines::new(self.alloc));
-        lines.lose(count);
+        lines.tell(self.alloc, Moment::at(self.seconds.get()), notice);
         self.lines.set(lines);
     }
 }

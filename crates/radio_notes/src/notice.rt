@@ -3,7 +3,7 @@
 ghost use Rattle.std.specs.Prelude.{◌≡◌, MatchResult};
 ghost use Rattle.radio_notes.specs.Facts.{facts_of_asked, facts_of_command, facts_of_source};
 ghost use Rattle.radio_notes.specs.Requests.{user_in};
-ghost use Rattle.radio_notes.specs.Notices.{IsMadeAt, IsNoticeAt, IsToldAt, due, if_answered, if_taken};
+ghost use Rattle.radio_notes.specs.Notices.{IsMadeAt, IsNoticeAt, IsToldAt, due, fed, if_answered, if_taken};
 ghost use Rattle.radio_notes.specs.declared.notice.Notice.TheVariants.{Lines as LinesOf, Lost as LostOf};
 
 use crate::facts::{command_lines, count_of_command, source_lines};
@@ -57,6 +57,16 @@ impl Notice {
             Told::Feeding | Told::Text | Told::Shown => self.lines(),
             Told::Noted => self.block(),
             Told::Nothing | Told::Seated | Told::Denied(_) => Notice::Nothing,
+        }
+    }
+
+    /// Returns how many bytes of a stream have come by what is told.
+    pub(crate) fn fed(&self) -> u64
+        ensures { result ≡ fed self.now }
+    {
+        match self {
+            Notice::Block(count) => *count,
+            Notice::Nothing | Notice::Lines { .. } | Notice::Lost(_) => 0,
         }
     }
 

@@ -1,3 +1,4 @@
+pub mod Laws
 pub mod Lists
 pub mod Running
 pub mod Turns

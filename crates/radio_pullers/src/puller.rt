@@ -18,8 +18,8 @@ use radio_board::{Board, NewsFor};
 use radio_events::{Caller, SharedServer};
 use radio_lines::{Reach, SocketLine, Sockets, moment, moment_us};
 use radio_masters::{Asked, MountPull, RelayEnd};
-use radio_serving::{Server, Watched};
-use radio_tries::{Outcome, REST_MS, after, end_of, has_had_no_answer, pull_end};
+use radio_serving::{Server, Take, Watched};
+use radio_tries::{Outcome, REST_MS, after, end_of, is_last_pull, pull_end};
 use std::alloc::Global;
 use std::io;
 use std::net::SocketAddr;
@@ -167,7 +167,7 @@ impl<'a, R: Clock + Wait, N: Reach, S: Server + Drop> Puller<'a, R, N, S> {
         let mut why = RelayEnd::NoAddress;
         'addresses: for address in self.addresses() {
             why = self.pull_at(address);
-            if !has_had_no_answer(why) {
+            if is_last_pull(why) {
                 return why;
             }
         }
@@ -274,8 +274,9 @@ impl<'a, R: Clock + Wait, N: Reach, S: Server + Drop> Puller<'a, R, N, S> {
 
     /// Tells the workers of news, and hands the lines of the log on.
     fn tell_others(&self) {
-        let news = NewsFor::from(self.asked.server().take_news());
+        let found = self.asked.server().take_found(Take::News);
         let received = self.sockets.activity().take_received();
+        let news = NewsFor::from(found.has_news);
         self.board.note_received(received, news, moment_us(self.rt));
         let lines = self.asked.log().lines().take();
         if !lines.is_empty() {

@@ -1,1 +1,3 @@
 mod Courses
+mod Findings
+mod Leavers

@@ -6,6 +6,8 @@ use Rattle.radio_events.specs.declared.reply.Reply.{Reply}
 use Rattle.radio_events.specs.declared.reply.Reply.TheVariants.{Feeding as SaysFeeding, Text}
 use Rattle.radio_connections.specs.Rooms.{fills_room}
 use Rattle.radio_serving.specs.declared.found.Found.{Found}
+use Rattle.radio_serving.specs.declared.found.Take.{Take}
+use Rattle.radio_serving.specs.declared.found.Take.TheVariants.{News as TakesNews, All as TakesAll}
 use Rattle.radio_serving.specs.declared.kind.Kind.{Kind}
 use Rattle.radio_serving.specs.declared.kind.Kind.TheVariants.{News, Command, Feeds, Leaves, Own}
 use Rattle.radio_serving.specs.Sources.{Feeding, with_source, blinded, without_source, may_feed}
@@ -57,3 +59,8 @@ found_after Own reply fed found = record found { has_more = fills_room reply || 
 abbrev pub source_leaves : Kind → Feeding → Bool
 source_leaves (Leaves id) feeding = may_feed id feeding
 source_leaves kind feeding = false
+
+-- what is left of what was found once this was taken of it
+abbrev pub left_of : Take → Found → Found
+left_of TakesNews found = record found { has_news = false }
+left_of TakesAll found = nothing_found

@@ -1,7 +1,7 @@
 //! What a worker finds of what it asked the server.
 
-ghost use Rattle.std.specs.Prelude.{◌≡◌, ◌||◌, false};
-ghost use Rattle.radio_serving.specs.Kinds.{found_after, nothing_found};
+ghost use Rattle.std.specs.Prelude.{◌≡◌, ◌||◌};
+ghost use Rattle.radio_serving.specs.Kinds.{found_after, left_of, nothing_found};
 
 use crate::kind::Kind;
 use radio_connections::fills_room;
@@ -16,6 +16,15 @@ pub struct Found {
     pub has_more: bool,
     /// Whether a client has begun to feed a mount.
     pub has_started: bool,
+}
+
+/// What is taken of what a worker has found.
+#[derive(Clone, Copy, Debug, PartialEq, Eq)]
+pub enum Take {
+    /// That there is news.
+    News,
+    /// All of it.
+    All,
 }
 
 impl Found {
@@ -44,13 +53,16 @@ impl Found {
         }
     }
 
-    /// Returns it once its news was taken.
-    pub(crate) fn without_news(self) -> Found
-        ensures { result ≡ record self { has_news = false } }
+    /// Returns what is left of it once this was taken.
+    pub(crate) fn without(self, take: Take) -> Found
+        ensures { result ≡ left_of take self }
     {
-        Found {
-            has_news: false,
-            ..self
+        match take {
+            Take::News => Found {
+                has_news: false,
+                ..self
+            },
+            Take::All => Found::nothing(),
         }
     }
 

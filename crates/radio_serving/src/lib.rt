@@ -1,8 +1,8 @@
 //! Connections, which a worker serves turn by turn.
 //!
 //! - [`Worker`]: [`Worker::admit`] takes a connection in, and [`Worker::serve_turn`] serves all, by a [`Turn`].
-//! - [`Watched`]: a server that a worker asks, and what it found of the replies ([`Found`]).
-//! - [`open_sessions_have_not_failed`]: a law, which runs no code.
+//! - [`Watched`]: a server that a worker asks, and what it found of the replies ([`Found`], of which it may [`Take`] a part).
+//! - [`open_sessions_have_not_failed`], [`news_is_found`], [`time_is_told`]: laws, which run no code.
 //! - Lines and connections are those of `radio_connections`, under its names.
 #![tactic(auto)]
 
@@ -15,8 +15,8 @@ mod turn;
 mod watched;
 mod worker;
 
-pub use found::Found;
-pub use laws::open_sessions_have_not_failed;
+pub use found::{Found, Take};
+pub use laws::{news_is_found, open_sessions_have_not_failed, time_is_told};
 pub use radio_connections::{
     CallCount, Conn, Fate, Gate, History, Line, OpenGate, OutOfMemory, Received, Sent, Server,
     Status, WebAnswers, close_first_lingering, count_lingering,

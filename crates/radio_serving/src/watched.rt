@@ -1,6 +1,6 @@
 //! A server, and whether what was asked of it may bring something to listeners.
 
-use crate::found::Found;
+use crate::found::{Found, Take};
 use crate::kind::kind_of;
 use crate::sources::Sources;
 use crate::{OutOfMemory, Server};
@@ -44,17 +44,12 @@ impl<S: Server + Drop> Watched<S> {
         }
     }
 
-    /// Returns whether listeners may have news since this was asked the last time: a block or a title came, a source has ended, a
-    /// relay has come up or gone down, or a command was done.
-    pub fn take_news(&self) -> bool {
+    /// Returns what was found and not taken yet, and takes this of it. There is news if a block or a title came, a source has ended,
+    /// a relay has come up or gone down, or a command was done.
+    pub fn take_found(&self, take: Take) -> Found {
         let found = self.found.get();
-        self.found.set(found.without_news());
-        found.has_news
-    }
-
-    /// Returns what was found since this was asked the last time, but for news that was asked for alone.
-    pub fn take_found(&self) -> Found {
-        self.found.replace(Found::nothing())
+        self.found.set(found.without(take));
+        found
     }
 
     /// Returns whether the client of this number feeds a mount by what was asked, as far as memory was not refused for its number.

@@ -1,13 +1,13 @@
 //! The thread that accepts connections.
 
-ghost use Rattle.std.specs.Prelude.{◌≡◌, ◌⊎◌, false};
+ghost use Rattle.std.specs.Prelude.{◌≡◌, ◌⊎◌, ◌+◌, ◌-◌, ◌^◌, false, min};
 ghost use Rattle.radio_lines.specs.Accepting.{closed_in};
 
 use crate::ServeFault;
 use crate::doors::{Coming, Doors};
 use crate::steps::acceptor_wait;
 use mio::Waker;
-use radio_board::Board;
+use radio_board::{Board, Mark};
 use radio_intake::{Intake, IntakePass, ROOM};
 use radio_lines::{Accepts, accept_next, moment};
 use std::io;
@@ -58,7 +58,7 @@ impl Acceptor {
             // There was no thread for him, as long as the workers were there.
             return ServeFault::OutOfMemory;
         }
-        board.note_acceptor();
+        let _ = board.mark(Mark::AcceptorBegun, true);
         'rounds: for _ in rt.forever() {
             if let Err(fault) = self.make_round(rt, board, intake, pass) {
                 board.stop();
@@ -97,9 +97,9 @@ impl Acceptor {
         let is_called = board.acceptor_lies_down();
         let wait_ms = acceptor_wait(is_called, self.doors.is_asked(), board.comings());
         let heard = self.doors.hear(wait_ms);
-        board.acceptor_gets_up();
+        let _ = board.mark(Mark::AcceptorSleeps, false);
         self.clock_ms = moment(rt);
-        if board.take_closed() {
+        if board.mark(Mark::Closed, false) {
             self.accepts.note_closed();
         }
         heard
@@ -123,7 +123,7 @@ impl Acceptor {
             let Ok(accepted) = accept_next(&mut self.doors, &mut self.accepts, self.clock_ms) else {
                 return Err(ServeFault::Accept);
             };
-            board.set_wants_closing(self.accepts.is_short());
+            let _ = board.mark(Mark::ClosingWanted, self.accepts.is_short());
             let Some(coming) = accepted else {
                 return Ok(());
             };
@@ -144,6 +144,9 @@ impl Acceptor {
     )
         requires own { pass.old.intake ≡ intake.now }
         ensures own { pass.new.intake ≡ intake.now }
+        // the next one is for the worker behind this one, if this one was put for it
+        ensures next { (self.new.next ≡ self.old.next) ⊎ (self.new.next ≡ min (2 ^ 64 - 1) (number + 1)) }
+        ensures accepts { self.new.accepts ≡ self.old.accepts }
     {
         if let Err(coming) = intake.put(rt, pass, coming) {
             drop(coming);

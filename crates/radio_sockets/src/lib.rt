@@ -3,6 +3,7 @@
 //! - [`Doors`]: a bound socket; [`Acceptor`]: who accepts connections there.
 //! - [`Coming`]: a connection that waits for a worker; [`SocketPost`]: where his turns come from. [`open_desks`] and
 //!   [`seats_of`] make what the workers begin with.
+//! - [`newcomers_are_taken_in`], [`turns_are_due`], [`acceptors_look`]: laws, which run no code.
 //! - [`BindFault`], [`ServeFault`]: why nothing was bound, and why a server ends.
 #![tactic(auto)]
 
@@ -10,6 +11,7 @@ mod acceptor;
 mod address;
 mod doors;
 mod fault;
+mod laws;
 mod post;
 mod seats;
 mod steps;
@@ -17,6 +19,7 @@ mod steps;
 pub use acceptor::Acceptor;
 pub use doors::{Coming, Doors};
 pub use fault::{BindFault, ServeFault};
+pub use laws::{acceptors_look, newcomers_are_taken_in, turns_are_due};
 pub use post::SocketPost;
 pub use seats::{open_desks, seats_of};
 

@@ -8,12 +8,15 @@ ghost use Rattle.radio_sockets.specs.Steps.{called_of, told_at};
 
 use crate::doors::Coming;
 use crate::steps::{
-    begins_round, called_of, ends_wait, has_to_do, is_alone, is_time_to_tell, is_turn_due,
-    news_for, weight_of,
+    RoundCause, Waited, begins_round, called_of, ends_wait, has_to_do, is_alone, is_time_to_tell,
+    is_turn_due, news_for, weight_of,
 };
 use mio::net::TcpStream;
 use radio_addr::Peer;
-use radio_board::{Board, Desk, MOST_REST_MS, NewsFor, NewsPause, Rest, ServedTime, rest_for};
+use radio_board::{
+    Board, Desk, MOST_REST_MS, NewsFor, NewsPause, Rest, ServedTime, Stamp, Step, TurnDone,
+    rest_for,
+};
 use radio_lines::{Heard, SocketLine, Sockets, moment, moment_us};
 use radio_notes::Log;
 use radio_serving::Turn;
@@ -104,7 +107,7 @@ impl<'a, R: Clock + Wait> SocketPost<'a, R> {
         ensures called { (self.new.called ≡ self.old.called) × (self.new.puts_off ≡ self.old.puts_off) }
     {
         self.has_begun = true;
-        let (clock_ms, since_ms) = (moment(self.rt), self.board.told_ms());
+        let (clock_ms, since_ms) = (moment(self.rt), self.board.moment(0));
         self.time = ServedTime::new(clock_ms, since_ms);
         self.desk.begin(clock_ms, since_ms);
         self.board.wake_acceptor();
@@ -115,7 +118,12 @@ impl<'a, R: Clock + Wait> SocketPost<'a, R> {
         let mut heard = self.hear()?;
         for _ in 1..MOST_WAITS {
             let is_due = is_turn_due(self.moment(), self.turn_ms);
-            if ends_wait(heard.is_ready, is_due, self.board.is_over()) {
+            let waited = Waited {
+                is_ready: heard.is_ready,
+                is_due,
+                is_over: self.board.is_over(),
+            };
+            if ends_wait(waited) {
                 return Some(heard);
             }
             heard = self.hear()?;
@@ -129,13 +137,13 @@ impl<'a, R: Clock + Wait> SocketPost<'a, R> {
         ensures clock { IfSome result (λ heard. self.new.clock_us ≡ heard.us) }
     {
         // What was heard before was read since.
-        self.desk.set_read(self.time.served_ms());
+        self.desk.stamp(Stamp::Read, self.time.served_ms());
         let rest = self.rest();
         let is_called = self.lies_down(rest);
         let wait_ms = if is_called { 0 } else { rest.most_ms() };
         let told = self.sockets.hear(self.rt, wait_ms);
         if !rest.is_turn() {
-            self.desk.gets_up();
+            let _ = self.desk.take(Step::Wake);
         }
         let Ok(heard) = told else {
             self.board.stop();
@@ -157,7 +165,7 @@ impl<'a, R: Clock + Wait> SocketPost<'a, R> {
         if self.has_more {
             return Rest::Turn(0);
         }
-        let is_expected = self.desk.state().has_news() || self.pause.was_early();
+        let is_expected = self.desk.report().state.has_news() || self.pause.was_early();
         rest_for(lines_ms, self.left_us(), is_expected)
     }
 
@@ -175,18 +183,18 @@ impl<'a, R: Clock + Wait> SocketPost<'a, R> {
 
     /// Returns whether there is something to do, apart from what its sockets tell.
     fn has_to_do(&self) -> bool {
-        let has_news = self.desk.state().has_news();
-        let comings = self.desk.comings();
-        has_to_do(has_news, self.left_us(), comings, self.board.is_over())
+        let report = self.desk.report();
+        has_to_do(
+            report.state.has_news(),
+            self.left_us(),
+            report.comings,
+            self.board.is_over(),
+        )
     }
 
     /// When the news came that waits, in microseconds; this moment if there is none.
     fn came_us(&self) -> u64 {
-        if self.desk.state().has_news() {
-            self.desk.came_us()
-        } else {
-            self.clock_us
-        }
+        self.desk.report().news_came_us(self.clock_us)
     }
 
     /// For how many microseconds more news waits.
@@ -201,9 +209,10 @@ impl<'a, R: Clock + Wait> SocketPost<'a, R> {
         ensures may { self.new.may_tell ≡ self.old.may_tell }
     {
         let came_us = self.came_us();
-        self.desk.begin_round();
-        self.received = self.board.received();
-        self.told = self.board.told();
+        let _ = self.desk.take(Step::BeginRound);
+        let counts = self.board.counts();
+        self.received = counts.received;
+        self.told = counts.told;
         self.clock_us = moment_us(self.rt);
         self.pause.begin(self.clock_us, came_us);
         self.is_drawing = true;
@@ -231,7 +240,7 @@ impl<'a, R: Clock + Wait> SocketPost<'a, R> {
         ensures time { (told : ℕ) × (self.new.time ≡ served_by heard.ms told self.old.time) }
     {
         self.clock_us = heard.us;
-        self.desk.set_turn(heard.ms);
+        self.desk.stamp(Stamp::Turn, heard.ms);
         let told_ms = self.moment();
         self.time.advance(heard.ms, told_ms);
         self.sockets.activity().begin_turn(
@@ -253,7 +262,7 @@ impl<'a, R: Clock + Wait> SocketPost<'a, R> {
         ensures count { self.new.called ≡ result }
     {
         let passed_ms = ms.saturating_sub(self.turn_ms);
-        let called = called_of(self.desk.comings(), passed_ms, self.puts_off);
+        let called = called_of(self.desk.report().comings, passed_ms, self.puts_off);
         self.puts_off = called.puts_off;
         self.called = called.count;
         called.count
@@ -265,7 +274,7 @@ impl<'a, R: Clock + Wait> SocketPost<'a, R> {
         ensures more { self.new.has_more ≡ self.old.has_more }
     {
         self.called = self.called.saturating_sub(count);
-        self.desk.note_taken(count);
+        let _ = self.desk.take_comings(count);
     }
 
     /// Tells the log the moment, if the clock tells it, and some time has passed.
@@ -288,12 +297,15 @@ impl<'a, R: Clock + Wait> SocketPost<'a, R> {
         ensures more { self.new.has_more ≡ self.old.has_more }
         ensures drawing { self.new.is_drawing ≡ self.old.is_drawing }
     {
-        if !self.desk.has_listeners() {
-            self.received = self.board.received();
+        if !self.desk.report().has_listeners {
+            self.received = self.board.counts().received;
         }
-        self.desk.note_drawn(self.received, seen.more);
-        let weight = weight_of(seen.connections, seen.sources);
-        self.desk.set_connections(weight, seen.has_listeners);
+        self.desk.note_turn(TurnDone {
+            received: self.received,
+            has_more: seen.more,
+            connections: weight_of(seen.connections, seen.sources),
+            has_listeners: seen.has_listeners,
+        });
     }
 
     /// Tells how many bytes his sources have brought, and that these listeners may have news.
@@ -322,7 +334,7 @@ impl<'a, R: Clock + Wait> Post<Coming, SocketLine<TcpStream>> for SocketPost<'a,
             self.begin();
         }
         let heard = self.wait()?;
-        if is_alone(self.time.served_ms(), self.board.has_acceptor()) {
+        if is_alone(self.time.served_ms(), self.board.marks().has_acceptor) {
             self.board.stop();
         }
         if self.board.is_over() {
@@ -333,7 +345,7 @@ impl<'a, R: Clock + Wait> Post<Coming, SocketLine<TcpStream>> for SocketPost<'a,
         let comings = self.comings(ms);
         self.turn_ms = ms;
         self.may_tell = self.left_us() == 0;
-        let news = self.may_tell && self.desk.state().has_news();
+        let news = self.may_tell && self.desk.report().state.has_news();
         Some(Call {
             turn: Turn { ms, news },
             comings,
@@ -364,7 +376,11 @@ impl<'a, R: Clock + Wait> Post<Coming, SocketLine<TcpStream>> for SocketPost<'a,
         if brings {
             self.tell(news_for(self.number, self.may_tell));
         }
-        let begins = begins_round(is_told, brings, self.may_tell);
+        let begins = begins_round(RoundCause {
+            is_told,
+            brings,
+            may_tell: self.may_tell,
+        });
         if begins {
             self.begin_round();
         }

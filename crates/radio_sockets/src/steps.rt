@@ -112,11 +112,22 @@ pub(crate) fn is_alone(served_ms: u64, has_acceptor: bool) -> bool
     served_ms > MOST_ALONE_MS && !has_acceptor
 }
 
+/// What a worker knows that waits for its next turn.
+#[derive(Clone, Copy, Debug, PartialEq, Eq)]
+pub(crate) struct Waited {
+    /// Whether there is something to do.
+    pub(crate) is_ready: bool,
+    /// Whether a turn is due.
+    pub(crate) is_due: bool,
+    /// Whether all are to stop.
+    pub(crate) is_over: bool,
+}
+
 /// Returns whether a worker ends its wait for a turn: there is something to do, a turn is due, or all are to stop.
-pub(crate) fn ends_wait(is_ready: bool, is_due: bool, is_over: bool) -> bool
-    ensures { result ≡ (is_ready || is_due || is_over) }
+pub(crate) fn ends_wait(waited: Waited) -> bool
+    ensures { result ≡ (waited.is_ready || waited.is_due || waited.is_over) }
 {
-    is_ready || is_due || is_over
+    waited.is_ready || waited.is_due || waited.is_over
 }
 
 /// Returns whether a worker has something to do, apart from what its sockets tell: news that waits no more, newcomers, or the
@@ -127,12 +138,23 @@ pub(crate) fn has_to_do(has_news: bool, left_us: u64, comings: usize, is_over: b
     (has_news && left_us == 0) || comings > 0 || is_over
 }
 
+/// By what a round of draws may begin.
+#[derive(Clone, Copy, Debug, PartialEq, Eq)]
+pub(crate) struct RoundCause {
+    /// Whether the turn was told of news.
+    pub(crate) is_told: bool,
+    /// Whether the worker's sources have brought something.
+    pub(crate) brings: bool,
+    /// Whether its listeners may be told of that in this turn.
+    pub(crate) may_tell: bool,
+}
+
 /// Returns whether a round of draws begins: the turn was told of news, or its sources have brought something and its listeners
 /// may be told.
-pub(crate) fn begins_round(is_told: bool, brings: bool, may_tell: bool) -> bool
-    ensures { result ≡ (is_told || (brings && may_tell)) }
+pub(crate) fn begins_round(cause: RoundCause) -> bool
+    ensures { result ≡ (cause.is_told || (cause.brings && cause.may_tell)) }
 {
-    is_told || (brings && may_tell)
+    cause.is_told || (cause.brings && cause.may_tell)
 }
 
 /// Returns whether the system's fault of this number says that there is no descriptor left, for the process (24, `EMFILE`) or

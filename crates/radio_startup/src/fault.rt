@@ -119,7 +119,12 @@ fn settings_status(fault: &SettingsFault) -> u8
 {
     match fault {
         SettingsFault::OutOfMemory => 1,
-        _ => 3,
+        SettingsFault::NotToml
+        | SettingsFault::Missing { .. }
+        | SettingsFault::WrongKind { .. }
+        | SettingsFault::OutOfRange { .. }
+        | SettingsFault::MountTwice { .. }
+        | SettingsFault::BadName { .. } => 3,
     }
 }
 

@@ -1,10 +1,12 @@
 //! The settings file.
 
-ghost use Rattle.std.specs.Prelude.{◌≡◌, ℕ, List, Ok, Some, IfOk, IfErr};
+ghost use Rattle.std.specs.Prelude.{◌≡◌, ℕ, List, Ok, Some, IfOk, IfErr, codes};
+ghost use Rattle.std.specs.Str.{valid_up_to};
 ghost use Rattle.radio_documents.specs.Document.{reading_of};
 ghost use Rattle.radio_documents.specs.Web.{answers_told};
 ghost use Rattle.radio_startup.specs.declared.fault.FileFault.TheVariants.{OutOfMemory as NoMemory};
 ghost use Rattle.radio_startup.specs.Files.{AreListsOf, IsStationOf};
+ghost use Rattle.radio_startup.specs.Misreadings.{IsMisreadAt};
 ghost use Rattle.radio_startup.specs.SettingsFaults.{IsFaultOf, IsNotToml};
 ghost use Rattle.radio_startup.specs.Unread.{IsUnread};
 
@@ -18,6 +20,7 @@ use radio_review::{UnknownKey, locate, unknown_keys};
 use radio_settings::Settings;
 use std::alloc::Global;
 use std::marker::Model;
+use std::str::Utf8Error;
 
 /// The settings of a file, and what the files hold that they name.
 #[derive(Drop)]
@@ -155,8 +158,15 @@ fn settings_of(alloc: Global, bytes: &[u8]) -> Result<Settings, FileFault>
 {
     match str::from_utf8(bytes) {
         Ok(text) => settings_in(alloc, text),
-        Err(error) => Err(misread(alloc, bytes, error.valid_up_to(), "not UTF-8")),
+        Err(error) => Err(not_utf8(alloc, bytes, error)),
     }
+}
+
+/// Where bytes are not UTF-8, by this error of the library.
+fn not_utf8(alloc: Global, bytes: &[u8], error: Utf8Error) -> FileFault
+    ensures { IsMisreadAt bytes.now (valid_up_to error) (codes "not UTF-8") result }
+{
+    misread(alloc, bytes, error.valid_up_to(), "not UTF-8")
 }
 
 /// What these bytes say of requests and answers, where they are settings.

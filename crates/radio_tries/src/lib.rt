@@ -18,7 +18,7 @@ mod wishes;
 
 pub use outcome::Outcome;
 pub use pause::{MOST_SILENT_MS, Pause, REST_MS, after, list_due_ms, pause_at};
-pub use pulls::{end_of, has_had_no_answer, pull_end};
+pub use pulls::{end_of, is_last_pull, pull_end};
 pub use tries::{Tries, free_places};
 pub use wishes::{Wishes, wishes_of};
 

@@ -1,6 +1,6 @@
 //! Why a pull has ended.
 
-ghost use Rattle.std.specs.Prelude.{◌≡◌, ◌-◌, ◌/◌, is_some};
+ghost use Rattle.std.specs.Prelude.{◌≡◌, ◌-◌, ◌/◌, is_some, not};
 ghost use Rattle.radio_tries.specs.Pulls.{EndsBy, is_no_answer, is_late, lost};
 
 use crate::pause::MOST_SILENT_MS;
@@ -45,11 +45,12 @@ fn is_late(began_ms: u64, ms: u64) -> bool
     ms.saturating_sub(began_ms) >= MOST_SILENT_MS
 }
 
-/// Returns whether a pull that has ended so is tried at the next address of the master.
-pub fn has_had_no_answer(why: RelayEnd) -> bool
-    ensures { result ≡ is_no_answer why }
+/// Returns whether no other address of the master is tried after a pull that has ended so: the master has answered, or nothing
+/// can be asked.
+pub fn is_last_pull(why: RelayEnd) -> bool
+    ensures { result ≡ not (is_no_answer why) }
 {
-    matches!(why, RelayEnd::NoAnswer)
+    !matches!(why, RelayEnd::NoAnswer)
 }
 
 /// Returns how a pull has ended at `ms` that began at `began_ms`, for the log.

@@ -1,2 +1,4 @@
-pub mod Takings
+mod Cuts
+mod Lingering
 pub mod Partings
+pub mod Takings

@@ -1,3 +1,4 @@
 pub mod Hands
+pub mod Laws
 pub mod Leaving
 pub mod Shifts

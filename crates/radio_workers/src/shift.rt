@@ -15,8 +15,8 @@ use crate::{Call, Post, Seat, Seen, Workplace};
 use radio_events::{Caller, SharedServer};
 use radio_intake::{Intake, IntakePass};
 use radio_serving::{
-    Conn, Found, Gate, Line, Server, Turn, Watched, WebAnswers, Worker, close_first_lingering,
-    count_lingering,
+    Conn, Found, Gate, Line, Server, Take, Turn, Watched, WebAnswers, Worker,
+    close_first_lingering, count_lingering,
 };
 use std::alloc::Global;
 use std::sync::Wait;
@@ -206,7 +206,7 @@ impl<S: Server + Drop, L: Line> Shift<S, L> {
     fn make_turn<T, P: Post<T, L>, G: Gate>(&mut self, gate: &G, post: &mut P, call: Call) {
         let before = self.count();
         self.serve_all(gate, post, call.turn);
-        let found = self.worker.server().take_found();
+        let found = self.worker.server().take_found(Take::All);
         self.part_sources(found);
         self.close_oldest(post);
         let seen = self.seen(before, found);
@@ -223,7 +223,7 @@ impl<S: Server + Drop, L: Line> Shift<S, L> {
             between self.old.conns.items self.new.worker self.new.conns.items }
     {
         self.worker.serve_turn(&mut self.sources, gate, turn);
-        let brings = self.worker.server().take_news();
+        let brings = self.worker.server().take_found(Take::News).has_news;
         let Turn { ms, news } = turn;
         let news = post.begins_round(news, brings);
         self.worker

@@ -34,7 +34,12 @@ pub(crate) fn answer<S: Server, L: Line>(
             conn.account.hear_reply(log, notice, Told::of(&reply));
             let sits = both(listens, is_seated(&reply));
             let has_more = fills_room(&reply);
-            note(&mut conn.status, leaves, sits, has_more);
+            let answered = Answered {
+                leaves,
+                sits,
+                has_more,
+            };
+            note(&mut conn.status, answered);
             pass_over_if(&mut conn.line, sits);
             conn.status.fate = tell(&mut conn.owed, &mut conn.session, reply, &conn.account);
         }
@@ -84,13 +89,24 @@ fn tell(owed: &mut Owed, session: &mut Session, reply: Reply, account: &Account)
     }
 }
 
-/// Notes that the client has left, that he was given a seat, and that there is more for him, if so.
-fn note(status: &mut Status, leaves: bool, sits: bool, has_more: bool)
-    ensures { status.new ≡ record status.old { has_left = leaves || status.old.has_left; sits = sits || status.old.sits; is_behind = sits || has_more } }
+/// What an event and its reply say of a client.
+#[derive(Clone, Copy)]
+struct Answered {
+    /// Whether it has left.
+    leaves: bool,
+    /// Whether it was given a seat.
+    sits: bool,
+    /// Whether there may be more for it.
+    has_more: bool,
+}
+
+/// Notes that the client has left, that it was given a seat, and that there is more for it, if so.
+fn note(status: &mut Status, answered: Answered)
+    ensures { status.new ≡ record status.old { has_left = answered.leaves || status.old.has_left; sits = answered.sits || status.old.sits; is_behind = answered.sits || answered.has_more } }
 {
-    status.is_behind = either(sits, has_more);
-    status.has_left = either(leaves, status.has_left);
-    status.sits = either(sits, status.sits);
+    status.is_behind = either(answered.sits, answered.has_more);
+    status.has_left = either(answered.leaves, status.has_left);
+    status.sits = either(answered.sits, status.sits);
 }
 
 pub(crate) fn either(a: bool, b: bool) -> bool

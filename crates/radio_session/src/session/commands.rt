@@ -77,6 +77,13 @@ fn lacking(kind: CommandKind, mount: Option<MountName>) -> Asked
         CommandKind::Metadata | CommandKind::Fallbacks => {
             Asked::MissingArgument(OpenedBy::Source(mount))
         }
-        _ => Asked::MissingArgument(OpenedBy::Admin),
+        CommandKind::Stats
+        | CommandKind::ListMounts
+        | CommandKind::ListClients
+        | CommandKind::MoveClients
+        | CommandKind::KillClient
+        | CommandKind::KillSource
+        | CommandKind::StreamList
+        | CommandKind::Users => Asked::MissingArgument(OpenedBy::Admin),
     }
 }

@@ -117,7 +117,7 @@ fn faulty(fault: BodyFault) -> Result<LastWord, OutOfMemory>
 {
     match fault {
         BodyFault::OutOfMemory => Err(AllocError),
-        _ => Ok(LastWord::Faulty),
+        BodyFault::BadChunk | BodyFault::PastEnd | BodyFault::Failed => Ok(LastWord::Faulty),
     }
 }
 

@@ -1,0 +1,29 @@
+//! Laws of connections that are accepted, of sources' ends, and of sockets that are asked. Each is a function that does nothing, and
+//! its contract is the law.
+
+ghost use Rattle.radio_lines.specs.Laws.{ClosingsFree, EndsAreHeld, EndsAreTold, FailuresRest, HundredFailuresEndIt, RoomIsTaken, StalledAreAskedAgain, UnwantedWait, UnwantedWakeNobody};
+
+/// After a failure none is accepted for a tenth of a second, and a hundred failures in a row end a server. Want of descriptors does
+/// not, and ends with the next closing.
+pub fn accepting_rests()
+    ensures end { HundredFailuresEndIt }
+    ensures rest { FailuresRest }
+    ensures freed { ClosingsFree }
+{}
+
+/// The end of a source waits for listeners, for half a second at most.
+pub fn ends_are_told()
+    ensures told { EndsAreTold }
+    // but not before, unless listeners have drawn
+    ensures held { EndsAreHeld }
+{}
+
+/// A socket of which nothing is wanted is read ten times a second at most, and one that took nothing is asked again after a second.
+pub fn sockets_are_left_alone()
+    ensures unwanted { UnwantedWait }
+    // what comes of it wakes nobody
+    ensures quiet { UnwantedWakeNobody }
+    ensures stalled { StalledAreAskedAgain }
+    // unless the system tells of room
+    ensures room { RoomIsTaken }
+{}

@@ -1,0 +1,45 @@
+-- What holds of what a worker finds of the replies to what it asked.
+use Rattle.std.specs.Prelude.{◌≡◌, ◌⊎◌, ◌≤◌, ◌<◌, ◌+◌, ℕ, Bool, true, false, List, [], ◌∷◌}
+use Rattle.std.specs.List.{list_any}
+use Rattle.radio_events.specs.declared.entry.Entry.{Entry}
+use Rattle.radio_events.specs.declared.event.Event.{Event}
+use Rattle.radio_events.specs.declared.event.Event.TheVariants.{Push, SourceEnd, Title, RelayUp, RelayDown, Leave, Clock, Command as Commands}
+use Rattle.radio_events.specs.declared.reply.Reply.{Reply}
+use Rattle.radio_events.specs.declared.reply.Reply.TheVariants.{Text}
+use Rattle.radio_events.specs.Servers.{Steps}
+use Rattle.radio_serving.specs.declared.found.Found.{Found}
+use Rattle.radio_serving.specs.Kinds.{found_after, kind_of, nothing_found}
+use Rattle.radio_serving.specs.Sources.{Feeding, feeds, with_source, without_source}
+use Rattle.radio_serving.specs.Turns.{Ticks}
+use Rattle.radio_serving.specs.Workers.{WorkerOf}
+
+-- what a worker has found after some events and the replies to them, the last one first; each with whether its client had fed a mount
+abbrev pub found_after_all : List (Entry × Bool) → Found
+found_after_all [] = nothing_found
+found_after_all (one ∷ earlier) = found_after (kind_of one.0.event) one.0.reply one.1 (found_after_all earlier)
+
+-- whether listeners may have news by an event that had this reply: a block, a title, an end of a source, a relay that came up or went
+-- down, a command that was done, or the leaving of a client that had fed a mount
+abbrev pub may_be_news : Event → Reply → Bool → Bool
+may_be_news (Push id block) reply fed = true
+may_be_news (Title id text) reply fed = true
+may_be_news (SourceEnd id) reply fed = true
+may_be_news (RelayUp mount shown) reply fed = true
+may_be_news (RelayDown id) reply fed = true
+may_be_news (Commands request) (Text text) fed = true
+may_be_news (Leave id) reply fed = fed
+may_be_news event reply fed = false
+
+-- a worker finds news if there was some, and only then
+abbrev pub NewsIsFound : Type 0
+NewsIsFound = (done : List (Entry × Bool)) → (found_after_all done).has_news ≡ list_any (λ one. may_be_news one.0.event one.0.reply one.1) done
+
+-- once a client that began to feed a mount has left, who feeds is as before
+abbrev pub LeaversFeedNoMore : Type 0
+LeaversFeedNoMore = (id : ℕ) (before : Feeding) → feeds id before ≡ false → without_source id (with_source id before) ≡ before
+
+module _ {S : Type 0} (steps : Steps S) (refuses : S → Event → Type 0) where
+  -- a server that was not told the time for fifty milliseconds is told it in the next turn, unless it is refused memory for that
+  abbrev pub TimeIsTold : Type 0
+  TimeIsTold = (ms : ℕ) (before after : WorkerOf S)
+      → Ticks steps refuses ms before after → before.told_ms + 50 ≤ ms → (after.told_ms ≡ ms) ⊎ refuses before.server (Clock ms)

@@ -1,0 +1,65 @@
+//! What is noted of a connection, and which lines it has in the log.
+
+use radio_addr::Peer;
+use radio_notes::{Account, Log, Told};
+use std::alloc::Global;
+
+/// The account of a connection that came two seconds ago, and was replied to so.
+fn account_of(alloc: Global, told: Told) -> Account {
+    let account = Account::new(alloc, 1000);
+    account.note_reply(told);
+    account
+}
+
+/// Whether a client that is gone, to which this was replied, has so many lines with this word, however often it is told.
+fn has_lines(alloc: Global, log: &Log, account: &Account, word: &str, count: usize) -> bool {
+    let peer = Peer::of_v4(0x7f00_0001);
+    account.tell_source(log, peer, 3000);
+    account.tell_source(log, peer, 3000);
+    account.tell_client(log, peer, 3000);
+    account.tell_client(log, peer, 3000);
+    lines_with(log.take().as_slice(), word) == count
+}
+
+/// How many lines of a text have this word; none if it is no text.
+fn lines_with(bytes: &[u8], word: &str) -> usize {
+    let Ok(text) = str::from_utf8(bytes) else {
+        return 0;
+    };
+    let mut count = 0usize;
+    for line in text.lines() {
+        if line.contains(word) {
+            count = count.saturating_add(1);
+        }
+    }
+    count
+}
+
+#[test]
+fn a_source_is_told_once(rt: HostRuntime) {
+    let alloc = rt.alloc();
+    let log = Log::new(alloc);
+    let account = account_of(alloc, Told::Feeding);
+    assert!(rt; has_lines(alloc, &log, &account, "source-gone", 1));
+}
+
+#[test]
+fn the_first_end_is_told(rt: HostRuntime) {
+    let alloc = rt.alloc();
+    let log = Log::new(alloc);
+    let account = account_of(alloc, Told::Seated);
+    account.note_no_memory();
+    account.note_stalled();
+    assert!(rt; has_lines(alloc, &log, &account, "why=out-of-memory", 1));
+}
+
+#[test]
+fn polls_may_be_left_out(rt: HostRuntime) {
+    let alloc = rt.alloc();
+    let log = Log::new(alloc);
+    let shown = account_of(alloc, Told::Shown);
+    let told = account_of(alloc, Told::Shown);
+    assert!(rt; has_lines(alloc, &log, &told, "why=left", 1));
+    log.leave_out_polls();
+    assert!(rt; has_lines(alloc, &log, &shown, "why=", 0));
+}

@@ -1,0 +1,52 @@
+//! What a worker has found is found once.
+
+use radio_events::{Event, Reply};
+use radio_serving::{Found, OutOfMemory, Server, Take, Watched};
+use radio_values::MountName;
+use std::alloc::Global;
+
+/// A server that has noted everything.
+#[derive(Drop)]
+struct Noting;
+
+impl Server for Noting {
+    ghost steps = { λ from event reply to. Unit {0} };
+
+    ghost refuses = { λ from event. Unit {0} };
+
+    fn apply(&mut self, event: Event) -> Result<Reply, OutOfMemory> {
+        drop(event);
+        Ok(Reply::Noted)
+    }
+
+    fn last_mount(&self, _id: u64) -> Option<MountName> {
+        None
+    }
+}
+
+/// What is found of the end of a source, when this is taken first; and what is found then.
+fn found_twice(alloc: Global, take: Take) -> Option<(Found, Found)> {
+    let mut watched = Watched::new(alloc, Noting);
+    match watched.apply(Event::SourceEnd { id: 1 }) {
+        Ok(reply) => {
+            drop(reply);
+            let first = watched.take_found(take);
+            Some((first, watched.take_found(Take::All)))
+        }
+        Err(_) => None,
+    }
+}
+
+/// Whether there is news the first time, and none the second.
+fn is_found_once(alloc: Global, take: Take) -> bool {
+    match found_twice(alloc, take) {
+        Some((first, second)) => first.has_news && !second.has_news,
+        None => false,
+    }
+}
+
+#[test]
+fn what_is_taken_is_gone(rt: HostRuntime) {
+    assert!(rt; is_found_once(rt.alloc(), Take::News));
+    assert!(rt; is_found_once(rt.alloc(), Take::All));
+}
