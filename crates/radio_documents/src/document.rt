@@ -7,6 +7,7 @@ ghost use Rattle.radio_keys.specs.declared.key.Key.TheVariants.{Slave};
 ghost use Rattle.radio_keys.specs.Reading.{Reads, ReadsAs};
 ghost use Rattle.radio_keys.specs.declared.fault.SettingsFault.TheVariants.{NotToml, OutOfMemory};
 ghost use Rattle.radio_documents.specs.Document.{reading_of, settings_of};
+ghost use Rattle.radio_documents.specs.Listen.{ProxiesTold};
 ghost use Rattle.radio_documents.specs.Parts.{apart_fault, basics_fault, basics_of, fault_by_parts, listed, listed_in, lists_fault, named_fault};
 ghost use Rattle.radio_documents.specs.Parts.{optional_slave_fault, settings_with, station_fault, station_of, streams_fault, streams_of};
 ghost use Rattle.radio_documents.specs.Slave.{slave_of};
@@ -14,7 +15,7 @@ ghost use Rattle.radio_documents.specs.Web.{answers_told};
 
 use crate::access::access;
 use crate::limits::limits;
-use crate::listen::listen;
+use crate::listen::{listen, proxies};
 use crate::mounts::{default_options, mounts};
 use crate::named::named;
 use crate::relays::relays;
@@ -26,6 +27,7 @@ use radio_settings::{
     AccessSettings, LimitSettings, ListenSettings, MountOptions, MountSetting, MountSettings,
     RelaySetting, RelaySettings, Settings, SlaveSetting, WebSettings,
 };
+use radio_values::Text;
 use std::alloc::Global;
 use toml::Table;
 
@@ -56,6 +58,15 @@ pub fn read_answers(alloc: Global, text: &str) -> Result<AnswerSettings, Setting
 {
     let document = document(alloc, text)?;
     answers(&document)
+}
+
+/// Returns the path of the list of proxies that a text in TOML names, `proxy-from` in its table `[listen]`. A text that sets something
+/// has no fault here but `OutOfMemory`: its faults are told by [`read_settings`].
+pub fn read_proxies(alloc: Global, text: &str) -> Result<Option<Text>, SettingsFault>
+    ensures { IfOk result (ProxiesTold text.now) }
+{
+    let document = document(alloc, text)?;
+    proxies(alloc, &document)
 }
 
 /// The document that a text is.

@@ -3,6 +3,7 @@
 //! - [`read_settings`] gives the settings of a text, or its first fault in the order of the table in `docs/FORMATS.md`:
 //!   a [`SettingsFault`] that names a [`Key`], both of `radio_keys`.
 //! - [`read_answers`] gives what it says of requests and answers: [`AnswerSettings`].
+//! - [`read_proxies`] gives the path of the list of proxies.
 //! - [`laws`] says what holds of every text.
 //!
 //! Each table of the text has a file of its own, and one under `specs` with its keys, ranges and defaults.
@@ -23,7 +24,7 @@ mod section;
 mod slave;
 mod web;
 
-pub use document::{read_answers, read_settings};
+pub use document::{read_answers, read_proxies, read_settings};
 pub use faulty::{Place, faulty_table, key_of};
 pub use radio_keys::{Key, SettingsFault};
 pub use section::{KnownKey, SECTIONS, Section, ValueKind, home_of};

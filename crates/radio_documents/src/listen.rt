@@ -1,14 +1,16 @@
 //! The table `[listen]`.
+ghost use Rattle.std.specs.Prelude.{◌≡◌, IfOk};
 ghost use Rattle.toml.specs.View.{table_view};
 ghost use Rattle.radio_keys.specs.Lookup.{table_or_empty};
 ghost use Rattle.radio_keys.specs.declared.key.Key.TheVariants.{Listen};
 ghost use Rattle.radio_keys.specs.Reading.{Reads};
-ghost use Rattle.radio_documents.specs.Listen.{listen_fault, listen_of};
+ghost use Rattle.radio_documents.specs.Listen.{listen_fault, listen_of, proxies_in};
 ghost use Rattle.radio_documents.specs.Parts.{listen_table_fault};
 
 use crate::{Key, SettingsFault};
-use radio_keys::{number_or, table_or, text_or};
+use radio_keys::{number_or, table_at, table_or, text, text_or};
 use radio_settings::ListenSettings;
+use radio_values::Text;
 use std::alloc::Global;
 use toml::Table;
 
@@ -27,9 +29,25 @@ fn listen_in(alloc: Global, table: &Table) -> Result<ListenSettings, SettingsFau
     ensures { let t = table_view table.now in
         Reads (listen_fault t) (listen_of t) result }
 {
+    let address = text_or(alloc, table, Key::Address, "127.0.0.1")?;
+    let port = number_or(table, Key::Port, 8000)?;
+    let workers = number_or(table, Key::Workers, 4)?;
+    let _proxies = text(alloc, table, Key::ProxyFrom)?;
     Ok(ListenSettings {
-        address: text_or(alloc, table, Key::Address, "127.0.0.1")?,
-        port: number_or(table, Key::Port, 8000)?,
-        workers: number_or(table, Key::Workers, 4)?,
+        address,
+        port,
+        workers,
     })
+}
+
+/// Returns the path of the list of proxies that a document names: `proxy-from` in `[listen]`. Its faults are among those of
+/// [`listen`].
+#[tactic(auto, unfolding(radio_keys::specs::Lookup::table_at))]
+pub fn proxies(alloc: Global, document: &Table) -> Result<Option<Text>, SettingsFault>
+    ensures { IfOk result (λ path. path ≡ proxies_in (table_view document.now)) }
+{
+    match table_at(document, Key::Listen)? {
+        Some(table) => text(alloc, table, Key::ProxyFrom),
+        None => Ok(None),
+    }
 }

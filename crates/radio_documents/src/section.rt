@@ -79,6 +79,7 @@ const LISTEN: &[KnownKey] = &[
     (Key::Address, ValueKind::Text),
     (Key::Port, Number(0, 65535)),
     (Key::Workers, Number(1, 64)),
+    (Key::ProxyFrom, ValueKind::Text),
 ];
 
 const LIMITS: &[KnownKey] = &[

@@ -2,7 +2,7 @@
 use Rattle.std.specs.Prelude.{ℕ, List, [], codes}
 use Rattle.radio_keys.specs.declared.key.Key.{Key}
 use Rattle.radio_keys.specs.declared.key.Key.TheVariants.{SourcePassword, AdminUser, AdminPassword, RelayUser, RelayPassword, DenyIp, AllowIp, Listen}
-use Rattle.radio_keys.specs.declared.key.Key.TheVariants.{Address, Port, Workers, Limits, Clients, Sources, QueueSize, BurstSize, SourceTimeout}
+use Rattle.radio_keys.specs.declared.key.Key.TheVariants.{Address, Port, Workers, ProxyFrom, Limits, Clients, Sources, QueueSize, BurstSize, SourceTimeout}
 use Rattle.radio_keys.specs.declared.key.Key.TheVariants.{HeaderTimeout, Web, AllowOrigin, IcecastStatus, Page, CacheControl, BrowserCommands, LogPolls, Mount, MountName, Username, Password, MaxListeners, MaxListenerDuration}
 use Rattle.radio_keys.specs.declared.key.Key.TheVariants.{FallbackMount, FallbackOverride, FallbackWhenFull, Hidden, Mp3MetadataInterval, StreamName, Genre}
 use Rattle.radio_keys.specs.declared.key.Key.TheVariants.{Htpasswd, AllowDuplicateUsers, Relay, Server, LocalMount, OnDemand, Slave, MasterServer}
@@ -50,6 +50,7 @@ word Listen = codes "listen"
 word Address = codes "address"
 word Port = codes "port"
 word Workers = codes "workers"
+word ProxyFrom = codes "proxy-from"
 word Limits = codes "limits"
 word Clients = codes "clients"
 word Sources = codes "sources"

@@ -6,6 +6,7 @@ use Rattle.radio_addr.specs.declared.lines.AddressRange.{AddressRange}
 use Rattle.radio_addr.specs.Lists.{list_of}
 use Rattle.radio_creds.specs.UserList.{users_of}
 use Rattle.radio_documents.specs.Document.{reading_of}
+use Rattle.radio_documents.specs.Listen.{ProxiesTold}
 use Rattle.radio_documents.specs.Web.{answers_told}
 use Rattle.radio_settings.specs.declared.settings.AddressLists.{AddressLists}
 use Rattle.radio_settings.specs.declared.settings.MountSetting.{MountSetting}
@@ -47,8 +48,17 @@ AreListsOf holds settings lists =
     (addresses : Lists) × ReadsAddresses holds settings.access.addresses no_lists addresses
     × ReadUsers holds settings.mounts addresses lists
 
+-- the proxies are those of the file that the settings of these bytes name, and there are none if they name none
+abbrev pub AreProxiesAt : Holding → Option (List ℕ) → Option (List AddressRange) → Type 0
+AreProxiesAt holds None proxies = proxies ≡ None
+AreProxiesAt holds (Some path) proxies = (file : List ℕ) × (ranges : List AddressRange) × holds path file × (list_of file ≡ Ok ranges) × (proxies ≡ Some ranges)
+
+abbrev pub AreProxiesOf : Holding → List ℕ → Option (List AddressRange) → Type 0
+AreProxiesOf holds bytes proxies = (path : Option (List ℕ)) × ProxiesTold bytes path × AreProxiesAt holds path proxies
+
 -- the station has the settings that these bytes say, what they say of answers, and the lists of the files that they name
 pub record IsStationOf (holds : Holding) (bytes : List ℕ) (station : Station) : Type 0 where
   pub settings : reading_of bytes ≡ Ok station.settings
   pub answers : answers_told bytes ≡ Some station.answers
   pub lists : AreListsOf holds station.settings station.lists
+  pub proxies : AreProxiesOf holds bytes station.proxies

@@ -3,21 +3,24 @@
 ghost use Rattle.std.specs.Prelude.{◌≡◌, ℕ, List, Ok, Some, IfOk, IfErr, codes};
 ghost use Rattle.std.specs.Str.{valid_up_to};
 ghost use Rattle.radio_documents.specs.Document.{reading_of};
+ghost use Rattle.radio_documents.specs.Listen.{ProxiesTold};
 ghost use Rattle.radio_documents.specs.Web.{answers_told};
 ghost use Rattle.radio_startup.specs.declared.fault.FileFault.TheVariants.{OutOfMemory as NoMemory};
-ghost use Rattle.radio_startup.specs.Files.{AreListsOf, IsStationOf};
+ghost use Rattle.radio_startup.specs.Files.{AreListsOf, AreProxiesOf, IsStationOf};
 ghost use Rattle.radio_startup.specs.Misreadings.{IsMisreadAt};
 ghost use Rattle.radio_startup.specs.SettingsFaults.{IsFaultOf, IsNotToml};
 ghost use Rattle.radio_startup.specs.Unread.{IsUnread};
 
 use crate::fault::FileFault;
-use crate::lists::read_lists;
+use crate::lists::{read_addresses, read_lists};
 use crate::misreading::misread;
 use crate::reading::ReadsFiles;
 use radio_access::Lists;
+use radio_addr::AddressList;
 use radio_documents::{AnswerSettings, SettingsFault};
 use radio_review::{UnknownKey, locate, unknown_keys};
 use radio_settings::Settings;
+use radio_values::Text;
 use std::alloc::Global;
 use std::marker::Model;
 use std::str::Utf8Error;
@@ -29,6 +32,8 @@ pub struct Station {
     /// What the settings say of requests and answers.
     pub answers: AnswerSettings,
     pub lists: Lists,
+    /// Whose connections begin with a header that names their client, if such a list is named.
+    pub proxies: Option<AddressList>,
 }
 
 /// A settings file as it was read. In contracts it is its bytes.
@@ -47,7 +52,7 @@ impl Model for SettingsText {
 
 /// The settings of the file of this path, and what the files hold that they name. A fault is the first of these: the file
 /// cannot be read, is not TOML, or has a fault of settings; then those of the files that it names, of which `deny-ip`
-/// comes first, then `allow-ip`, then each mount's `htpasswd` in the order of the tables.
+/// comes first, then `allow-ip`, then each mount's `htpasswd` in the order of the tables, and last `proxy-from`.
 pub fn read_station<F: ReadsFiles>(files: &F, path: &str) -> Result<Station, FileFault>
     ensures { IfOk result (λ station. (bytes : List ℕ) × F.holds files.now path.now bytes × IsStationOf (F.holds files.now) bytes station) }
 {
@@ -121,7 +126,7 @@ fn station_of<F: ReadsFiles>(files: &F, bytes: &[u8]) -> Result<Station, FileFau
 {
     let settings = settings_of(files.alloc(), bytes)?;
     match answers_of(files.alloc(), bytes) {
-        Ok(answers) => with_lists(files, settings, answers),
+        Ok(answers) => with_files(files, bytes, settings, answers),
         Err(fault) => {
             drop(settings);
             Err(fault)
@@ -129,26 +134,71 @@ fn station_of<F: ReadsFiles>(files: &F, bytes: &[u8]) -> Result<Station, FileFau
     }
 }
 
-/// The station of these settings.
-fn with_lists<F: ReadsFiles>(
+/// The station of these settings, with what the files hold that these bytes name.
+fn with_files<F: ReadsFiles>(
     files: &F,
+    bytes: &[u8],
     settings: Settings,
     answers: AnswerSettings,
 ) -> Result<Station, FileFault>
     ensures settings { IfOk result (λ station. station.settings ≡ settings) }
     ensures answers { IfOk result (λ station. station.answers ≡ answers) }
     ensures lists { IfOk result (λ station. AreListsOf (F.holds files.now) station.settings station.lists) }
+    ensures proxies { IfOk result (λ station. AreProxiesOf (F.holds files.now) bytes.now station.proxies) }
 {
-    match read_lists(files, &settings) {
-        Ok(lists) => Ok(Station {
+    match read_both(files, bytes, &settings) {
+        Ok((lists, proxies)) => Ok(Station {
             settings,
             answers,
             lists,
+            proxies,
         }),
         Err(fault) => {
             drop(settings);
             Err(fault)
         }
+    }
+}
+
+/// What the files hold that these settings, or these bytes, name.
+fn read_both<F: ReadsFiles>(
+    files: &F,
+    bytes: &[u8],
+    settings: &Settings,
+) -> Result<(Lists, Option<AddressList>), FileFault>
+    ensures lists { IfOk result (λ read. AreListsOf (F.holds files.now) settings.now read.0) }
+    ensures proxies { IfOk result (λ read. AreProxiesOf (F.holds files.now) bytes.now read.1) }
+{
+    let lists = read_lists(files, settings)?;
+    match proxies_of(files, bytes) {
+        Ok(proxies) => Ok((lists, proxies)),
+        Err(fault) => {
+            drop(lists);
+            Err(fault)
+        }
+    }
+}
+
+/// What the list of proxies holds that these bytes name, where they are settings.
+fn proxies_of<F: ReadsFiles>(files: &F, bytes: &[u8]) -> Result<Option<AddressList>, FileFault>
+    ensures { IfOk result (λ proxies. AreProxiesOf (F.holds files.now) bytes.now proxies) }
+{
+    match proxies_path(files.alloc(), bytes)? {
+        Some(path) => Ok(Some(read_addresses(files, &path)?)),
+        None => Ok(None),
+    }
+}
+
+/// The path of the list of proxies that these bytes name, where they are settings.
+fn proxies_path(alloc: Global, bytes: &[u8]) -> Result<Option<Text>, FileFault>
+    ensures { IfOk result (ProxiesTold bytes.now) }
+{
+    let Ok(text) = str::from_utf8(bytes) else {
+        return Err(misread(alloc, bytes, 0, "not UTF-8"));
+    };
+    match radio_documents::read_proxies(alloc, text) {
+        Ok(path) => Ok(path),
+        Err(fault) => Err(FileFault::Settings { fault, at: None }),
     }
 }
 

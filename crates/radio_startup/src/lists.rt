@@ -87,7 +87,11 @@ fn read_users_of<F: ReadsFiles>(
     }
 }
 
-fn read_addresses<F: ReadsFiles>(files: &F, path: &Text) -> Result<AddressList, FileFault>
+/// The list of addresses of the file of this path.
+pub(crate) fn read_addresses<F: ReadsFiles>(
+    files: &F,
+    path: &Text,
+) -> Result<AddressList, FileFault>
     ensures { IfOk result (λ list. (bytes : List ℕ) × F.holds files.now path.now bytes × (list_of bytes ≡ Ok list)) }
 {
     let bytes = files.read(path.as_str())?;

@@ -229,7 +229,10 @@ fn play_in(rt: &HostRuntime, station: Station) -> Result<(), Fault>
         settings,
         answers,
         lists,
+        proxies,
     } = station;
+    // A script names each peer itself.
+    drop(proxies);
     let web = web_of(answers);
     let played = play(rt.alloc(), web, settings, lists, &mut reader, &mut writer);
     drop(reader);

@@ -136,7 +136,9 @@ fn serve_in<W: Clock + Threads + Wait + Sync, H: House + Send + Sync>(
         settings,
         answers,
         lists,
+        proxies,
     } = station;
+    drop(proxies);
     let hall: Hall<Unkept, H> = Hall::new(rt.alloc(), settings, lists, blank);
     let service = service_of(again, answers);
     let fault = serve_through(rt, waits, &hall, again, service, listening, log);

@@ -1,6 +1,6 @@
 //! Every key given once and read back, and every default.
 
-use radio_documents::{AnswerSettings, read_answers, read_settings};
+use radio_documents::{AnswerSettings, read_answers, read_proxies, read_settings};
 use radio_settings::{
     Login, MountOptions, RelaySetting, Settings, SlaveSetting, WebPath, WebSettings,
 };
@@ -19,6 +19,7 @@ allow-ip = \"a\"
 address = \"::\"
 port = 1
 workers = 2
+proxy-from = \"pf\"
 [limits]
 clients = 3
 sources = 4
@@ -90,6 +91,8 @@ struct Station {
     origin: &'static [u8],
     paths: [Option<WebPath>; 2],
     answers: AnswerSettings,
+    /// The path of the list of proxies.
+    proxies: &'static str,
     mount: Mount,
     other_mount: Mount,
     relay: [&'static str; 5],
@@ -117,6 +120,7 @@ const EVERY_KEY_SET: Station = Station {
         browser_commands: true,
         log_polls: false,
     },
+    proxies: "pf",
     mount: Mount {
         texts: ["mu", "mp", "/b", "Night", "Talk", "h"],
         numbers: [9, 10, 11, 12],
@@ -151,6 +155,7 @@ const DEFAULTS: Station = Station {
         browser_commands: false,
         log_polls: true,
     },
+    proxies: "-",
     mount: DEFAULT_MOUNT,
     other_mount: DEFAULT_MOUNT,
     relay: ["s", "/e", "/e", "-", "-"],
@@ -365,6 +370,14 @@ fn has_answers(alloc: Global, text: &str, want: &Station) -> bool {
     }
 }
 
+/// Whether a text names the list of proxies that is wanted.
+fn has_proxies(alloc: Global, text: &str, want: &Station) -> bool {
+    match read_proxies(alloc, text) {
+        Ok(path) => or_dash(&path) == want.proxies,
+        Err(_) => false,
+    }
+}
+
 /// Whether a text sets this station.
 fn sets(alloc: Global, text: &str, want: &Station) -> bool {
     let Ok(settings) = read_settings(alloc, text) else {
@@ -372,7 +385,7 @@ fn sets(alloc: Global, text: &str, want: &Station) -> bool {
     };
     let is_wanted = is_station(&settings, want);
     drop(settings);
-    is_wanted && has_answers(alloc, text, want)
+    is_wanted && has_answers(alloc, text, want) && has_proxies(alloc, text, want)
 }
 
 /// Texts, and what they set.

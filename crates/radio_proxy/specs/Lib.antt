@@ -1,0 +1,4 @@
+pub mod Headers
+pub mod Laws
+pub mod Greetings
+pub mod Pending
