@@ -200,7 +200,7 @@ module _ (f g : Heard) (mount : List ℕ) (lost : ℕ → Bool) (rule : Rule) (s
     by_loss true = refl
     by_loss false = refl
 
-  seat_left : (n : ℕ) → seat_of after_losses n ≡ (if lost n then None else seat_of seats n)
+  pub seat_left : (n : ℕ) → seat_of after_losses n ≡ (if lost n then None else seat_of seats n)
   seat_left n = ap seat_in (find_mapped (is_listener n) (ended_where lost rule) (λ x. ended_id x n) seats) ∙ by_found (listener_of seats n) refl where
     no_seat : (seating : Seating) → seat_held (lost_by rule seating) ≡ None
     no_seat (Sits seat) = refl
@@ -245,18 +245,18 @@ module _ (f g : Heard) (mount : List ℕ) (lost : ℕ → Bool) (rule : Rule) (s
               let is : seat.mount ≡ mount = (bytes_eq-Decides seat.mount mount).0 sits in
               ap (λ k. bytes_eq k m) is ∙ apart
 
--- one was detached, and then attached to a mount at a place
-pub record IsAnew (f g : Heard) (id place : ℕ) (mount : List ℕ) : Type 0 where
+-- one was detached, and then attached to a mount at a place; if all parts are here, it is attached nowhere else
+pub record IsAnew (is_whole : Bool) (f g : Heard) (id place : ℕ) (mount : List ℕ) : Type 0 where
   pub others : OthersStay f g id
   pub there : g mount id ≡ Some place
-  pub off : (m : List ℕ) → bytes_eq mount m ≡ false → g m id ≡ None
+  pub off : is_whole ≡ true → (m : List ℕ) → bytes_eq mount m ≡ false → g m id ≡ None
 
-pub attached_anew : (f h g : Heard) (id place : ℕ) (mount : List ℕ) (boxed : Attachment) → boxed ≡ record { id = id; place = place } → OthersStay f h id
-    → ((m : List ℕ) → h m id ≡ None) → OthersStay h g boxed.id → g mount boxed.id ≡ Some boxed.place
-    → ((m : List ℕ) → bytes_eq mount m ≡ false → g m boxed.id ≡ h m boxed.id) → IsAnew f g id place mount
-attached_anew f h g id place mount boxed is stay off more there elsewhere =
+pub attached_anew : (is_whole : Bool) (f h g : Heard) (id place : ℕ) (mount : List ℕ) (boxed : Attachment) → boxed ≡ record { id = id; place = place } → OthersStay f h id
+    → (is_whole ≡ true → (m : List ℕ) → h m id ≡ None) → OthersStay h g boxed.id → g mount boxed.id ≡ Some boxed.place
+    → ((m : List ℕ) → bytes_eq mount m ≡ false → g m boxed.id ≡ h m boxed.id) → IsAnew is_whole f g id place mount
+attached_anew is_whole f h g id place mount boxed is stay off more there elsewhere =
     let same : boxed.id ≡ id = ap (λ (a : Attachment). a.id) is in record {
       others = λ m other apart. subst (λ (n : ℕ). OthersStay h g n) same more m other apart ∙ stay m other apart;
       there = subst (λ (n : ℕ). g mount n ≡ Some boxed.place) same there ∙ ap (λ (a : Attachment). Some a.place) is;
-      off = λ m apart. subst (λ (n : ℕ). g m n ≡ h m n) same (elsewhere m apart) ∙ off m;
+      off = λ whole m apart. subst (λ (n : ℕ). g m n ≡ h m n) same (elsewhere m apart) ∙ off whole m;
     }

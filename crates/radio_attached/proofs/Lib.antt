@@ -4,3 +4,6 @@ pub mod LossLemmas
 pub mod FitsChanges
 pub mod ListenersLemmas
 pub mod Threads
+pub mod PlaceNotes
+pub mod LaggingTurns
+pub mod LentLemmas

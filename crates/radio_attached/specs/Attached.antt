@@ -1,5 +1,5 @@
 -- The table of listeners, and the attachments of each mount.
-use Rattle.std.specs.Prelude.{◌≡◌, ℕ, true, List}
+use Rattle.std.specs.Prelude.{◌≡◌, ℕ, Bool, true, List}
 use Rattle.radio_parts.specs.Sessions.{Session}
 use Rattle.radio_seats.specs.Board.{Board, is_prepared}
 use Rattle.radio_seats.specs.declared.seat.Listener.{Listener}
@@ -19,7 +19,8 @@ pub record Listening : Type 0 where
 abbrev pub listening : ByMount → Board → Listening
 listening parts board = record { prepared = board.prepared; seats = heard (places_in parts.attached) board.seats; live = parts.live }
 
--- a listener can be attached to each prepared mount, and attached to each mount is who sits there, and nobody else
-pub record AreAttached (mounts : List MountAttachments) (board : Board) : Type 0 where
+-- A listener can be attached to each prepared mount. If all parts have been here since they were made, attached to each mount is who sits there, and
+-- nobody else.
+pub record AreAttached (is_whole : Bool) (mounts : List MountAttachments) (board : Board) : Type 0 where
   pub parts : (mount : List ℕ) → is_prepared board.prepared mount ≡ true → has_part mounts mount ≡ true
-  pub fits : Fits (places_in mounts) board.seats
+  pub fits : is_whole ≡ true → Fits (places_in mounts) board.seats

@@ -1,2 +1,3 @@
 pub mod Attached
 pub mod Losses
+pub mod Lent

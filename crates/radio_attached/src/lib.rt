@@ -6,6 +6,7 @@
 //!   sessions. Read [`Listeners::hearing`] first, which returns a [`Hearing`].
 #![tactic(auto)]
 
+mod lent;
 mod listeners;
 mod reading;
 mod sessions;

@@ -1,6 +1,6 @@
 //! The table of listeners, and the attachments of each mount.
 
-ghost use Rattle.std.specs.Prelude.{◌≡◌, ◌||◌, ◌&&◌, ◌==◌, ◌<◌, [], true, not, map, None, Some, OnOk, OnErr, MatchOption};
+ghost use Rattle.std.specs.Prelude.{◌≡◌, ◌||◌, ◌&&◌, ◌==◌, ◌<◌, if◌then◌else◌, [], true, not, map, None, Some, OnOk, OnErr, MatchOption};
 ghost use Rattle.std.specs.Str.{bytes_eq};
 ghost use Rattle.radio_seats.specs.Board.{is_prepared};
 ghost use Rattle.radio_seats.specs.Guests.{passes_in, passes_at};
@@ -34,11 +34,17 @@ use std::marker::Model;
 pub struct Listeners {
     pub(crate) seats: Seats,
     pub(crate) parts: MountParts,
+    /// All parts have been here since they were made: attached to each mount is who sits there.
+    pub(crate) is_whole: bool,
 }
 
 impl Drop for Listeners {
     fn drop(self) {
-        let Listeners { seats, parts } = self;
+        let Listeners {
+            seats,
+            parts,
+            is_whole: _,
+        } = self;
         drop(seats);
         drop(parts);
     }
@@ -51,7 +57,7 @@ impl Model for Listeners {
 
     ghost view = { λ l. listening l.parts l.seats };
 
-    ghost invariant = { λ l. AreAttached l.parts.attached l.seats };
+    ghost invariant = { λ l. AreAttached l.is_whole l.parts.attached l.seats };
 }
 
 impl Listeners {
@@ -62,6 +68,7 @@ impl Listeners {
         Listeners {
             seats: Seats::new(alloc),
             parts: MountParts::new(alloc),
+            is_whole: true,
         }
     }
 
@@ -129,6 +136,7 @@ impl Listeners {
             return;
         };
         self.parts.advance(id, seat.mount, place);
+        note_place(&mut self.seats, self.is_whole, id, place);
     }
 
     /// Sets the place up to which the listener, which sits at this mount, has heard the stream. It
@@ -140,6 +148,7 @@ impl Listeners {
         // the listeners stand in the order of their numbers
         let _ = self.seats.len();
         self.parts.advance(id, mount, place);
+        note_place(&mut self.seats, self.is_whole, id, place);
     }
 
     /// Ends the listener's seat by the rule. Nothing changes if it has none. It takes no memory.
@@ -200,6 +209,10 @@ impl Listeners {
     pub fn end_lagging(&mut self, mount: &MountName, end: u64, queue: u64)
         ensures { self.new ≡ record self.old { seats = with_ended self.old.seats (lags_behind mount.now end queue) RuleOf.Lagged } }
     {
+        if !self.is_whole {
+            self.end_lagging_sitters(mount, end, queue);
+            return;
+        }
         let lagging = self.parts.take_lagging(mount, end, queue);
         end_each(&mut self.seats, lagging);
     }
@@ -215,8 +228,18 @@ impl Listeners {
     }
 }
 
+/// Notes the place with the listener's seat, unless all parts are here: then its attachment has it. It
+/// takes no memory.
+fn note_place(seats: &mut Seats, is_whole: bool, id: u64, place: Place)
+    ensures { seats.new ≡ record seats.old { seats = (if is_whole then seats.old.seats else with_place seats.old.seats id place) } }
+{
+    if !is_whole {
+        seats.advance(id, place);
+    }
+}
+
 /// Ends the seat of each listener that is attached here, because it lags. It takes no memory.
-fn end_each(seats: &mut Seats, lagging: AttachmentTree)
+pub(crate) fn end_each(seats: &mut Seats, lagging: AttachmentTree)
     ensures seats { seats.new ≡ record seats.old { seats = map (ended_where (is_among lagging) RuleOf.Lagged) seats.old.seats } }
     ensures rising { AreByNumber seats.old.seats }
 {

@@ -22,7 +22,7 @@ module _ (before prepared : Listening) (mount : List ℕ)
   pub is_ready : is_prepared prepared.prepared mount ≡ true
   is_ready = more mount ∙ itself (is_prepared before.prepared mount)
 
--- the mounts are prepared that have to be, and the control notes the sessions that there are
+-- the mounts are prepared that have to be, and the registry notes the sessions that there are
 pub session_begins : (settings other : Settings) (rows noted : List LiveMount) (before prepared later : Listening) (session : Session)
     → prepared.seats ≡ before.seats → prepared.live ≡ before.live
     → ((mount : List ℕ) → is_prepared prepared.prepared mount ≡ (is_prepared before.prepared mount || bytes_eq session.mount mount))

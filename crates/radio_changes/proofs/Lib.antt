@@ -5,3 +5,4 @@ pub mod PartChanges
 mod PreparedSeats
 mod SilentLemmas
 pub mod Threads
+pub mod LentState

@@ -1,12 +1,12 @@
 -- The state may go to another thread.
 use denote.Param.Send.{IsSend, sendable, view_send}
-use Rattle.radio_house.proofs.control.Control.TheSendSync as control
+use Rattle.radio_house.proofs.registry.Registry.TheSendSync as registry
 use Rattle.radio_attached.proofs.Threads.{declared_send, listeners_send}
 use Rattle.radio_changes.specs.contracts.state.State as state
 use Rattle.radio_changes.specs.contracts.timed_state.TimedState as timed
 
 state_send : IsSend state.the_row
-state_send = view_send _ _ _ _ _ (declared_send state.TheInside.the_type (search sendable depth 8, (control.the_send, (listeners_send, tt))))
+state_send = view_send _ _ _ _ _ (declared_send state.TheInside.the_type (search sendable depth 8, (registry.the_send, (listeners_send, tt))))
 
 pub timed_state_send : IsSend timed.the_row
 timed_state_send = search (sendable, state_send) depth 8

@@ -3,3 +3,4 @@ pub mod Changes
 pub mod Counts
 pub mod Due
 pub mod KeptChanges
+pub mod Lent

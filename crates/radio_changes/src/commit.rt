@@ -29,7 +29,7 @@ impl State {
     {
         match change {
             Change::Admit { id, peer } => {
-                self.control.admit(id, peer)?;
+                self.registry.admit(id, peer)?;
                 Ok(NOBODY)
             }
             Change::Begin { id, mount, shown } => self.begin(id, mount, shown),
@@ -88,7 +88,7 @@ impl State {
     pub(crate) fn answer(&mut self, id: u64)
         ensures { self.new ≡ answered self.old id }
     {
-        self.control.set_state(id, ClientState::Answered);
+        self.registry.set_state(id, ClientState::Answered);
     }
 
     /// The listener has heard his stream up to this place. It takes no memory.
@@ -121,8 +121,8 @@ impl State {
         ensures counts { IfOk result (λ counts. counts ≡ nobody) }
         ensures err { OnErr result (self.new ≡ self.old) }
     {
-        let moment = self.control.time();
-        let limit = self.control.settings().limits.queue_size.get() as u64;
+        let moment = self.registry.time();
+        let limit = self.registry.settings().limits.queue_size.get() as u64;
         let end = self.listeners.receive(&mount, &block, moment, limit)?;
         self.end_laggards(&mount, end);
         Ok(NOBODY)
@@ -133,7 +133,7 @@ impl State {
     fn end_laggards(&mut self, mount: &MountName, end: u64)
         ensures { self.new ≡ record self.old { seats = with_ended self.old.seats (lags_behind mount.now end self.old.house.settings.limits.queue_size) Rule.Lagged } }
     {
-        let queue = self.control.settings().limits.queue_size.get() as u64;
+        let queue = self.registry.settings().limits.queue_size.get() as u64;
         self.listeners.end_lagging(mount, end, queue);
     }
 
@@ -143,10 +143,10 @@ impl State {
         ensures counts { IfOk result (λ counts. counts ≡ nobody) }
         ensures err { OnErr result (self.new ≡ self.old) }
     {
-        self.control
+        self.registry
             .prepare_to_seat(&mut self.listeners, &seat.mount)?;
         self.listeners.add(self.alloc, id, seat)?;
-        self.control.set_state(id, ClientState::Listens);
+        self.registry.set_state(id, ClientState::Listens);
         Ok(NOBODY)
     }
 
@@ -159,7 +159,7 @@ impl State {
     {
         self.listeners.prepare(&mount)?;
         match self
-            .control
+            .registry
             .begin(&mut self.listeners, self.alloc, id, mount, shown)
         {
             Ok(()) => Ok(self.open_session(mount, id)),
@@ -180,7 +180,7 @@ impl State {
     {
         self.listeners.prepare(&mount)?;
         match self
-            .control
+            .registry
             .raise(&mut self.listeners, self.alloc, id, mount, shown)
         {
             Ok(()) => Ok(self.open_session(mount, id)),
@@ -196,7 +196,7 @@ impl State {
     fn release_idle(&mut self, mount: &MountName)
         ensures { self.new ≡ self.old }
     {
-        if !self.control.can_be_heard(mount) {
+        if !self.registry.can_be_heard(mount) {
             self.listeners.release(mount);
         }
     }
@@ -220,7 +220,7 @@ impl State {
         if self.listeners.len() == 0 {
             return NOBODY;
         }
-        self.listeners.carry_along(&self.control, moving)
+        self.listeners.carry_along(&self.registry, moving)
     }
 
     /// Where the mount calls its listeners home, those come who had asked for it and sit elsewhere.
@@ -229,7 +229,7 @@ impl State {
         ensures state { self.new ≡ called_home self.old mount }
         ensures counts { result ≡ counts_home self.old mount }
     {
-        let options = self.control.settings().options(&mount);
+        let options = self.registry.settings().options(&mount);
         if options.listeners.fallback_override {
             self.carry_along(&Move::Up(mount))
         } else {
@@ -244,7 +244,7 @@ impl State {
         ensures counts { result ≡ counts_ended self.old mount }
     {
         self.listeners.close(&mount);
-        self.control.end_session(&mount);
+        self.registry.end_session(&mount);
         let counts = self.carry_along(&Move::Ended(mount));
         self.release_idle(&mount);
         counts
@@ -256,7 +256,7 @@ impl State {
     {
         let mount = self.last_mount(id).copied();
         self.listeners.remove(id);
-        self.control.forget(id);
+        self.registry.forget(id);
         if let Some(mount) = mount {
             self.release_idle(&mount);
         }

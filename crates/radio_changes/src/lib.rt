@@ -1,7 +1,7 @@
 //! The server's state, and what can be changed in it.
 //!
 //! - [`Change`]: what an event can change.
-//! - [`TimedState`]: what is kept of all mounts together (`Control` of `radio_house`), and the listeners
+//! - [`TimedState`]: what is kept of all mounts together (`Registry` of `radio_house`), and the listeners
 //!   with the parts of the mounts (`Listeners` of `radio_attached`). They are looked at by
 //!   [`TimedState::house`], which is all but the listeners, and [`TimedState::seats`];
 //!   [`TimedState::commit`] makes a change, whole or not at all.
@@ -11,6 +11,7 @@
 
 mod change;
 mod commit;
+mod lent;
 mod obey;
 mod state;
 mod tick;

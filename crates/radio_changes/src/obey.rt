@@ -26,7 +26,7 @@ impl State {
     {
         match command {
             Command::SetFallback { mount, fallback } => {
-                self.control.set_fallback(mount, fallback)?;
+                self.registry.set_fallback(mount, fallback)?;
                 self.answer(id);
                 Ok(NOBODY)
             }
@@ -103,6 +103,6 @@ impl State {
         };
         let number = session.number;
         let _counts = self.end_session(mount);
-        self.control.finish(number, Rule::SourceKilled);
+        self.registry.finish(number, Rule::SourceKilled);
     }
 }

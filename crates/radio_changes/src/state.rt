@@ -1,4 +1,4 @@
-//! Control, listeners and parts, which are all of the server's state.
+//! Registry, listeners and parts, which are all of the server's state.
 
 ghost use Rattle.std.specs.Prelude.{◌≡◌};
 ghost use Rattle.std.specs.Option.{option_copied};
@@ -7,7 +7,7 @@ ghost use Rattle.radio_house.specs.World.{opening};
 
 use radio_access::Lists;
 use radio_attached::Listeners;
-use radio_house::{Control, House};
+use radio_house::{House, Registry};
 use radio_settings::Settings;
 use radio_values::MountName;
 use std::alloc::Global;
@@ -16,10 +16,10 @@ use std::marker::Model;
 /// All of the server's state: what is kept of all mounts together, the listeners, and the parts of the
 /// mounts with their sessions. Contracts see it as a `World` in which of each stream the last blocks
 /// are kept. Each live mount is prepared for listeners, and as long as there are some, so is each that
-/// waits for a session. The control notes of each session its mount and its number.
+/// waits for a session. The registry notes of each session its mount and its number.
 pub(crate) struct State {
     pub(crate) alloc: Global,
-    pub(crate) control: Control,
+    pub(crate) registry: Registry,
     /// The listeners, with the parts of the mounts.
     pub(crate) listeners: Listeners,
 }
@@ -28,16 +28,16 @@ impl Drop for State {
     fn drop(self) {
         let State {
             alloc: _,
-            control,
+            registry,
             listeners,
         } = self;
-        drop(control);
+        drop(registry);
         drop(listeners);
     }
 }
 
 impl Model for State {
-    ghost use Rattle.radio_house.specs.Control.{house_of};
+    ghost use Rattle.radio_house.specs.Registry.{house_of};
     ghost use Rattle.radio_house.specs.Live.{AreLive};
     ghost use Rattle.radio_house.specs.World.{World, world};
     ghost use Rattle.radio_parts.specs.Prepared.{LiveArePrepared};
@@ -49,9 +49,9 @@ impl Model for State {
 
     ghost coded = { Prim.hlevel (codes, creds_users.the_row.coded) };
 
-    ghost view = { λ c. world (house_of c.control c.listeners.live) c.listeners.seats };
+    ghost view = { λ c. world (house_of c.registry c.listeners.live) c.listeners.seats };
 
-    ghost invariant = { λ c. (LiveArePrepared c.listeners.live c.listeners.prepared × OnDemandArePrepared c.control.settings c.listeners) × AreLive c.control.live c.listeners.live };
+    ghost invariant = { λ c. (LiveArePrepared c.listeners.live c.listeners.prepared × OnDemandArePrepared c.registry.settings c.listeners) × AreLive c.registry.live c.listeners.live };
 }
 
 impl State {
@@ -61,7 +61,7 @@ impl State {
     {
         State {
             alloc,
-            control: Control::new(alloc, settings, lists),
+            registry: Registry::new(alloc, settings, lists),
             listeners: Listeners::new(alloc),
         }
     }
@@ -70,7 +70,7 @@ impl State {
     pub(crate) fn house(&self) -> House<'_>
         ensures { result ≡ self.now.house }
     {
-        House::of(&self.control, self.listeners.parts())
+        House::of(&self.registry, self.listeners.parts())
     }
 
     /// The mount where the listener of this number sits, or sat last; none where there is no such

@@ -14,7 +14,7 @@ impl State {
     pub(crate) fn tick(&mut self, ms: u64)
         ensures { self.new ≡ ticked self.old ms }
     {
-        self.control.time_out(ms);
+        self.registry.time_out(ms);
         self.end_durations();
         self.end_silent();
     }
@@ -23,8 +23,8 @@ impl State {
     fn end_durations(&mut self)
         ensures { self.new ≡ durations_over self.old }
     {
-        let settings = self.control.settings();
-        let now = self.control.time();
+        let settings = self.registry.settings();
+        let now = self.registry.time();
         self.listeners
             .finish_if(&HasSatOut { settings, now }, Rule::TimeOver);
     }
@@ -37,7 +37,7 @@ impl State {
             let mount = *session.mount.get();
             let number = session.number;
             let _counts = self.end_session(mount);
-            self.control.finish(number, Rule::SourceSilent);
+            self.registry.finish(number, Rule::SourceSilent);
         }
     }
 }

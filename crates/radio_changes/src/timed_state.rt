@@ -1,12 +1,13 @@
 //! The state, with a moment before which a clock ends nobody.
 
-ghost use Rattle.std.specs.Prelude.{◌≡◌, true, IsOk, IfOk, OnOk, OnErr};
+ghost use Rattle.std.specs.Prelude.{◌≡◌, true, Err, IsOk, IfOk, OnOk, OnErr};
 ghost use Rattle.radio_seats.specs.Seats.{sits_at};
 ghost use Rattle.radio_changes.specs.Changes.{ticked, NeedsNoMemory};
 ghost use Rattle.radio_changes.specs.Counts.{counted};
 ghost use Rattle.radio_changes.specs.Due.{at_moment, due_by};
 ghost use Rattle.radio_house.specs.Due.{first_due};
 ghost use Rattle.radio_changes.specs.KeptChanges.{kept_changed};
+ghost use Rattle.radio_changes.specs.Lent.{IsLentTo};
 ghost use Rattle.radio_house.specs.World.{opening};
 
 use crate::OutOfMemory;
@@ -18,6 +19,7 @@ use radio_attached::Listeners;
 use radio_blocks::Place;
 use radio_fallback::Carried;
 use radio_house::House;
+use radio_mounts::MountPart;
 use radio_parts::{LAST_MOMENT, due_at, seat_due};
 use radio_settings::Settings;
 use radio_values::MountName;
@@ -106,6 +108,18 @@ impl TimedState {
         self.state.advance_at(mount, id, place);
     }
 
+    /// Puts the part in the place of its mount's, which it returns. Whoever has lagged out there, and
+    /// still has its seat, loses it. `Err` has the part itself, and nothing has changed, if the two
+    /// have no sessions of one source. It takes no memory.
+    pub fn exchange(&mut self, part: MountPart) -> Result<MountPart, MountPart>
+        ensures ok { IfOk result (λ there. IsLentTo part there self.old self.new) }
+        ensures back { OnErr result (result ≡ Err part) }
+        ensures err { OnErr result (self.new ≡ self.old) }
+    {
+        self.due_from = self.due_from.min(self.state.part_due(&part));
+        self.state.exchange(part)
+    }
+
     /// Makes a change, and notes when what it brings is due; answers how many listeners it has moved
     /// and finished. `OutOfMemory` where memory was refused; nothing has changed then.
     fn commit_noting_due(&mut self, change: Change) -> Result<Carried, OutOfMemory>
@@ -136,20 +150,20 @@ impl State {
     fn set_time(&mut self, ms: u64)
         ensures { self.new ≡ at_moment self.old ms }
     {
-        self.control.set_time(ms);
+        self.registry.set_time(ms);
     }
 
     /// When what the change brings is due.
     fn due_by(&self, change: &Change) -> u64
         ensures { result ≡ due_by self.now change.now }
     {
-        let limits = &self.control.settings().limits;
+        let limits = &self.registry.settings().limits;
         match change {
-            Change::Admit { .. } => due_at(limits.header_timeout.get(), self.control.time()),
+            Change::Admit { .. } => due_at(limits.header_timeout.get(), self.registry.time()),
             Change::Begin { .. } | Change::Raise { .. } | Change::Receive { .. } => {
-                due_at(limits.source_timeout.get(), self.control.time())
+                due_at(limits.source_timeout.get(), self.registry.time())
             }
-            Change::TakeSeat { seat, .. } => seat_due(self.control.settings(), seat),
+            Change::TakeSeat { seat, .. } => seat_due(self.registry.settings(), seat),
             _ => LAST_MOMENT,
         }
     }

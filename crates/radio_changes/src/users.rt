@@ -23,7 +23,7 @@ impl State {
         ensures counts { IfOk result (λ counts. counts ≡ counts_out (user_added self.old mount.now user.now password.now) mount.now) }
         ensures err { OnErr result (self.new ≡ self.old) }
     {
-        self.control.add_user(self.alloc, mount, user, password)?;
+        self.registry.add_user(self.alloc, mount, user, password)?;
         Ok(self.end_outsiders(mount))
     }
 
@@ -33,7 +33,7 @@ impl State {
         ensures state { self.new ≡ outsiders_ended (user_deleted self.old mount.now user.now) mount.now }
         ensures counts { result ≡ counts_out (user_deleted self.old mount.now user.now) mount.now }
     {
-        self.control.delete_user(mount, user);
+        self.registry.delete_user(mount, user);
         self.end_outsiders(mount)
     }
 
@@ -44,7 +44,7 @@ impl State {
     {
         Carried {
             moved: 0,
-            ended: self.control.end_outsiders(&mut self.listeners, mount),
+            ended: self.registry.end_outsiders(&mut self.listeners, mount),
         }
     }
 }

@@ -13,6 +13,7 @@ mod KeptSteps
 mod LentState
 pub mod DrawLemmas
 mod SeatedDraws
+mod CanSteps
 pub mod ChangedUsers
 pub mod ListsSteps
 pub mod Obeyed

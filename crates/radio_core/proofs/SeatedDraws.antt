@@ -10,19 +10,17 @@ use Rattle.radio_house.specs.declared.standing.Standing.TheVariants.{Unknown, Un
 use Rattle.radio_changes.specs.declared.change.Change.TheVariants.{Nothing}
 use Rattle.radio_core.specs.Draw.{hands_out, draws}
 use Rattle.radio_core.specs.Outcomes.{if_sitting, out_of_place}
-use Rattle.radio_core.specs.Step.{StandsForSome}
 use Rattle.radio_core.proofs.DrawLemmas.{hands_out_at, draws_so}
-use Rattle.radio_core.proofs.StepLemmas.{seat_sits}
 
 -- one who has a seat is handed what stands at it
 draws_at : (s : Standing) (found : Option Seat) (house : House) (id room : ℕ) (seat : Seat) → s ≡ Sits → found ≡ Some seat
     → if_sitting s (hands_out_at house id room found) ≡ hands_out id seat room (heard_at house seat.mount)
 draws_at s found house id room seat sits has = rw (sits, has) refl
 
-pub draws_seated : (w : World) → StandsForSome w → (id room : ℕ) (seat : Seat) → seat_of w.seats id ≡ Some seat
+pub draws_seated : (w : World) (id room : ℕ) (seat : Seat) → standing_of w id ≡ Sits → seat_of w.seats id ≡ Some seat
     → draws w id room ≡ hands_out id seat room (heard_at w.house seat.mount)
-draws_seated w stands id room seat has =
-    draws_so w id room ∙ draws_at (standing_of w id) (seat_of w.seats id) w.house id room seat (seat_sits w stands id seat has) has
+draws_seated w id room seat sits has =
+    draws_so w id room ∙ draws_at (standing_of w id) (seat_of w.seats id) w.house id room seat sits has
 
 -- one who has none is out of place
 draws_by : (s : Standing) (house : House) (id room : ℕ) → if_sitting s (hands_out_at house id room None) ≡ out_of_place s

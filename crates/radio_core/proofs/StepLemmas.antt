@@ -191,3 +191,14 @@ module _ (now later : World) (event : Event) (o : Outcome) (is_planned : o ≡ p
 
   pub small_change : TakesNoMemory event → NeedsNoMemory o.change
   small_change small = subst (λ (x : Outcome). NeedsNoMemory x.change) (sym is_planned) (small_outcome now event small).1
+
+-- what is told of a plan is the reply
+pub told_by_plan : (w : World) (event : Event) → with_counts (planned w event).reply (counted w (planned w event).change) ≡ reply_to w event
+unfolding reply_to
+told_by_plan w event = is_told w w event (planned w event) refl
+
+-- and a core replies as the state for which it stands
+pub replies_alike : (core w : World) → Represents core w → (event : Event) → reply_to core event ≡ reply_to w event
+unfolding Represents reply_to
+replies_alike core w stands event =
+    ap (λ (o : Outcome). o.reply) (ap (λ (x : World). outcome x event) stands.shows ∙ outcome_kept w stands.rise stands.kept event)

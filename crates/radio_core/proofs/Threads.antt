@@ -2,11 +2,11 @@
 use denote.Param.Send.{IsSend, sendable, view_send}
 use Rattle.radio_attached.proofs.Threads.{declared_send}
 use Rattle.radio_changes.proofs.Threads.{timed_state_send}
-use Rattle.radio_core.specs.contracts.server.state.State as state
+use Rattle.radio_core.specs.contracts.server.control.Control as control
 use Rattle.radio_core.specs.contracts.server.Core as core
 
-state_send : IsSend state.the_row
-state_send = view_send _ _ _ _ _ (declared_send state.TheInside.the_type (search sendable depth 8, (timed_state_send, tt)))
+control_send : IsSend control.the_row
+control_send = view_send _ _ _ _ _ (declared_send control.TheInside.the_type (search sendable depth 8, (timed_state_send, tt)))
 
 pub core_send : IsSend core.the_row
-core_send = view_send _ _ _ _ _ (declared_send core.TheInside.the_type (state_send, tt))
+core_send = view_send _ _ _ _ _ (declared_send core.TheInside.the_type (control_send, tt))

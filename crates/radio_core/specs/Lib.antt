@@ -1,4 +1,6 @@
 pub mod Closing
+pub mod CanStep
+pub mod Lending
 pub mod Outcomes
 pub mod Pages
 pub mod Arrive

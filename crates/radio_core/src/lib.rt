@@ -2,6 +2,7 @@
 //!
 //! - [`Core`]: the state; [`Core::step`] is one event (`radio_events`). It is a
 //!   [`Server`](radio_events::Server).
+//! - [`Control`]: the same over the parts that it is lent, each by [`Control::exchange`].
 //! - [`clients_stand_by_their_events`] and the other functions of `laws`: what an event can do to
 //!   one client, one seat and one session, in every run. The laws of every run stand on them
 //!   (`radio_laws`).
@@ -24,7 +25,7 @@ pub use laws::{
 };
 pub use outcome::Outcome;
 pub use radio_changes::Change;
-pub use server::Core;
+pub use server::{Control, Core};
 pub use totals::clients_and_seats_add_up;
 
 /// What a call answers where memory was refused. Nothing has changed then, unless it is said.

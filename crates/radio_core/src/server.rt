@@ -13,39 +13,40 @@ ghost use Rattle.radio_events.specs.Events.{TakesNoMemory};
 
 use crate::OutOfMemory;
 use crate::outcome::Outcome;
+pub use control::Control;
 use radio_access::Lists;
 use radio_events::{Event, Reply, Server};
 use radio_settings::Settings;
 use radio_values::MountName;
-use state::State;
 use std::alloc::Global;
 use std::marker::Model;
 
 mod arrive;
 mod clock;
 mod command;
+mod control;
 mod draw;
 mod leave;
+mod lending;
 mod listen;
 mod pages;
 mod push;
 mod relay;
 mod source;
 mod source_end;
-mod state;
 mod telling;
 mod title;
 
 /// The server's state, seen as a `World` in which of each stream the last blocks are kept. There is
 /// always a state of a server that keeps whole streams for which it stands.
 pub struct Core {
-    state: State,
+    control: Control,
 }
 
 impl Drop for Core {
     fn drop(self) {
-        let Core { state } = self;
-        drop(state);
+        let Core { control } = self;
+        drop(control);
     }
 }
 
@@ -59,9 +60,9 @@ impl Model for Core {
 
     ghost coded = { Prim.hlevel (codes, creds_users.the_row.coded) };
 
-    ghost view = { λ c. c.state };
+    ghost view = { λ c. c.control };
 
-    ghost invariant = { λ c. StandsForSome c.state };
+    ghost invariant = { λ c. StandsForSome c.control };
 }
 
 impl Core {
@@ -72,7 +73,7 @@ impl Core {
         ensures { Represents result (opening settings lists) }
     {
         Core {
-            state: State::new(alloc, settings, lists),
+            control: Control::new(alloc, settings, lists),
         }
     }
 
@@ -80,7 +81,7 @@ impl Core {
     pub fn stands(&self)
         ensures { StandsForSome self.now }
     {
-        let _ = &self.state;
+        let _ = &self.control;
     }
 
     /// The settings that it was given.
@@ -88,7 +89,7 @@ impl Core {
         // they are those of whatever state it stands for
         ensures { (w : World) → Represents self.now w → result.now ≡ w.house.settings }
     {
-        self.state.settings()
+        self.control.settings()
     }
 
     /// The mounts where somebody sits, which relays feed on demand, in the order of their bytes.
@@ -97,7 +98,7 @@ impl Core {
         // they are those of whatever state it stands for
         ensures { (w : World) → Represents self.now w → IfOk result (λ mounts. mounts.items ≡ wanted w) }
     {
-        self.state.wanted()
+        self.control.wanted()
     }
 
     /// The mount where the listener of this number sits, or sat last if he has finished; none where
@@ -106,7 +107,7 @@ impl Core {
         // it is that of whatever state it stands for
         ensures { (w : World) → Represents self.now w → option_copied result ≡ last_mount_of w.seats id }
     {
-        self.state.last_mount(id)
+        self.control.last_mount(id)
     }
 
     /// One event. `OutOfMemory` where memory was refused; nothing has changed then.
@@ -117,7 +118,7 @@ impl Core {
         ensures frees { TakesNoMemory event → IsOk result }
         ensures err { OnErr result (self.new ≡ self.old) }
     {
-        self.state.step(event)
+        self.control.step(event)
     }
 
     /// One event, with its reply three times, as a record of it, its client and its caller keep it.
@@ -131,9 +132,9 @@ impl Core {
         ensures frees { TakesNoMemory event → IsOk result }
         ensures err { OnErr result (self.new ≡ self.old) }
     {
-        let Outcome { reply, change } = self.state.outcome(event)?;
+        let Outcome { reply, change } = self.control.outcome(event)?;
         match thrice(reply) {
-            Ok(replies) => self.state.commit_for_each(change, replies),
+            Ok(replies) => self.control.commit_for_each(change, replies),
             Err(refused) => {
                 drop(change);
                 Err(refused)

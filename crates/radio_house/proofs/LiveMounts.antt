@@ -1,4 +1,4 @@
--- what the control notes of the live mounts says of their sessions
+-- what the registry notes of the live mounts says of their sessions
 use Rattle.std.proofs.Common.{◌≡◌, Bool, true, false, ℕ, Option, Some, None, List, [], ◌∷◌, refl, ap, sym, ◌∙◌}
 use Rattle.std.specs.Prelude.{◌||◌, find, filter, map, not, is_some, if◌then◌else◌}
 use Rattle.std.specs.Option.{option_map, option_map_or, option_or}
@@ -12,75 +12,75 @@ use Rattle.radio_parts.specs.Parts.{ends_in}
 use Rattle.radio_parts.specs.Sessions.{Session, by_mount, is_of, session_of, with_session, without_session}
 use Rattle.radio_seats.proofs.Lists.{map_filtered, map_found, map_placed}
 use Rattle.radio_house.specs.declared.live.LiveMount.{LiveMount}
-use Rattle.radio_house.specs.Control.{Control, house_of}
+use Rattle.radio_house.specs.Registry.{Registry, house_of}
 use Rattle.radio_house.specs.Facts.{fallback_of, live_end, live_number, sight_of}
 use Rattle.radio_house.specs.House.{House}
 use Rattle.radio_house.specs.Live.{AreLive, bare_house, bare_session, is_live_mount, live_by_name, live_mount, sight_in, with_live, without_live}
 use Rattle.radio_house.specs.Waiting.{heard_at, is_on_demand, silence_at, silence_of}
 
--- what the control knows of a mount
-module _ (control : Control) (mount : List ℕ) where
-  bare_found : session_of (map bare_session control.live) mount ≡ option_map bare_session (find (is_live_mount mount) control.live)
-  bare_found = map_found bare_session (is_live_mount mount) (is_of mount) (λ row. refl) control.live
+-- what the registry knows of a mount
+module _ (registry : Registry) (mount : List ℕ) where
+  bare_found : session_of (map bare_session registry.live) mount ≡ option_map bare_session (find (is_live_mount mount) registry.live)
+  bare_found = map_found bare_session (is_live_mount mount) (is_of mount) (λ row. refl) registry.live
 
   abbrev heard_if : Option Session → Bool
-  heard_if found = is_some (option_or found (silence_of (bare_house control) mount))
+  heard_if found = is_some (option_or found (silence_of (bare_house registry) mount))
 
-  silent_if : (b : Bool) → is_some (if b then Some (silence_at (bare_house control) mount) else None) ≡ b
+  silent_if : (b : Bool) → is_some (if b then Some (silence_at (bare_house registry) mount) else None) ≡ b
   silent_if true = refl
   silent_if false = refl
 
-  pub heard_known : (found : Option LiveMount) → find (is_live_mount mount) control.live ≡ found
-      → is_some (heard_at (bare_house control) mount) ≡ (is_some found || is_on_demand control.settings mount)
+  pub heard_known : (found : Option LiveMount) → find (is_live_mount mount) registry.live ≡ found
+      → is_some (heard_at (bare_house registry) mount) ≡ (is_some found || is_on_demand registry.settings mount)
   heard_known found e = ap heard_if (bare_found ∙ ap (option_map bare_session) e) ∙ by_found found where
-    by_found : (x : Option LiveMount) → heard_if (option_map bare_session x) ≡ (is_some x || is_on_demand control.settings mount)
-    by_found None = silent_if (is_on_demand control.settings mount)
+    by_found : (x : Option LiveMount) → heard_if (option_map bare_session x) ≡ (is_some x || is_on_demand registry.settings mount)
+    by_found None = silent_if (is_on_demand registry.settings mount)
     by_found (Some row) = refl
 
   abbrev number_in : Option Session → ℕ
   number_in found = option_map_or (λ (session : Session). session.number) found 0
 
-  pub number_known : (found : Option LiveMount) → find (is_live_mount mount) control.live ≡ found
-      → live_number (bare_house control) mount ≡ option_map_or (λ (row : LiveMount). row.number) found 0
+  pub number_known : (found : Option LiveMount) → find (is_live_mount mount) registry.live ≡ found
+      → live_number (bare_house registry) mount ≡ option_map_or (λ (row : LiveMount). row.number) found 0
   number_known found e = ap number_in (bare_found ∙ ap (option_map bare_session) e) ∙ by_found found where
     by_found : (x : Option LiveMount) → number_in (option_map bare_session x) ≡ option_map_or (λ (row : LiveMount). row.number) x 0
     by_found None = refl
     by_found (Some row) = refl
 
 -- it is what the sessions say
-module _ (control : Control) (live : List Session) (are : AreLive control.live live) where
+module _ (registry : Registry) (live : List Session) (are : AreLive registry.live live) where
   module _ (mount : List ℕ) where
-    known : session_of (map bare_session control.live) mount ≡ option_map bare_session (option_map live_mount (session_of live mount))
+    known : session_of (map bare_session registry.live) mount ≡ option_map bare_session (option_map live_mount (session_of live mount))
     known =
-        bare_found control mount
+        bare_found registry mount
         ∙ ap (λ (rows : List LiveMount). option_map bare_session (find (is_live_mount mount) rows)) are
         ∙ ap (option_map bare_session) (map_found live_mount (is_of mount) (is_live_mount mount) (λ session. refl) live)
 
-    pub heard_alike : is_some (heard_at (bare_house control) mount) ≡ is_some (heard_at (house_of control live) mount)
-    heard_alike = ap (heard_if control mount) known ∙ by_found (session_of live mount) where
-      by_found : (found : Option Session) → heard_if control mount (option_map bare_session (option_map live_mount found)) ≡ heard_if control mount found
+    pub heard_alike : is_some (heard_at (bare_house registry) mount) ≡ is_some (heard_at (house_of registry live) mount)
+    heard_alike = ap (heard_if registry mount) known ∙ by_found (session_of live mount) where
+      by_found : (found : Option Session) → heard_if registry mount (option_map bare_session (option_map live_mount found)) ≡ heard_if registry mount found
       by_found None = refl
       by_found (Some session) = refl
 
-    number_alike : live_number (bare_house control) mount ≡ live_number (house_of control live) mount
-    number_alike = ap (number_in control mount) known ∙ by_found (session_of live mount) where
-      by_found : (found : Option Session) → number_in control mount (option_map bare_session (option_map live_mount found)) ≡ number_in control mount found
+    number_alike : live_number (bare_house registry) mount ≡ live_number (house_of registry live) mount
+    number_alike = ap (number_in registry mount) known ∙ by_found (session_of live mount) where
+      by_found : (found : Option Session) → number_in registry mount (option_map bare_session (option_map live_mount found)) ≡ number_in registry mount found
       by_found None = refl
       by_found (Some session) = refl
 
   -- so a walk sees the same
-  pub same_sight : with_ends (sight_in control) (ends_in live) ≡ sight_of (house_of control live)
+  pub same_sight : with_ends (sight_in registry) (ends_in live) ≡ sight_of (house_of registry live)
   same_sight =
-      ap (λ (is_live : List ℕ → Bool). sight is_live (live_number (bare_house control))) (fun_ext heard_alike)
-      ∙ ap (sight (λ mount. is_some (heard_at (house_of control live) mount))) (fun_ext number_alike) where
+      ap (λ (is_live : List ℕ → Bool). sight is_live (live_number (bare_house registry))) (fun_ext heard_alike)
+      ∙ ap (sight (λ mount. is_some (heard_at (house_of registry live) mount))) (fun_ext number_alike) where
         sight : (List ℕ → Bool) → (List ℕ → ℕ) → Sight
         sight is_live number = record {
           is_live = is_live;
-          limit = λ mount. (options_for control.settings mount).listeners.max_listeners;
-          lets_in = lets_in control.lists;
-          allows_duplicates = λ mount. (options_for control.settings mount).users.allow_duplicate_users;
-          fallback = fallback_of (house_of control live);
-          hands_on_when_full = λ mount. (options_for control.settings mount).listeners.fallback_when_full;
+          limit = λ mount. (options_for registry.settings mount).listeners.max_listeners;
+          lets_in = lets_in registry.lists;
+          allows_duplicates = λ mount. (options_for registry.settings mount).users.allow_duplicate_users;
+          fallback = fallback_of (house_of registry live);
+          hands_on_when_full = λ mount. (options_for registry.settings mount).listeners.fallback_when_full;
           stream_end = λ mount. record { session = number mount; place = ends_in live mount };
         }
 

@@ -2,7 +2,7 @@ pub mod Clients
 pub mod Relays
 pub mod Fallbacks
 pub mod House
-pub mod Control
+pub mod Registry
 pub mod World
 pub mod Streams
 pub mod Waiting

@@ -1,4 +1,4 @@
--- Which mounts are live, and who feeds them, as the control notes it next to the sessions.
+-- Which mounts are live, and who feeds them, as the registry notes it next to the sessions.
 use Rattle.std.specs.Prelude.{◌≡◌, ℕ, Bool, List, map, filter, not}
 use Rattle.std.specs.declared.cmp.Ordering.{Ordering}
 use Rattle.std.specs.Cmp.Lexicographic.{slice_cmp}
@@ -8,7 +8,7 @@ use Rattle.radio_tables.specs.Lists.{placed}
 use Rattle.radio_parts.specs.Sessions.{Session, opened}
 use Rattle.radio_fallback.specs.Walk.{Sight}
 use Rattle.radio_house.specs.declared.live.LiveMount.{LiveMount}
-use Rattle.radio_house.specs.Control.{Control, house_of}
+use Rattle.radio_house.specs.Registry.{Registry, house_of}
 use Rattle.radio_house.specs.Facts.{sight_of}
 use Rattle.radio_house.specs.House.{House}
 use Rattle.radio_house.specs.Waiting.{shown_by_nobody}
@@ -40,10 +40,10 @@ AreLive rows live = rows ≡ map live_mount live
 abbrev pub bare_session : LiveMount → Session
 bare_session row = opened row.mount row.number shown_by_nobody 0
 
--- the house as far as the control knows it: of each session its mount and its number
-abbrev pub bare_house : Control → House
-bare_house control = house_of control (map bare_session control.live)
+-- the house as far as the registry knows it: of each session its mount and its number
+abbrev pub bare_house : Registry → House
+bare_house registry = house_of registry (map bare_session registry.live)
 
--- what a walk sees of the control
-abbrev pub sight_in : Control → Sight
-sight_in control = sight_of (bare_house control)
+-- what a walk sees of the registry
+abbrev pub sight_in : Registry → Sight
+sight_in registry = sight_of (bare_house registry)

@@ -1,4 +1,4 @@
-//! What can be changed in the control, and in the sessions with it, one change by each call.
+//! What can be changed in the registry, and in the sessions with it, one change by each call.
 
 ghost use Rattle.std.specs.Prelude.{◌≡◌, true, map, OnOk, OnErr};
 ghost use Rattle.std.specs.Option.{option_map};
@@ -14,9 +14,9 @@ ghost use Rattle.radio_house.specs.declared.clients.ClientState.TheVariants.{End
 
 use crate::OutOfMemory;
 use crate::clients::{Client, ClientState, SetState};
-use crate::control::Control;
 use crate::fallbacks::Fallback;
 use crate::live::LiveMount;
+use crate::registry::Registry;
 use crate::relays::{Relay, RelayState, SetRelayState};
 use crate::timeouts::TimesOut;
 use radio_addr::Peer;
@@ -27,7 +27,7 @@ use radio_tables::Table;
 use radio_values::{MountName, Shown};
 use std::alloc::Global;
 
-impl Control {
+impl Registry {
     /// The client of this number does something else from now on. It takes no memory.
     pub fn set_state(&mut self, id: u64, state: ClientState)
         ensures { self.new ≡ record self.old { clients = in_state self.old.clients id state } }

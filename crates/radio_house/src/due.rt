@@ -7,8 +7,8 @@ ghost use Rattle.radio_house.specs.Due.{client_due, first_due};
 ghost use Rattle.radio_house.specs.World.{world};
 
 use crate::clients::{Client, ClientState};
-use crate::control::Control;
 use crate::house::House;
+use crate::registry::Registry;
 use radio_attached::Listeners;
 use radio_parts::{GuestDue, LAST_MOMENT, due_at};
 
@@ -20,12 +20,12 @@ impl House<'_> {
     {
         let seconds = self.settings().limits.source_timeout.get();
         let sessions = self.parts.first_session_due(seconds);
-        let others = self.control.first_listener_due(seats).min(sessions);
-        self.control.first_client_due().min(others)
+        let others = self.registry.first_listener_due(seats).min(sessions);
+        self.registry.first_client_due().min(others)
     }
 }
 
-impl Control {
+impl Registry {
     fn first_client_due(&self) -> u64
         ensures { result ≡ earliest (client_due self.now.settings.limits.header_timeout) self.now.clients }
     {

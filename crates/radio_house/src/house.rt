@@ -7,12 +7,12 @@ ghost use Rattle.std.specs.Option.{option_copied};
 ghost use Rattle.std.specs.Ordering.{nat_cmp};
 ghost use Rattle.radio_parts.specs.Sessions.{Session as SessionOf, session_of};
 ghost use Rattle.radio_parts.specs.Timeouts.{is_silent};
-ghost use Rattle.radio_house.specs.Control.{house_of};
+ghost use Rattle.radio_house.specs.Registry.{house_of};
 ghost use Rattle.radio_house.specs.Facts.{largest_number, live_end};
 ghost use Rattle.radio_house.specs.Live.{AreLive};
 
 use crate::OutOfMemory;
-use crate::control::Control;
+use crate::registry::Registry;
 use radio_access::Lists;
 use radio_mounts::MountParts;
 use radio_parts::Session;
@@ -26,13 +26,13 @@ use std::marker::Model;
 /// mounts together, and the live mounts' sessions.
 #[derive(Drop)]
 pub struct House<'a> {
-    pub(crate) control: &'a Control,
+    pub(crate) registry: &'a Registry,
     pub(crate) parts: &'a MountParts,
 }
 
 impl<'a> Model for House<'a> {
     ghost use Rattle.radio_house.specs.House.{House};
-    ghost use Rattle.radio_house.specs.Control.{house_of};
+    ghost use Rattle.radio_house.specs.Registry.{house_of};
     ghost use Rattle.radio_house.specs.Live.{AreLive};
     ghost use Rattle.std.specs.Coded.{codes};
     ghost use Rattle.radio_creds.specs.contracts.user_list.Users as creds_users;
@@ -41,53 +41,53 @@ impl<'a> Model for House<'a> {
 
     ghost coded = { Prim.hlevel (codes, creds_users.the_row.coded) };
 
-    ghost view = { λ h. house_of h.control.now h.parts.now.live };
+    ghost view = { λ h. house_of h.registry.now h.parts.now.live };
 
-    ghost invariant = { λ h. AreLive h.control.now.live h.parts.now.live };
+    ghost invariant = { λ h. AreLive h.registry.now.live h.parts.now.live };
 }
 
 impl<'a> House<'a> {
     /// Returns the house that has these.
-    pub fn of(control: &'a Control, parts: &'a MountParts) -> House<'a>
-        requires { AreLive control.now.live parts.now.live }
-        ensures { result ≡ house_of control.now parts.now.live }
+    pub fn of(registry: &'a Registry, parts: &'a MountParts) -> House<'a>
+        requires { AreLive registry.now.live parts.now.live }
+        ensures { result ≡ house_of registry.now parts.now.live }
     {
-        House { control, parts }
+        House { registry, parts }
     }
 
     /// The moment, in milliseconds.
     pub fn time(&self) -> u64
         ensures { result ≡ self.now.time }
     {
-        self.control.time()
+        self.registry.time()
     }
 
     /// The settings.
     pub fn settings(&self) -> &'a Settings
         ensures { result.now ≡ self.now.settings }
     {
-        self.control.settings()
+        self.registry.settings()
     }
 
     /// What the files that the settings name hold, and the users who were set or taken away since.
     pub fn lists(&self) -> &'a Lists
         ensures { result.now ≡ self.now.lists }
     {
-        self.control.lists()
+        self.registry.lists()
     }
 
     /// The number that was given last, to a client or a relay.
     pub fn last_number(&self) -> u64
         ensures { result ≡ self.now.last_id }
     {
-        self.control.last_number()
+        self.registry.last_number()
     }
 
     /// How many clients there are, who asks among them; relays are none.
     pub fn client_count(&self) -> u64
         ensures { result ≡ length self.now.clients }
     {
-        self.control.client_count()
+        self.registry.client_count()
     }
 
     /// Returns the parts of the mounts, with the sessions of those that are live.
@@ -101,7 +101,7 @@ impl<'a> House<'a> {
     pub fn live_count(&self) -> u64
         ensures { result ≡ length self.now.live }
     {
-        self.control.live_count()
+        self.registry.live_count()
     }
 
     /// The session of the mount, if it is live.

@@ -1,27 +1,27 @@
 //! The house, which is the server's state without its listeners: who is there beside them, and what
 //! can be changed in it.
 //!
-//! - [`Control`]: what all mounts share: the moment, the settings and their lists, which mounts are
+//! - [`Registry`]: what all mounts share: the moment, the settings and their lists, which mounts are
 //!   live and who feeds them, the fallbacks that were set, clients and relays. Each call makes one
-//!   change; [`Control::begin`] and [`Control::raise`] make it in the sessions too, and
-//!   [`Control::end_outsiders`] among the listeners, who are lent. It is what a walk sees (`View` of
+//!   change; [`Registry::begin`] and [`Registry::raise`] make it in the sessions too, and
+//!   [`Registry::end_outsiders`] among the listeners, who are lent. It is what a walk sees (`View` of
 //!   `radio_fallback`).
-//! - [`House`]: the control and the parts of the mounts, lent to be looked at by [`House::standing`],
+//! - [`House`]: the registry and the parts of the mounts, lent to be looked at by [`House::standing`],
 //!   [`House::session`] and others, beside the listeners where these are asked for. What else is
 //!   looked up in it, for the policy among others, is `radio_facts`'. At a mount that a relay feeds on
 //!   demand listeners may sit while it waits for a session ([`House::is_on_demand`],
-//!   [`Control::can_be_heard`]).
+//!   [`Registry::can_be_heard`]).
 //! - [`ClientState`], [`RelayState`], [`Standing`]: what clients and relays do, and how they stand.
 #![tactic(auto)]
 
 mod changes;
 mod clients;
-mod control;
 mod due;
 mod fallbacks;
 mod house;
 mod live;
 mod outsiders;
+mod registry;
 mod relays;
 mod sight;
 mod standing;
@@ -29,8 +29,8 @@ mod timeouts;
 mod waiting;
 
 pub use clients::ClientState;
-pub use control::Control;
 pub use house::House;
+pub use registry::Registry;
 pub use relays::RelayState;
 pub use standing::Standing;
 

@@ -5,7 +5,7 @@ ghost use Rattle.radio_house.specs.Facts.{live_number};
 ghost use Rattle.radio_house.specs.Live.{bare_house, without_live};
 ghost use Rattle.radio_house.specs.Waiting.{heard_at};
 
-use crate::control::Control;
+use crate::registry::Registry;
 use radio_tables::Row;
 use radio_values::MountName;
 
@@ -34,7 +34,7 @@ impl Row for LiveMount {
     }
 }
 
-impl Control {
+impl Registry {
     /// Returns how many mounts are live.
     pub(crate) fn live_count(&self) -> u64
         ensures { result ≡ length self.now.live }

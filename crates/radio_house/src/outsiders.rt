@@ -6,7 +6,7 @@ ghost use Rattle.radio_seats.specs.Seats.{with_ended};
 ghost use Rattle.radio_seats.specs.Rests.{how_many};
 ghost use Rattle.radio_house.specs.Outsiders.{is_shut_out};
 
-use crate::control::Control;
+use crate::registry::Registry;
 use radio_access::Lists;
 use radio_attached::Listeners;
 use radio_policy::Rule;
@@ -31,7 +31,7 @@ impl SeatTest for IsShutOut<'_> {
     }
 }
 
-impl Control {
+impl Registry {
     /// Those lose their seats at the mount whom its users do not let in; how many they are. It takes
     /// no memory.
     pub fn end_outsiders(&self, seats: &mut Listeners, mount: &MountName) -> u64

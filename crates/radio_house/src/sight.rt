@@ -1,4 +1,4 @@
-//! What a walk sees of the control.
+//! What a walk sees of the registry.
 
 ghost use Rattle.std.specs.Prelude.{◌≡◌};
 ghost use Rattle.std.specs.Option.{option_copied};
@@ -7,15 +7,15 @@ ghost use Rattle.radio_fallback.specs.Walk.{found_at};
 ghost use Rattle.radio_house.specs.Facts.{fallback_of, sight_of, walks_to};
 ghost use Rattle.radio_house.specs.Live.{bare_house};
 
-use crate::control::Control;
 use crate::house::House;
+use crate::registry::Registry;
 use radio_attached::Listeners;
 use radio_creds::Pair;
 use radio_fallback::{View, Walk};
 use radio_settings::Settings;
 use radio_values::MountName;
 
-impl Control {
+impl Registry {
     /// Returns the mount to which the listeners of this one fall back, if to any: what a command has
     /// set, else what the settings say.
     fn fallback_name(&self, mount: &MountName) -> Option<&MountName>
@@ -33,7 +33,7 @@ impl Control {
     }
 }
 
-impl View for Control {
+impl View for Registry {
     ghost use Rattle.radio_house.specs.Live.{sight_in};
 
     ghost sight = { sight_in };
@@ -72,7 +72,7 @@ impl<'a> House<'a> {
     pub fn fallback_name(&self, mount: &MountName) -> Option<&'a MountName>
         ensures { option_copied result ≡ fallback_of self.now mount.now }
     {
-        self.control.fallback_name(mount)
+        self.registry.fallback_name(mount)
     }
 
     /// Walks from the mount, for one who sends this pair, or none, and does not sit yet, as
@@ -81,7 +81,7 @@ impl<'a> House<'a> {
         ensures first { result.first ≡ found_at (sight_of self.now) seats.now.seats mount.now (option_copied pair.entry) }
         ensures landing { result.landing ≡ walks_to self.now seats.now.seats mount.now (option_copied pair.entry) }
     {
-        seats.walk_from(self.control, mount, pair)
+        seats.walk_from(self.registry, mount, pair)
     }
 }
 

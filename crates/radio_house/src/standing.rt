@@ -6,8 +6,8 @@ ghost use Rattle.radio_house.specs.Relays.{relay_of};
 ghost use Rattle.radio_house.specs.World.{world, standing_of, standing_of_listener, standing_of_relay};
 
 use crate::clients::ClientState;
-use crate::control::Control;
 use crate::house::House;
+use crate::registry::Registry;
 use crate::relays::RelayState;
 use radio_addr::Peer;
 use radio_attached::Listeners;
@@ -38,9 +38,9 @@ impl House<'_> {
     pub fn standing(&self, seats: &Listeners, id: u64) -> Standing
         ensures { result ≡ standing_of (world self.now seats.now.seats) id }
     {
-        let control = self.control;
-        let Some(client) = control.clients.get(&id) else {
-            return control.relay_standing(id);
+        let registry = self.registry;
+        let Some(client) = registry.clients.get(&id) else {
+            return registry.relay_standing(id);
         };
         let state = client.state;
         match state {
@@ -56,11 +56,11 @@ impl House<'_> {
     pub fn has_relay(&self, id: u64) -> bool
         ensures { result ≡ is_some (relay_of self.now.relays id) }
     {
-        self.control.has_relay(id)
+        self.registry.has_relay(id)
     }
 }
 
-impl Control {
+impl Registry {
     /// How the relay of this number stands.
     fn relay_standing(&self, id: u64) -> Standing
         ensures { result ≡ standing_of_relay (relay_of self.now.relays id) }

@@ -6,8 +6,8 @@ ghost use Rattle.radio_seats.specs.Board.{is_prepared};
 ghost use Rattle.radio_house.specs.Waiting.{is_on_demand, feeds_on_demand};
 
 use crate::OutOfMemory;
-use crate::control::Control;
 use crate::house::House;
+use crate::registry::Registry;
 use radio_attached::Listeners;
 use radio_settings::RelaySetting;
 use radio_values::MountName;
@@ -17,11 +17,11 @@ impl House<'_> {
     pub fn is_on_demand(&self, mount: &MountName) -> bool
         ensures { result ≡ is_on_demand self.now.settings mount.now }
     {
-        self.control.is_on_demand(mount)
+        self.registry.is_on_demand(mount)
     }
 }
 
-impl Control {
+impl Registry {
     /// Returns whether a relay of the settings feeds the mount on demand.
     pub(crate) fn is_on_demand(&self, mount: &MountName) -> bool
         ensures { result ≡ is_on_demand self.now.settings mount.now }

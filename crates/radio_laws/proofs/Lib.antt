@@ -20,6 +20,7 @@ mod InTime
 mod KilledLemmas
 mod LastMountLemmas
 mod LeftAlone
+mod LentPartLemmas
 mod LimitDenials
 mod LimitLemmas
 mod ListenerDenials

@@ -20,3 +20,4 @@ pub mod Shown
 pub mod Locality
 pub mod Users
 pub mod LastMounts
+pub mod LentParts

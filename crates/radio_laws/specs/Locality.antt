@@ -1,9 +1,10 @@
 -- What an event does goes by the mounts that it can reach, and by no other: states that agree on these answer it alike, and agree on them still.
-use Rattle.std.specs.Prelude.{◌≡◌, ◌↔◌, Bool, true, false, ℕ, List, [], ◌∷◌, Some}
+use Rattle.std.specs.Prelude.{◌≡◌, ◌↔◌, Bool, true, false, ℕ, List, Some}
 use Rattle.radio_settings.specs.Options.{options_for}
 use Rattle.radio_seats.specs.declared.seat.Listener.{Listener}
 use Rattle.radio_seats.specs.declared.seat.Seat.{Seat}
 use Rattle.radio_seats.specs.Seats.{seat_of, last_mount, last_mount_of}
+use Rattle.radio_mounts.specs.Agree.{AllAgree}
 use Rattle.radio_parts.specs.Sessions.{Session, session_of}
 use Rattle.radio_events.specs.declared.event.Event.{Event}
 use Rattle.radio_events.specs.declared.event.Event.TheVariants.{Arrive, Source, Push, SourceEnd, Title, Listen, Draw, Command, Leave}
@@ -31,13 +32,6 @@ pub data SessionsAgree (within : List ℕ → Bool) (a b : Session) : Type 0 whe
 pub data ListenersAgree (within : List ℕ → Bool) (a b : Listener) : Type 0 where
   SameListener : a ≡ b → ListenersAgree within a b
   LastBeyond : a.id ≡ b.id → within (last_mount a.seating) ≡ false → within (last_mount b.seating) ≡ false → ListenersAgree within a b
-
--- each element of a list goes with that of the other at its place
-abbrev pub AllAgree : {X : Type 0} → (X → X → Type 0) → List X → List X → Type 0
-AllAgree R [] [] = Unit {0}
-AllAgree R (x ∷ xs) (y ∷ ys) = R x y × AllAgree R xs ys
-AllAgree R [] (y ∷ ys) = ⊥
-AllAgree R (x ∷ xs) [] = ⊥
 
 -- The states agree within reach, and on what is no mount's own: the moment, settings and lists, the fallbacks that were set, clients and relays. Beyond
 -- it the same mounts are live, fed by the same sources; what they have sent, their titles, who sits there, and which of these have finished, may differ.

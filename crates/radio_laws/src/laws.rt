@@ -25,10 +25,15 @@ ghost use Rattle.radio_laws.specs.Users.{UsersStep, SittersAreLetIn};
 ghost use Rattle.radio_laws.specs.TitlesTold.{TitlesAreTold};
 ghost use Rattle.radio_house.specs.Timeouts.{TestsAreInNumbers};
 ghost use Rattle.radio_laws.specs.Outstaying.{NobodyOutstays};
-ghost use Rattle.radio_laws.specs.Locality.{AnswersAlike, LeavesAlone};
+ghost use Rattle.radio_laws.specs.LentParts.{all_but};
+ghost use Rattle.radio_laws.specs.Locality.{AgreeWithin, AnswersAlike, IsWithin, LeavesAlone};
+ghost use Rattle.radio_changes.specs.Counts.{counted};
+ghost use Rattle.radio_changes.specs.Lent.{IsLentTo};
+ghost use Rattle.radio_core.specs.Planned.{planned, with_counts};
+ghost use Rattle.radio_mounts.specs.declared.part.MountPart.{MountPart};
 ghost use Rattle.radio_laws.specs.Parts.{PartsDraw, PartsReceive, PartsAreTitled};
 ghost use Rattle.radio_laws.specs.OwnSteps.{OwnStepsAreTheServers, OwnStepsAreAnswered};
-ghost use Rattle.radio_core.specs.Step.{Represents};
+ghost use Rattle.radio_core.specs.Step.{Represents, reply_to};
 ghost use Rattle.radio_house.specs.World.{World};
 ghost use Rattle.radio_laws.specs.Gone.{Leaving, HasLeft, IsOutOfPlace, StaysGone};
 
@@ -264,4 +269,14 @@ pub fn own_steps_are_the_servers()
     // and it does reply to each draw of a listener that sits there, and to each block and title of the
     // source that feeds the mount
     ensures answered { (core w : World) → Represents core w → OwnStepsAreAnswered w }
+{}
+
+/// The law of parts that are lent. A control that was lent the parts of some mounts replies to an event
+/// that reaches no other as the server does, whatever there is at the other mounts.
+pub fn lent_parts_are_enough()
+    // while a part is lent, every other mount is seen as before
+    ensures others { (part there : MountPart) (before after : World) → IsLentTo part there before after → AgreeWithin (all_but part.mount) before after }
+    // what a control replies is what the server replies in every state that agrees with it on the mounts that the event can reach
+    ensures replies { (core w lent : World) (within : List ℕ → Bool) (event : Event) → Represents core w → AgreeWithin within lent core
+        → IsWithin core within event → with_counts (planned lent event).reply (counted lent (planned lent event).change) ≡ reply_to w event }
 {}

@@ -25,8 +25,9 @@ use Rattle.radio_seats.specs.Guests.{passes_in, passes_at, seat_of_guest}
 use Rattle.radio_seats.specs.Mounts.{name_in, naming_in}
 use Rattle.radio_seats.specs.Rests.{how_many}
 use Rattle.radio_seats.specs.Rows.{is_row, last_number, holds_at, ended_where, user_state, seated_row, shifted, ended, with_state}
+use Rattle.radio_listeners.specs.Further.{heard_to_place}
 use Rattle.radio_listeners.specs.Shown.{named, named_state, state_at, sits_by, names_by, AreCounted}
-use Rattle.radio_seats.specs.Seats.{is_listener, listener_of, by_listener, with_seat, moved, with_move, lost_by, loses, with_end, without_listener, moved_to, AreByNumber, is_seat_at, count_at, last_mount, last_mount_of, named_at, holds_of, ended_if, finished_if, with_ended, has_user, is_user_at, sits_there}
+use Rattle.radio_seats.specs.Seats.{is_listener, listener_of, by_listener, with_seat, advanced, with_place, heard_to, moved, with_move, lost_by, loses, with_end, without_listener, moved_to, AreByNumber, is_seat_at, count_at, last_mount, last_mount_of, named_at, holds_of, ended_if, finished_if, with_ended, has_user, is_user_at, sits_there}
 use Rattle.radio_seats.proofs.Lists.{same_number, passing, one, passing_more, passing_mapped}
 use Rattle.radio_seats.proofs.Lists.{none_changes, map_found, map_counted, map_both, map_any, map_placed, map_filtered, map_updated}
 
@@ -259,6 +260,20 @@ module _ (name later : ℕ → List ℕ) (rows : List ListenerRow) (same : (k : 
   seats_without id =
       shown_same name later (filter (λ row. not (is_row id row)) rows) same
       ∙ map_filtered (named name) (λ row. not (is_row id row)) (λ listener. not (is_listener id listener)) (λ row. refl) rows
+
+  heard_shown : (place : ℕ) (row : ListenerRow) → named name (with_state (heard_to_place place row.state) row) ≡ advanced place (named name row)
+  heard_shown place row = by_state row.state where
+    by_state : (state : RowState)
+        → named name (with_state (heard_to_place place state) row) ≡ record { id = row.id; seating = heard_to place (named_state name state) }
+    by_state (Seated seat) = refl
+    by_state (Ended rule mount) = refl
+
+  pub seats_heard : (id place : ℕ) → map (named later) (update_first (is_row id) (λ row. with_state (heard_to_place place row.state) row) rows)
+      ≡ with_place (map (named name) rows) id place
+  seats_heard id place =
+      shown_same name later (update_first (is_row id) (λ row. with_state (heard_to_place place row.state) row) rows) same
+      ∙ map_updated (named name) (is_row id) (λ row. with_state (heard_to_place place row.state) row) (is_listener id) (advanced place) (λ row. refl)
+      (heard_shown place) rows
 
   ended_shown : (rule : Rule) (row : ListenerRow) → named name (with_state (ended rule row.state) row) ≡ loses rule (named name row)
   ended_shown rule row = by_state row.state where

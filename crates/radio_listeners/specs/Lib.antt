@@ -1,3 +1,4 @@
 pub mod Shown
 pub mod Lent
 pub mod Listed
+pub mod Further

@@ -11,6 +11,7 @@
 //!   in the order of their numbers, and leaves his own seat out of account.
 #![tactic(auto)]
 
+mod advance;
 mod beside;
 mod last;
 mod lent;

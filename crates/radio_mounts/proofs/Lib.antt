@@ -8,3 +8,4 @@ pub mod PartLemmas
 pub mod AskedSessions
 pub mod PlaceLemmas
 pub mod DrawingLemmas
+pub mod ExchangeLemmas

@@ -1,3 +1,5 @@
 pub mod Parts
+pub mod Agree
+pub mod Exchange
 pub mod Attached
 pub mod Steps

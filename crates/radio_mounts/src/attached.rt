@@ -1,6 +1,6 @@
 //! What is done to the attachments of one mount.
 
-ghost use Rattle.std.specs.Prelude.{◌≡◌};
+ghost use Rattle.std.specs.Prelude.{◌≡◌, filter, not};
 ghost use Rattle.radio_seats.specs.Seats.{sits_at};
 
 use crate::part::MountPart;
@@ -151,4 +151,17 @@ fn sits_at(seats: &Seats, id: u64, mount: &MountName) -> bool
         Some(seat) => *seat.mount == *mount,
         None => false,
     }
+}
+
+/// Returns those of the listeners that were attached to the mount who sit there. It takes no memory.
+pub fn sitters_among(
+    attachments: AttachmentTree,
+    mount: &MountName,
+    seats: &Seats,
+) -> AttachmentTree
+    ensures { result ≡ filter (λ row. not (not (sits_at seats.now.seats row.id mount.now))) attachments }
+{
+    let mut attachments = attachments;
+    drop(attachments.split(&SitsElsewhere { seats, mount }));
+    attachments
 }

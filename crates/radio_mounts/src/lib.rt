@@ -9,11 +9,13 @@
 mod attached;
 mod attachments;
 mod drawing;
+mod exchange;
 mod part;
 mod parts;
 mod sessions;
 mod step;
 
+pub use attached::sitters_among;
 pub use drawing::Portion;
 pub use part::MountPart;
 pub use parts::MountParts;

@@ -9,6 +9,7 @@
 //! - `listeners`: who sits where and has heard how far, through the calls of `radio_attached`.
 //! - `mounts`: sessions in the parts of the mounts, through the calls of `radio_mounts`.
 //! - `own_steps`: draws, blocks and titles by a mount's part alone.
+//! - `lent_parts`: a part that stands apart, and is lent to the control, beside a core.
 //!
 //! Of the book and the hall:
 //! - `calls`: events, and the calls of a caller who feeds a mount and listens to it.
@@ -48,6 +49,8 @@ mod halls;
 mod house;
 #[cfg(test)]
 mod kept_rows;
+#[cfg(test)]
+mod lent_parts;
 #[cfg(test)]
 mod listeners;
 #[cfg(test)]

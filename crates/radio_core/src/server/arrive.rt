@@ -2,7 +2,7 @@ ghost use Rattle.std.specs.Prelude.{◌≡◌, ◌==◌, false};
 ghost use Rattle.radio_house.specs.Facts.{largest_number};
 ghost use Rattle.radio_core.specs.Arrive.{arrives, admits_client};
 
-use super::state::State;
+use super::control::Control;
 use crate::outcome::Outcome;
 use radio_addr::Peer;
 use radio_changes::Change;
@@ -10,7 +10,7 @@ use radio_events::Reply;
 use radio_facts::arrive_facts;
 use radio_policy::{Action, Verdict, judge};
 
-impl State {
+impl Control {
     /// A connection arrives.
     pub(super) fn arrive(&self, peer: Peer) -> Outcome
         ensures { result ≡ arrives self.now peer }

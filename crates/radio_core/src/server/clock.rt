@@ -1,12 +1,12 @@
 ghost use Rattle.std.specs.Prelude.{◌≡◌};
 ghost use Rattle.radio_core.specs.Clock.{hears_clock};
 
-use super::state::State;
+use super::control::Control;
 use crate::outcome::Outcome;
 use radio_changes::Change;
 use radio_events::Reply;
 
-impl State {
+impl Control {
     /// It is this moment.
     pub(super) fn clock(&self, ms: u64) -> Outcome
         ensures { result ≡ hears_clock self.now ms }

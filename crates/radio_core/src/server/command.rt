@@ -7,7 +7,7 @@ ghost use Rattle.radio_core.specs.Planned.{uncounted, told_counts};
 ghost use Rattle.radio_fallback.specs.declared.moves.Carried.{Carried as CarriedOf};
 ghost use Rattle.radio_policy.specs.Verdicts.{verdict_in};
 
-use super::state::State;
+use super::control::Control;
 use crate::OutOfMemory;
 use crate::outcome::Outcome;
 use radio_changes::Change;
@@ -17,7 +17,7 @@ use radio_house::Standing;
 use radio_policy::{Action, Verdict, judge};
 use radio_status::shown;
 
-impl State {
+impl Control {
     /// A client gives a command. Where its reply tells how many were moved, or have finished, that is
     /// known only when the change is made: it tells none here. `OutOfMemory` where memory was refused.
     pub(super) fn command(&self, asked: CommandRequest) -> Result<Outcome, OutOfMemory>

@@ -1,4 +1,4 @@
-ghost use Rattle.std.specs.Prelude.{◌≡◌, ℕ, None, Some, IfOk};
+ghost use Rattle.std.specs.Prelude.{◌≡◌, ℕ, ◌≤◌, None, Some, IfOk};
 ghost use Rattle.radio_core.specs.Draw.{comes_to, draws, hands_out};
 ghost use Rattle.radio_core.specs.Outcomes.{out_of_place};
 ghost use Rattle.radio_seats.specs.Seats.{seat_of};
@@ -7,10 +7,13 @@ ghost use Rattle.std.specs.Option.{option_copied};
 ghost use Rattle.radio_seats.specs.declared.seat.Seat.{Seat as SeatOf};
 ghost use Rattle.radio_listeners.specs.Lent.{lent_seat};
 ghost use Rattle.radio_house.specs.Waiting.{heard_at, silence_of};
-ghost use Rattle.radio_core.specs.Step.{StandsForSome};
+ghost use Rattle.radio_core.specs.CanStep.{CanDraw};
+ghost use Rattle.radio_mounts.specs.Steps.{IsKept};
+ghost use Rattle.radio_parts.specs.Kept.{first_start};
+ghost use Rattle.radio_parts.specs.Stream.{end_of};
 ghost use Rattle.radio_house.specs.World.{standing_of};
 
-use super::state::State;
+use super::control::Control;
 use crate::OutOfMemory;
 use crate::outcome::Outcome;
 use radio_attached::Hearing;
@@ -19,7 +22,7 @@ use radio_changes::Change;
 use radio_events::Reply;
 use radio_house::Standing;
 use radio_listeners::LentSeat;
-use radio_parts::Session;
+use radio_parts::{Session, Stream};
 use radio_values::MountName;
 
 /// What a draw comes to: the reply, and the place up to which the listener has heard his stream then, if he is handed anything.
@@ -54,12 +57,11 @@ impl Drawing {
     }
 }
 
-impl State {
+impl Control {
     /// A listener has room for so many bytes. Whoever has a seat is a client who sits, so only of
     /// one who has none the client is looked up. `OutOfMemory` where memory was refused.
     pub(super) fn draw(&self, id: u64, room: u32) -> Result<Drawing, OutOfMemory>
-        requires { StandsForSome self.now }
-        ensures { IfOk result (λ drawing. comes_to id drawing ≡ draws self.now id room) }
+        ensures { CanDraw self.now id → IfOk result (λ drawing. comes_to id drawing ≡ draws self.now id room) }
     {
         match self.seats().hearing(id) {
             Some(hearing) => {
@@ -80,7 +82,7 @@ impl State {
         }
     }
 
-    /// He is handed what stands at his place.
+    /// He is handed what stands at his place, or what is kept first if it was forgotten.
     pub(super) fn hand_out(
         &self,
         id: u64,
@@ -88,16 +90,16 @@ impl State {
         session: Option<&Session>,
         room: u32,
     ) -> Result<Drawing, OutOfMemory>
-        requires stands { StandsForSome self.now }
-        requires sits { seat_of self.now.seats id ≡ Some (lent_seat seat) }
         requires hears { option_copied session ≡ session_of self.now.house.live seat.mount.now }
-        ensures { IfOk result (λ drawing. comes_to id drawing ≡ hands_out id (lent_seat seat.entry) room (heard_at self.now.house seat.entry.mount.now)) }
+        ensures { IsKept (session_of self.now.house.live seat.entry.mount.now) seat.entry.place
+            → IfOk result (λ drawing. comes_to id drawing ≡ hands_out id (lent_seat seat.entry) room (heard_at self.now.house seat.entry.mount.now)) }
     {
         let Some(session) = session else {
             return Ok(self.hand_out_nothing(seat.place, seat.mount));
         };
         let mut pieces = Pieces::new(self.alloc);
-        let place = session.stream.draw(seat.place, room, &mut pieces)?;
+        let kept = kept_place(&session.stream, seat.place);
+        let place = session.stream.draw(kept, room, &mut pieces)?;
         let title = session.title.clone()?;
         Ok(Drawing {
             reply: Reply::Drawn { pieces, title },
@@ -120,4 +122,13 @@ impl State {
             place: Some(place),
         }
     }
+}
+
+/// Returns the place, or the first that is kept of the stream if what follows it was forgotten.
+fn kept_place(stream: &Stream, place: Place) -> Place
+    ensures kept { first_start (end_of stream.now) stream.now.starts ≤ result }
+    ensures same { first_start (end_of stream.now) stream.now.starts ≤ place → result ≡ place }
+{
+    let first = stream.first();
+    if place < first { first } else { place }
 }

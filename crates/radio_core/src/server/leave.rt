@@ -2,13 +2,13 @@ ghost use Rattle.std.specs.Prelude.{◌≡◌};
 ghost use Rattle.radio_core.specs.Leave.{leaves, leaves_from};
 ghost use Rattle.radio_house.specs.World.{standing_of};
 
-use super::state::State;
+use super::control::Control;
 use crate::outcome::Outcome;
 use radio_changes::Change;
 use radio_events::Reply;
 use radio_house::Standing;
 
-impl State {
+impl Control {
     /// A client's connection is closed.
     pub(super) fn leave(&self, id: u64) -> Outcome
         ensures { result ≡ leaves self.now id }

@@ -6,7 +6,7 @@ ghost use Rattle.radio_core.specs.Outcomes.{says};
 ghost use Rattle.radio_core.specs.Listen.{asks_to_hear, sits_where, takes_seat, first_seat};
 ghost use Rattle.radio_facts.specs.Streams.{head_of};
 
-use super::state::State;
+use super::control::Control;
 use crate::OutOfMemory;
 use crate::outcome::Outcome;
 use radio_addr::Peer;
@@ -31,7 +31,7 @@ struct Welcome {
     landing: Landing,
 }
 
-impl State {
+impl Control {
     /// A client wants to hear a mount. `OutOfMemory` where memory was refused.
     pub(super) fn listen(&self, asked: ListenRequest) -> Result<Outcome, OutOfMemory>
         ensures { IfOk result (λ o. o ≡ asks_to_hear self.now asked) }

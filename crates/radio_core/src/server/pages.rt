@@ -5,7 +5,7 @@ ghost use Rattle.radio_core.specs.Outcomes.{if_undecided};
 ghost use Rattle.radio_core.specs.Pages.{asks_by_path, shows_page};
 ghost use Rattle.radio_house.specs.World.{standing_of};
 
-use super::state::State;
+use super::control::Control;
 use crate::OutOfMemory;
 use crate::outcome::Outcome;
 use radio_changes::Change;
@@ -14,7 +14,7 @@ use radio_house::Standing;
 use radio_settings::WebPath;
 use radio_status::page;
 
-impl State {
+impl Control {
     /// A client asks by a path: to be shown what is there where it is one of the web site's, and else
     /// to hear a mount. `OutOfMemory` where memory was refused.
     pub(super) fn get(&self, asked: ListenRequest) -> Result<Outcome, OutOfMemory>

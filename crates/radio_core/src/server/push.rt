@@ -1,7 +1,7 @@
 ghost use Rattle.std.specs.Prelude.{◌≡◌};
 ghost use Rattle.radio_core.specs.Push.{delivers};
 
-use super::state::State;
+use super::control::Control;
 use crate::outcome::Outcome;
 use radio_blocks::Block;
 use radio_changes::Change;
@@ -10,7 +10,7 @@ use radio_facts::push_facts;
 use radio_house::Standing;
 use radio_policy::{Action, Verdict, judge};
 
-impl State {
+impl Control {
     /// A source delivers a block.
     pub(super) fn push(&self, id: u64, block: Block) -> Outcome
         ensures { result ≡ delivers self.now id block }

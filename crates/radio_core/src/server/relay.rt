@@ -6,7 +6,7 @@ ghost use Rattle.radio_house.specs.Facts.{largest_number, rows_to_raise};
 ghost use Rattle.radio_core.specs.RelayUp.{comes_up, raises};
 ghost use Rattle.radio_core.specs.RelayDown.{goes_down};
 
-use super::state::State;
+use super::control::Control;
 use crate::OutOfMemory;
 use crate::outcome::Outcome;
 use radio_changes::Change;
@@ -16,7 +16,7 @@ use radio_house::Standing;
 use radio_policy::{Action, Rule, Verdict, judge};
 use radio_values::{MountName, Shown};
 
-impl State {
+impl Control {
     /// A relay wants to feed the mount of this name. `OutOfMemory` where memory was refused.
     pub(super) fn relay_up(&self, mount: &[u8], shown: &Shown) -> Result<Outcome, OutOfMemory>
         ensures { IfOk result (λ o. o ≡ comes_up self.now mount.now shown.now) }

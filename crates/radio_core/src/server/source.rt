@@ -5,7 +5,7 @@ ghost use Rattle.radio_core.specs.Outcomes.{says};
 ghost use Rattle.radio_core.specs.Source.{asks_to_feed, begins};
 ghost use Rattle.radio_house.specs.Streams.{shown_for};
 
-use super::state::State;
+use super::control::Control;
 use crate::OutOfMemory;
 use crate::outcome::Outcome;
 use radio_changes::Change;
@@ -15,7 +15,7 @@ use radio_house::Standing;
 use radio_policy::{Action, Rule, Verdict, judge};
 use radio_values::{MountName, Shown};
 
-impl State {
+impl Control {
     /// A client wants to feed a mount. `OutOfMemory` where memory was refused.
     pub(super) fn source(&self, asked: SourceRequest) -> Result<Outcome, OutOfMemory>
         ensures { IfOk result (λ o. o ≡ asks_to_feed self.now asked) }

@@ -3,14 +3,14 @@ ghost use Rattle.radio_core.specs.Outcomes.{says, unless_relayed};
 ghost use Rattle.radio_core.specs.SourceEnd.{stops_feeding};
 ghost use Rattle.radio_house.specs.World.{has_relay};
 
-use super::state::State;
+use super::control::Control;
 use crate::outcome::Outcome;
 use radio_changes::Change;
 use radio_events::Reply;
 use radio_house::Standing;
 use radio_values::MountName;
 
-impl State {
+impl Control {
     /// A source has come to the end of its data.
     pub(super) fn source_end(&self, id: u64) -> Outcome
         ensures { result ≡ stops_feeding self.now id }

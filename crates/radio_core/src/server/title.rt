@@ -1,14 +1,14 @@
 ghost use Rattle.std.specs.Prelude.{◌≡◌};
 ghost use Rattle.radio_core.specs.Title.{sets_title};
 
-use super::state::State;
+use super::control::Control;
 use crate::outcome::Outcome;
 use radio_changes::Change;
 use radio_events::Reply;
 use radio_house::Standing;
 use radio_values::Title;
 
-impl State {
+impl Control {
     /// A source tells what is on the air.
     pub(super) fn title(&self, id: u64, text: Title) -> Outcome
         ensures { result ≡ sets_title self.now id text }

@@ -1,12 +1,14 @@
 use Rattle.std.proofs.Common.{◌≡◌, Some, None, List, ap, sym, subst, ◌∙◌}
 use Rattle.std.specs.Option.{option_map}
 use Rattle.radio_listeners.specs.Lent.{lent_seat}
+use Rattle.radio_seats.specs.Board.{Board}
 use Rattle.radio_seats.specs.declared.seat.Listener.{Listener}
 use Rattle.radio_seats.specs.Seats.{seat_of, with_place}
-use Rattle.radio_attached.specs.Attached.{Listening}
+use Rattle.radio_fallback.specs.Heard.{heard}
+use Rattle.radio_attached.specs.Attached.{AreAttached, Listening}
 use Rattle.radio_mounts.specs.Attached.{places_in}
-use Rattle.radio_attached.proofs.FitsChanges.{further_fits}
-use Rattle.radio_attached.proofs.ListenersLemmas.{has_heard, no_place, same_listening}
+use Rattle.radio_attached.proofs.ListenersLemmas.{no_place, same_listening}
+use Rattle.radio_attached.proofs.PlaceNotes.{after_note, noted_fits}
 use Rattle.radio_attached.proofs.listeners.Listeners.advance.Goals as goal
 
 pub returns-in_default : goal.returns-in_default
@@ -23,9 +25,10 @@ returns c =
     let g = places_in c.advance.new.self.attached in
     let seat = lent_seat c.in-Some.seat in
     let has : seat_of i.seats.seats c.args.id ≡ Some seat = sym c.seat.ensures ∙ ap (option_map lent_seat) c.in-Some.is in
-    let over = c.advance.ensures.over in
-    same_listening (ap (λ (b : Listening). b.prepared) c.self.view_is)
-    (has_heard f g c.args.id c.args.place seat i.seats.seats c.len.ensures.rising c.self.invariant.fits has c.advance.ensures.others over c.advance.ensures.there
+    same_listening (ap (λ (b : Board). b.prepared) c.note_place.ensures ∙ ap (λ (b : Listening). b.prepared) c.self.view_is)
+    (ap (λ (b : Board). heard g b.seats) c.note_place.ensures
+    ∙ after_note f g c.args.id c.args.place c.advance.ensures.others seat i.seats.seats has c.advance.ensures.over i.is_whole c.len.ensures.rising
+    c.self.invariant.fits c.advance.ensures.there
     ∙ ap (λ (b : Listening). with_place b.seats c.args.id c.args.place) c.self.view_is)
     (c.advance.ensures.live ∙ ap (λ (b : Listening). b.live) c.self.view_is)
 
@@ -36,8 +39,7 @@ invariant_of-self c =
     let g = places_in c.advance.new.self.attached in
     let seat = lent_seat c.in-Some.seat in
     let has : seat_of i.seats.seats c.args.id ≡ Some seat = sym c.seat.ensures ∙ ap (option_map lent_seat) c.in-Some.is in
-    let over = c.advance.ensures.over in
-    record {
+    subst (AreAttached i.is_whole c.advance.new.self.attached) (sym c.note_place.ensures) (record {
       parts = λ mount is. c.advance.ensures.parts mount ∙ c.self.invariant.parts mount is;
-      fits = further_fits f g c.args.id seat i.seats.seats c.self.invariant.fits has c.advance.ensures.others over;
-    }
+      fits = noted_fits f g c.args.id c.args.place c.advance.ensures.others seat i.seats.seats has c.advance.ensures.over i.is_whole c.self.invariant.fits;
+    })

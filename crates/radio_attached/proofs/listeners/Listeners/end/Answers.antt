@@ -36,7 +36,7 @@ invariant_of-self c =
     let f = places_in i.parts.attached in
     let g = places_in c.detach.new.self.attached in
     let has : seat_of i.seats.seats c.args.id ≡ Some (lent_seat c.in-Some.seat) = sym c.seat.ensures ∙ ap (option_map lent_seat) c.in-Some.is in
-    subst (AreAttached c.detach.new.self.attached) (sym c.end.ensures) (record {
+    subst (AreAttached c.self.inside.is_whole c.detach.new.self.attached) (sym c.end.ensures) (record {
       parts = λ mount is. c.detach.ensures.parts mount ∙ c.self.invariant.parts mount is;
-      fits = ended_fits f g c.args.id i.seats.seats (lent_seat c.in-Some.seat) has c.detach.ensures.others c.args.rule c.detach.ensures.off c.self.invariant.fits;
+      fits = λ whole. ended_fits f g c.args.id i.seats.seats (lent_seat c.in-Some.seat) has c.detach.ensures.others c.args.rule c.detach.ensures.off (c.self.invariant.fits whole);
     })

@@ -39,12 +39,12 @@ invariant_of-self c =
     let i = c.self.inside in
     let mount = c.args.mount.now in
     let order = c.take_lagging-lagging.ensures.once in
-    subst (λ (parts : ByMount). AreAttached parts.attached c.end_each.new.seats) (sym c.take_lagging-lagging.ensures.rest)
-    (subst (AreAttached (rest c)) (sym (left c)) (record {
+    subst (λ (parts : ByMount). AreAttached i.is_whole parts.attached c.end_each.new.seats) (sym c.take_lagging-lagging.ensures.rest)
+    (subst (AreAttached i.is_whole (rest c)) (sym (left c)) (record {
       parts = λ m prepared. parts_stay c.args.end c.args.queue mount i.parts.attached order m ∙ c.self.invariant.parts m prepared;
-      fits = lost_fits (places_in i.parts.attached) (places_in (rest c)) mount (gone c) Lagged i.seats.seats (far c.args.end c.args.queue)
+      fits = λ whole. lost_fits (places_in i.parts.attached) (places_in (rest c)) mount (gone c) Lagged i.seats.seats (far c.args.end c.args.queue)
           (is_lost c.args.end c.args.queue mount i.parts.attached order) (places_there c.args.end c.args.queue mount i.parts.attached order)
-          (λ m n apart. places_elsewhere c.args.end c.args.queue mount i.parts.attached order m n apart) c.self.invariant.fits;
+          (λ m n apart. places_elsewhere c.args.end c.args.queue mount i.parts.attached order m n apart) (c.self.invariant.fits whole);
     }))
 
 pub returns : goal.returns
@@ -58,7 +58,7 @@ returns c =
     (ap (λ (b : Board). b.prepared) (left c) ∙ ap (λ (b : Listening). b.prepared) c.self.view_is)
     (ap (λ (parts : ByMount). heard (places_in parts.attached) c.end_each.new.seats.seats) c.take_lagging-lagging.ensures.rest
     ∙ ap (λ (b : Board). heard (places_in (rest c)) b.seats) (left c)
-    ∙ have_lagged (places_in i.parts.attached) (places_in (rest c)) mount end queue (gone c) Lagged i.seats.seats c.end_each.ensures.rising c.self.invariant.fits
+    ∙ have_lagged (places_in i.parts.attached) (places_in (rest c)) mount end queue (gone c) Lagged i.seats.seats c.end_each.ensures.rising (c.self.invariant.fits c.if-not-self.false)
     (is_lost end queue mount i.parts.attached order) (places_there end queue mount i.parts.attached order)
     (λ m n apart. places_elsewhere end queue mount i.parts.attached order m n apart)
     ∙ ap (λ (b : Listening). with_ended b.seats (lags_behind mount end queue) Lagged) c.self.view_is)

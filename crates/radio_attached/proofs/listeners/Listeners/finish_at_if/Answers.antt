@@ -20,10 +20,10 @@ invariant_of-self g c =
     let after = places_in c.detach_others.new.self.attached in
     let there = subst (λ (s : List Listener). (n : ℕ) → after c.args.mount.now n ≡ (if sits_at s n c.args.mount.now then before c.args.mount.now n else None))
     (ap (λ (b : Board). b.seats) c.finish_at_if-count.ensures.seats) c.detach_others.ensures.there in
-    subst (AreAttached c.detach_others.new.self.attached) (sym c.finish_at_if-count.ensures.seats) (record {
+    subst (AreAttached c.self.inside.is_whole c.detach_others.new.self.attached) (sym c.finish_at_if-count.ensures.seats) (record {
       parts = λ mount is. c.detach_others.ensures.parts mount ∙ c.self.invariant.parts mount is;
-      fits = tested_fits before after c.args.mount.now p c.args.rule i.seats.seats there (λ m n apart. c.detach_others.ensures.elsewhere m n apart)
-          c.self.invariant.fits;
+      fits = λ whole. tested_fits before after c.args.mount.now p c.args.rule i.seats.seats there (λ m n apart. c.detach_others.ensures.elsewhere m n apart)
+          (c.self.invariant.fits whole);
     })
 
 pub returns-clause-seats : goal.returns-clause-seats

@@ -23,8 +23,8 @@ pub invariant_of-self : goal.invariant_of-self
 invariant_of-self c =
     let i = c.self.inside in
     let f = places_in i.parts.attached in
-    subst (AreAttached i.parts.attached) (sym c.give_session.ensures) (record {
+    subst (AreAttached i.is_whole i.parts.attached) (sym c.give_session.ensures) (record {
       parts = c.self.invariant.parts;
-      fits = fits_alike f f i.seats.seats (with_session_at i.seats.seats c.args.mount.now c.args.session) (λ m n. refl)
-          (given_sits c.args.mount.now c.args.session i.seats.seats) c.self.invariant.fits;
+      fits = λ whole. fits_alike f f i.seats.seats (with_session_at i.seats.seats c.args.mount.now c.args.session) (λ m n. refl)
+          (given_sits c.args.mount.now c.args.session i.seats.seats) (c.self.invariant.fits whole);
     })

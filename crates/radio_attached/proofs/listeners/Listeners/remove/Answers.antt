@@ -1,4 +1,4 @@
-use Rattle.std.proofs.Common.{◌≡◌, ℕ, None, List, ap, sym, subst, ◌∙◌}
+use Rattle.std.proofs.Common.{◌≡◌, ℕ, true, None, List, ap, sym, subst, ◌∙◌}
 use Rattle.radio_seats.specs.Board.{Board}
 use Rattle.radio_seats.specs.Seats.{last_mount_of, without_listener}
 use Rattle.radio_fallback.specs.Heard.{heard}
@@ -26,10 +26,10 @@ invariant_of-self c =
     let f = places_in i.parts.attached in
     let g = places_in c.detach_from.new.parts.attached in
     let last : c.copied-last.result ≡ last_mount_of i.seats.seats c.args.id = c.copied-last.ensures ∙ c.last_mount.ensures in
-    let off : (m : List ℕ) → g m c.args.id ≡ None =
-    is_detached f g c.args.id i.seats.seats c.self.invariant.fits (λ from is. c.detach_from.ensures.off from (last ∙ is))
+    let off : i.is_whole ≡ true → (m : List ℕ) → g m c.args.id ≡ None =
+    λ whole. is_detached f g c.args.id i.seats.seats (c.self.invariant.fits whole) (λ from is. c.detach_from.ensures.off from (last ∙ is))
     (λ none m. ap (λ (parts : ByMount). places_in parts.attached m c.args.id) (c.detach_from.ensures.none (last ∙ none))) in
-    subst (AreAttached c.detach_from.new.parts.attached) (sym c.remove.ensures) (record {
+    subst (AreAttached c.self.inside.is_whole c.detach_from.new.parts.attached) (sym c.remove.ensures) (record {
       parts = λ mount is. c.detach_from.ensures.parts mount ∙ c.self.invariant.parts mount is;
-      fits = left_fits f g c.args.id i.seats.seats c.self.invariant.fits c.detach_from.ensures.others off;
+      fits = λ whole. left_fits f g c.args.id i.seats.seats (c.self.invariant.fits whole) c.detach_from.ensures.others (off whole);
     })

@@ -7,4 +7,4 @@ use Rattle.radio_core.proofs.server.Core.last_mount.Goals as goal
 pub returns : goal.returns
 returns c w stands =
     c.last_mount.ensures
-    ∙ last_alike c.self.inside.state w (subst (λ (core : World). Represents core w) (sym c.self.view_is) stands) c.args.id
+    ∙ last_alike c.self.inside.control w (subst (λ (core : World). Represents core w) (sym c.self.view_is) stands) c.args.id

@@ -6,4 +6,4 @@ use Rattle.radio_core.proofs.server.Core.settings.Goals as goal
 
 pub returns : goal.returns
 returns c w stands =
-    c.settings.ensures ∙ keeps_settings c.self.inside.state w (subst (λ (core : World). Represents core w) (sym c.self.view_is) stands)
+    c.settings.ensures ∙ keeps_settings c.self.inside.control w (subst (λ (core : World). Represents core w) (sym c.self.view_is) stands)

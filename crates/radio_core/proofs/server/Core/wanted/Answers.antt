@@ -7,4 +7,4 @@ use Rattle.radio_core.proofs.server.Core.wanted.Goals as goal
 pub returns : goal.returns
 returns c w stands =
     subst (λ (names : List (List ℕ)). IfOk c.wanted.result (λ mounts. mounts.items ≡ names))
-    (wants_alike c.self.inside.state w (subst (λ (core : World). Represents core w) (sym c.self.view_is) stands)) c.wanted.ensures
+    (wants_alike c.self.inside.control w (subst (λ (core : World). Represents core w) (sym c.self.view_is) stands)) c.wanted.ensures

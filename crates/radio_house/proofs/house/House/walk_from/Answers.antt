@@ -11,20 +11,20 @@ use Rattle.radio_house.proofs.house.House.walk_from.Goals as goal
 
 pub returns-clause-first : goal.returns-clause-first
 returns-clause-first c =
-    let control = c.self.inside.control.now in
+    let registry = c.self.inside.registry.now in
     let live = c.self.inside.parts.now.live in
     let seats = c.args.seats.now.seats in
     let pair = option_copied c.args.pair in
     c.walk_from.ensures.first
-    ∙ ap (λ (sight : Sight). found_at sight seats c.args.mount.now pair) (same_sight control live c.self.invariant)
+    ∙ ap (λ (sight : Sight). found_at sight seats c.args.mount.now pair) (same_sight registry live c.self.invariant)
     ∙ ap (λ (house : House). found_at (sight_of house) seats c.args.mount.now pair) c.self.view_is
 
 pub returns-clause-landing : goal.returns-clause-landing
 returns-clause-landing c =
-    let control = c.self.inside.control.now in
+    let registry = c.self.inside.registry.now in
     let live = c.self.inside.parts.now.live in
     let seats = c.args.seats.now.seats in
     let pair = option_copied c.args.pair in
-    c.walk_from.ensures.landing ∙ sym (landing_same (sight_in control) (ends_in live) seats pair c.args.mount.now)
-    ∙ ap (λ (sight : Sight). landing sight seats pair c.args.mount.now) (same_sight control live c.self.invariant)
+    c.walk_from.ensures.landing ∙ sym (landing_same (sight_in registry) (ends_in live) seats pair c.args.mount.now)
+    ∙ ap (λ (sight : Sight). landing sight seats pair c.args.mount.now) (same_sight registry live c.self.invariant)
     ∙ ap (λ (house : House). walks_to house seats c.args.mount.now pair) c.self.view_is

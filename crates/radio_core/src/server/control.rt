@@ -1,0 +1,242 @@
+//! What comes of an event in the state, and the state after it.
+
+ghost use Rattle.std.specs.Prelude.{◌≡◌, true, map, IsOk, IfOk, OnOk, OnErr};
+ghost use Rattle.std.specs.Option.{option_copied};
+ghost use Rattle.radio_seats.specs.Seats.{last_mount_of, sits_at};
+ghost use Rattle.radio_facts.specs.Wanted.{wanted};
+ghost use Rattle.radio_house.specs.World.{opening, standing_of, has_relay};
+ghost use Rattle.radio_changes.specs.Changes.{NeedsNoMemory};
+ghost use Rattle.radio_changes.specs.Counts.{counted};
+ghost use Rattle.radio_changes.specs.KeptChanges.{kept_changed};
+ghost use Rattle.radio_core.specs.Draw.{draws, moves_to};
+ghost use Rattle.radio_core.specs.Planned.{planned, with_counts};
+ghost use Rattle.radio_core.specs.CanStep.{CanDraw, CanStep};
+ghost use Rattle.radio_events.specs.declared.reply.Reply.{Reply as ReplyOf};
+ghost use Rattle.radio_events.specs.Events.{TakesNoMemory};
+
+use super::draw::Drawing;
+use super::telling::{all_with_counts, with_counts};
+use crate::OutOfMemory;
+use crate::outcome::Outcome;
+use radio_access::Lists;
+use radio_attached::{Hearing, Listeners};
+use radio_blocks::Place;
+use radio_changes::{Change, TimedState};
+use radio_events::{Event, Reply};
+use radio_facts::wanted;
+use radio_house::{House, Standing};
+use radio_settings::Settings;
+use radio_values::MountName;
+use std::alloc::Global;
+use std::marker::Model;
+
+/// What is kept of all mounts together, and the listeners, with the parts of the mounts that are here:
+/// all of them, or those that were lent (`Control::exchange`), each other mount having a part without
+/// data in its place. Contracts see it as a `World` in which of each stream the last blocks are kept.
+pub struct Control {
+    pub(super) alloc: Global,
+    pub(super) state: TimedState,
+}
+
+impl Drop for Control {
+    fn drop(self) {
+        let Control { alloc: _, state } = self;
+        drop(state);
+    }
+}
+
+impl Model for Control {
+    ghost use Rattle.radio_house.specs.World.{World};
+    ghost use Rattle.std.specs.Coded.{codes};
+    ghost use Rattle.radio_creds.specs.contracts.user_list.Users as creds_users;
+
+    ghost Value = { World };
+
+    ghost coded = { Prim.hlevel (codes, creds_users.the_row.coded) };
+
+    ghost view = { λ c. c.state };
+}
+
+impl Control {
+    /// Nothing has happened yet. It takes no memory.
+    pub fn new(alloc: Global, settings: Settings, lists: Lists) -> Control
+        ensures { result ≡ opening settings lists }
+    {
+        Control {
+            alloc,
+            state: TimedState::new(alloc, settings, lists),
+        }
+    }
+
+    /// The house, which is all of the state but the table of listeners.
+    pub(super) fn house(&self) -> House<'_>
+        ensures { result ≡ self.now.house }
+    {
+        self.state.house()
+    }
+
+    /// The table of listeners.
+    pub(super) fn seats(&self) -> &Listeners
+        ensures seats { result.now.seats ≡ self.now.seats }
+        ensures live { result.now.live ≡ self.now.house.live }
+    {
+        self.state.seats()
+    }
+
+    /// The settings.
+    pub(super) fn settings(&self) -> &Settings
+        ensures { result.now ≡ self.now.house.settings }
+    {
+        self.house().settings()
+    }
+
+    /// What comes of an event, before its change is made. `OutOfMemory` where memory was refused.
+    #[tactic(auto, unfolding(crate::specs::Step::outcome, crate::specs::Planned::planned))]
+    pub(super) fn outcome(&self, event: Event) -> Result<Outcome, OutOfMemory>
+        ensures value { CanStep self.now event → IfOk result (λ o. o ≡ planned self.now event) }
+        ensures frees { TakesNoMemory event → IsOk result }
+    {
+        match event {
+            Event::Arrive { peer } => Ok(self.arrive(peer)),
+            Event::Source(asked) => self.source(asked.into_inner()),
+            Event::Push { id, block } => Ok(self.push(id, block)),
+            Event::SourceEnd { id } => Ok(self.source_end(id)),
+            Event::Title { id, text } => Ok(self.title(id, text)),
+            Event::Listen(asked) => self.get(asked.into_inner()),
+            Event::Draw { id, room } => self.drawing_outcome(id, room),
+            Event::Command(asked) => self.command(asked.into_inner()),
+            Event::Leave { id } => Ok(self.leave(id)),
+            Event::RelayUp { mount, shown } => self.relay_up(mount.as_slice(), &shown),
+            Event::RelayDown { id } => Ok(self.relay_down(id)),
+            Event::Clock { ms } => Ok(self.clock(ms)),
+        }
+    }
+
+    /// What comes of a draw, before its change is made. `OutOfMemory` where memory was refused.
+    fn drawing_outcome(&self, id: u64, room: u32) -> Result<Outcome, OutOfMemory>
+        ensures { CanDraw self.now id → IfOk result (λ outcome. outcome ≡ draws self.now id room) }
+    {
+        Ok(self.draw(id, room)?.outcome(id))
+    }
+
+    /// One event: what comes of it is worked out, and its change is made. `OutOfMemory` if memory was
+    /// refused; nothing has changed then.
+    pub fn step(&mut self, event: Event) -> Result<Reply, OutOfMemory>
+        // of one who draws the client is known as a listener, and what follows its place is not forgotten
+        ensures ok { CanStep self.old event → OnOk result (self.new ≡ kept_changed self.old (planned self.old event).change) }
+        ensures told { CanStep self.old event → IfOk result (λ reply. reply ≡ with_counts (planned self.old event).reply (counted self.old (planned self.old event).change)) }
+        ensures err { OnErr result (self.new ≡ self.old) }
+        ensures frees { TakesNoMemory event → IsOk result }
+    {
+        match event {
+            Event::Draw { id, room } => self.step_drawing(id, room),
+            event => self.step_by_outcome(event),
+        }
+    }
+
+    /// A draw, as a step. It comes for each listener and block, so it makes no outcome, which is large.
+    fn step_drawing(&mut self, id: u64, room: u32) -> Result<Reply, OutOfMemory>
+        ensures ok { CanDraw self.old id → OnOk result (self.new ≡ kept_changed self.old (draws self.old id room).change) }
+        ensures told { CanDraw self.old id → IfOk result (λ reply. reply ≡ (draws self.old id room).reply) }
+        ensures err { OnErr result (self.new ≡ self.old) }
+    {
+        let Some(hearing) = self.seats().hearing(id) else {
+            return Ok(self.draw_without_seat(id).reply);
+        };
+        let Hearing { seat, session } = hearing;
+        let mount = *seat.mount;
+        let Drawing { reply, place } = self.hand_out(id, seat, session, room)?;
+        self.advance_at(&mount, id, place);
+        Ok(reply)
+    }
+
+    /// The listener, which sits at this mount, has heard its stream up to this place, if there is one.
+    /// It takes no memory.
+    fn advance_at(&mut self, mount: &MountName, id: u64, place: Option<Place>)
+        requires { sits_at self.old.seats id mount.now ≡ true }
+        ensures { self.new ≡ kept_changed self.old (moves_to id place) }
+    {
+        if let Some(place) = place {
+            self.state.advance_at(mount, id, place);
+        }
+    }
+
+    /// Any event, as a step.
+    fn step_by_outcome(&mut self, event: Event) -> Result<Reply, OutOfMemory>
+        ensures ok { CanStep self.old event → OnOk result (self.new ≡ kept_changed self.old (planned self.old event).change) }
+        ensures told { CanStep self.old event → IfOk result (λ reply. reply ≡ with_counts (planned self.old event).reply (counted self.old (planned self.old event).change)) }
+        ensures err { OnErr result (self.new ≡ self.old) }
+        ensures frees { TakesNoMemory event → IsOk result }
+    {
+        let Outcome { reply, change } = self.outcome(event)?;
+        self.commit_for(change, reply)
+    }
+
+    /// Makes a change, and gives back the reply that was worked out for it, which tells how many were
+    /// moved or have finished, if it is such a one. `OutOfMemory` where memory was refused; nothing has changed then.
+    pub(super) fn commit_for(&mut self, change: Change, reply: Reply) -> Result<Reply, OutOfMemory>
+        ensures ok { OnOk result (self.new ≡ kept_changed self.old change) }
+        ensures told { IfOk result (λ told. told ≡ with_counts reply (counted self.old change)) }
+        ensures err { OnErr result (self.new ≡ self.old) }
+        ensures frees { NeedsNoMemory change → IsOk result }
+    {
+        match self.state.commit(change) {
+            Ok(counts) => Ok(with_counts(reply, counts)),
+            Err(refused) => {
+                drop(reply);
+                Err(refused)
+            }
+        }
+    }
+
+    /// Makes a change, and gives back so the three replies that were worked out for it. `OutOfMemory`
+    /// where memory was refused; nothing has changed then.
+    pub(super) fn commit_for_each(
+        &mut self,
+        change: Change,
+        replies: [Reply; 3],
+    ) -> Result<[Reply; 3], OutOfMemory>
+        ensures ok { OnOk result (self.new ≡ kept_changed self.old change) }
+        ensures told { IfOk result (λ told. told ≡ map (λ (reply : ReplyOf). with_counts reply (counted self.old change)) replies) }
+        ensures err { OnErr result (self.new ≡ self.old) }
+        ensures frees { NeedsNoMemory change → IsOk result }
+    {
+        match self.state.commit(change) {
+            Ok(counts) => Ok(all_with_counts(replies, counts)),
+            Err(refused) => {
+                drop(replies);
+                Err(refused)
+            }
+        }
+    }
+
+    /// The mounts where somebody sits, which relays feed on demand, in the order of their bytes.
+    /// `OutOfMemory` where memory was refused.
+    pub(super) fn wanted(&self) -> Result<Vec<MountName>, OutOfMemory>
+        ensures { IfOk result (λ mounts. mounts.items ≡ wanted self.now) }
+    {
+        wanted(self.alloc, &self.house(), self.seats())
+    }
+
+    /// How the client, or the relay, of this number stands.
+    pub(super) fn standing(&self, id: u64) -> Standing
+        ensures { result ≡ standing_of self.now id }
+    {
+        self.house().standing(self.seats(), id)
+    }
+
+    /// The mount where the listener of this number sits, or sat last; none where there is no such
+    /// listener.
+    pub(super) fn last_mount(&self, id: u64) -> Option<&MountName>
+        ensures { option_copied result ≡ last_mount_of self.now.seats id }
+    {
+        self.seats().last_mount(id)
+    }
+
+    /// Whether there is a relay of this number.
+    pub(super) fn has_relay(&self, id: u64) -> bool
+        ensures { result ≡ has_relay self.now id }
+    {
+        self.house().has_relay(id)
+    }
+}

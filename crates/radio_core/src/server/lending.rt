@@ -1,0 +1,64 @@
+//! Parts of mounts that are lent, and taken back.
+
+ghost use Rattle.std.specs.Prelude.{◌≡◌, Err, IfOk, OnErr, MatchOption};
+ghost use Rattle.radio_changes.specs.Lent.{IsLentTo};
+ghost use Rattle.radio_core.specs.Lending.{IsTakenOut, StandsIn};
+
+use super::control::Control;
+use crate::OutOfMemory;
+use radio_mounts::MountPart;
+use radio_parts::Session;
+use radio_values::{MountName, Shown};
+
+impl Control {
+    /// Puts a mount's part in the place of the one that is here, which it returns. Whoever has lagged
+    /// out there, and still has its seat, loses it. A part that nobody feeds can only take the place of
+    /// such a one, and one that a source feeds that of one which the same source feeds; else nothing
+    /// changes, and `Err` has the part itself. It takes no memory.
+    pub fn exchange(&mut self, part: MountPart) -> Result<MountPart, MountPart>
+        ensures ok { IfOk result (λ there. IsLentTo part there self.old self.new) }
+        ensures back { OnErr result (result ≡ Err part) }
+        ensures err { OnErr result (self.new ≡ self.old) }
+    {
+        self.state.exchange(part)
+    }
+
+    /// Takes out the mount's part, and leaves one without data in its place, which the same source
+    /// feeds, if one does. Returns `None` if the mount has no part; nothing has changed then.
+    /// `OutOfMemory` if memory was refused; nothing has changed then.
+    pub fn take_out(&mut self, mount: &MountName) -> Result<Option<MountPart>, OutOfMemory>
+        ensures out { IfOk result (λ out. MatchOption out (self.new ≡ self.old) (λ part. IsTakenOut mount.now part self.old self.new)) }
+        ensures err { OnErr result (self.new ≡ self.old) }
+    {
+        let stand_in = self.stand_in(mount)?;
+        match self.exchange(stand_in) {
+            Ok(part) => Ok(Some(part)),
+            Err(stand_in) => {
+                drop(stand_in);
+                Ok(None)
+            }
+        }
+    }
+
+    /// Returns a part of the mount without data, which the same source feeds, if one does.
+    /// `OutOfMemory` if memory was refused.
+    fn stand_in(&self, mount: &MountName) -> Result<MountPart, OutOfMemory>
+        ensures { IfOk result (λ part. StandsIn mount.now part) }
+    {
+        let Some(session) = self.house().session(mount) else {
+            return Ok(MountPart::new(*mount));
+        };
+        let nothing = b"".as_slice();
+        let shown = Shown::clean(self.alloc, nothing, nothing, nothing)?;
+        let session = Session::new(
+            self.alloc,
+            *mount,
+            session.number,
+            shown,
+            session.last_block,
+        )?;
+        let mut part = MountPart::new(*mount);
+        part.session = Some(session);
+        Ok(part)
+    }
+}

@@ -1,0 +1,69 @@
+-- states before and after a part was lent agree on all mounts but its own
+use Rattle.std.proofs.Common.{◌≡◌, true, ℕ, ◌==◌, Option, Some, List, [], ◌∷◌, not, refl, ap, sym, ◌∙◌}
+use Rattle.std.specs.Str.{bytes_eq}
+use Rattle.std.proofs.lemmas.Bool.{eqb-true}
+use Rattle.std.proofs.lemmas.Slice.Eq.{bytes_eq-Decides}
+use Rattle.radio_tables.proofs.FindLaws.{found_passes}
+use Rattle.radio_attached.specs.Lent.{AsBefore, HeardTo, LaggedOut, IsSeenAfter}
+use Rattle.radio_changes.specs.Lent.{IsLentTo}
+use Rattle.radio_house.specs.House.{House}
+use Rattle.radio_house.specs.World.{World}
+use Rattle.radio_mounts.specs.Agree.{AllAgree}
+use Rattle.radio_mounts.specs.Exchange.{Comes, Stays, first_true, second_true, IsInPlace}
+use Rattle.radio_mounts.specs.declared.part.MountPart.{MountPart}
+use Rattle.radio_parts.specs.Sessions.{Session, is_of}
+use Rattle.radio_policy.specs.declared.rule.Rule.TheVariants.{Lagged}
+use Rattle.radio_seats.specs.declared.seat.Listener.{Listener}
+use Rattle.radio_seats.specs.declared.seat.Seating.{Seating}
+use Rattle.radio_seats.specs.declared.seat.Seating.TheVariants.{Sits, Finished}
+use Rattle.radio_seats.specs.Seats.{heard_to, last_mount, lost_by}
+use Rattle.radio_laws.specs.LentParts.{all_but}
+use Rattle.radio_laws.specs.Locality.{AgreeWithin, FedBeyond, LastBeyond, ListenersAgree, SameListener, SameSession, SessionsAgree}
+
+module _ (mount : List ℕ) where
+  session_agrees : (its : Option Session) → ((b : Session) → its ≡ Some b → bytes_eq b.mount mount ≡ true) → (a b : Session) → IsInPlace its a b
+      → SessionsAgree (all_but mount) a b
+  session_agrees its named a b (Stays same) = SameSession same
+  session_agrees its named a b (Comes is of) =
+      let same : b.mount ≡ a.mount = (bytes_eq-Decides b.mount a.mount).0 (first_true (bytes_eq b.mount a.mount) (b.number == a.number) of) in
+      let here : b.mount ≡ mount = (bytes_eq-Decides b.mount mount).0 (named b is) in
+      FedBeyond (sym same) (sym (eqb-true b.number a.number (second_true (bytes_eq b.mount a.mount) (b.number == a.number) of)))
+      (ap not ((bytes_eq-Decides mount a.mount).1 (sym here ∙ same)))
+
+  sessions_agree : (its : Option Session) → ((b : Session) → its ≡ Some b → bytes_eq b.mount mount ≡ true) → (before after : List Session)
+      → AllAgree (IsInPlace its) before after → AllAgree (SessionsAgree (all_but mount)) before after
+  sessions_agree its named [] [] all = tt
+  sessions_agree its named [] (b ∷ after) all = absurd all
+  sessions_agree its named (a ∷ before) [] all = absurd all
+  sessions_agree its named (a ∷ before) (b ∷ after) all = (session_agrees its named a b all.0, sessions_agree its named before after all.1)
+
+  last_heard : (place : ℕ) (seating : Seating) → last_mount (heard_to place seating) ≡ last_mount seating
+  last_heard place (Sits seat) = refl
+  last_heard place (Finished rule last) = refl
+
+  last_lost : (seating : Seating) → last_mount (lost_by Lagged seating) ≡ last_mount seating
+  last_lost (Sits seat) = refl
+  last_lost (Finished rule last) = refl
+
+  listener_agrees : (a b : Listener) → IsSeenAfter mount a b → ListenersAgree (all_but mount) a b
+  listener_agrees a b (AsBefore same) = SameListener same
+  listener_agrees a b (HeardTo place is at) =
+      LastBeyond (sym (ap (λ (l : Listener). l.id) is)) (ap not at)
+      (ap (λ (l : Listener). all_but mount (last_mount l.seating)) is ∙ ap (all_but mount) (last_heard place a.seating) ∙ ap not at)
+  listener_agrees a b (LaggedOut is at) =
+      LastBeyond (sym (ap (λ (l : Listener). l.id) is)) (ap not at)
+      (ap (λ (l : Listener). all_but mount (last_mount l.seating)) is ∙ ap (all_but mount) (last_lost a.seating) ∙ ap not at)
+
+  listeners_agree : (before after : List Listener) → AllAgree (IsSeenAfter mount) before after → AllAgree (ListenersAgree (all_but mount)) before after
+  listeners_agree [] [] all = tt
+  listeners_agree [] (b ∷ after) all = absurd all
+  listeners_agree (a ∷ before) [] all = absurd all
+  listeners_agree (a ∷ before) (b ∷ after) all = (listener_agrees a b all.0, listeners_agree before after all.1)
+
+pub lent_agree : (part there : MountPart) (before after : World) → IsLentTo part there before after → AgreeWithin (all_but part.mount) before after
+lent_agree part there before after lent = record {
+  house = sym (ap (λ (h : House). record h { live = before.house.live }) lent.house);
+  sessions = sessions_agree part.mount part.session
+      (λ b is. found_passes (is_of part.mount) after.house.live b (lent.session ∙ is)) before.house.live after.house.live lent.sessions;
+  listeners = listeners_agree part.mount before.seats after.seats lent.listeners;
+}

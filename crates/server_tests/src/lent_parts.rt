@@ -1,0 +1,145 @@
+//! A mount's part that stands apart, as under a lock of its own: it does what it can by itself, and is
+//! lent to the control for all else. The replies are those of a core.
+
+use crate::calls::{CALLS, Callee, number_given, serve, step_copy};
+use crate::stations::{core, settings};
+use radio_access::Lists;
+use radio_core::{Control, Core};
+use radio_documents::SettingsFault;
+use radio_events::{Event, Reply};
+use radio_merge::is_same_reply;
+use radio_mounts::{MountPart, PartAnswer};
+use radio_seats::OutOfMemory;
+use radio_values::MountName;
+use std::alloc::{AllocGlobal, Global};
+
+/// As many bytes of a stream are kept as the settings say.
+const QUEUE: u64 = 524_288;
+
+/// The control and a mount's part, beside a core that is called alike.
+#[derive(Drop)]
+struct Apart<'a> {
+    alloc: Global,
+    mount: MountName,
+    control: &'a mut Control,
+    part: Option<MountPart>,
+    core: &'a mut Core,
+    /// How many calls the part did by itself.
+    own: usize,
+    /// How many calls were answered alike.
+    alike: usize,
+}
+
+impl Apart<'_> {
+    /// The reply to the event, by the part if it can, else by the control.
+    fn reply(&mut self, event: Event) -> Result<Reply, OutOfMemory> {
+        let Some(part) = self.part.take() else {
+            return self.reply_lent(event);
+        };
+        self.reply_by(part, event)
+    }
+
+    /// The reply to the event by this part, if it can; else it is lent.
+    fn reply_by(&mut self, part: MountPart, event: Event) -> Result<Reply, OutOfMemory> {
+        let mut part = part;
+        match part.step(self.alloc, 0, QUEUE, event)? {
+            PartAnswer::Replied(reply) => {
+                self.own = self.own.saturating_add(1);
+                self.part = Some(part);
+                Ok(reply)
+            }
+            PartAnswer::Elsewhere(event) => {
+                drop(self.control.exchange(part));
+                self.reply_lent(event)
+            }
+        }
+    }
+
+    /// The control's reply, which has the part; it is taken out again.
+    fn reply_lent(&mut self, event: Event) -> Result<Reply, OutOfMemory> {
+        let reply = self.control.step(event)?;
+        match self.control.take_out(&self.mount) {
+            Ok(part) => {
+                self.part = part;
+                Ok(reply)
+            }
+            Err(refused) => {
+                drop(reply);
+                Err(refused)
+            }
+        }
+    }
+
+    fn count(&mut self, reply: &Reply, want: &Reply) {
+        if is_same_reply(reply, want) {
+            self.alike = self.alike.saturating_add(1);
+        }
+    }
+
+    /// Makes the call; the reply is counted, if it is as was wanted.
+    fn call_apart(&mut self, event: Event, want: &Reply) -> Option<u64> {
+        match self.reply(event) {
+            Ok(reply) => {
+                self.count(&reply, want);
+                drop(reply);
+                Some(number_given(want))
+            }
+            Err(_) => None,
+        }
+    }
+}
+
+impl Callee for Apart<'_> {
+    fn call(&mut self, event: Event) -> Option<u64> {
+        match step_copy(self.core, &event) {
+            Ok(want) => {
+                let number = self.call_apart(event, &want);
+                drop(want);
+                number
+            }
+            Err(_) => {
+                drop(event);
+                None
+            }
+        }
+    }
+}
+
+/// Whether all 100 calls are answered alike, and more than 40 of them by the part.
+fn all_alike(alloc: Global, control: &mut Control, core: &mut Core, mount: MountName) -> bool {
+    let mut apart = Apart {
+        alloc,
+        mount,
+        control,
+        part: None,
+        core,
+        own: 0,
+        alike: 0,
+    };
+    serve(alloc, &mut apart, "/a");
+    apart.alike == CALLS && apart.own > 40
+}
+
+fn alike_beside(alloc: Global, core: &mut Core, mount: MountName) -> Result<bool, SettingsFault> {
+    let mut control = Control::new(alloc, settings(alloc, "")?, Lists::new(alloc));
+    let alike = all_alike(alloc, &mut control, core, mount);
+    drop(control);
+    Ok(alike)
+}
+
+fn are_alike(alloc: Global, mount: MountName) -> Result<bool, SettingsFault> {
+    let mut core = core(alloc, "")?;
+    let alike = alike_beside(alloc, &mut core, mount);
+    drop(core);
+    alike
+}
+
+#[test]
+fn a_part_that_is_lent(rt: HostRuntime) {
+    let Some(mount) = MountName::read(b"/a".as_slice()) else {
+        assert!(rt; false);
+        return;
+    };
+    let alike = are_alike(rt.alloc(), mount);
+    assert!(rt; matches!(alike, Ok(true)));
+}
