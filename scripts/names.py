@@ -5,7 +5,7 @@ from pathlib import Path
 
 TOP = Path(__file__).resolve().parent.parent
 CRATES = TOP / "crates"
-SERVING = ("serve", "serve_hostile", "serve_hostile_masters", "serve_log", "serve_relays")
+SERVING = ("serve", "serve_hostile", "serve_hostile_masters", "serve_log", "serve_proxies", "serve_relays")
 
 
 @cache

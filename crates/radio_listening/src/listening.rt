@@ -9,11 +9,13 @@ ghost use Rattle.radio_workers.specs.Hands.{HasTakenMore};
 
 use crate::{BindFault, ServeFault};
 use mio::net::TcpStream;
+use radio_addr::AddressList;
 use radio_board::{Board, Limits};
 use radio_events::SharedServer;
 use radio_intake::{Intake, IntakePass};
 use radio_lines::{Reach, SocketLine, Sockets};
 use radio_outlet::LogQueue;
+use radio_proxy::Pending;
 use radio_pullers::{has_relays, keep_relays};
 use radio_serving::{OpenGate, WebAnswers};
 use radio_settings::Settings;
@@ -48,6 +50,8 @@ pub struct Service {
 pub struct Listening {
     alloc: Global,
     doors: Doors,
+    /// Whose connections begin with a header that names their client.
+    proxies: Option<AddressList>,
 }
 
 impl Listening {
@@ -61,7 +65,23 @@ impl Listening {
         ensures { IfErr result (λ fault. fault ≡ NoAddress → IsNoIp address.now) }
     {
         let doors = Doors::bind(rt, alloc, address, port)?;
-        Ok(Listening { alloc, doors })
+        Ok(Listening {
+            alloc,
+            doors,
+            proxies: None,
+        })
+    }
+
+    /// Returns the same with the peers on this list as proxies. Each of their connections begins with a header that names its client
+    /// (the PROXY protocol, version 1). The client arrives from the address that is named. With no list there are no proxies.
+    pub fn behind(self, proxies: Option<AddressList>) -> Listening
+        ensures { result.proxies ≡ proxies }
+    {
+        Listening {
+            alloc: self.alloc,
+            doors: self.doors,
+            proxies,
+        }
     }
 
     /// The address and port that were bound.
@@ -91,13 +111,32 @@ impl Listening {
         S: SharedServer + Sync,
         S::Pass: Send,
     {
-        let Listening { alloc, doors } = self;
-        let mut acceptor = Acceptor::new(doors);
+        let Listening {
+            alloc,
+            doors,
+            proxies,
+        } = self;
+        let pending = pending_of(alloc, proxies, settings);
+        let mut acceptor = Acceptor::new(alloc, doors, pending);
         let opened = open_board(net, alloc, &acceptor, service, log);
         let fault = serve_by(rt, net, opened, server, settings, service, &mut acceptor);
         drop(acceptor);
         fault
     }
+}
+
+/// Returns the place for connections of these proxies that wait for their headers. As many may wait as may be clients, and each as
+/// long as a client may take for its request.
+fn pending_of(
+    alloc: Global,
+    proxies: Option<AddressList>,
+    settings: &Settings,
+) -> Pending<TcpStream>
+    ensures { result.proxies ≡ proxies }
+{
+    let limits = &settings.limits;
+    let patience_ms = u64::from(limits.header_timeout.get()) * 1000;
+    Pending::new(alloc, proxies, limits.clients.get() as usize, patience_ms)
 }
 
 /// Serves connections that this acceptor accepts, by this server.

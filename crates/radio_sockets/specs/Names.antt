@@ -1,5 +1,5 @@
 -- What the system tells a server that accepts connections.
-use Rattle.std.specs.Prelude.{ℕ, ℤ, Bool, false, ◌-◌, ◌^◌, ◌==◌, Option, None, Some}
+use Rattle.std.specs.Prelude.{ℤ, Bool, false, ◌-◌, ◌^◌, ◌==◌, Option, None, Some}
 use Rattle.mio.specs.declared.token.Token.{Token}
 use Rattle.radio_sockets.specs.Steps.{lacks_descriptors}
 

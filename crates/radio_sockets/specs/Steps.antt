@@ -1,5 +1,5 @@
 -- What a worker's post decides. Moments are in milliseconds.
-use Rattle.std.specs.Prelude.{ℕ, ℤ, pos, ◌+◌, ◌-◌, ◌*◌, ◌^◌, ◌==◌, min, nat_le, nat_lt, Bool, not, ◌&&◌, ◌||◌, if◌then◌else◌}
+use Rattle.std.specs.Prelude.{ℕ, ℤ, pos, ◌+◌, ◌-◌, ◌*◌, ◌^◌, ◌==◌, min, max, nat_le, nat_lt, Bool, not, ◌&&◌, ◌||◌, if◌then◌else◌}
 use Rattle.std.specs.Ordering.{int_eq}
 use Rattle.radio_sockets.specs.declared.steps.Called.{Called}
 use Rattle.radio_board.specs.declared.news.NewsFor.{NewsFor}
@@ -33,6 +33,14 @@ news_for number may_tell = if may_tell then AllBut number else All
 -- for how long the acceptor waits: not at all if it is called, shorter if a connection may be accepted soon, or newcomers wait
 abbrev pub acceptor_wait : Bool → Bool → ℕ → ℕ
 acceptor_wait called may_accept comings = if called then 0 else if may_accept then 50 else if nat_lt 0 comings then 250 else 1000
+
+-- no longer than until the first header is overdue; if one is, 50 milliseconds
+abbrev pub header_wait : ℕ → ℕ → ℕ
+header_wait wait header = min wait (max header 50)
+
+-- the number of the next connection that waits for a header: any other name of the system is higher
+abbrev pub next_number : ℕ → ℕ
+next_number number = if nat_lt number (2 ^ 32 - 1) then number + 1 else 0
 
 -- whether a worker that has served for so long ends the server, since the acceptor has not begun
 abbrev pub is_alone : ℕ → Bool → Bool

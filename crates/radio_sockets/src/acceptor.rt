@@ -1,24 +1,39 @@
 //! The thread that accepts connections.
 
-ghost use Rattle.std.specs.Prelude.{◌≡◌, ◌⊎◌, ◌+◌, ◌-◌, ◌^◌, false, min};
+ghost use Rattle.std.specs.Prelude.{◌≡◌, ◌⊎◌, ◌+◌, ◌-◌, ◌^◌, All, false, true, min};
 ghost use Rattle.radio_lines.specs.Accepting.{closed_in};
+ghost use Rattle.radio_proxy.specs.Pending.{is_proxy};
+ghost use Rattle.radio_sockets.specs.Entitled.{IsEntitled};
 
 use crate::ServeFault;
-use crate::doors::{Coming, Doors};
-use crate::steps::acceptor_wait;
+use crate::doors::{Coming, Doors, Newcomer};
+use crate::gone::{gone, gone_word};
+use crate::steps::{acceptor_wait, header_wait, next_number};
 use mio::Waker;
+use mio::net::TcpStream;
+use radio_addr::Peer;
 use radio_board::{Board, Mark};
 use radio_intake::{Intake, IntakePass, ROOM};
 use radio_lines::{Accepts, accept_next, moment};
+use radio_log::Fact;
+use radio_notes::Log;
+use radio_proxy::{Named, Outcome, Pending, Settled};
+use std::alloc::Global;
 use std::io;
 use std::sync::Wait;
 use std::time::Clock;
 
-/// Who accepts connections, and hands them to the workers.
+/// Accepts connections, and hands them to the workers. The connection of a proxy waits here for its header.
 #[derive(Drop)]
 pub struct Acceptor {
     doors: Doors,
     accepts: Accepts,
+    /// The connections of proxies whose headers have not come.
+    pending: Pending<TcpStream>,
+    /// The number by which the system names the last of these.
+    number: usize,
+    /// The lines of those that have ended before a client has arrived.
+    log: Log,
     /// The moment of the clock, in milliseconds.
     clock_ms: u64,
     /// For whom the next connection is, if he has no more than others.
@@ -26,19 +41,23 @@ pub struct Acceptor {
 }
 
 impl Acceptor {
-    /// One who has accepted nothing yet.
-    pub fn new(doors: Doors) -> Acceptor
-        ensures { result.accepts ≡ record { failed = 0; not_before = 0; is_short = false } }
+    /// Returns one that has accepted nothing yet, and keeps those that wait for a header in `pending`. It takes no memory.
+    pub fn new(alloc: Global, doors: Doors, pending: Pending<TcpStream>) -> Acceptor
+        ensures accepts { result.accepts ≡ record { failed = 0; not_before = 0; is_short = false } }
+        ensures pending { result.pending ≡ pending }
     {
         Acceptor {
             doors,
             accepts: Accepts::new(),
+            pending,
+            number: 0,
+            log: Log::new(alloc),
             clock_ms: 0,
             next: 0,
         }
     }
 
-    /// What ends his waits from another thread.
+    /// What ends its waits from another thread.
     pub fn waker(&self) -> io::Result<Waker> {
         self.doors.waker()
     }
@@ -53,9 +72,11 @@ impl Acceptor {
     ) -> ServeFault
         requires own { pass.old.intake ≡ intake.now }
         ensures own { pass.new.intake ≡ intake.now }
+        // only a proxy's connection names its client
+        ensures entitled { All (IsEntitled self.old.pending.proxies) pass.old.put → All (IsEntitled self.old.pending.proxies) pass.new.put }
     {
         if board.is_over() {
-            // There was no thread for him, as long as the workers were there.
+            // There was no thread for it, as long as the workers were there.
             return ServeFault::OutOfMemory;
         }
         let _ = board.mark(Mark::AcceptorBegun, true);
@@ -79,12 +100,15 @@ impl Acceptor {
     ) -> Result<(), ServeFault>
         requires own { pass.old.intake ≡ intake.now }
         ensures own { pass.new.intake ≡ intake.now }
+        ensures proxies { self.new.pending.proxies ≡ self.old.pending.proxies }
+        ensures entitled { All (IsEntitled self.old.pending.proxies) pass.old.put → All (IsEntitled self.old.pending.proxies) pass.new.put }
     {
         self.hear(rt, board)?;
         if board.is_over() {
             return Err(ServeFault::Accept);
         }
         self.accept_all(rt, board, intake, pass)?;
+        self.settle_all(rt, board, intake, pass);
         board.move_newcomers();
         Ok(())
     }
@@ -93,15 +117,18 @@ impl Acceptor {
     fn hear<R: Clock + Wait>(&mut self, rt: &R, board: &Board) -> Result<(), ServeFault>
         ensures accepts { (self.new.accepts ≡ self.old.accepts) ⊎ (self.new.accepts ≡ closed_in self.old.accepts) }
         ensures next { self.new.next ≡ self.old.next }
+        ensures proxies { self.new.pending.proxies ≡ self.old.pending.proxies }
     {
         let is_called = board.acceptor_lies_down();
         let wait_ms = acceptor_wait(is_called, self.doors.is_asked(), board.comings());
-        let heard = self.doors.hear(wait_ms);
+        let header_ms = self.pending.left_ms(self.clock_ms, wait_ms);
+        let heard = self.doors.hear(header_wait(wait_ms, header_ms));
         let _ = board.mark(Mark::AcceptorSleeps, false);
         self.clock_ms = moment(rt);
         if board.mark(Mark::Closed, false) {
             self.accepts.note_closed();
         }
+        note_events(&self.doors, &mut self.pending);
         heard
     }
 
@@ -115,6 +142,8 @@ impl Acceptor {
     ) -> Result<(), ServeFault>
         requires own { pass.old.intake ≡ intake.now }
         ensures own { pass.new.intake ≡ intake.now }
+        ensures proxies { self.new.pending.proxies ≡ self.old.pending.proxies }
+        ensures entitled { All (IsEntitled self.old.pending.proxies) pass.old.put → All (IsEntitled self.old.pending.proxies) pass.new.put }
     {
         'room: for _ in board.comings()..ROOM {
             let Some(number) = board.next_desk(self.next) else {
@@ -124,12 +153,171 @@ impl Acceptor {
                 return Err(ServeFault::Accept);
             };
             let _ = board.mark(Mark::ClosingWanted, self.accepts.is_short());
-            let Some(coming) = accepted else {
+            let Some(newcomer) = accepted else {
                 return Ok(());
             };
-            self.hand_on(rt, board, intake, pass, coming, number);
+            self.take_in(rt, board, intake, pass, newcomer, number);
         }
         Ok(())
+    }
+
+    /// Hands a connection that was accepted on to this worker. That of a proxy waits for its header first.
+    fn take_in<R: Clock + Wait>(
+        &mut self,
+        rt: &R,
+        board: &Board,
+        intake: &Intake<Coming>,
+        pass: &mut IntakePass<Coming>,
+        newcomer: Newcomer,
+        number: usize,
+    )
+        requires own { pass.old.intake ≡ intake.now }
+        ensures own { pass.new.intake ≡ intake.now }
+        ensures proxies { self.new.pending.proxies ≡ self.old.pending.proxies }
+        ensures entitled { All (IsEntitled self.old.pending.proxies) pass.old.put → All (IsEntitled self.old.pending.proxies) pass.new.put }
+    {
+        let Newcomer { stream, peer } = newcomer;
+        if self.pending.awaits(peer) {
+            self.await_header(rt, board, stream, peer);
+            return;
+        }
+        let coming = Coming {
+            stream,
+            socket_peer: peer,
+            named: Named::Nobody,
+        };
+        self.hand_on(rt, board, intake, pass, coming, number);
+    }
+
+    /// Keeps the connection of a proxy until its header has come. It is closed if as many as may be wait already.
+    fn await_header<R: Clock + Wait>(
+        &mut self,
+        rt: &R,
+        board: &Board,
+        stream: TcpStream,
+        proxy: Peer,
+    )
+        requires { is_proxy self.old.pending.proxies proxy ≡ true }
+        ensures { self.new.pending.proxies ≡ self.old.pending.proxies }
+    {
+        let mut stream = stream;
+        self.number = next_number(self.number);
+        if self.doors.watch(&mut stream, self.number).is_err() {
+            drop(stream);
+            return;
+        }
+        let added = self.pending.add(stream, proxy, self.number, self.clock_ms);
+        if let Err(stream) = added {
+            drop(stream);
+            self.tell_gone(rt, board, proxy, "too-many-clients", 0);
+        }
+    }
+
+    /// Hands on each connection whose header has come, as far as the intake has room, and closes those of which none comes.
+    fn settle_all<R: Clock + Wait>(
+        &mut self,
+        rt: &R,
+        board: &Board,
+        intake: &Intake<Coming>,
+        pass: &mut IntakePass<Coming>,
+    )
+        requires own { pass.old.intake ≡ intake.now }
+        ensures own { pass.new.intake ≡ intake.now }
+        ensures proxies { self.new.pending.proxies ≡ self.old.pending.proxies }
+        ensures entitled { All (IsEntitled self.old.pending.proxies) pass.old.put → All (IsEntitled self.old.pending.proxies) pass.new.put }
+    {
+        'room: for _ in board.comings()..ROOM {
+            let Some(number) = board.next_desk(self.next) else {
+                return;
+            };
+            let Some(settled) = self.pending.next(self.clock_ms) else {
+                return;
+            };
+            self.settle(rt, board, intake, pass, settled, number);
+        }
+    }
+
+    /// Hands a connection on to this worker, if its header has come; else it is closed, and the log has a line of it.
+    fn settle<R: Clock + Wait>(
+        &mut self,
+        rt: &R,
+        board: &Board,
+        intake: &Intake<Coming>,
+        pass: &mut IntakePass<Coming>,
+        settled: Settled<TcpStream>,
+        number: usize,
+    )
+        requires own { pass.old.intake ≡ intake.now }
+        requires proxy { is_proxy self.old.pending.proxies settled.proxy ≡ true }
+        ensures own { pass.new.intake ≡ intake.now }
+        ensures proxies { self.new.pending.proxies ≡ self.old.pending.proxies }
+        ensures entitled { All (IsEntitled self.old.pending.proxies) pass.old.put → All (IsEntitled self.old.pending.proxies) pass.new.put }
+    {
+        let Settled {
+            stream,
+            proxy,
+            since_ms,
+            outcome,
+        } = settled;
+        match outcome {
+            Outcome::Named(named) => {
+                let coming = Coming {
+                    stream,
+                    socket_peer: proxy,
+                    named,
+                };
+                self.hand_on_read(rt, board, intake, pass, coming, number);
+            }
+            Outcome::Bad | Outcome::Left => {
+                drop(stream);
+                self.accepts.note_closed();
+                let seconds = self.clock_ms.saturating_sub(since_ms) / 1000;
+                self.tell_gone(rt, board, proxy, gone_word(outcome), seconds);
+            }
+        }
+    }
+
+    /// Hands a connection on to this worker whose header was read. It is closed if the system goes on telling of it here.
+    fn hand_on_read<R: Wait>(
+        &mut self,
+        rt: &R,
+        board: &Board,
+        intake: &Intake<Coming>,
+        pass: &mut IntakePass<Coming>,
+        coming: Coming,
+        number: usize,
+    )
+        requires own { pass.old.intake ≡ intake.now }
+        requires entitled { IsEntitled self.old.pending.proxies coming }
+        ensures own { pass.new.intake ≡ intake.now }
+        ensures proxies { self.new.pending.proxies ≡ self.old.pending.proxies }
+        ensures entitled { All (IsEntitled self.old.pending.proxies) pass.old.put → All (IsEntitled self.old.pending.proxies) pass.new.put }
+    {
+        let mut coming = coming;
+        if self.doors.forget(&mut coming.stream).is_err() {
+            drop(coming);
+            return;
+        }
+        self.hand_on(rt, board, intake, pass, coming, number);
+    }
+
+    /// Tells the log of a connection of this proxy that has ended so before a client has arrived.
+    fn tell_gone<R: Clock + Wait>(
+        &self,
+        rt: &R,
+        board: &Board,
+        proxy: Peer,
+        why: &str,
+        seconds: u64,
+    ) {
+        let now = match rt.since_1970() {
+            Ok(since) => since.as_secs(),
+            Err(_) => 0,
+        };
+        self.log.set_moment(now);
+        self.log.note(Fact::ClientEnded(gone(proxy, why, seconds)));
+        let lines = self.log.take();
+        board.add_lines(rt, lines.as_slice(), now);
     }
 
     /// Hands a connection on to this worker. It is closed where too many wait.
@@ -143,10 +331,13 @@ impl Acceptor {
         number: usize,
     )
         requires own { pass.old.intake ≡ intake.now }
+        requires entitled { IsEntitled self.old.pending.proxies coming }
         ensures own { pass.new.intake ≡ intake.now }
         // the next one is for the worker behind this one, if this one was put for it
         ensures next { (self.new.next ≡ self.old.next) ⊎ (self.new.next ≡ min (2 ^ 64 - 1) (number + 1)) }
         ensures accepts { self.new.accepts ≡ self.old.accepts }
+        ensures proxies { self.new.pending.proxies ≡ self.old.pending.proxies }
+        ensures entitled { All (IsEntitled self.old.pending.proxies) pass.old.put → All (IsEntitled self.old.pending.proxies) pass.new.put }
     {
         if let Err(coming) = intake.put(rt, pass, coming) {
             drop(coming);
@@ -156,5 +347,14 @@ impl Acceptor {
         if let Some(desk) = board.desk(number) {
             desk.send();
         }
+    }
+}
+
+/// Notes what the system has told last of the connections that wait for a header.
+fn note_events(doors: &Doors, pending: &mut Pending<TcpStream>)
+    ensures { pending.new.proxies ≡ pending.old.proxies }
+{
+    for event in doors.events() {
+        pending.note(event.token().0, event.is_read_closed() || event.is_error());
     }
 }

@@ -16,6 +16,7 @@ use mio::net::{TcpListener, TcpStream};
 use mio::{Events, Interest, Poll, Token, Waker};
 use radio_addr::Peer;
 use radio_lines::{Accepted, Entrance};
+use radio_proxy::Named;
 use std::alloc::Global;
 use std::io;
 use std::io::ErrorKind;
@@ -28,15 +29,26 @@ const LISTENER: Token = Token(usize::MAX);
 /// The name of the acceptor's waker.
 const WAKER: Token = Token(usize::MAX - 2);
 
-/// Of how many things the system tells at once: the bound socket and the waker.
-const EVENTS: usize = 8;
+/// Of how many sockets the system tells at once: the bound one, the waker, and those that wait for a header.
+const EVENTS: usize = 128;
 
-/// A connection that was accepted, and waits for a worker.
+/// A connection that waits for a worker.
 #[derive(Drop)]
 pub struct Coming {
     /// Its socket, which does not wait.
     pub(crate) stream: TcpStream,
-    /// Who has come.
+    /// The address of the socket's other end.
+    pub(crate) socket_peer: Peer,
+    /// Whom its header names. It names nobody if the other end is not a proxy.
+    pub(crate) named: Named,
+}
+
+/// A connection that the system has just accepted.
+#[derive(Drop)]
+pub struct Newcomer {
+    /// Its socket, which does not wait.
+    pub(crate) stream: TcpStream,
+    /// The address of the socket's other end.
     pub(crate) peer: Peer,
 }
 
@@ -128,6 +140,29 @@ impl Doors {
         Ok(())
     }
 
+    /// Has the system tell of this socket under this number. `Err` if it does not.
+    pub(crate) fn watch(&self, stream: &mut TcpStream, number: usize) -> io::Result<()>
+        ensures { stream.new ≡ stream.old }
+    {
+        self.poll
+            .registry()
+            .register(stream, Token(number), Interest::READABLE)
+    }
+
+    /// Has the system tell of this socket no more. `Err` if it tells on.
+    pub(crate) fn forget(&self, stream: &mut TcpStream) -> io::Result<()>
+        ensures { stream.new ≡ stream.old }
+    {
+        self.poll.registry().deregister(stream)
+    }
+
+    /// Returns what the system has told last.
+    pub(crate) fn events(&self) -> &Events<Global>
+        ensures { result.now ≡ self.now.events }
+    {
+        &self.events
+    }
+
     /// Returns whether the system has told last that a connection may wait.
     fn is_told(&self) -> bool
         ensures { result ≡ list_any (λ e. is_listener (event_token e)) (items self.now.events) }
@@ -143,19 +178,19 @@ fn is_listener(token: Token) -> bool
     token.0 == LISTENER.0
 }
 
-impl Entrance<Coming> for Doors {
+impl Entrance<Newcomer> for Doors {
     ghost use Rattle.radio_sockets.specs.Entering.{IsEntered};
 
     ghost accepts = { IsEntered };
 
-    fn accept(&mut self) -> Accepted<Coming>
+    fn accept(&mut self) -> Accepted<Newcomer>
         ensures { IsEntered self.old result self.new }
     {
         if !self.is_asked {
             return Accepted::Nothing;
         }
         match self.listener.accept() {
-            Ok((stream, address)) => Accepted::One(Coming {
+            Ok((stream, address)) => Accepted::One(Newcomer {
                 stream,
                 peer: peer_at(address),
             }),

@@ -1,6 +1,7 @@
 //! What accepts connections, and what serves them: the two loops between which connections are handed on.
 //!
 //! - [`Doors`]: a bound socket; [`Acceptor`]: who accepts connections there.
+//! - [`Acceptor::new`] takes the connections of proxies that wait for their headers (`radio_proxy`).
 //! - [`Coming`]: a connection that waits for a worker; [`SocketPost`]: where his turns come from. [`open_desks`] and
 //!   [`seats_of`] make what the workers begin with.
 //! - [`newcomers_are_taken_in`], [`turns_are_due`], [`acceptors_look`]: laws, which run no code.
@@ -11,6 +12,7 @@ mod acceptor;
 mod address;
 mod doors;
 mod fault;
+mod gone;
 mod laws;
 mod post;
 mod seats;

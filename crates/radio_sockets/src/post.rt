@@ -4,6 +4,7 @@ ghost use Rattle.std.specs.Prelude.{◌≡◌, ◌≤◌, ◌-◌, ◌&&◌, ◌
 ghost use Rattle.radio_board.specs.declared.rest.Rest.TheVariants.{Turn as TakesTurn};
 ghost use Rattle.radio_board.specs.Rests.{is_turn, longest, most_rest};
 ghost use Rattle.radio_board.specs.Serving.{served_by};
+ghost use Rattle.radio_proxy.specs.Headers.{peer_by};
 ghost use Rattle.radio_sockets.specs.Steps.{called_of, told_at};
 
 use crate::doors::Coming;
@@ -354,12 +355,17 @@ impl<'a, R: Clock + Wait> Post<Coming, SocketLine<TcpStream>> for SocketPost<'a,
 
     fn open(&mut self, coming: Coming) -> Option<(SocketLine<TcpStream>, Peer)>
         ensures called { self.new.called ≡ self.old.called - 1 }
-        ensures peer { IfSome result (λ opened. opened.1 ≡ coming.peer) }
+        // the client that its header names is its peer, or else the socket's other end
+        ensures peer { IfSome result (λ opened. opened.1 ≡ peer_by coming.named coming.socket_peer) }
     {
         self.note_taken(1);
-        let Coming { stream, peer } = coming;
+        let Coming {
+            stream,
+            socket_peer,
+            named,
+        } = coming;
         match self.sockets.line_of(stream) {
-            Ok(line) => Some((line, peer)),
+            Ok(line) => Some((line, named.peer(socket_peer))),
             Err(_) => None,
         }
     }

@@ -1,7 +1,7 @@
 //! What a worker's post decides, as plain values. Moments are in milliseconds.
 
 ghost use Rattle.std.specs.Prelude.{◌≡◌, ◌&&◌, ◌||◌};
-ghost use Rattle.radio_sockets.specs.Steps.{acceptor_wait, called_of, has_to_do, lacks_descriptors, is_alone, weight_of, is_time_to_tell, is_turn_due, news_for};
+ghost use Rattle.radio_sockets.specs.Steps.{acceptor_wait, called_of, has_to_do, header_wait, lacks_descriptors, is_alone, weight_of, is_time_to_tell, is_turn_due, news_for, next_number};
 
 use radio_board::NewsFor;
 
@@ -33,6 +33,9 @@ const PAUSE_MS: u64 = 50;
 
 /// How long it waits if newcomers wait for a worker that may not be served.
 const NEWCOMERS_MS: u64 = 250;
+
+/// The highest number of a connection that waits for a header.
+const MOST_NUMBER: usize = 0xffff_ffff;
 
 /// How many of those who have come are taken in before a turn.
 #[derive(Clone, Copy, Debug, PartialEq, Eq)]
@@ -103,6 +106,22 @@ pub(crate) fn acceptor_wait(is_called: bool, may_accept: bool, comings: usize) -
     } else {
         ACCEPTOR_MS
     }
+}
+
+/// Returns for how many milliseconds the acceptor waits that may wait for `wait_ms`, if the first header is overdue in `header_ms`:
+/// no longer than until then. If one is overdue already, it makes a pause.
+pub(crate) fn header_wait(wait_ms: u64, header_ms: u64) -> u64
+    ensures { result ≡ header_wait wait_ms header_ms }
+{
+    wait_ms.min(header_ms.max(PAUSE_MS))
+}
+
+/// Returns the number by which the system names the next connection that waits for a header. It is none of the names of the bound
+/// socket and the waker.
+pub(crate) fn next_number(number: usize) -> usize
+    ensures { result ≡ next_number number }
+{
+    if number < MOST_NUMBER { number + 1 } else { 0 }
 }
 
 /// Returns whether a worker that has served for so long ends the server: the acceptor has not begun, and so can't.

@@ -138,7 +138,7 @@ fn serve_in<W: Clock + Threads + Wait + Sync, H: House + Send + Sync>(
         lists,
         proxies,
     } = station;
-    drop(proxies);
+    let listening = listening.behind(proxies);
     let hall: Hall<Unkept, H> = Hall::new(rt.alloc(), settings, lists, blank);
     let service = service_of(again, answers);
     let fault = serve_through(rt, waits, &hall, again, service, listening, log);

@@ -1,0 +1,10 @@
+-- Whose word is taken for the client of a connection.
+use Rattle.std.specs.Prelude.{◌≡◌, List, Option, false}
+use Rattle.radio_addr.specs.declared.lines.AddressRange.{AddressRange}
+use Rattle.radio_proxy.specs.Pending.{is_proxy}
+use Rattle.radio_proxy.specs.declared.header.Named.TheVariants.{Nobody}
+use Rattle.radio_sockets.specs.declared.doors.Coming.{Coming}
+
+-- a connection whose other end is none of these proxies names nobody: its peer is its other end
+abbrev pub IsEntitled : Option (List AddressRange) → Coming → Type 0
+IsEntitled proxies coming = is_proxy proxies coming.socket_peer ≡ false → coming.named ≡ Nobody
