@@ -77,7 +77,8 @@ fn lacking(kind: CommandKind, mount: Option<MountName>) -> Asked
         CommandKind::Metadata | CommandKind::Fallbacks => {
             Asked::MissingArgument(OpenedBy::Source(mount))
         }
-        CommandKind::Stats
+        CommandKind::Status
+        | CommandKind::Stats
         | CommandKind::ListMounts
         | CommandKind::ListClients
         | CommandKind::MoveClients
