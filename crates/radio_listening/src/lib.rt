@@ -9,6 +9,7 @@
 #![tactic(auto)]
 
 mod listening;
+mod working;
 
 pub use listening::{Listening, Service};
 pub use radio_lines::{Reach, SystemNet};

@@ -5,27 +5,25 @@ ghost use Rattle.radio_intake.specs.Passes.{all_parts};
 ghost use Rattle.radio_sockets.specs.declared.fault.BindFault.TheVariants.{NoAddress};
 ghost use Rattle.radio_sockets.specs.declared.fault.ServeFault.TheVariants.{OutOfMemory as NoMemory};
 ghost use Rattle.radio_sockets.specs.Peers.{IsNoIp};
-ghost use Rattle.radio_workers.specs.Hands.{HasTakenMore};
 
+use crate::working::work_together;
 use crate::{BindFault, ServeFault};
 use mio::net::TcpStream;
 use radio_addr::AddressList;
 use radio_board::{Board, Limits};
 use radio_events::SharedServer;
 use radio_intake::{Intake, IntakePass};
-use radio_lines::{Reach, SocketLine, Sockets};
+use radio_lines::{Reach, Sockets};
 use radio_outlet::LogQueue;
 use radio_proxy::Pending;
-use radio_pullers::{has_relays, keep_relays};
-use radio_serving::{OpenGate, WebAnswers};
+use radio_serving::WebAnswers;
 use radio_settings::Settings;
-use radio_sockets::{Acceptor, Coming, Doors, SocketPost, open_desks, seats_of};
-use radio_workers::{Seat, Workplace, run_workers};
+use radio_sockets::{Acceptor, Coming, Doors, open_desks};
 use std::alloc::Global;
 use std::io;
 use std::net::{Net, SocketAddr};
 use std::sync::{Arc, Wait};
-use std::thread::{Threads, join_mut};
+use std::thread::Threads;
 use std::time::Clock;
 
 /// How connections are served.
@@ -200,13 +198,13 @@ fn open_board<N: Reach>(
 
 /// What is served, how, and by what all threads tell each other.
 #[derive(Drop)]
-struct Station<'a, R, N: Reach, S> {
-    rt: &'a R,
-    net: &'a N,
-    server: &'a S,
-    settings: &'a Settings,
-    service: Service,
-    board: &'a Board,
+pub(crate) struct Station<'a, R, N: Reach, S> {
+    pub(crate) rt: &'a R,
+    pub(crate) net: &'a N,
+    pub(crate) server: &'a S,
+    pub(crate) settings: &'a Settings,
+    pub(crate) service: Service,
+    pub(crate) board: &'a Board,
 }
 
 /// Serves connections through an intake, until all stop. `OutOfMemory` where memory was refused for it, or for the
@@ -266,160 +264,4 @@ fn fault_of(fault: ServeFault, are_seated: bool) -> ServeFault
     } else {
         ServeFault::OutOfMemory
     }
-}
-
-/// The acceptor puts connections into this intake by his hand, and workers with these sockets take them out by their pass,
-/// until all stop. His fault, and whether there was memory for the workers' seats.
-fn work_together<R, N, S>(
-    station: &Station<'_, R, N, S>,
-    intake: &Intake<Coming>,
-    hand: &mut IntakePass<Coming>,
-    pass: &mut IntakePass<Coming>,
-    sockets: &mut Vec<Sockets>,
-    acceptor: &mut Acceptor,
-) -> (ServeFault, bool)
-where
-    R: Clock + Threads + Wait + Sync,
-    N: Reach + Sync,
-    S: SharedServer + Sync,
-    S::Pass: Send,
-    requires hand { hand.old.intake ≡ intake.now }
-    requires own { pass.old.intake ≡ intake.now }
-    requires parts { all_parts ≤ pass.old.parts + 1 }
-    ensures hand { hand.new.intake ≡ intake.now }
-    ensures own { pass.new.intake ≡ intake.now }
-{
-    join_mut(
-        station.rt,
-        &mut || -> ServeFault
-            requires { hand.now.intake ≡ intake.now }
-            ensures { hand.exit.now.intake ≡ intake.entry.now }
-        { accept(station, intake, hand, acceptor) },
-        &mut || -> bool
-            requires { (pass.now.intake ≡ intake.now) × (all_parts ≤ pass.now.parts + 1) }
-            ensures { pass.exit.now.intake ≡ intake.entry.now }
-        { work_beside_relays(station, intake, pass, sockets) },
-    )
-}
-
-/// The acceptor puts connections into this intake by his hand, until all stop. His fault.
-fn accept<R, N, S>(
-    station: &Station<'_, R, N, S>,
-    intake: &Intake<Coming>,
-    hand: &mut IntakePass<Coming>,
-    acceptor: &mut Acceptor,
-) -> ServeFault
-where
-    R: Clock + Wait,
-    N: Reach,
-    requires { hand.old.intake ≡ intake.now }
-    ensures { hand.new.intake ≡ intake.now }
-{
-    acceptor.work(station.rt, station.board, intake, hand)
-}
-
-/// The workers with these sockets work, and relays are kept running beside them, if the settings wish some. Whether there
-/// was memory for the workers' seats.
-fn work_beside_relays<R, N, S>(
-    station: &Station<'_, R, N, S>,
-    intake: &Intake<Coming>,
-    pass: &mut IntakePass<Coming>,
-    sockets: &mut Vec<Sockets>,
-) -> bool
-where
-    R: Clock + Threads + Wait + Sync,
-    N: Reach + Sync,
-    S: SharedServer + Sync,
-    S::Pass: Send,
-    requires own { pass.old.intake ≡ intake.now }
-    requires parts { all_parts ≤ pass.old.parts + 1 }
-    ensures { pass.new.intake ≡ intake.now }
-{
-    if !has_relays(station.settings) {
-        return work_at(station, intake, pass, sockets);
-    }
-    let (_, are_seated) = join_mut(
-        station.rt,
-        &mut || {
-            keep_relays(
-                station.rt,
-                station.net,
-                station.server,
-                station.board,
-                station.settings,
-            )
-        },
-        &mut || -> bool
-            requires { (pass.now.intake ≡ intake.now) × (all_parts ≤ pass.now.parts + 1) }
-            ensures { pass.exit.now.intake ≡ intake.entry.now }
-        { work_at(station, intake, pass, sockets) },
-    );
-    are_seated
-}
-
-/// The workers with these sockets work, until all are to stop. Whether there was memory for their seats.
-fn work_at<R, N, S>(
-    station: &Station<'_, R, N, S>,
-    intake: &Intake<Coming>,
-    pass: &mut IntakePass<Coming>,
-    sockets: &mut Vec<Sockets>,
-) -> bool
-where
-    R: Clock + Threads + Wait + Sync,
-    N: Reach + Sync,
-    S: SharedServer + Sync,
-    S::Pass: Send,
-    requires own { pass.old.intake ≡ intake.now }
-    requires parts { all_parts ≤ pass.old.parts + 1 }
-    ensures { pass.new.intake ≡ intake.now }
-{
-    match seats_of(
-        station.rt,
-        station.server,
-        station.board,
-        intake,
-        pass,
-        sockets,
-    ) {
-        Ok(mut seats) => {
-            run_at(station, intake, seats.as_mut_slice());
-            true
-        }
-        Err(_) => {
-            station.board.stop();
-            false
-        }
-    }
-}
-
-/// Workers at these seats work, until all are to stop.
-fn run_at<R, N, S>(
-    station: &Station<'_, R, N, S>,
-    intake: &Intake<Coming>,
-    seats: &mut [Seat<S::Pass, Coming, SocketPost<'_, R>>],
-)
-where
-    R: Clock + Threads + Wait + Sync,
-    N: Reach + Sync,
-    S: SharedServer + Sync,
-    S::Pass: Send,
-    requires { All (λ seat. seat.hand.intake ≡ intake.now) seats.old }
-    // each tells behind what it told what was taken at its seat
-    ensures { (i : ℕ) (d : _) → i < length seats.old → HasTakenMore (slice_index_or seats.old i d).hand (slice_index_or seats.new i d).hand }
-{
-    let place = Workplace {
-        server: station.server,
-        intake,
-        gate: &OpenGate,
-        web: station.service.web,
-        log_polls: station.service.log_polls,
-        patience_s: station.service.patience_s,
-        turns: u64::MAX,
-    };
-    run_workers::<R, S, Coming, SocketLine<TcpStream>, SocketPost<'_, R>, OpenGate>(
-        station.rt,
-        station.board.alloc(),
-        &place,
-        seats,
-    );
 }

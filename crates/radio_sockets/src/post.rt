@@ -5,18 +5,17 @@ ghost use Rattle.radio_board.specs.declared.rest.Rest.TheVariants.{Turn as Takes
 ghost use Rattle.radio_board.specs.Rests.{is_turn, longest, most_rest};
 ghost use Rattle.radio_board.specs.Serving.{served_by};
 ghost use Rattle.radio_proxy.specs.Headers.{peer_by};
-ghost use Rattle.radio_sockets.specs.Steps.{called_of, told_at};
+ghost use Rattle.radio_sockets.specs.Steps.{called_of};
 
 use crate::doors::Coming;
 use crate::steps::{
-    RoundCause, Waited, begins_round, called_of, ends_wait, has_to_do, is_alone, is_time_to_tell,
-    is_turn_due, news_for, weight_of,
+    RoundCause, Waited, begins_round, called_of, ends_wait, has_to_do, is_alone, is_turn_due,
+    news_for,
 };
 use mio::net::TcpStream;
 use radio_addr::Peer;
 use radio_board::{
-    Board, Desk, MOST_REST_MS, NewsFor, NewsPause, Rest, ServedTime, Stamp, Step, TurnDone,
-    rest_for,
+    Board, Desk, MOST_REST_MS, NewsFor, NewsPause, Rest, ServedTime, Stamp, Step, rest_for,
 };
 use radio_lines::{Heard, SocketLine, Sockets, moment, moment_us};
 use radio_notes::Log;
@@ -24,6 +23,8 @@ use radio_serving::Turn;
 use radio_workers::{Call, Post, Seen};
 use std::sync::Wait;
 use std::time::Clock;
+
+mod telling;
 
 /// After how many such waits a turn is made, even where the moment has stood still.
 const MOST_WAITS: usize = 8;
@@ -276,52 +277,6 @@ impl<'a, R: Clock + Wait> SocketPost<'a, R> {
     {
         self.called = self.called.saturating_sub(count);
         let _ = self.desk.take_comings(count);
-    }
-
-    /// Tells the log the moment, if the clock tells it, and some time has passed.
-    fn tell_moment(&mut self, log: &Log, clock_ms: u64)
-        ensures { self.new.told_ms ≡ told_at self.old.told_ms clock_ms }
-    {
-        if !is_time_to_tell(self.told_ms, clock_ms) {
-            return;
-        }
-        self.told_ms = clock_ms;
-        if let Ok(since) = self.rt.since_1970() {
-            self.seconds = since.as_secs();
-            log.set_moment(self.seconds);
-        }
-    }
-
-    /// Notes what his listeners have drawn, and whether there are any: the first of them have drawn all that has come.
-    fn note_listeners(&mut self, seen: Seen)
-        ensures called { self.new.called ≡ self.old.called }
-        ensures more { self.new.has_more ≡ self.old.has_more }
-        ensures drawing { self.new.is_drawing ≡ self.old.is_drawing }
-    {
-        if !self.desk.report().has_listeners {
-            self.received = self.board.counts().received;
-        }
-        self.desk.note_turn(TurnDone {
-            received: self.received,
-            has_more: seen.more,
-            connections: weight_of(seen.connections, seen.sources),
-            has_listeners: seen.has_listeners,
-        });
-    }
-
-    /// Tells how many bytes his sources have brought, and that these listeners may have news.
-    fn tell(&self, whose: NewsFor) {
-        let count = self.sockets.activity().take_received();
-        self.board.note_received(count, whose, self.clock_us);
-    }
-
-    /// Hands the lines of the log on.
-    fn hand_lines(&self, log: &Log) {
-        let lines = log.take();
-        if !lines.is_empty() {
-            self.board
-                .add_lines(self.rt, lines.as_slice(), self.seconds);
-        }
     }
 }
 

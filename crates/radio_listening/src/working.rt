@@ -1,0 +1,175 @@
+//! The threads of a server: who accepts, who works, and who keeps relays running.
+
+ghost use Rattle.std.specs.Prelude.{◌≡◌, ◌+◌, ◌≤◌, ◌<◌, ℕ, All, length, slice_index_or};
+ghost use Rattle.radio_intake.specs.Passes.{all_parts};
+ghost use Rattle.radio_workers.specs.Hands.{HasTakenMore};
+
+use crate::ServeFault;
+use crate::listening::Station;
+use mio::net::TcpStream;
+use radio_events::SharedServer;
+use radio_intake::{Intake, IntakePass};
+use radio_lines::{Reach, SocketLine, Sockets};
+use radio_pullers::{has_relays, keep_relays};
+use radio_serving::OpenGate;
+use radio_sockets::{Acceptor, Coming, SocketPost, seats_of};
+use radio_workers::{Seat, Workplace, run_workers};
+use std::sync::Wait;
+use std::thread::{Threads, join_mut};
+use std::time::Clock;
+
+/// The acceptor puts connections into this intake by his hand, and workers with these sockets take them out by their pass,
+/// until all stop. His fault, and whether there was memory for the workers' seats.
+pub(crate) fn work_together<R, N, S>(
+    station: &Station<'_, R, N, S>,
+    intake: &Intake<Coming>,
+    hand: &mut IntakePass<Coming>,
+    pass: &mut IntakePass<Coming>,
+    sockets: &mut Vec<Sockets>,
+    acceptor: &mut Acceptor,
+) -> (ServeFault, bool)
+where
+    R: Clock + Threads + Wait + Sync,
+    N: Reach + Sync,
+    S: SharedServer + Sync,
+    S::Pass: Send,
+    requires hand { hand.old.intake ≡ intake.now }
+    requires own { pass.old.intake ≡ intake.now }
+    requires parts { all_parts ≤ pass.old.parts + 1 }
+    ensures hand { hand.new.intake ≡ intake.now }
+    ensures own { pass.new.intake ≡ intake.now }
+{
+    join_mut(
+        station.rt,
+        &mut || -> ServeFault
+            requires { hand.now.intake ≡ intake.now }
+            ensures { hand.exit.now.intake ≡ intake.entry.now }
+        { accept(station, intake, hand, acceptor) },
+        &mut || -> bool
+            requires { (pass.now.intake ≡ intake.now) × (all_parts ≤ pass.now.parts + 1) }
+            ensures { pass.exit.now.intake ≡ intake.entry.now }
+        { work_beside_relays(station, intake, pass, sockets) },
+    )
+}
+
+/// The acceptor puts connections into this intake by his hand, until all stop. His fault.
+fn accept<R, N, S>(
+    station: &Station<'_, R, N, S>,
+    intake: &Intake<Coming>,
+    hand: &mut IntakePass<Coming>,
+    acceptor: &mut Acceptor,
+) -> ServeFault
+where
+    R: Clock + Wait,
+    N: Reach,
+    requires { hand.old.intake ≡ intake.now }
+    ensures { hand.new.intake ≡ intake.now }
+{
+    acceptor.work(station.rt, station.board, intake, hand)
+}
+
+/// The workers with these sockets work, and relays are kept running beside them, if the settings wish some. Whether there
+/// was memory for the workers' seats.
+fn work_beside_relays<R, N, S>(
+    station: &Station<'_, R, N, S>,
+    intake: &Intake<Coming>,
+    pass: &mut IntakePass<Coming>,
+    sockets: &mut Vec<Sockets>,
+) -> bool
+where
+    R: Clock + Threads + Wait + Sync,
+    N: Reach + Sync,
+    S: SharedServer + Sync,
+    S::Pass: Send,
+    requires own { pass.old.intake ≡ intake.now }
+    requires parts { all_parts ≤ pass.old.parts + 1 }
+    ensures { pass.new.intake ≡ intake.now }
+{
+    if !has_relays(station.settings) {
+        return work_at(station, intake, pass, sockets);
+    }
+    let (_, are_seated) = join_mut(
+        station.rt,
+        &mut || {
+            keep_relays(
+                station.rt,
+                station.net,
+                station.server,
+                station.board,
+                station.settings,
+            )
+        },
+        &mut || -> bool
+            requires { (pass.now.intake ≡ intake.now) × (all_parts ≤ pass.now.parts + 1) }
+            ensures { pass.exit.now.intake ≡ intake.entry.now }
+        { work_at(station, intake, pass, sockets) },
+    );
+    are_seated
+}
+
+/// The workers with these sockets work, until all are to stop. Whether there was memory for their seats.
+fn work_at<R, N, S>(
+    station: &Station<'_, R, N, S>,
+    intake: &Intake<Coming>,
+    pass: &mut IntakePass<Coming>,
+    sockets: &mut Vec<Sockets>,
+) -> bool
+where
+    R: Clock + Threads + Wait + Sync,
+    N: Reach + Sync,
+    S: SharedServer + Sync,
+    S::Pass: Send,
+    requires own { pass.old.intake ≡ intake.now }
+    requires parts { all_parts ≤ pass.old.parts + 1 }
+    ensures { pass.new.intake ≡ intake.now }
+{
+    match seats_of(
+        station.rt,
+        station.server,
+        station.board,
+        intake,
+        pass,
+        sockets,
+    ) {
+        Ok(mut seats) => {
+            run_at(station, intake, seats.as_mut_slice());
+            true
+        }
+        Err(_) => {
+            station.board.stop();
+            false
+        }
+    }
+}
+
+/// Workers at these seats work, until all are to stop.
+fn run_at<R, N, S>(
+    station: &Station<'_, R, N, S>,
+    intake: &Intake<Coming>,
+    seats: &mut [Seat<S::Pass, Coming, SocketPost<'_, R>>],
+)
+where
+    R: Clock + Threads + Wait + Sync,
+    N: Reach + Sync,
+    S: SharedServer + Sync,
+    S::Pass: Send,
+    requires { All (λ seat. seat.hand.intake ≡ intake.now) seats.old }
+    // each tells behind what it told what was taken at its seat
+    ensures { (i : ℕ) (d : _) → i < length seats.old → HasTakenMore (slice_index_or seats.old i d).hand (slice_index_or seats.new i d).hand }
+{
+    let place = Workplace {
+        server: station.server,
+        intake,
+        gate: &OpenGate,
+        web: station.service.web,
+        log_polls: station.service.log_polls,
+        patience_s: station.service.patience_s,
+        turns: u64::MAX,
+    };
+    run_workers::<R, S, Coming, SocketLine<TcpStream>, SocketPost<'_, R>, OpenGate>(
+        station.rt,
+        station.board.alloc(),
+        &place,
+        seats,
+    );
+}
