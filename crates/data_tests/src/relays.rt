@@ -5,9 +5,9 @@ mod orders;
 mod pulls;
 mod requests;
 
-use radio_documents::read_settings;
 use radio_relay::{OutOfMemory, PullFault, PullItem};
-use radio_settings::Settings;
+use radio_settings::read_settings;
+use radio_settings_values::Settings;
 use radio_values::Shown;
 use std::alloc::{AllocError, Global};
 

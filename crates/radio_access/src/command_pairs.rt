@@ -6,7 +6,7 @@ ghost use Rattle.radio_access.specs.CommandPairs.{is_admin_pair, is_named_source
 
 use crate::source_pair::{is_login, is_source_pair, is_user_with};
 use radio_creds::Pair;
-use radio_settings::{RelayAccess, Settings};
+use radio_settings_values::{RelayAccess, Settings};
 use radio_values::MountName;
 
 /// Whether a pair, or none, is the one of the station's admin: `admin-user` and `admin-password`.

@@ -5,7 +5,7 @@ ghost use Rattle.std.specs.Str.{bytes_eq};
 ghost use Rattle.radio_access.specs.SourcePair.{is_source_pair, is_login, is_user_with};
 
 use radio_creds::{Pair, is_same_secret};
-use radio_settings::{Login, Settings};
+use radio_settings_values::{Login, Settings};
 use radio_values::{MountName, Text};
 
 /// Whether a pair, or none, is the one that the mount's source sends: the user and the password that the mount sets,

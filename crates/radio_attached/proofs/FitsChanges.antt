@@ -14,18 +14,18 @@ use Rattle.radio_tables.specs.Lists.{Each}
 use Rattle.radio_tables.proofs.FindLaws.{find_here, find_later, find_mapped, found_passes}
 use Rattle.radio_tables.proofs.KeyLaws.{by_number, by_name}
 use Rattle.radio_policy.specs.declared.rule.Rule.{Rule}
-use Rattle.radio_seats.specs.declared.seat.Guest.{Guest}
-use Rattle.radio_seats.specs.declared.seat.Listener.{Listener}
-use Rattle.radio_seats.specs.declared.seat.Seat.{Seat}
-use Rattle.radio_seats.specs.declared.seat.Seating.{Seating}
-use Rattle.radio_seats.specs.declared.seat.Seating.TheVariants.{Sits, Finished}
-use Rattle.radio_seats.specs.Guests.{passes_at}
-use Rattle.radio_seats.specs.Seats.{is_listener, listener_of, seat_held, seat_in, seat_of, sits_at, last_mount, last_mount_of, AreByNumber}
-use Rattle.radio_seats.specs.Seats.{with_seat, with_session_at, without_listener, with_ended, loses, lost_by}
-use Rattle.radio_seats.proofs.EndLaws.{same_or_loses, had_seat, LosesSeat}
-use Rattle.radio_seats.proofs.GivenLaws.{seat_hearing, seat_of_hearing}
-use Rattle.radio_seats.proofs.Lists.{same_number}
-use Rattle.radio_seats.proofs.SeatLaws.{beside_seated, has_sat_down, beside_left, is_no_listener}
+use Rattle.radio_seats_rows.specs.declared.seat.Guest.{Guest}
+use Rattle.radio_seats_rows.specs.declared.seat.Listener.{Listener}
+use Rattle.radio_seats_rows.specs.declared.seat.Seat.{Seat}
+use Rattle.radio_seats_rows.specs.declared.seat.Seating.{Seating}
+use Rattle.radio_seats_rows.specs.declared.seat.Seating.TheVariants.{Sits, Finished}
+use Rattle.radio_seats_rows.specs.Guests.{passes_at}
+use Rattle.radio_seats_rows.specs.Seats.{is_listener, listener_of, seat_held, seat_in, seat_of, sits_at, last_mount, last_mount_of, AreByNumber}
+use Rattle.radio_seats_rows.specs.Seats.{with_seat, with_session_at, without_listener, with_ended, loses, lost_by}
+use Rattle.radio_seats_rows.proofs.EndLaws.{same_or_loses, had_seat, LosesSeat}
+use Rattle.radio_seats_rows.proofs.GivenLaws.{seat_hearing, seat_of_hearing}
+use Rattle.radio_seats_rows.proofs.Lists.{same_number}
+use Rattle.radio_seats_rows.proofs.SeatLaws.{beside_seated, has_sat_down, beside_left, is_no_listener}
 use Rattle.radio_fallback.specs.Carry.{numbers_of}
 use Rattle.radio_fallback.specs.Heard.{Heard, OthersStay, Fits, GoesOver, GoesOff}
 use Rattle.radio_fallback.proofs.FitsLemmas.{sits_last}

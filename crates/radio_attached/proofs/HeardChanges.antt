@@ -10,12 +10,12 @@ use Rattle.std.proofs.lemmas.Bool.Decides.{nat_tests}
 use Rattle.std.proofs.lemmas.Map.Keys.{sorted_head, sorted_tail}
 use Rattle.radio_tables.specs.Lists.{placed, Each}
 use Rattle.radio_policy.specs.declared.rule.Rule.{Rule}
-use Rattle.radio_seats.specs.declared.seat.Listener.{Listener}
-use Rattle.radio_seats.specs.declared.seat.Seat.{Seat}
-use Rattle.radio_seats.specs.declared.seat.Seating.{Seating}
-use Rattle.radio_seats.specs.declared.seat.Seating.TheVariants.{Sits, Finished}
-use Rattle.radio_seats.specs.Seats.{without_listener, AreByNumber, with_place, advanced, heard_to, with_session_at, hears_session, in_session_at}
-use Rattle.radio_seats.specs.Seats.{with_ended, finished_if, ended_if, lost_by, with_seat, seated, by_listener, seat_held}
+use Rattle.radio_seats_rows.specs.declared.seat.Listener.{Listener}
+use Rattle.radio_seats_rows.specs.declared.seat.Seat.{Seat}
+use Rattle.radio_seats_rows.specs.declared.seat.Seating.{Seating}
+use Rattle.radio_seats_rows.specs.declared.seat.Seating.TheVariants.{Sits, Finished}
+use Rattle.radio_seats_rows.specs.Seats.{without_listener, AreByNumber, with_place, advanced, heard_to, with_session_at, hears_session, in_session_at}
+use Rattle.radio_seats_rows.specs.Seats.{with_ended, finished_if, ended_if, lost_by, with_seat, seated, by_listener, seat_held}
 use Rattle.radio_fallback.specs.Carry.{numbers_of}
 use Rattle.radio_fallback.specs.Heard.{Heard, heard_seating, heard_by, heard, OthersStay}
 use Rattle.radio_fallback.proofs.HeardLemmas.{all_stay, others_heard}

@@ -5,16 +5,16 @@ use Rattle.std.specs.Option.{option_map}
 use Rattle.std.specs.Str.{bytes_eq}
 use Rattle.std.proofs.lemmas.Bool.{eqb-true}
 use Rattle.radio_tables.proofs.FindLaws.{found_passes}
-use Rattle.radio_seats.specs.declared.seat.Guest.{Guest}
-use Rattle.radio_seats.specs.declared.seat.Listener.{Listener}
-use Rattle.radio_seats.specs.declared.seat.Seat.{Seat}
-use Rattle.radio_seats.specs.declared.seat.Seating.{Seating}
-use Rattle.radio_seats.specs.declared.seat.Seating.TheVariants.{Sits, Finished}
-use Rattle.radio_seats.specs.Guests.{moment_in, first_moment}
-use Rattle.radio_seats.specs.Seats.{is_listener, listener_of, seat_held, seat_in, seat_of, last_mount, last_mount_of, named_at}
-use Rattle.radio_seats.proofs.Lists.{map_counted}
-use Rattle.radio_listeners.specs.Lent.{standing_in, standing_by}
-use Rattle.radio_listeners.specs.Listed.{ListedGuest, guest_at, guest_sitting, guests_at}
+use Rattle.radio_seats_rows.specs.declared.seat.Guest.{Guest}
+use Rattle.radio_seats_rows.specs.declared.seat.Listener.{Listener}
+use Rattle.radio_seats_rows.specs.declared.seat.Seat.{Seat}
+use Rattle.radio_seats_rows.specs.declared.seat.Seating.{Seating}
+use Rattle.radio_seats_rows.specs.declared.seat.Seating.TheVariants.{Sits, Finished}
+use Rattle.radio_seats_rows.specs.Guests.{moment_in, first_moment}
+use Rattle.radio_seats_rows.specs.Seats.{is_listener, listener_of, seat_held, seat_in, seat_of, last_mount, last_mount_of, named_at}
+use Rattle.radio_seats_rows.proofs.Lists.{map_counted}
+use Rattle.radio_seats.specs.Lent.{standing_in, standing_by}
+use Rattle.radio_seats.specs.Listed.{ListedGuest, guest_at, guest_sitting, guests_at}
 use Rattle.radio_fallback.specs.Heard.{Heard, heard_seating, heard_by, heard}
 use Rattle.radio_fallback.proofs.HeardLemmas.{listener_heard}
 

@@ -11,12 +11,12 @@ use Rattle.radio_tables.specs.Lists.{Each}
 use Rattle.radio_tables.specs.Past.{is_past}
 use Rattle.radio_tables.proofs.FindLaws.{find_here, find_later, find_mapped}
 use Rattle.radio_policy.specs.declared.rule.Rule.{Rule}
-use Rattle.radio_seats.specs.declared.seat.Listener.{Listener}
-use Rattle.radio_seats.specs.declared.seat.Seat.{Seat}
-use Rattle.radio_seats.specs.declared.seat.Seating.{Seating}
-use Rattle.radio_seats.specs.declared.seat.Seating.TheVariants.{Sits, Finished}
-use Rattle.radio_seats.specs.Seats.{is_listener, seat_in, seat_held, loses, lost_by, finished_if, next_number, with_end, with_ended, AreByNumber}
-use Rattle.radio_seats.proofs.Lists.{same_number}
+use Rattle.radio_seats_rows.specs.declared.seat.Listener.{Listener}
+use Rattle.radio_seats_rows.specs.declared.seat.Seat.{Seat}
+use Rattle.radio_seats_rows.specs.declared.seat.Seating.{Seating}
+use Rattle.radio_seats_rows.specs.declared.seat.Seating.TheVariants.{Sits, Finished}
+use Rattle.radio_seats_rows.specs.Seats.{is_listener, seat_in, seat_held, loses, lost_by, finished_if, next_number, with_end, with_ended, AreByNumber}
+use Rattle.radio_seats_rows.proofs.Lists.{same_number}
 use Rattle.radio_fallback.specs.Carry.{numbers_of, numbers_past}
 use Rattle.radio_fallback.specs.Heard.{Heard, heard, heard_by}
 use Rattle.radio_fallback.proofs.CarryLemmas.{everybody_is_past, next_has_his_turn, nobody_is_next}

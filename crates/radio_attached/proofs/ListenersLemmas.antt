@@ -14,17 +14,17 @@ use Rattle.radio_tables.proofs.EachLaws.{Each_each}
 use Rattle.radio_tables.proofs.FindLaws.{find_here, find_later}
 use Rattle.radio_tables.proofs.KeyLaws.{by_name}
 use Rattle.radio_policy.specs.declared.rule.Rule.{Rule}
-use Rattle.radio_seats.specs.declared.seat.Guest.{Guest}
-use Rattle.radio_seats.specs.declared.seat.Listener.{Listener}
-use Rattle.radio_seats.specs.declared.seat.Seat.{Seat}
-use Rattle.radio_seats.specs.declared.seat.Seating.{Seating}
-use Rattle.radio_seats.specs.declared.seat.Seating.TheVariants.{Sits, Finished}
-use Rattle.radio_seats.specs.Guests.{passes_in, passes_at}
-use Rattle.radio_seats.specs.Rests.{how_many}
-use Rattle.radio_seats.specs.Seats.{is_listener, listener_of, seat_held, seat_in, seat_of, seated, sits_at, holds_of, AreByNumber}
-use Rattle.radio_seats.specs.Seats.{with_seat, with_place, without_listener, with_ended, with_end, advanced, loses}
-use Rattle.radio_seats.proofs.Lists.{map_counted}
-use Rattle.radio_seats.proofs.SeatLaws.{listener_seated}
+use Rattle.radio_seats_rows.specs.declared.seat.Guest.{Guest}
+use Rattle.radio_seats_rows.specs.declared.seat.Listener.{Listener}
+use Rattle.radio_seats_rows.specs.declared.seat.Seat.{Seat}
+use Rattle.radio_seats_rows.specs.declared.seat.Seating.{Seating}
+use Rattle.radio_seats_rows.specs.declared.seat.Seating.TheVariants.{Sits, Finished}
+use Rattle.radio_seats_rows.specs.Guests.{passes_in, passes_at}
+use Rattle.radio_seats_rows.specs.Rests.{how_many}
+use Rattle.radio_seats_rows.specs.Seats.{is_listener, listener_of, seat_held, seat_in, seat_of, seated, sits_at, holds_of, AreByNumber}
+use Rattle.radio_seats_rows.specs.Seats.{with_seat, with_place, without_listener, with_ended, with_end, advanced, loses}
+use Rattle.radio_seats_rows.proofs.Lists.{map_counted}
+use Rattle.radio_seats_rows.proofs.SeatLaws.{listener_seated}
 use Rattle.radio_parts.specs.Timeouts.{lags_behind}
 use Rattle.radio_fallback.specs.Carry.{numbers_of}
 use Rattle.radio_fallback.specs.Heard.{Heard, heard_seating, heard_by, heard, OthersStay, IsAt, Fits, GoesOver}

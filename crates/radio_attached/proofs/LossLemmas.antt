@@ -11,11 +11,11 @@ use Rattle.std.proofs.lemmas.Map.Keys.{sorted_head, sorted_tail}
 use Rattle.std.proofs.lemmas.Slice.Eq.{bytes_eq-Decides}
 use Rattle.radio_tables.specs.Lists.{Each}
 use Rattle.radio_policy.specs.declared.rule.Rule.{Rule}
-use Rattle.radio_seats.specs.declared.seat.Listener.{Listener}
-use Rattle.radio_seats.specs.declared.seat.Seat.{Seat}
-use Rattle.radio_seats.specs.declared.seat.Seating.{Seating}
-use Rattle.radio_seats.specs.declared.seat.Seating.TheVariants.{Sits, Finished}
-use Rattle.radio_seats.specs.Seats.{seat_held, loses, lost_by, with_end, with_ended, finished_if, ended_if, AreByNumber}
+use Rattle.radio_seats_rows.specs.declared.seat.Listener.{Listener}
+use Rattle.radio_seats_rows.specs.declared.seat.Seat.{Seat}
+use Rattle.radio_seats_rows.specs.declared.seat.Seating.{Seating}
+use Rattle.radio_seats_rows.specs.declared.seat.Seating.TheVariants.{Sits, Finished}
+use Rattle.radio_seats_rows.specs.Seats.{seat_held, loses, lost_by, with_end, with_ended, finished_if, ended_if, AreByNumber}
 use Rattle.radio_fallback.specs.Carry.{numbers_of}
 use Rattle.radio_fallback.specs.Heard.{Heard, heard_seating, heard_by, heard}
 use Rattle.radio_attached.specs.Losses.{ended_where}

@@ -8,12 +8,12 @@ use Rattle.std.proofs.lemmas.Bool.{eqb-true}
 use Rattle.std.proofs.lemmas.Bool.Decides.{nat_tests}
 use Rattle.std.proofs.lemmas.Map.Keys.{sorted_head, sorted_tail}
 use Rattle.radio_tables.specs.Lists.{Each}
-use Rattle.radio_seats.specs.declared.seat.Listener.{Listener}
-use Rattle.radio_seats.specs.declared.seat.Seat.{Seat}
-use Rattle.radio_seats.specs.declared.seat.Seating.{Seating}
-use Rattle.radio_seats.specs.declared.seat.Seating.TheVariants.{Sits, Finished}
-use Rattle.radio_seats.specs.Seats.{seat_held, seat_of, heard_to, advanced, with_place, AreByNumber}
-use Rattle.radio_seats.proofs.SeatLaws.{listener_seated}
+use Rattle.radio_seats_rows.specs.declared.seat.Listener.{Listener}
+use Rattle.radio_seats_rows.specs.declared.seat.Seat.{Seat}
+use Rattle.radio_seats_rows.specs.declared.seat.Seating.{Seating}
+use Rattle.radio_seats_rows.specs.declared.seat.Seating.TheVariants.{Sits, Finished}
+use Rattle.radio_seats_rows.specs.Seats.{seat_held, seat_of, heard_to, advanced, with_place, AreByNumber}
+use Rattle.radio_seats_rows.proofs.SeatLaws.{listener_seated}
 use Rattle.radio_fallback.specs.Carry.{numbers_of}
 use Rattle.radio_fallback.specs.Heard.{Heard, heard, heard_by, heard_seating, OthersStay, IsAt, Fits, GoesOver}
 use Rattle.radio_fallback.proofs.HeardLemmas.{all_stay, each_apart, seating_stays}

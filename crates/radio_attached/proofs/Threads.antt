@@ -3,7 +3,7 @@ use denote.Struct.Declared.{Declared, fields, shape, row}
 use denote.Struct.Struct.{Struct}
 use denote.Param.Send.{IsSend, AllSend, recorded_send, struct_send, sendable}
 use Rattle.std.proofs.Crossing.{crosses}
-use Rattle.radio_listeners.proofs.seats.Seats.TheSendSync as seats
+use Rattle.radio_seats.proofs.seats.Seats.TheSendSync as seats
 use Rattle.radio_tables.proofs.table.Table.TheSendSync as table
 use Rattle.radio_values.proofs.mount_name.MountName.TheSendSync as mount_name
 use Rattle.radio_parts.proofs.sessions.Session.TheSendSync as session

@@ -1,8 +1,8 @@
 -- The table of listeners, and the attachments of each mount.
 use Rattle.std.specs.Prelude.{◌≡◌, ℕ, Bool, true, List}
 use Rattle.radio_parts.specs.Sessions.{Session}
-use Rattle.radio_seats.specs.Board.{Board, is_prepared}
-use Rattle.radio_seats.specs.declared.seat.Listener.{Listener}
+use Rattle.radio_seats_rows.specs.Board.{Board, is_prepared}
+use Rattle.radio_seats_rows.specs.declared.seat.Listener.{Listener}
 use Rattle.radio_fallback.specs.Heard.{Fits, heard}
 use Rattle.radio_mounts.specs.Parts.{ByMount, MountAttachments}
 use Rattle.radio_mounts.specs.Attached.{places_in}

@@ -11,9 +11,9 @@ use Rattle.radio_mounts.specs.declared.part.MountPart.{MountPart}
 use Rattle.radio_parts.specs.Sessions.{session_of}
 use Rattle.radio_policy.specs.declared.rule.Rule.{Rule}
 use Rattle.radio_policy.specs.declared.rule.Rule.TheVariants.{Lagged}
-use Rattle.radio_seats.specs.declared.seat.Listener.{Listener}
-use Rattle.radio_seats.specs.declared.seat.Seat.{Seat}
-use Rattle.radio_seats.specs.Seats.{advanced, last_mount, loses, seat_of, sits_at, with_end}
+use Rattle.radio_seats_rows.specs.declared.seat.Listener.{Listener}
+use Rattle.radio_seats_rows.specs.declared.seat.Seat.{Seat}
+use Rattle.radio_seats_rows.specs.Seats.{advanced, last_mount, loses, seat_of, sits_at, with_end}
 
 -- who sits at the part's mount, and is attached to the part, is at the place of its attachment
 abbrev pub HaveTheirPlaces : MountPart → List Listener → Type 0

@@ -4,16 +4,16 @@ ghost use Rattle.std.specs.Prelude.{◌≡◌, Err, IfOk, OnErr, if◌then◌els
 ghost use Rattle.radio_attached.specs.Lent.{after_turn, lags_now, IsLent};
 ghost use Rattle.radio_parts.specs.Timeouts.{lags_behind};
 ghost use Rattle.radio_policy.specs.declared.rule.Rule.{Rule as RuleOf};
-ghost use Rattle.radio_seats.specs.declared.seat.Seat.{Seat as SeatOf};
-ghost use Rattle.radio_listeners.specs.Lent.{lent_seat};
-ghost use Rattle.radio_seats.specs.Seats.{next_number, with_ended, AreByNumber};
+ghost use Rattle.radio_seats_rows.specs.declared.seat.Seat.{Seat as SeatOf};
+ghost use Rattle.radio_seats.specs.Lent.{lent_seat};
+ghost use Rattle.radio_seats_rows.specs.Seats.{next_number, with_ended, AreByNumber};
 
 use crate::Listeners;
 use crate::listeners::end_each;
 use radio_attachments::AttachmentTree;
-use radio_listeners::LentSeat;
 use radio_mounts::{MountPart, sitters_among};
 use radio_policy::Rule;
+use radio_seats::LentSeat;
 use radio_values::MountName;
 use std::mem;
 

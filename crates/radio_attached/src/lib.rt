@@ -2,7 +2,7 @@
 //! there is to hear.
 //!
 //! - [`Listeners`]: the table of listeners, and with it the parts of the mounts. Contracts see the
-//!   table of `radio_listeners` in which each place is that of the attachment, and the live mounts'
+//!   table of `radio_seats` in which each place is that of the attachment, and the live mounts'
 //!   sessions. Read [`Listeners::hearing`] first, which returns a [`Hearing`].
 #![tactic(auto)]
 

@@ -2,10 +2,10 @@
 
 ghost use Rattle.std.specs.Prelude.{◌≡◌, ◌||◌, ◌&&◌, ◌==◌, ◌<◌, if◌then◌else◌, [], true, not, map, None, Some, OnOk, OnErr, MatchOption};
 ghost use Rattle.std.specs.Str.{bytes_eq};
-ghost use Rattle.radio_seats.specs.Board.{is_prepared};
-ghost use Rattle.radio_seats.specs.Guests.{passes_in, passes_at};
-ghost use Rattle.radio_seats.specs.Rests.{how_many};
-ghost use Rattle.radio_seats.specs.Seats.{named_at, sits_at, with_seat, with_place, with_end, with_ended, with_session_at, without_listener, AreByNumber};
+ghost use Rattle.radio_seats_rows.specs.Board.{is_prepared};
+ghost use Rattle.radio_seats_rows.specs.Guests.{passes_in, passes_at};
+ghost use Rattle.radio_seats_rows.specs.Rests.{how_many};
+ghost use Rattle.radio_seats_rows.specs.Seats.{named_at, sits_at, with_seat, with_place, with_end, with_ended, with_session_at, without_listener, AreByNumber};
 ghost use Rattle.radio_policy.specs.declared.rule.Rule.{Rule as RuleOf};
 ghost use Rattle.radio_parts.specs.Timeouts.{lags_behind};
 ghost use Rattle.radio_fallback.specs.Carry.{carried};
@@ -20,10 +20,10 @@ use crate::OutOfMemory;
 use radio_attachments::{Attachment, AttachmentTree, BoxedAttachment};
 use radio_blocks::Place;
 use radio_fallback::{Attachments, Carried, Move, View, carry};
-use radio_listeners::Seats;
 use radio_mounts::MountParts;
 use radio_policy::Rule;
-use radio_seats::{Seat, SeatTest};
+use radio_seats::Seats;
+use radio_seats_rows::{Seat, SeatTest};
 use radio_values::MountName;
 use std::alloc::Global;
 use std::marker::Model;

@@ -2,10 +2,10 @@
 
 ghost use Rattle.std.specs.Prelude.{◌≡◌, length, map, None, Some, unwrap_or, IfOk, MatchOption};
 ghost use Rattle.std.specs.Option.{option_copied, option_map};
-ghost use Rattle.radio_seats.specs.Guests.{first_moment, seat_of_guest};
-ghost use Rattle.radio_seats.specs.Seats.{listener_of, seat_of, last_mount_of, count_at, AreByNumber};
-ghost use Rattle.radio_listeners.specs.Lent.{lent_seat, standing_in};
-ghost use Rattle.radio_listeners.specs.Listed.{lent_guest, guests_at};
+ghost use Rattle.radio_seats_rows.specs.Guests.{first_moment, seat_of_guest};
+ghost use Rattle.radio_seats_rows.specs.Seats.{listener_of, seat_of, last_mount_of, count_at, AreByNumber};
+ghost use Rattle.radio_seats.specs.Lent.{lent_seat, standing_in};
+ghost use Rattle.radio_seats.specs.Listed.{lent_guest, guests_at};
 ghost use Rattle.radio_fallback.specs.Walk.{found_at, landing};
 ghost use Rattle.radio_parts.specs.Sessions.{session_of};
 
@@ -13,9 +13,9 @@ use crate::{Listeners, OutOfMemory};
 use radio_blocks::Place;
 use radio_creds::Pair;
 use radio_fallback::{View, Walk, walk_from};
-use radio_listeners::{LentListener, LentSeat, ListenerStanding};
 use radio_parts::Session;
-use radio_seats::GuestMoment;
+use radio_seats::{LentListener, LentSeat, ListenerStanding};
+use radio_seats_rows::GuestMoment;
 use radio_values::MountName;
 use std::alloc::Global;
 

@@ -4,7 +4,7 @@ ghost use Rattle.std.specs.Prelude.{◌≡◌, true, IfOk, OnOk, OnErr};
 ghost use Rattle.radio_parts.specs.Kept.{kept_fed};
 ghost use Rattle.radio_parts.specs.Parts.{ends_in};
 ghost use Rattle.radio_parts.specs.Sessions.{titled, with_session, without_session};
-ghost use Rattle.radio_seats.specs.Board.{is_prepared};
+ghost use Rattle.radio_seats_rows.specs.Board.{is_prepared};
 
 use crate::{Listeners, OutOfMemory};
 use radio_blocks::Block;

@@ -12,7 +12,7 @@ use Rattle.radio_book.specs.History.{entry_of, IsLegal}
 use Rattle.radio_book.specs.Wanted.{AreWanted}
 use Rattle.radio_book.specs.LastMounts.{WasAt}
 use Rattle.radio_facts.specs.Wanted.{wanted}
-use Rattle.radio_seats.specs.Seats.{last_mount_of}
+use Rattle.radio_seats_rows.specs.Seats.{last_mount_of}
 
 -- the run of the entries that are stored
 pub stored_run : (opening : World) (stored : List Entry) (core : World) → ∥ IsTold true opening stored core ∥₁ → ∥ IsRun opening stored ∥₁

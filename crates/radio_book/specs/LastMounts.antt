@@ -1,7 +1,7 @@
 -- Where a listener was last, by a history.
 use Rattle.std.specs.Prelude.{◌≡◌, ℕ, List, Option}
 use Rattle.radio_house.specs.World.{World}
-use Rattle.radio_seats.specs.Seats.{last_mount_of}
+use Rattle.radio_seats_rows.specs.Seats.{last_mount_of}
 use Rattle.radio_events.specs.declared.entry.Entry.{Entry}
 use Rattle.radio_chronicle.specs.History.{IsRun, world_of}
 

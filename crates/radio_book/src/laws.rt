@@ -1,7 +1,7 @@
 //! What holds of every history that is a run.
 
 ghost use Rattle.std.specs.Prelude.{List};
-ghost use Rattle.radio_settings.specs.declared.settings.Settings.{Settings};
+ghost use Rattle.radio_settings_values.specs.declared.settings.Settings.{Settings};
 ghost use Rattle.radio_access.specs.Lists.{Lists};
 ghost use Rattle.radio_house.specs.World.{opening};
 ghost use Rattle.radio_events.specs.declared.entry.Entry.{Entry};

@@ -3,14 +3,14 @@ use Rattle.std.proofs.Common.{◌≡◌, Bool, true, false, ℕ, List, refl, ap,
 use Rattle.std.specs.Prelude.{◌||◌}
 use Rattle.std.specs.Str.{bytes_eq}
 use Rattle.std.proofs.lemmas.Slice.Eq.{bytes_eq-Decides}
-use Rattle.radio_settings.specs.declared.settings.Settings.{Settings}
+use Rattle.radio_settings_values.specs.declared.settings.Settings.{Settings}
 use Rattle.radio_attached.specs.Attached.{Listening}
 use Rattle.radio_house.specs.declared.live.LiveMount.{LiveMount}
 use Rattle.radio_house.specs.Live.{AreLive, live_mount, with_live}
 use Rattle.radio_house.proofs.LiveMounts.{one_begun}
 use Rattle.radio_parts.specs.Sessions.{Session, with_session}
 use Rattle.radio_parts.proofs.PreparedLemmas.{begun_prepared}
-use Rattle.radio_seats.specs.Board.{is_prepared}
+use Rattle.radio_seats_rows.specs.Board.{is_prepared}
 use Rattle.radio_changes.proofs.PreparedSeats.{AllPrepared, live_changed, more_is_prepared}
 
 module _ (before prepared : Listening) (mount : List ℕ)

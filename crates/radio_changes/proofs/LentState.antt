@@ -7,9 +7,9 @@ use Rattle.std.proofs.lemmas.Bool.{eqb-true}
 use Rattle.std.proofs.lemmas.Slice.Eq.{bytes_eq-Decides}
 use Rattle.radio_tables.specs.Lists.{Each}
 use Rattle.radio_tables.proofs.EachLaws.{Each_each}
-use Rattle.radio_settings.specs.declared.settings.Settings.{Settings}
-use Rattle.radio_seats.specs.declared.seat.Listener.{Listener}
-use Rattle.radio_seats.specs.Board.{is_prepared}
+use Rattle.radio_settings_values.specs.declared.settings.Settings.{Settings}
+use Rattle.radio_seats_rows.specs.declared.seat.Listener.{Listener}
+use Rattle.radio_seats_rows.specs.Board.{is_prepared}
 use Rattle.radio_attached.specs.Attached.{Listening}
 use Rattle.radio_attached.specs.Lent.{AsBefore, HeardTo, LaggedOut, IsLent, IsSeenAfter}
 use Rattle.radio_house.specs.Due.{client_due}

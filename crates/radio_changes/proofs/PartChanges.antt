@@ -3,7 +3,7 @@ use Rattle.std.proofs.Common.{◌≡◌, false, ℕ, Some, List, ap, ◌∙◌}
 use Rattle.std.specs.Option.{option_map}
 use Rattle.std.specs.Str.{bytes_eq}
 use Rattle.radio_policy.specs.declared.rule.Rule.TheVariants.{Lagged}
-use Rattle.radio_seats.specs.Seats.{with_ended}
+use Rattle.radio_seats_rows.specs.Seats.{with_ended}
 use Rattle.radio_parts.specs.Parts.{end_in}
 use Rattle.radio_parts.specs.Sessions.{Session, session_of, longer, fed, with_title}
 use Rattle.radio_parts.specs.Timeouts.{lags_behind}

@@ -5,9 +5,9 @@ use Rattle.std.specs.Str.{bytes_eq}
 use Rattle.std.proofs.lemmas.List.{length-map}
 use Rattle.radio_tables.specs.Lists.{update_first}
 use Rattle.radio_tables.proofs.KeyLaws.{by_name}
-use Rattle.radio_settings.specs.declared.settings.Settings.{Settings}
-use Rattle.radio_seats.specs.declared.seat.Listener.{Listener}
-use Rattle.radio_seats.specs.Board.{is_prepared}
+use Rattle.radio_settings_values.specs.declared.settings.Settings.{Settings}
+use Rattle.radio_seats_rows.specs.declared.seat.Listener.{Listener}
+use Rattle.radio_seats_rows.specs.Board.{is_prepared}
 use Rattle.radio_attached.specs.Attached.{Listening}
 use Rattle.radio_fallback.specs.declared.moves.Move.{Move}
 use Rattle.radio_fallback.specs.Carry.{carried}

@@ -2,7 +2,7 @@
 use Rattle.std.specs.Prelude.{ℕ, if◌then◌else◌, List, Option, None, Some, filter, fold}
 use Rattle.radio_policy.specs.declared.rule.Rule.{Rule}
 use Rattle.radio_policy.specs.declared.rule.Rule.TheVariants.{Lagged, TimeOver, SourceSilent, Killed, SourceKilled, ListenerPassword}
-use Rattle.radio_settings.specs.Options.{options_for}
+use Rattle.radio_settings_values.specs.Options.{options_for}
 use Rattle.radio_fallback.specs.declared.moves.Move.{Move}
 use Rattle.radio_fallback.specs.declared.moves.Move.TheVariants.{Ended as HasEnded, Up, To}
 use Rattle.radio_fallback.specs.Carry.{carried}
@@ -19,7 +19,7 @@ use Rattle.radio_house.specs.HouseChanges.{now_in_state, admitted, begun, raised
 use Rattle.radio_house.specs.Outsiders.{is_shut_out}
 use Rattle.radio_parts.specs.Parts.{Part, part_received, part_titled, with_its_session}
 use Rattle.radio_parts.specs.Sessions.{Session, session_of, without_session}
-use Rattle.radio_seats.specs.Seats.{with_seat, with_place, with_end, with_ended, with_session_at, without_listener}
+use Rattle.radio_seats_rows.specs.Seats.{with_seat, with_place, with_end, with_ended, with_session_at, without_listener}
 use Rattle.radio_house.specs.Facts.{live_end, sight_of}
 use Rattle.radio_parts.specs.Timeouts.{lags_behind, has_sat_out, is_silent}
 use Rattle.radio_house.specs.World.{World}

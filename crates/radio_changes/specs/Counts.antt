@@ -1,6 +1,6 @@
 -- How many listeners a change carries along.
 use Rattle.std.specs.Prelude.{ℕ, if◌then◌else◌, List}
-use Rattle.radio_settings.specs.Options.{options_for}
+use Rattle.radio_settings_values.specs.Options.{options_for}
 use Rattle.radio_fallback.specs.declared.moves.Carried.{Carried}
 use Rattle.radio_fallback.specs.declared.moves.Move.{Move}
 use Rattle.radio_fallback.specs.declared.moves.Move.TheVariants.{Ended as HasEnded, Up, To}
@@ -11,7 +11,7 @@ use Rattle.radio_changes.specs.declared.change.Change.{Change}
 use Rattle.radio_changes.specs.declared.change.Change.TheVariants.{Begin, Raise, End, EndAndLeave, Obey}
 use Rattle.radio_changes.specs.Changes.{session_begun, session_raised, session_over, user_added, user_deleted}
 use Rattle.radio_house.specs.Outsiders.{is_shut_out}
-use Rattle.radio_seats.specs.Rests.{how_many}
+use Rattle.radio_seats_rows.specs.Rests.{how_many}
 use Rattle.radio_house.specs.Facts.{sight_of}
 use Rattle.radio_house.specs.World.{World}
 

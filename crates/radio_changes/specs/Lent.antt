@@ -9,7 +9,7 @@ use Rattle.radio_mounts.specs.Exchange.{IsInPlace}
 use Rattle.radio_mounts.specs.declared.part.MountPart.{MountPart}
 use Rattle.radio_parts.specs.Due.{last_moment, session_due}
 use Rattle.radio_parts.specs.Sessions.{session_of}
-use Rattle.radio_seats.specs.Seats.{sits_at}
+use Rattle.radio_seats_rows.specs.Seats.{sits_at}
 
 -- The part is in the place of the one that is returned, and whoever had lagged out of it has lost its seat there. All that is not its mount's is as
 -- before.

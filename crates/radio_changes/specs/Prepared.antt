@@ -1,7 +1,7 @@
 -- Listeners can be seated wherever a walk can land, so that a move takes no memory.
 use Rattle.std.specs.Prelude.{◌≡◌, ℕ, ◌<◌, true, List, length}
-use Rattle.radio_settings.specs.declared.settings.Settings.{Settings}
-use Rattle.radio_seats.specs.Board.{is_prepared}
+use Rattle.radio_settings_values.specs.declared.settings.Settings.{Settings}
+use Rattle.radio_seats_rows.specs.Board.{is_prepared}
 use Rattle.radio_attached.specs.Attached.{Listening}
 use Rattle.radio_house.specs.Waiting.{is_on_demand}
 

@@ -3,7 +3,7 @@
 use radio_addr::Peer;
 use radio_blocks::{Block, Place};
 use radio_events::Command;
-use radio_seats::Seat;
+use radio_seats_rows::Seat;
 use radio_values::{MountName, Shown, Title};
 
 /// What an event changes.

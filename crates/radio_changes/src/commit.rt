@@ -1,5 +1,5 @@
 ghost use Rattle.std.specs.Prelude.{◌≡◌, true, IsOk, IfOk, OnOk, OnErr};
-ghost use Rattle.radio_seats.specs.Seats.{sits_at, with_ended, with_session_at};
+ghost use Rattle.radio_seats_rows.specs.Seats.{sits_at, with_ended, with_session_at};
 ghost use Rattle.radio_parts.specs.Timeouts.{lags_behind};
 ghost use Rattle.radio_changes.specs.Changes.{answered, changed, carried_along, called_home, session_ended, client_gone, NeedsNoMemory};
 ghost use Rattle.radio_changes.specs.Counts.{nobody, counted, counts_along, counts_home, counts_ended};
@@ -12,7 +12,7 @@ use radio_blocks::{Block, Place};
 use radio_fallback::{Carried, Move};
 use radio_house::ClientState;
 use radio_policy::Rule;
-use radio_seats::Seat;
+use radio_seats_rows::Seat;
 use radio_values::{MountName, Shown, Title};
 
 /// What a change answers that carries nobody along.

@@ -2,13 +2,13 @@
 
 ghost use Rattle.std.specs.Prelude.{◌≡◌};
 ghost use Rattle.std.specs.Option.{option_copied};
-ghost use Rattle.radio_seats.specs.Seats.{last_mount_of};
+ghost use Rattle.radio_seats_rows.specs.Seats.{last_mount_of};
 ghost use Rattle.radio_house.specs.World.{opening};
 
 use radio_access::Lists;
 use radio_attached::Listeners;
 use radio_house::{House, Registry};
-use radio_settings::Settings;
+use radio_settings_values::Settings;
 use radio_values::MountName;
 use std::alloc::Global;
 use std::marker::Model;

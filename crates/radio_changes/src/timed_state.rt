@@ -1,7 +1,7 @@
 //! The state, with a moment before which a clock ends nobody.
 
 ghost use Rattle.std.specs.Prelude.{◌≡◌, true, Err, IsOk, IfOk, OnOk, OnErr};
-ghost use Rattle.radio_seats.specs.Seats.{sits_at};
+ghost use Rattle.radio_seats_rows.specs.Seats.{sits_at};
 ghost use Rattle.radio_changes.specs.Changes.{ticked, NeedsNoMemory};
 ghost use Rattle.radio_changes.specs.Counts.{counted};
 ghost use Rattle.radio_changes.specs.Due.{at_moment, due_by};
@@ -21,7 +21,7 @@ use radio_fallback::Carried;
 use radio_house::House;
 use radio_mounts::MountPart;
 use radio_parts::{LAST_MOMENT, due_at, seat_due};
-use radio_settings::Settings;
+use radio_settings_values::Settings;
 use radio_values::MountName;
 use std::alloc::Global;
 use std::marker::Model;

@@ -15,7 +15,7 @@ pub trait House: Ledger {
 impl House for Brand {
     ghost use Rattle.radio_access.specs.Lists.{no_lists};
     ghost use Rattle.radio_house.specs.World.{opening as opening_of};
-    ghost use Rattle.radio_settings.specs.Least.{least_settings};
+    ghost use Rattle.radio_settings_values.specs.Least.{least_settings};
 
     ghost opening = { opening_of least_settings no_lists };
 }

@@ -7,8 +7,8 @@ use Rattle.radio_events.specs.Events.{TakesNoMemory}
 use Rattle.radio_house.specs.World.{World}
 use Rattle.radio_mounts.specs.Steps.{IsKept}
 use Rattle.radio_parts.specs.Sessions.{Session, session_of}
-use Rattle.radio_seats.specs.declared.seat.Seat.{Seat}
-use Rattle.radio_seats.specs.Seats.{seat_of}
+use Rattle.radio_seats_rows.specs.declared.seat.Seat.{Seat}
+use Rattle.radio_seats_rows.specs.Seats.{seat_of}
 use Rattle.radio_core.specs.CanStep.{CanDraw, CanStep}
 use Rattle.radio_core.specs.Step.{StandsForSome}
 use Rattle.radio_core.proofs.StepLemmas.{place_is_kept, seat_sits}

@@ -6,8 +6,8 @@ use Rattle.std.proofs.lemmas.Bool.{and_parts}
 use Rattle.std.proofs.lemmas.Slice.Eq.{bytes_eq-Decides}
 use Rattle.radio_policy.specs.declared.rule.Rule.TheVariants.{ListenerPassword}
 use Rattle.radio_access.specs.Lists.{Lists, lets_in}
-use Rattle.radio_seats.specs.declared.seat.Seat.{Seat}
-use Rattle.radio_seats.specs.Seats.{seat_of}
+use Rattle.radio_seats_rows.specs.declared.seat.Seat.{Seat}
+use Rattle.radio_seats_rows.specs.Seats.{seat_of}
 use Rattle.radio_events.specs.declared.event.Event.{Event}
 use Rattle.radio_house.specs.Fallbacks.{Fallback}
 use Rattle.radio_house.specs.Outsiders.{is_shut_out}

@@ -1,8 +1,8 @@
 -- a draw goes by the listener's seat, and by what is heard at its mount
 use Rattle.std.proofs.Common.{◌≡◌, ℕ, Option, None, Some, refl, ap}
 use Rattle.std.specs.Option.{option_map_or}
-use Rattle.radio_seats.specs.declared.seat.Seat.{Seat}
-use Rattle.radio_seats.specs.Seats.{seat_of}
+use Rattle.radio_seats_rows.specs.declared.seat.Seat.{Seat}
+use Rattle.radio_seats_rows.specs.Seats.{seat_of}
 use Rattle.radio_events.specs.declared.reply.Reply.TheVariants.{Stray}
 use Rattle.radio_house.specs.House.{House}
 use Rattle.radio_house.specs.Waiting.{heard_at}

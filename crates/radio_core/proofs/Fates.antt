@@ -2,11 +2,11 @@
 use Rattle.std.proofs.Common.{◌≡◌, ◌⊎◌, inl, inr, Bool, true, ℕ, ◌<◌, Option, Some, None, List, refl, ap, sym, subst, ◌∙◌, arith, false, ◌==◌}
 use Rattle.radio_policy.specs.declared.rule.Rule.{Rule}
 use Rattle.radio_access.specs.Lists.{Lists, lets_in}
-use Rattle.radio_seats.specs.declared.seat.Listener.{Listener}
-use Rattle.radio_seats.specs.declared.seat.Seat.{Seat}
-use Rattle.radio_seats.specs.declared.seat.Seating.TheVariants.{Finished as HasLostIt}
-use Rattle.radio_seats.proofs.EndLaws.{LosesSeat, same_or_loses}
-use Rattle.radio_seats.specs.Seats.{listener_of, seat_of, seat_in, with_ended, AreByNumber}
+use Rattle.radio_seats_rows.specs.declared.seat.Listener.{Listener}
+use Rattle.radio_seats_rows.specs.declared.seat.Seat.{Seat}
+use Rattle.radio_seats_rows.specs.declared.seat.Seating.TheVariants.{Finished as HasLostIt}
+use Rattle.radio_seats_rows.proofs.EndLaws.{LosesSeat, same_or_loses}
+use Rattle.radio_seats_rows.specs.Seats.{listener_of, seat_of, seat_in, with_ended, AreByNumber}
 use Rattle.radio_house.specs.declared.clients.ClientState.{ClientState}
 use Rattle.radio_house.specs.declared.clients.ClientState.TheVariants.{Undecided as IsNew, Feeds as IsSource, Listens, Answered as HasHisAnswer, Ended}
 use Rattle.radio_house.specs.declared.standing.Standing.{Standing}

@@ -7,8 +7,8 @@ use Rattle.radio_tables.proofs.KeyLaws.{by_number}
 use Rattle.radio_house.specs.Clients.{Client}
 use Rattle.radio_house.specs.Relays.{Relay, relay_of}
 use Rattle.radio_house.specs.declared.clients.ClientState.TheVariants.{Undecided as IsNew}
-use Rattle.radio_seats.specs.declared.seat.Listener.{Listener}
-use Rattle.radio_seats.specs.declared.seat.Seat.{Seat}
+use Rattle.radio_seats_rows.specs.declared.seat.Listener.{Listener}
+use Rattle.radio_seats_rows.specs.declared.seat.Seat.{Seat}
 use Rattle.radio_events.specs.declared.event.Event.{Event}
 use Rattle.radio_core.specs.declared.outcome.Outcome.{Outcome}
 use Rattle.radio_events.specs.declared.reply.Reply.TheVariants.{Arrived, Finished}
@@ -17,7 +17,7 @@ use Rattle.radio_house.specs.declared.standing.Standing.TheVariants.{Unknown, Un
 use Rattle.radio_house.specs.World.{World, standing_of, standing_in}
 use Rattle.radio_core.specs.Finishes.{Cause, SessionIsOver, IsFarBehind, HasSatOut, HasAskedNothing, HasSentNothing, IsKilled, HisSessionIsKilled, Finishes, IsNotAccepted}
 use Rattle.radio_core.specs.Others.{StandsOn, OthersStandOn}
-use Rattle.radio_seats.specs.Seats.{listener_of, seat_of}
+use Rattle.radio_seats_rows.specs.Seats.{listener_of, seat_of}
 use Rattle.radio_core.specs.Sound.{IsSound}
 use Rattle.radio_core.specs.Step.{outcome, reply_to, world_after}
 use Rattle.radio_events.specs.Events.{client_in}

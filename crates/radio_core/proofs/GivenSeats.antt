@@ -3,11 +3,11 @@ use Rattle.std.proofs.Common.{◌≡◌, Bool, false, ℕ, Option, Some, None, L
 use Rattle.std.specs.Prelude.{if◌then◌else◌}
 use Rattle.std.specs.Option.{option_map}
 use Rattle.std.specs.Str.{bytes_eq}
-use Rattle.radio_seats.specs.declared.seat.Listener.{Listener}
-use Rattle.radio_seats.specs.declared.seat.Seat.{Seat}
-use Rattle.radio_seats.specs.Seats.{seat_of, with_session_at, has_user}
-use Rattle.radio_seats.proofs.GivenLaws.{seat_hearing, seat_of_hearing, count_hearing}
-use Rattle.radio_seats.proofs.CountLaws.{NobodyCame}
+use Rattle.radio_seats_rows.specs.declared.seat.Listener.{Listener}
+use Rattle.radio_seats_rows.specs.declared.seat.Seat.{Seat}
+use Rattle.radio_seats_rows.specs.Seats.{seat_of, with_session_at, has_user}
+use Rattle.radio_seats_rows.proofs.GivenLaws.{seat_hearing, seat_of_hearing, count_hearing}
+use Rattle.radio_seats_rows.proofs.CountLaws.{NobodyCame}
 
 module _ (mount : List ℕ) (session : ℕ) (seats : List Listener) (id : ℕ) (seat : Seat)
     (has : seat_of (with_session_at seats mount session) id ≡ Some seat) where

@@ -3,8 +3,8 @@ use Rattle.std.proofs.Common.{◌≡◌, true, false, ℕ, ◌==◌, Some, None,
 use Rattle.std.specs.Str.{bytes_eq}
 use Rattle.std.proofs.lemmas.Slice.Eq.{bytes_eq-Decides}
 use Rattle.radio_tables.proofs.KeyLaws.{by_number, by_name}
-use Rattle.radio_seats.specs.declared.seat.Seat.{Seat}
-use Rattle.radio_seats.specs.Seats.{seat_of}
+use Rattle.radio_seats_rows.specs.declared.seat.Seat.{Seat}
+use Rattle.radio_seats_rows.specs.Seats.{seat_of}
 use Rattle.radio_parts.specs.Sessions.{Session, session_of}
 use Rattle.radio_house.specs.declared.standing.Standing.TheVariants.{Unknown, Feeds}
 use Rattle.radio_house.specs.Waiting.{heard_at}

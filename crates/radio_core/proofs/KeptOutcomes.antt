@@ -18,8 +18,8 @@ use Rattle.radio_access.specs.ContentTypes.{is_refused_type}
 use Rattle.radio_access.specs.SourcePair.{is_source_pair}
 use Rattle.radio_tables.specs.Lists.{Each}
 use Rattle.radio_tables.proofs.FindLaws.{found_has}
-use Rattle.radio_seats.specs.declared.seat.Seat.{Seat}
-use Rattle.radio_seats.specs.Seats.{seat_of}
+use Rattle.radio_seats_rows.specs.declared.seat.Seat.{Seat}
+use Rattle.radio_seats_rows.specs.Seats.{seat_of}
 use Rattle.radio_fallback.specs.Walk.{Sight, found_at, landing, stop_in}
 use Rattle.radio_events.specs.declared.event.SourceRequest.{SourceRequest}
 use Rattle.radio_events.specs.declared.event.ListenRequest.{ListenRequest}
@@ -68,8 +68,8 @@ use Rattle.radio_parts.proofs.KeptLists.{kept_ends}
 use Rattle.radio_core.proofs.KeptSights.{has_session, same_sight, heard_kept}
 use Rattle.radio_core.proofs.ListingLemmas.{shown_kept, page_kept}
 use Rattle.radio_core.specs.Pages.{asks_by}
-use Rattle.radio_settings.specs.declared.web.WebPath.{WebPath}
-use Rattle.radio_settings.specs.Web.{web_path}
+use Rattle.radio_settings_values.specs.declared.web.WebPath.{WebPath}
+use Rattle.radio_settings_values.specs.Web.{web_path}
 use Rattle.radio_house.specs.Waiting.{heard_at}
 use Rattle.radio_core.proofs.HeardLemmas.{heard_cases}
 

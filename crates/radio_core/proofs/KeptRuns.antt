@@ -1,12 +1,12 @@
 -- no seat is ever further behind than a queue is long, and no seat's place is forgotten
 use Rattle.std.proofs.Common.{◌≡◌, ℕ, ◌-◌, ◌≤◌, Option, Some, None, List, [], ◌∷◌, refl, ap, sym, subst, ◌∙◌, arith}
 use Rattle.std.specs.Option.{option_map}
-use Rattle.radio_settings.specs.declared.settings.Settings.{Settings}
+use Rattle.radio_settings_values.specs.declared.settings.Settings.{Settings}
 use Rattle.radio_access.specs.Lists.{Lists}
 use Rattle.radio_tables.specs.Lists.{Each}
 use Rattle.radio_tables.proofs.FindLaws.{found_has}
-use Rattle.radio_seats.specs.declared.seat.Seat.{Seat}
-use Rattle.radio_seats.specs.Seats.{seat_of, AreByNumber}
+use Rattle.radio_seats_rows.specs.declared.seat.Seat.{Seat}
+use Rattle.radio_seats_rows.specs.Seats.{seat_of, AreByNumber}
 use Rattle.radio_events.specs.declared.event.Event.{Event}
 use Rattle.radio_changes.specs.Changes.{changed}
 use Rattle.radio_parts.specs.Kept.{first_start, kept_from, kept_session, kept_live}

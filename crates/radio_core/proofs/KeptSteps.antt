@@ -8,7 +8,7 @@ use Rattle.radio_events.specs.declared.command.Command.{Command}
 use Rattle.radio_events.specs.declared.command.Command.TheVariants.{MoveClients, KillClient, KillSource, SetTitle as NewTitle, SetFallback, AddUser, DeleteUser}
 use Rattle.radio_tables.specs.Lists.{Each}
 use Rattle.radio_tables.proofs.EachLaws.{Each_kept, Each_updated, Each_placed}
-use Rattle.radio_seats.specs.Seats.{with_ended}
+use Rattle.radio_seats_rows.specs.Seats.{with_ended}
 use Rattle.radio_house.specs.declared.clients.ClientState.TheVariants.{Answered}
 use Rattle.radio_changes.specs.declared.change.Change.{Change}
 use Rattle.radio_changes.specs.declared.change.Change.TheVariants.{Nothing, Answer, Admit, Begin, Raise, Receive, SetTitle, TakeSeat, Advance, End}

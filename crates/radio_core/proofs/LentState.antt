@@ -1,6 +1,6 @@
 -- the house and the listeners that are lent make up the state
 use Rattle.std.proofs.Common.{◌≡◌, List, ap, ◌∙◌}
-use Rattle.radio_seats.specs.declared.seat.Listener.{Listener}
+use Rattle.radio_seats_rows.specs.declared.seat.Listener.{Listener}
 use Rattle.radio_house.specs.House.{House}
 use Rattle.radio_house.specs.World.{World, world}
 

@@ -14,8 +14,8 @@ use Rattle.radio_status.specs.Listings.{shown, mount_row, mount_rows}
 use Rattle.radio_core.specs.Pages.{IsShownBy, IsListing, IsAtPath}
 use Rattle.radio_status.specs.Pages.{page_at, server_as}
 use Rattle.radio_core.specs.Planned.{told_counts}
-use Rattle.radio_settings.specs.declared.web.WebPath.{WebPath}
-use Rattle.radio_settings.specs.declared.web.WebPath.TheVariants.{IcecastStatus, Page as AtPage}
+use Rattle.radio_settings_values.specs.declared.web.WebPath.{WebPath}
+use Rattle.radio_settings_values.specs.declared.web.WebPath.TheVariants.{IcecastStatus, Page as AtPage}
 use Rattle.radio_listing.specs.Icecast.{icecast_text}
 use Rattle.radio_events.specs.declared.event.Event.{Event}
 use Rattle.radio_events.specs.Texts.{IsShort}

@@ -5,13 +5,13 @@ use Rattle.std.proofs.Common.{sym, subst, ◌∙◌, arith}
 use Rattle.std.proofs.lemmas.Bool.Decides.{nat_tests}
 use Rattle.radio_tables.proofs.KeyLaws.{by_number}
 use Rattle.radio_addr.specs.declared.peer.Peer.{Peer}
-use Rattle.radio_settings.specs.declared.settings.Settings.{Settings}
+use Rattle.radio_settings_values.specs.declared.settings.Settings.{Settings}
 use Rattle.radio_access.specs.Lists.{Lists}
-use Rattle.radio_seats.specs.declared.seat.Listener.{Listener}
-use Rattle.radio_seats.specs.declared.seat.Seat.{Seat}
-use Rattle.radio_seats.specs.declared.seat.Seating.{Seating}
-use Rattle.radio_seats.specs.declared.seat.Seating.TheVariants.{Sits as HasSeat, Finished as HasFinished}
-use Rattle.radio_seats.specs.Seats.{is_listener, listener_of, advanced, seated}
+use Rattle.radio_seats_rows.specs.declared.seat.Listener.{Listener}
+use Rattle.radio_seats_rows.specs.declared.seat.Seat.{Seat}
+use Rattle.radio_seats_rows.specs.declared.seat.Seating.{Seating}
+use Rattle.radio_seats_rows.specs.declared.seat.Seating.TheVariants.{Sits as HasSeat, Finished as HasFinished}
+use Rattle.radio_seats_rows.specs.Seats.{is_listener, listener_of, advanced, seated}
 use Rattle.radio_house.specs.declared.clients.ClientState.{ClientState}
 use Rattle.radio_house.specs.declared.clients.ClientState.TheVariants.{Undecided as IsNew, Feeds as IsSource, Listens, Answered as HasHisAnswer, Ended}
 use Rattle.radio_events.specs.declared.event.Event.{Event}
@@ -48,10 +48,10 @@ use Rattle.radio_core.proofs.SoundRuns.{grown_world, NoMove, lag_fates}
 use Rattle.radio_core.proofs.Standings.{Turns, IsThere, asks, no_client_there, no_relay_there, turns_answered, turns_sitting, turns_forgotten, turns_admitted, turns_raised, stays_given}
 use Rattle.radio_core.proofs.Standings.{stays_hearing}
 use Rattle.radio_core.proofs.Ways.{way_of}
-use Rattle.radio_seats.proofs.SeatLaws.{listener_seated}
+use Rattle.radio_seats_rows.proofs.SeatLaws.{listener_seated}
 use Rattle.radio_core.proofs.NumbersStay.{number_of, relay_number, row_of, ids, relay_ids, rows, AreTheSame, same_called, same_state, same_obeyed, same_over_rows, same_ticked, same_begun, same_received}
 use Rattle.radio_house.specs.HouseChanges.{raised}
-use Rattle.radio_seats.proofs.GivenLaws.{numbers_hearing}
+use Rattle.radio_seats_rows.proofs.GivenLaws.{numbers_hearing}
 
 -- he has not asked for anything yet, if he is there at all
 abbrev pub IsYetToAsk : Standing → Type 0

@@ -4,9 +4,9 @@ use Rattle.std.proofs.Common.{◌∙◌}
 use Rattle.std.specs.Prelude.{map, if◌then◌else◌, fold}
 use Rattle.radio_policy.specs.declared.rule.Rule.{Rule}
 use Rattle.radio_policy.specs.declared.rule.Rule.TheVariants.{Lagged, TimeOver, SourceSilent, Killed, SourceKilled}
-use Rattle.radio_seats.specs.declared.seat.Listener.{Listener}
-use Rattle.radio_seats.specs.declared.seat.Seat.{Seat}
-use Rattle.radio_seats.specs.Seats.{is_listener, finished_if, loses, with_ended}
+use Rattle.radio_seats_rows.specs.declared.seat.Listener.{Listener}
+use Rattle.radio_seats_rows.specs.declared.seat.Seat.{Seat}
+use Rattle.radio_seats_rows.specs.Seats.{is_listener, finished_if, loses, with_ended}
 use Rattle.radio_house.specs.declared.clients.ClientState.{ClientState}
 use Rattle.radio_house.specs.declared.clients.ClientState.TheVariants.{Feeds as IsSource, Answered as HasHisAnswer, Ended}
 use Rattle.radio_events.specs.declared.command.Command.{Command}
@@ -14,7 +14,7 @@ use Rattle.radio_events.specs.declared.command.Command.TheVariants.{MoveClients,
 use Rattle.radio_changes.specs.declared.change.Change.TheVariants.{Begin, Obey}
 use Rattle.radio_house.specs.Clients.{Client, is_client, in_state, with_state}
 use Rattle.radio_house.specs.Relays.{Relay, is_relay, ended, with_relay_ended}
-use Rattle.radio_settings.specs.Options.{options_for}
+use Rattle.radio_settings_values.specs.Options.{options_for}
 use Rattle.radio_values.specs.declared.field.Shown.{Shown}
 use Rattle.radio_fallback.specs.declared.moves.Move.{Move}
 use Rattle.radio_fallback.specs.declared.moves.Move.TheVariants.{Ended as SessionEnds, Up, To}
@@ -32,7 +32,7 @@ use Rattle.radio_house.specs.Outsiders.{is_shut_out}
 use Rattle.radio_core.proofs.ChangedUsers.{with_lists}
 use Rattle.radio_policy.specs.declared.rule.Rule.TheVariants.{ListenerPassword}
 use Rattle.radio_changes.specs.Changes.{outsiders_ended}
-use Rattle.radio_seats.proofs.GivenLaws.{numbers_hearing}
+use Rattle.radio_seats_rows.proofs.GivenLaws.{numbers_hearing}
 
 -- the numbers of the clients, those of the relays, and those of the listeners
 abbrev pub number_of : Client → ℕ

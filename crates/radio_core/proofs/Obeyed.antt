@@ -7,11 +7,11 @@ use Rattle.radio_policy.specs.declared.rule.Rule.TheVariants.{Killed, SourceKill
 use Rattle.radio_policy.specs.Table.{row}
 use Rattle.radio_tables.proofs.FindLaws.{find_same, find_apart}
 use Rattle.radio_tables.proofs.KeyLaws.{by_number}
-use Rattle.radio_seats.specs.declared.seat.Listener.{Listener}
-use Rattle.radio_seats.specs.declared.seat.Seat.{Seat}
-use Rattle.radio_seats.specs.declared.seat.Seating.{Seating}
-use Rattle.radio_seats.specs.declared.seat.Seating.TheVariants.{Sits as HasSeat, Finished as HasLostIt}
-use Rattle.radio_seats.specs.Seats.{is_listener, listener_of, seat_of, seat_in, seat_held, loses, lost_by, AreByNumber}
+use Rattle.radio_seats_rows.specs.declared.seat.Listener.{Listener}
+use Rattle.radio_seats_rows.specs.declared.seat.Seat.{Seat}
+use Rattle.radio_seats_rows.specs.declared.seat.Seating.{Seating}
+use Rattle.radio_seats_rows.specs.declared.seat.Seating.TheVariants.{Sits as HasSeat, Finished as HasLostIt}
+use Rattle.radio_seats_rows.specs.Seats.{is_listener, listener_of, seat_of, seat_in, seat_held, loses, lost_by, AreByNumber}
 use Rattle.radio_fallback.specs.declared.moves.Move.TheVariants.{Ended as SessionEnds, To}
 use Rattle.radio_fallback.specs.Carry.{at_his_turn}
 use Rattle.radio_fallback.proofs.Faring.{goes_there, never_out_there}

@@ -13,7 +13,7 @@ use Rattle.radio_events.specs.declared.event.Event.TheVariants.{Push, SourceEnd,
 use Rattle.radio_events.specs.declared.event.ListenRequest.{ListenRequest}
 use Rattle.radio_changes.specs.declared.change.Change.TheVariants.{TakeSeat, Advance, End, EndAndLeave, Forget, Obey}
 use Rattle.radio_core.specs.declared.outcome.Outcome.{Outcome}
-use Rattle.radio_seats.specs.declared.seat.Seat.{Seat}
+use Rattle.radio_seats_rows.specs.declared.seat.Seat.{Seat}
 use Rattle.radio_house.specs.declared.standing.Standing.TheVariants.{Undecided, Feeds, Sits, Unknown}
 use Rattle.radio_house.specs.World.{World, standing_of, world}
 use Rattle.radio_changes.specs.Changes.{changed, called_home, taken_in, ticked}
@@ -31,13 +31,13 @@ use Rattle.radio_events.specs.Events.{client_in}
 use Rattle.radio_fallback.specs.declared.moves.Move.TheVariants.{Up}
 use Rattle.radio_fallback.specs.Carry.{at_his_turn}
 use Rattle.radio_fallback.proofs.Faring.{comes_home}
-use Rattle.radio_settings.specs.declared.settings.Settings.{Settings}
-use Rattle.radio_settings.specs.Options.{options_for}
+use Rattle.radio_settings_values.specs.declared.settings.Settings.{Settings}
+use Rattle.radio_settings_values.specs.Options.{options_for}
 use Rattle.radio_fallback.specs.declared.walking.Landing.TheVariants.{Lands}
 use Rattle.std.proofs.lemmas.Slice.Eq.{bytes_eq-Decides}
 use Rattle.radio_core.specs.Listen.{first_seat}
 use Rattle.radio_core.specs.SeatSteps.{ComesUpOn, ASource, ARelay, IsSent, HisSessionIsOver, HeIsCalledHome, SeatStep, Stays, IsHanded, SitsDown, IsMoved as HeIsMoved, Leaves as HeLeaves, IsEnded as HeIsEnded, SeatsStep, IsGiven}
-use Rattle.radio_seats.specs.Seats.{seat_of, seat_in, with_session_at}
+use Rattle.radio_seats_rows.specs.Seats.{seat_of, seat_in, with_session_at}
 use Rattle.radio_parts.specs.Sessions.{Session, session_of, opened, with_session}
 use Rattle.radio_core.specs.Sound.{IsSound}
 use Rattle.radio_core.specs.Step.{outcome, reply_to, world_after}
@@ -46,7 +46,7 @@ use Rattle.radio_core.specs.Ways.{Way, Misplaced, IsFinished, IsDenied, IsRefuse
 use Rattle.radio_core.specs.Ways.{EndsAndLeaves, Leaves, GoesDown, Obeys, Shows, HasPassed, Ticks}
 use Rattle.radio_core.proofs.Obeyed.{IsObeyed, LeavesFor, Takes as TakesByIt, obeyed}
 use Rattle.radio_core.proofs.OwnLemmas.{not_of, nothing_of}
-use Rattle.radio_seats.proofs.SeatLaws.{is_no_listener, beside_left}
+use Rattle.radio_seats_rows.proofs.SeatLaws.{is_no_listener, beside_left}
 use Rattle.radio_core.proofs.LostSeats.{loses_no_seat_else}
 use Rattle.radio_core.proofs.Soundness.{has_new_seat, had_no_seat, beside_new_seat}
 use Rattle.radio_core.proofs.SoundSessions.{has_advanced, others_seats, behind_within}
@@ -61,7 +61,7 @@ use Rattle.radio_house.specs.Waiting.{heard_at}
 use Rattle.radio_parts.proofs.SessionLookups.{is_new_session}
 use Rattle.radio_core.proofs.HeardLemmas.{heard_cases, heard_live}
 use Rattle.radio_core.proofs.HeardApart.{apart_sessions, apart_then}
-use Rattle.radio_seats.proofs.GivenLaws.{seat_hearing, seat_of_hearing}
+use Rattle.radio_seats_rows.proofs.GivenLaws.{seat_hearing, seat_of_hearing}
 use Rattle.radio_core.proofs.GivenSeats.{sat_elsewhere}
 use Rattle.radio_values.specs.declared.field.Shown.{Shown}
 

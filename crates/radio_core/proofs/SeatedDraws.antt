@@ -1,7 +1,7 @@
 -- what a draw comes to, of one who has a seat and of one who has none
 use Rattle.std.proofs.Common.{◌≡◌, ℕ, Option, None, Some, refl, ap, ◌∙◌}
-use Rattle.radio_seats.specs.declared.seat.Seat.{Seat}
-use Rattle.radio_seats.specs.Seats.{seat_of}
+use Rattle.radio_seats_rows.specs.declared.seat.Seat.{Seat}
+use Rattle.radio_seats_rows.specs.Seats.{seat_of}
 use Rattle.radio_house.specs.House.{House}
 use Rattle.radio_house.specs.Waiting.{heard_at}
 use Rattle.radio_house.specs.World.{World, standing_of}

@@ -3,9 +3,9 @@ use Rattle.std.proofs.Common.{◌≡◌, ◌⊎◌, inl, inr, ℕ, ◌+◌, ◌*
 use Rattle.std.specs.Prelude.{unwrap_or}
 use Rattle.std.proofs.lemmas.Slice.Eq.{bytes_eq-Decides}
 use Rattle.radio_policy.specs.declared.rule.Rule.{Rule}
-use Rattle.radio_settings.specs.Options.{options_for}
+use Rattle.radio_settings_values.specs.Options.{options_for}
 use Rattle.radio_tables.proofs.KeyLaws.{by_name}
-use Rattle.radio_seats.specs.Seats.{listener_of}
+use Rattle.radio_seats_rows.specs.Seats.{listener_of}
 use Rattle.radio_events.specs.declared.event.Event.{Event}
 use Rattle.radio_events.specs.declared.event.Event.TheVariants.{Source, Push, SourceEnd, Title, Leave, RelayUp, RelayDown, Clock}
 use Rattle.radio_values.specs.declared.field.Shown.{Shown}
@@ -42,7 +42,7 @@ use Rattle.radio_parts.proofs.SessionLookups.{found_named, is_new_session, besid
 use Rattle.radio_core.proofs.TickLemmas.{asking_at, ticked_fates}
 use Rattle.radio_house.proofs.TimeoutLemmas.{tests_are_in_numbers}
 use Rattle.radio_core.proofs.Ways.{way_of}
-use Rattle.radio_seats.specs.Seats.{with_session_at}
+use Rattle.radio_seats_rows.specs.Seats.{with_session_at}
 
 is_shown : (given : Option (List ℕ)) (own : List ℕ) → IsShownAs given own (unwrap_or given own)
 is_shown None own = OfTheSource refl

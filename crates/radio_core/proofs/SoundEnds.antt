@@ -16,7 +16,7 @@ use Rattle.radio_events.specs.Events.{client_in}
 use Rattle.radio_house.specs.declared.clients.ClientState.{ClientState}
 use Rattle.radio_house.specs.declared.clients.ClientState.TheVariants.{Answered as HasHisAnswer}
 use Rattle.radio_changes.specs.declared.change.Change.TheVariants.{End, EndAndLeave}
-use Rattle.radio_seats.specs.declared.seat.Seat.{Seat}
+use Rattle.radio_seats_rows.specs.declared.seat.Seat.{Seat}
 use Rattle.radio_house.specs.declared.standing.Standing.{Standing}
 use Rattle.radio_house.specs.declared.standing.Standing.TheVariants.{Unknown, Feeds, Sits, Answered}
 use Rattle.radio_house.specs.World.{World, standing_of, has_relay}
@@ -26,11 +26,11 @@ use Rattle.radio_core.specs.Closing.{Closes}
 use Rattle.radio_house.specs.Facts.{sight_of}
 use Rattle.radio_core.specs.Finishes.{Cause, SessionIsOver}
 use Rattle.radio_core.specs.Moves.{his_turn, ByItsEnd, ByItsLeaving, TakesTo}
-use Rattle.radio_seats.specs.Seats.{seat_of, seat_in, AreByNumber}
+use Rattle.radio_seats_rows.specs.Seats.{seat_of, seat_in, AreByNumber}
 use Rattle.radio_parts.specs.Sessions.{Session, is_of, session_of, without_session, AreApart}
 use Rattle.radio_core.specs.Sound.{IsSound}
 use Rattle.radio_house.specs.Timeouts.{asks_too_late}
-use Rattle.radio_seats.proofs.SeatLaws.{beside_left, is_no_listener}
+use Rattle.radio_seats_rows.proofs.SeatLaws.{beside_left, is_no_listener}
 use Rattle.radio_parts.proofs.ApartLemmas.{kept_apart, bytes_apart}
 use Rattle.radio_core.proofs.CarriedFates.{order_carried, carried_fate}
 use Rattle.radio_core.proofs.Fates.{IsDone, Fate, GoesOn, HasStopped, Fates, HasEnded, sound_fates}

@@ -8,28 +8,28 @@ use Rattle.radio_addr.specs.declared.peer.Peer.{Peer}
 use Rattle.radio_values.specs.declared.field.Shown.{Shown}
 use Rattle.radio_tables.proofs.KeyLaws.{by_number, by_name}
 use Rattle.radio_changes.specs.declared.change.Change.TheVariants.{Advance}
-use Rattle.radio_seats.specs.declared.seat.Seat.{Seat}
-use Rattle.radio_seats.specs.declared.seat.Seating.{Seating}
-use Rattle.radio_seats.specs.declared.seat.Seating.TheVariants.{Sits as HasSeat, Finished as HasFinished}
+use Rattle.radio_seats_rows.specs.declared.seat.Seat.{Seat}
+use Rattle.radio_seats_rows.specs.declared.seat.Seating.{Seating}
+use Rattle.radio_seats_rows.specs.declared.seat.Seating.TheVariants.{Sits as HasSeat, Finished as HasFinished}
 use Rattle.radio_house.specs.declared.standing.Standing.TheVariants.{Unknown, Undecided, Feeds, Sits}
 use Rattle.radio_house.specs.House.{House}
 use Rattle.radio_house.specs.World.{World, standing_of}
 use Rattle.radio_changes.specs.Changes.{changed, session_begun, session_raised}
 use Rattle.radio_house.specs.HouseChanges.{begun, raised, received}
-use Rattle.radio_seats.specs.Seats.{seat_of, seat_in, seat_held, heard_to, with_session_at}
+use Rattle.radio_seats_rows.specs.Seats.{seat_of, seat_in, seat_held, heard_to, with_session_at}
 use Rattle.radio_parts.specs.Sessions.{Session, AreApart, is_of, session_of, opened, with_session, longer}
 use Rattle.radio_parts.specs.Stream.{AreRising, end_of, data_at}
 use Rattle.radio_core.specs.Sound.{IsSeatedIn, IsSound}
-use Rattle.radio_seats.proofs.SeatLaws.{beside_moved, has_moved}
+use Rattle.radio_seats_rows.proofs.SeatLaws.{beside_moved, has_moved}
 use Rattle.radio_parts.proofs.ApartLemmas.{begun_apart, updated_apart, bytes_apart}
 use Rattle.radio_parts.proofs.NumberOrder.{order_heard, same_order}
 use Rattle.radio_parts.proofs.SessionLookups.{beside_fed, is_longer, is_new_session, beside_begun}
-use Rattle.radio_seats.proofs.SeatLaws.{listener_seated}
+use Rattle.radio_seats_rows.proofs.SeatLaws.{listener_seated}
 use Rattle.radio_core.proofs.Standings.{Turns, asks, turns_feeding, turns_raised, stays_hearing, turns_given}
 use Rattle.radio_parts.proofs.RisingLemmas.{rising_more}
 use Rattle.radio_core.proofs.Soundness.{IsLiveStill, seated_still, seated_beside}
 use Rattle.radio_house.specs.Waiting.{heard_at}
-use Rattle.radio_seats.proofs.GivenLaws.{numbers_hearing}
+use Rattle.radio_seats_rows.proofs.GivenLaws.{numbers_hearing}
 use Rattle.radio_core.proofs.GivenSeats.{given_from}
 use Rattle.radio_core.proofs.HeardLemmas.{heard_cases, heard_live, heard_same}
 use Rattle.std.specs.Prelude.{if◌then◌else◌}

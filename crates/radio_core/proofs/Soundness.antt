@@ -6,7 +6,7 @@ use Rattle.radio_addr.specs.declared.peer.Peer.{Peer}
 use Rattle.radio_tables.proofs.KeyLaws.{by_number, by_name}
 use Rattle.radio_events.specs.declared.event.ListenRequest.{ListenRequest}
 use Rattle.radio_changes.specs.declared.change.Change.TheVariants.{Answer, Admit, TakeSeat, Forget}
-use Rattle.radio_seats.specs.declared.seat.Seat.{Seat}
+use Rattle.radio_seats_rows.specs.declared.seat.Seat.{Seat}
 use Rattle.radio_house.specs.declared.standing.Standing.{Standing}
 use Rattle.radio_house.specs.declared.standing.Standing.TheVariants.{Unknown, Undecided, Feeds, Sits, Answered}
 use Rattle.radio_house.specs.House.{House}
@@ -14,10 +14,10 @@ use Rattle.radio_house.specs.World.{World, standing_of}
 use Rattle.radio_changes.specs.Changes.{changed}
 use Rattle.radio_core.specs.Listen.{first_seat}
 use Rattle.radio_facts.specs.Streams.{burst_of}
-use Rattle.radio_seats.specs.Seats.{seat_of, seat_in, without_listener, AreByNumber}
+use Rattle.radio_seats_rows.specs.Seats.{seat_of, seat_in, without_listener, AreByNumber}
 use Rattle.radio_parts.specs.Sessions.{Session, session_of, AreApart}
 use Rattle.radio_core.specs.Sound.{IsSeatedIn, IsSound}
-use Rattle.radio_seats.proofs.SeatLaws.{beside_left, beside_seated, is_no_listener, has_sat_down}
+use Rattle.radio_seats_rows.proofs.SeatLaws.{beside_left, beside_seated, is_no_listener, has_sat_down}
 use Rattle.radio_parts.proofs.RisingLemmas.{burst_within}
 use Rattle.radio_parts.proofs.NumberOrder.{order_left, order_seated}
 use Rattle.radio_core.proofs.Standings.{Turns, asks, turns_answered, turns_sitting, turns_forgotten, turns_admitted}

@@ -7,7 +7,7 @@ use Rattle.std.proofs.lemmas.Bool.{ltb-true, lt-ltb, le-ltb}
 use Rattle.radio_blocks.specs.Block.{IsBlock}
 use Rattle.radio_policy.specs.declared.rule.Rule.TheVariants.{NumbersSpent}
 use Rattle.radio_tables.specs.Lists.{update_first}
-use Rattle.radio_seats.specs.Seats.{listener_of}
+use Rattle.radio_seats_rows.specs.Seats.{listener_of}
 use Rattle.radio_house.specs.House.{House}
 use Rattle.radio_events.specs.declared.reply.Reply.{Reply}
 use Rattle.radio_events.specs.declared.reply.Reply.TheVariants.{Noted, Deny, Finished, Stray}

@@ -8,10 +8,10 @@ use Rattle.radio_tables.proofs.KeyLaws.{by_number}
 use Rattle.radio_house.specs.declared.clients.ClientState.{ClientState}
 use Rattle.radio_house.specs.declared.clients.ClientState.TheVariants.{Undecided, Feeds, Listens, Answered, Ended}
 use Rattle.radio_changes.specs.declared.change.Change.TheVariants.{Answer, Admit, TakeSeat, Advance, Forget}
-use Rattle.radio_seats.specs.declared.seat.Listener.{Listener}
-use Rattle.radio_seats.specs.declared.seat.Seat.{Seat}
-use Rattle.radio_seats.specs.declared.seat.Seating.{Seating}
-use Rattle.radio_seats.specs.declared.seat.Seating.TheVariants.{Sits as HasSeat, Finished as HasFinished}
+use Rattle.radio_seats_rows.specs.declared.seat.Listener.{Listener}
+use Rattle.radio_seats_rows.specs.declared.seat.Seat.{Seat}
+use Rattle.radio_seats_rows.specs.declared.seat.Seating.{Seating}
+use Rattle.radio_seats_rows.specs.declared.seat.Seating.TheVariants.{Sits as HasSeat, Finished as HasFinished}
 use Rattle.radio_house.specs.declared.standing.Standing.{Standing}
 use Rattle.radio_house.specs.declared.standing.Standing.TheVariants.{Unknown, Undecided as IsUndecided, Feeds as IsFeeding, Sits}
 use Rattle.radio_house.specs.declared.standing.Standing.TheVariants.{Answered as IsAnswered, Finished}
@@ -19,14 +19,14 @@ use Rattle.radio_house.specs.declared.relays.RelayState.{RelayState}
 use Rattle.radio_house.specs.declared.relays.RelayState.TheVariants.{Feeds as RelayFeeds, Ended as RelayEnded}
 use Rattle.radio_house.specs.Clients.{Client, client_of, in_state, with_state}
 use Rattle.radio_house.specs.Relays.{Relay, relay_of, risen, ended}
-use Rattle.radio_seats.specs.Seats.{listener_of, advanced, heard_to, hears_session, in_session_at, with_session_at}
+use Rattle.radio_seats_rows.specs.Seats.{listener_of, advanced, heard_to, hears_session, in_session_at, with_session_at}
 use Rattle.radio_house.specs.World.{World, standing_of, standing_in, standing_by, standing_seated, standing_of_listener, standing_relayed, standing_of_relay, has_relay, world}
 use Rattle.radio_changes.specs.Changes.{changed}
 use Rattle.radio_house.specs.HouseChanges.{begun, raised, finished_in}
-use Rattle.radio_seats.proofs.SeatLaws.{beside_moved, beside_left, beside_seated, has_moved, is_no_listener, has_sat_down}
+use Rattle.radio_seats_rows.proofs.SeatLaws.{beside_moved, beside_left, beside_seated, has_moved, is_no_listener, has_sat_down}
 use Rattle.radio_house.proofs.Lookups.{beside_state, beside_forgotten, does, still_none, is_no_client, is_new_client, beside_new}
 use Rattle.radio_house.proofs.Lookups.{relay_beside_ended, relay_beside_gone, is_ended_relay, is_no_relay, is_new_relay, beside_new_relay}
-use Rattle.radio_seats.proofs.GivenLaws.{listener_hearing}
+use Rattle.radio_seats_rows.proofs.GivenLaws.{listener_hearing}
 use Rattle.std.specs.Option.{option_map}
 use Rattle.radio_house.specs.House.{House}
 

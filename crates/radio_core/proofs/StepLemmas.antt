@@ -25,15 +25,15 @@ use Rattle.radio_core.specs.Step.{outcome, reply_to, world_after, Step, Represen
 use Rattle.radio_events.specs.Events.{TakesNoMemory}
 use Rattle.radio_parts.specs.Stream.{end_of}
 use Rattle.radio_house.specs.World.{World, opening, standing_of, has_relay}
-use Rattle.radio_settings.specs.declared.settings.Settings.{Settings}
+use Rattle.radio_settings_values.specs.declared.settings.Settings.{Settings}
 use Rattle.radio_access.specs.Lists.{Lists}
 use Rattle.radio_core.proofs.KeptOutcomes.{outcome_kept}
 use Rattle.radio_core.proofs.KeptRuns.{kept_on, seat_is_kept}
 use Rattle.radio_core.proofs.KeptSteps.{changed_kept, rise_changed}
 use Rattle.radio_core.proofs.PlannedLemmas.{planned_so, completed_so}
 use Rattle.radio_core.proofs.SoundRuns.{sound_after, sound_opening}
-use Rattle.radio_seats.specs.declared.seat.Seat.{Seat}
-use Rattle.radio_seats.specs.Seats.{seat_of, last_mount_of}
+use Rattle.radio_seats_rows.specs.declared.seat.Seat.{Seat}
+use Rattle.radio_seats_rows.specs.Seats.{seat_of, last_mount_of}
 use Rattle.radio_facts.specs.Wanted.{wanted}
 
 -- its reply has no text, and its change needs no memory

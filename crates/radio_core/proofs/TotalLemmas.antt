@@ -6,9 +6,9 @@ use Rattle.std.proofs.lemmas.Bool.{eqb-true}
 use Rattle.radio_tables.specs.Lists.{Each}
 use Rattle.std.proofs.lemmas.List.{length-map}
 use Rattle.std.proofs.lemmas.List.Filters.{length-filter_both}
-use Rattle.radio_settings.specs.declared.settings.Settings.{Settings}
+use Rattle.radio_settings_values.specs.declared.settings.Settings.{Settings}
 use Rattle.radio_access.specs.Lists.{Lists}
-use Rattle.radio_seats.specs.Seats.{is_listener, listener_of, advanced, seated}
+use Rattle.radio_seats_rows.specs.Seats.{is_listener, listener_of, advanced, seated}
 use Rattle.radio_house.specs.declared.clients.ClientState.TheVariants.{Listens, Answered as HasHisAnswer}
 use Rattle.radio_events.specs.declared.event.Event.{Event}
 use Rattle.radio_events.specs.declared.event.Event.TheVariants.{Leave, RelayDown}
@@ -40,7 +40,7 @@ use Rattle.radio_core.proofs.Standings.{is_client_there, no_client_there, no_rel
 use Rattle.radio_core.proofs.Ways.{way_of}
 use Rattle.radio_core.proofs.NumbersStay.{number_of, relay_number, row_of, ids, relay_ids, rows, AreTheSame, same_called, nobody_else, same_state, same_obeyed, same_over_rows, same_ticked, same_begun, same_received}
 use Rattle.radio_core.proofs.NumbersRise.{IsYetToAsk, AreInOrder, order_after, order_opening}
-use Rattle.radio_seats.proofs.GivenLaws.{numbers_hearing}
+use Rattle.radio_seats_rows.proofs.GivenLaws.{numbers_hearing}
 
 -- what came and went, and how many are there then
 record Adds (w later : World) (event : Event) (reply : Reply) : Type 0 where

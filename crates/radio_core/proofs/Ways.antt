@@ -8,9 +8,9 @@ use Rattle.radio_policy.specs.declared.judgement.Verdict.TheVariants.{Allow, Den
 use Rattle.radio_policy.specs.Table.{row, source_rows, relay_rows, listen_rows}
 use Rattle.radio_policy.specs.Verdicts.{verdict_in}
 use Rattle.radio_addr.specs.declared.peer.Peer.{Peer}
-use Rattle.radio_settings.specs.declared.web.WebPath.{WebPath}
+use Rattle.radio_settings_values.specs.declared.web.WebPath.{WebPath}
 use Rattle.radio_values.specs.MountName.{is_mount_name}
-use Rattle.radio_settings.specs.Web.{web_path}
+use Rattle.radio_settings_values.specs.Web.{web_path}
 use Rattle.radio_access.specs.Lists.{passes}
 use Rattle.radio_events.specs.declared.event.SourceRequest.{SourceRequest}
 use Rattle.radio_events.specs.declared.event.ListenRequest.{ListenRequest}
@@ -23,7 +23,7 @@ use Rattle.radio_changes.specs.declared.change.Change.{Change}
 use Rattle.radio_changes.specs.declared.change.Change.TheVariants.{Nothing, Answer, End, Tick}
 use Rattle.radio_core.specs.declared.outcome.Outcome.{Outcome}
 use Rattle.radio_events.specs.declared.reply.Reply.TheVariants.{Deny, Noted, Stray}
-use Rattle.radio_seats.specs.declared.seat.Seat.{Seat}
+use Rattle.radio_seats_rows.specs.declared.seat.Seat.{Seat}
 use Rattle.radio_fallback.specs.declared.walking.Found.{Found}
 use Rattle.radio_fallback.specs.declared.walking.Landing.{Landing}
 use Rattle.radio_fallback.specs.declared.walking.Landing.TheVariants.{Lands, Stops}
@@ -53,7 +53,7 @@ use Rattle.radio_events.specs.declared.command.Asked.TheVariants.{NoCommand, Mis
 use Rattle.radio_events.specs.declared.command.CommandRequest.{CommandRequest}
 use Rattle.radio_core.specs.Command.{does_asked}
 use Rattle.radio_facts.specs.CommandFacts.{rows_to_command}
-use Rattle.radio_seats.specs.Seats.{seat_of}
+use Rattle.radio_seats_rows.specs.Seats.{seat_of}
 use Rattle.radio_parts.specs.Sessions.{Session, session_of}
 use Rattle.radio_core.specs.Step.{outcome}
 use Rattle.radio_core.specs.Ways.{Way, Misplaced, IsFinished, IsDenied, IsRefused, IsAdmitted, Begins, ComesUp, Receives, SetsTitle, TakesSeat, HandsOut, Ends}

@@ -7,8 +7,8 @@ use Rattle.radio_house.specs.World.{World, standing_of}
 use Rattle.radio_house.specs.declared.standing.Standing.TheVariants.{Sits}
 use Rattle.radio_mounts.specs.Steps.{IsKept}
 use Rattle.radio_parts.specs.Sessions.{session_of}
-use Rattle.radio_seats.specs.declared.seat.Seat.{Seat}
-use Rattle.radio_seats.specs.Seats.{seat_of}
+use Rattle.radio_seats_rows.specs.declared.seat.Seat.{Seat}
+use Rattle.radio_seats_rows.specs.Seats.{seat_of}
 
 -- the one of this number may draw, if it has a seat
 pub record CanDraw (w : World) (id : ℕ) : Type 0 where

@@ -7,11 +7,11 @@ use Rattle.radio_changes.specs.declared.change.Change.TheVariants.{Nothing, Adva
 use Rattle.radio_changes.specs.Changes.{part_at}
 use Rattle.radio_core.specs.declared.outcome.Outcome.{Outcome}
 use Rattle.radio_core.specs.declared.server.draw.Drawing.{Drawing}
-use Rattle.radio_seats.specs.declared.seat.Seat.{Seat}
+use Rattle.radio_seats_rows.specs.declared.seat.Seat.{Seat}
 use Rattle.radio_parts.specs.Parts.{Part}
 use Rattle.radio_parts.specs.Sessions.{Session}
 use Rattle.radio_parts.specs.Stream.{data_at}
-use Rattle.radio_seats.specs.Seats.{seat_of}
+use Rattle.radio_seats_rows.specs.Seats.{seat_of}
 use Rattle.radio_house.specs.World.{World, standing_of}
 use Rattle.radio_core.specs.Outcomes.{says, if_sitting}
 use Rattle.radio_house.specs.Waiting.{silence_of}

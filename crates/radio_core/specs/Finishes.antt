@@ -4,7 +4,7 @@ use Rattle.radio_policy.specs.declared.rule.Rule.TheVariants.{Lagged, TimeOver, 
 use Rattle.radio_events.specs.declared.event.Event.{Event}
 use Rattle.radio_events.specs.declared.event.Event.TheVariants.{Push, Clock}
 use Rattle.radio_house.specs.declared.standing.Standing.TheVariants.{Feeds, Finished as HasFinished}
-use Rattle.radio_seats.specs.declared.seat.Seat.{Seat}
+use Rattle.radio_seats_rows.specs.declared.seat.Seat.{Seat}
 use Rattle.radio_events.specs.declared.command.Command.TheVariants.{KillClient, KillSource}
 use Rattle.radio_access.specs.Lists.{lets_in}
 use Rattle.radio_core.specs.Allowed.{IsCommanded, ChangesUsers}
@@ -13,7 +13,7 @@ use Rattle.radio_house.specs.Facts.{live_end}
 use Rattle.radio_core.specs.Moves.{LeavesOut}
 use Rattle.radio_parts.specs.Timeouts.{lags_behind, has_sat_out, is_silent}
 use Rattle.radio_house.specs.Timeouts.{asks_too_late}
-use Rattle.radio_seats.specs.Seats.{seat_of}
+use Rattle.radio_seats_rows.specs.Seats.{seat_of}
 use Rattle.radio_parts.specs.Sessions.{Session, session_of}
 use Rattle.radio_core.specs.Step.{world_after}
 use Rattle.radio_house.specs.World.{World, standing_of}

@@ -5,13 +5,13 @@ use Rattle.radio_policy.specs.declared.judgement.Verdict.TheVariants.{Allow}
 use Rattle.radio_policy.specs.Verdicts.{verdict_in}
 use Rattle.radio_addr.specs.declared.peer.Peer.{Peer}
 use Rattle.radio_values.specs.declared.field.Shown.{Shown}
-use Rattle.radio_settings.specs.Options.{options_for}
+use Rattle.radio_settings_values.specs.Options.{options_for}
 use Rattle.radio_fallback.specs.declared.moves.Move.{Move}
 use Rattle.radio_fallback.specs.declared.moves.Move.TheVariants.{Ended, Up, To}
 use Rattle.radio_fallback.specs.declared.moves.Turn.{Turn}
 use Rattle.radio_fallback.specs.declared.moves.Turn.TheVariants.{GoesTo, IsOut}
 use Rattle.radio_fallback.specs.Carry.{turn_of, at_his_turn}
-use Rattle.radio_seats.specs.declared.seat.Seat.{Seat}
+use Rattle.radio_seats_rows.specs.declared.seat.Seat.{Seat}
 use Rattle.radio_events.specs.declared.event.Event.{Event}
 use Rattle.radio_events.specs.declared.event.Event.TheVariants.{Source, SourceEnd, RelayUp, Clock}
 use Rattle.radio_events.specs.declared.event.SourceRequest.{SourceRequest}

@@ -1,6 +1,6 @@
 -- Runs of the server.
 use Rattle.std.specs.Prelude.{List, [], ◌∷◌}
-use Rattle.radio_settings.specs.declared.settings.Settings.{Settings}
+use Rattle.radio_settings_values.specs.declared.settings.Settings.{Settings}
 use Rattle.radio_access.specs.Lists.{Lists}
 use Rattle.radio_events.specs.declared.event.Event.{Event}
 use Rattle.radio_house.specs.World.{World, opening}

@@ -1,8 +1,8 @@
 -- What holds of every state of a run.
 use Rattle.std.specs.Prelude.{◌≡◌, ℕ, ◌<◌, ◌≤◌, List, Some}
-use Rattle.radio_seats.specs.declared.seat.Seat.{Seat}
+use Rattle.radio_seats_rows.specs.declared.seat.Seat.{Seat}
 use Rattle.radio_house.specs.declared.standing.Standing.TheVariants.{Unknown, Feeds, Sits}
-use Rattle.radio_seats.specs.Seats.{seat_of, AreByNumber}
+use Rattle.radio_seats_rows.specs.Seats.{seat_of, AreByNumber}
 use Rattle.radio_parts.specs.Sessions.{Session, AreApart, session_of}
 use Rattle.radio_parts.specs.Stream.{AreRising, end_of}
 use Rattle.radio_house.specs.World.{World, standing_of}

@@ -1,8 +1,8 @@
 -- How many came and left by an event, and how many are there.
 use Rattle.std.specs.Prelude.{◌≡◌, ℕ, ◌+◌, if◌then◌else◌, Bool, not, length, filter}
 use Rattle.std.specs.Option.{is_some}
-use Rattle.radio_seats.specs.declared.seat.Listener.{Listener}
-use Rattle.radio_seats.specs.Seats.{listener_of, seat_held}
+use Rattle.radio_seats_rows.specs.declared.seat.Listener.{Listener}
+use Rattle.radio_seats_rows.specs.Seats.{listener_of, seat_held}
 use Rattle.radio_events.specs.declared.event.Event.{Event}
 use Rattle.radio_events.specs.declared.event.Event.TheVariants.{Arrive, Leave, RelayUp, RelayDown}
 use Rattle.radio_events.specs.declared.reply.Reply.{Reply}

@@ -14,7 +14,7 @@ use Rattle.radio_house.specs.House.{House}
 use Rattle.radio_changes.specs.declared.change.Change.TheVariants.{Nothing, Answer, Admit, Receive, SetTitle, TakeSeat, Advance, End, EndAndLeave, Forget, Tick}
 use Rattle.radio_core.specs.declared.outcome.Outcome.{Outcome}
 use Rattle.radio_events.specs.declared.reply.Reply.TheVariants.{Arrived, Seated, Drawn, Noted, Text as SaysText, Deny, Finished, Stray}
-use Rattle.radio_seats.specs.declared.seat.Seat.{Seat}
+use Rattle.radio_seats_rows.specs.declared.seat.Seat.{Seat}
 use Rattle.radio_house.specs.declared.standing.Standing.{Standing}
 use Rattle.radio_house.specs.declared.standing.Standing.TheVariants.{Undecided, Feeds, Sits, Finished as HasFinished}
 use Rattle.radio_fallback.specs.declared.walking.Landing.TheVariants.{Lands}
@@ -30,7 +30,7 @@ use Rattle.radio_core.specs.Pages.{IsShownBy}
 use Rattle.radio_events.specs.declared.text.Text.{Text}
 use Rattle.radio_core.specs.Outcomes.{says}
 use Rattle.radio_core.specs.RelayUp.{raises}
-use Rattle.radio_seats.specs.Seats.{seat_of}
+use Rattle.radio_seats_rows.specs.Seats.{seat_of}
 use Rattle.radio_parts.specs.Sessions.{Session, session_of}
 use Rattle.radio_core.specs.Source.{begins}
 use Rattle.radio_parts.specs.Stream.{data_at}

@@ -2,7 +2,7 @@
 //! every run of events from the opening state, over the definitions that `Core::step` follows.
 
 ghost use Rattle.std.specs.Prelude.{List};
-ghost use Rattle.radio_settings.specs.declared.settings.Settings.{Settings};
+ghost use Rattle.radio_settings_values.specs.declared.settings.Settings.{Settings};
 ghost use Rattle.radio_access.specs.Lists.{Lists};
 ghost use Rattle.radio_events.specs.declared.event.Event.{Event};
 ghost use Rattle.radio_core.specs.Run.{run_after};

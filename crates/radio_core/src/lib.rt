@@ -25,6 +25,7 @@ pub use laws::{
 };
 pub use outcome::Outcome;
 pub use radio_changes::Change;
+pub use radio_events::{Event, Reply};
 pub use server::{Control, Core};
 pub use totals::clients_and_seats_add_up;
 

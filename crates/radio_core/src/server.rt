@@ -4,7 +4,7 @@
 ghost use Rattle.std.specs.Prelude.{◌≡◌, [], ◌∷◌, IsOk, IfOk, OnOk, OnErr};
 ghost use Rattle.radio_events.specs.declared.reply.Reply.{Reply as ReplyOf};
 ghost use Rattle.std.specs.Option.{option_copied};
-ghost use Rattle.radio_seats.specs.Seats.{last_mount_of};
+ghost use Rattle.radio_seats_rows.specs.Seats.{last_mount_of};
 ghost use Rattle.radio_facts.specs.Wanted.{wanted};
 ghost use Rattle.radio_house.specs.World.{World, opening};
 ghost use Rattle.radio_events.specs.Replies.{HoldsNoText};
@@ -16,7 +16,7 @@ use crate::outcome::Outcome;
 pub use control::Control;
 use radio_access::Lists;
 use radio_events::{Event, Reply, Server};
-use radio_settings::Settings;
+use radio_settings_values::Settings;
 use radio_values::MountName;
 use std::alloc::Global;
 use std::marker::Model;

@@ -1,7 +1,7 @@
 //! The law of totals: who came is there, or has left.
 
 ghost use Rattle.std.specs.Prelude.{List};
-ghost use Rattle.radio_settings.specs.declared.settings.Settings.{Settings};
+ghost use Rattle.radio_settings_values.specs.declared.settings.Settings.{Settings};
 ghost use Rattle.radio_access.specs.Lists.{Lists};
 ghost use Rattle.radio_events.specs.declared.event.Event.{Event};
 ghost use Rattle.radio_core.specs.Run.{run_after};

@@ -11,11 +11,11 @@ use Rattle.radio_policy.specs.declared.facts.Opener.{Opener}
 use Rattle.radio_policy.specs.declared.facts.Opener.TheVariants.{Admin as AdminAlone, Source as ItsSource, Relay as Relays}
 use Rattle.radio_policy.specs.Table.{Row, command_rows}
 use Rattle.radio_creds.specs.Credentials.{Credentials}
-use Rattle.radio_settings.specs.declared.settings.Settings.{Settings}
+use Rattle.radio_settings_values.specs.declared.settings.Settings.{Settings}
 use Rattle.radio_access.specs.CommandPairs.{is_admin_pair, is_named_source_pair, is_relay_pair}
 use Rattle.radio_access.specs.Lists.{has_users, has_user_at}
-use Rattle.radio_seats.specs.declared.seat.Listener.{Listener}
-use Rattle.radio_seats.specs.Seats.{seat_of}
+use Rattle.radio_seats_rows.specs.declared.seat.Listener.{Listener}
+use Rattle.radio_seats_rows.specs.Seats.{seat_of}
 use Rattle.radio_events.specs.declared.command.Asked.{Asked}
 use Rattle.radio_events.specs.declared.command.Asked.TheVariants.{NoCommand, MissingArgument, Listing as AsksFor, Command as Asks}
 use Rattle.radio_events.specs.declared.command.Command.{Command as TheCommand}

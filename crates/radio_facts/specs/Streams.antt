@@ -1,7 +1,7 @@
 -- What the settings make of a listener's stream.
 use Rattle.std.specs.Prelude.{ℕ, min, Bool, if◌then◌else◌, List, Option, Some, None}
 use Rattle.radio_values.specs.declared.field.Shown.{Shown}
-use Rattle.radio_settings.specs.Options.{options_for}
+use Rattle.radio_settings_values.specs.Options.{options_for}
 use Rattle.radio_events.specs.declared.reply.StreamHead.{StreamHead}
 use Rattle.radio_house.specs.House.{House}
 

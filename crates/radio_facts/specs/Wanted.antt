@@ -3,9 +3,9 @@ use Rattle.std.specs.Prelude.{ℕ, Bool, ◌&&◌, nat_lt, if◌then◌else◌, 
 use Rattle.std.specs.BTreeSet.{insert_key}
 use Rattle.std.specs.Cmp.Lexicographic.{slice_cmp}
 use Rattle.std.specs.Ordering.{nat_cmp}
-use Rattle.radio_settings.specs.declared.settings.RelaySetting.{RelaySetting}
-use Rattle.radio_seats.specs.declared.seat.Listener.{Listener}
-use Rattle.radio_seats.specs.Seats.{count_at}
+use Rattle.radio_settings_values.specs.declared.settings.RelaySetting.{RelaySetting}
+use Rattle.radio_seats_rows.specs.declared.seat.Listener.{Listener}
+use Rattle.radio_seats_rows.specs.Seats.{count_at}
 use Rattle.radio_house.specs.World.{World}
 
 -- the relay is on demand, and somebody sits at the mount that it feeds

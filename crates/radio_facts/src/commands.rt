@@ -12,7 +12,7 @@ use radio_creds::Pair;
 use radio_events::{Asked, Command, Listing, OpenedBy};
 use radio_house::House;
 use radio_policy::{CommandAccess, CommandFacts, CommandNeeds, DestinationFacts, Opener};
-use radio_settings::Settings;
+use radio_settings_values::Settings;
 use radio_values::MountName;
 
 /// What is looked up for one who sends this pair, or none, and whose path and arguments ask for

@@ -13,7 +13,7 @@ use radio_events::SourceRequest;
 use radio_fallback::{Landing, Walk};
 use radio_house::House;
 use radio_policy::{ArriveFacts, ListenFacts, PushFacts, RelayFacts, SourceFacts};
-use radio_settings::Settings;
+use radio_settings_values::Settings;
 use radio_values::{MountName, Shown};
 
 /// The mount that a path names; `None` where it names none, or is one of the web site's.

@@ -10,7 +10,7 @@ use crate::streams::shown_for;
 use radio_attached::Listeners;
 use radio_house::House;
 use radio_parts::Session;
-use radio_settings::RelaySetting;
+use radio_settings_values::RelaySetting;
 use radio_values::{MountName, Shown};
 use std::alloc::Global;
 use std::collections::BTreeSet;

@@ -11,9 +11,9 @@ use Rattle.std.proofs.lemmas.Map.Keys.{sorted_head, sorted_tail}
 use Rattle.radio_tables.specs.Lists.{update_first}
 use Rattle.radio_tables.specs.Past.{is_past}
 use Rattle.radio_tables.proofs.FindLaws.{find_here, find_later}
-use Rattle.radio_seats.specs.declared.seat.Listener.{Listener}
-use Rattle.radio_seats.specs.Seats.{is_listener, moved, loses, next_number}
-use Rattle.radio_seats.proofs.Lists.{map_found}
+use Rattle.radio_seats_rows.specs.declared.seat.Listener.{Listener}
+use Rattle.radio_seats_rows.specs.Seats.{is_listener, moved, loses, next_number}
+use Rattle.radio_seats_rows.proofs.Lists.{map_found}
 use Rattle.radio_fallback.specs.declared.moves.Carried.{Carried}
 use Rattle.radio_fallback.specs.declared.moves.Move.{Move}
 use Rattle.radio_fallback.specs.declared.moves.Turn.{Turn}

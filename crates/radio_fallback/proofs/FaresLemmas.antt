@@ -13,14 +13,14 @@ use Rattle.radio_policy.specs.declared.rule.Rule.{Rule}
 use Rattle.radio_tables.specs.Lists.{update_first}
 use Rattle.radio_tables.proofs.FindLaws.{find_here, find_later, find_apart}
 use Rattle.radio_tables.proofs.KeyLaws.{by_number, by_name}
-use Rattle.radio_seats.specs.declared.seat.Listener.{Listener}
-use Rattle.radio_seats.specs.declared.seat.Seat.{Seat}
-use Rattle.radio_seats.specs.declared.seat.Seating.{Seating}
-use Rattle.radio_seats.specs.declared.seat.Seating.TheVariants.{Sits, Finished}
-use Rattle.radio_seats.specs.Seats.{is_listener, listener_of, seat_held, seat_in, seat_of, moved, moved_to, with_move, loses, lost_by, with_end, without_listener, is_seat_at, count_at, has_user, sits_there, SitsAs, AreByNumber}
-use Rattle.radio_seats.proofs.SeatLaws.{beside_left}
-use Rattle.radio_seats.proofs.CountLaws.{no_more_updated, nobody_sits_as}
-use Rattle.radio_seats.proofs.Lists.{one, held, passing_updated, passing_removed}
+use Rattle.radio_seats_rows.specs.declared.seat.Listener.{Listener}
+use Rattle.radio_seats_rows.specs.declared.seat.Seat.{Seat}
+use Rattle.radio_seats_rows.specs.declared.seat.Seating.{Seating}
+use Rattle.radio_seats_rows.specs.declared.seat.Seating.TheVariants.{Sits, Finished}
+use Rattle.radio_seats_rows.specs.Seats.{is_listener, listener_of, seat_held, seat_in, seat_of, moved, moved_to, with_move, loses, lost_by, with_end, without_listener, is_seat_at, count_at, has_user, sits_there, SitsAs, AreByNumber}
+use Rattle.radio_seats_rows.proofs.SeatLaws.{beside_left}
+use Rattle.radio_seats_rows.proofs.CountLaws.{no_more_updated, nobody_sits_as}
+use Rattle.radio_seats_rows.proofs.Lists.{one, held, passing_updated, passing_removed}
 use Rattle.radio_fallback.specs.declared.moves.Move.{Move}
 use Rattle.radio_fallback.specs.declared.moves.Turn.{Turn}
 use Rattle.radio_fallback.specs.declared.moves.Turn.TheVariants.{Stays, GoesTo, IsOut}

@@ -14,12 +14,12 @@ use Rattle.radio_tables.specs.Lists.{update_first, Each}
 use Rattle.radio_tables.proofs.FindLaws.{find_mapped, find_here, find_later}
 use Rattle.radio_creds.specs.Credentials.{Credentials}
 use Rattle.radio_policy.specs.declared.rule.Rule.{Rule}
-use Rattle.radio_seats.specs.declared.seat.Listener.{Listener}
-use Rattle.radio_seats.specs.declared.seat.Seat.{Seat}
-use Rattle.radio_seats.specs.declared.seat.Seating.{Seating}
-use Rattle.radio_seats.specs.declared.seat.Seating.TheVariants.{Sits, Finished}
-use Rattle.radio_seats.specs.Seats.{is_listener, listener_of, seat_held, seat_in, seat_of, is_seat_at, seats_at, count_at, is_user_at, sits_there, without_listener, AreByNumber}
-use Rattle.radio_seats.specs.Seats.{next_number, with_move, with_end, moved, loses, moved_to, lost_by}
+use Rattle.radio_seats_rows.specs.declared.seat.Listener.{Listener}
+use Rattle.radio_seats_rows.specs.declared.seat.Seat.{Seat}
+use Rattle.radio_seats_rows.specs.declared.seat.Seating.{Seating}
+use Rattle.radio_seats_rows.specs.declared.seat.Seating.TheVariants.{Sits, Finished}
+use Rattle.radio_seats_rows.specs.Seats.{is_listener, listener_of, seat_held, seat_in, seat_of, is_seat_at, seats_at, count_at, is_user_at, sits_there, without_listener, AreByNumber}
+use Rattle.radio_seats_rows.specs.Seats.{next_number, with_move, with_end, moved, loses, moved_to, lost_by}
 use Rattle.radio_fallback.specs.declared.moves.Move.{Move}
 use Rattle.radio_fallback.specs.declared.moves.Move.TheVariants.{Ended, Up, To}
 use Rattle.radio_fallback.specs.declared.walking.Landing.{Landing}

@@ -10,9 +10,9 @@ use Rattle.std.proofs.lemmas.Bool.{eqb-true}
 use Rattle.std.proofs.lemmas.Bool.Decides.{nat_tests}
 use Rattle.std.proofs.lemmas.Map.Keys.{sorted_head, sorted_tail}
 use Rattle.radio_tables.proofs.FindLaws.{find_later, found_passes}
-use Rattle.radio_seats.specs.declared.seat.Listener.{Listener}
-use Rattle.radio_seats.specs.Seats.{is_listener, listener_of, moved, loses, AreByNumber}
-use Rattle.radio_seats.proofs.Lists.{map_found}
+use Rattle.radio_seats_rows.specs.declared.seat.Listener.{Listener}
+use Rattle.radio_seats_rows.specs.Seats.{is_listener, listener_of, moved, loses, AreByNumber}
+use Rattle.radio_seats_rows.proofs.Lists.{map_found}
 use Rattle.radio_fallback.specs.declared.moves.Move.{Move}
 use Rattle.radio_fallback.specs.declared.moves.Turn.{Turn}
 use Rattle.radio_fallback.specs.declared.moves.Turn.TheVariants.{Stays, GoesTo, IsOut}

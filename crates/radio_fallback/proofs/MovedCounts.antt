@@ -3,11 +3,11 @@ use Rattle.std.proofs.Common.{◌≡◌, Bool, true, false, ℕ, suc, ◌+◌, O
 use Rattle.std.specs.Prelude.{if◌then◌else◌}
 use Rattle.std.specs.Str.{bytes_eq}
 use Rattle.std.proofs.lemmas.Slice.Eq.{bytes_eq-Decides}
-use Rattle.radio_seats.specs.declared.seat.Listener.{Listener}
-use Rattle.radio_seats.specs.declared.seat.Seat.{Seat}
-use Rattle.radio_seats.specs.declared.seat.Seating.{Seating}
-use Rattle.radio_seats.specs.declared.seat.Seating.TheVariants.{Sits, Finished}
-use Rattle.radio_seats.specs.Seats.{is_listener, listener_of, seat_held, seat_in, seat_of, moved, moved_to, with_move, without_listener, is_seat_at, seats_at, count_at}
+use Rattle.radio_seats_rows.specs.declared.seat.Listener.{Listener}
+use Rattle.radio_seats_rows.specs.declared.seat.Seat.{Seat}
+use Rattle.radio_seats_rows.specs.declared.seat.Seating.{Seating}
+use Rattle.radio_seats_rows.specs.declared.seat.Seating.TheVariants.{Sits, Finished}
+use Rattle.radio_seats_rows.specs.Seats.{is_listener, listener_of, seat_held, seat_in, seat_of, moved, moved_to, with_move, without_listener, is_seat_at, seats_at, count_at}
 use Rattle.radio_fallback.specs.declared.moves.Move.TheVariants.{To}
 use Rattle.radio_fallback.specs.declared.moves.Turn.{Turn}
 use Rattle.radio_fallback.specs.declared.moves.Turn.TheVariants.{Stays, GoesTo, IsOut}

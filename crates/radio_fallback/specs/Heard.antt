@@ -1,10 +1,10 @@
 -- How far each listener has heard, if that is kept apart from the seats, at the mount where it is attached.
 use Rattle.std.specs.Prelude.{◌≡◌, ◌⊎◌, ℕ, Bool, true, false, ◌==◌, List, Option, None, Some, map, unwrap_or, is_some}
 use Rattle.std.specs.Str.{bytes_eq}
-use Rattle.radio_seats.specs.Seats.{sits_at}
-use Rattle.radio_seats.specs.declared.seat.Listener.{Listener}
-use Rattle.radio_seats.specs.declared.seat.Seating.{Seating}
-use Rattle.radio_seats.specs.declared.seat.Seating.TheVariants.{Sits, Finished}
+use Rattle.radio_seats_rows.specs.Seats.{sits_at}
+use Rattle.radio_seats_rows.specs.declared.seat.Listener.{Listener}
+use Rattle.radio_seats_rows.specs.declared.seat.Seating.{Seating}
+use Rattle.radio_seats_rows.specs.declared.seat.Seating.TheVariants.{Sits, Finished}
 
 -- how far the listener of a number has heard at a mount, if he is attached there
 abbrev pub Heard : Type 0

@@ -4,11 +4,11 @@ use Rattle.std.specs.Option.{option_map_or}
 use Rattle.radio_creds.specs.Credentials.{Credentials}
 use Rattle.radio_policy.specs.declared.rule.Rule.{Rule}
 use Rattle.radio_policy.specs.declared.rule.Rule.TheVariants.{NotLive, MountFull, ListenerPassword, UserTwice, FallbackDepth}
-use Rattle.radio_seats.specs.declared.seat.Listener.{Listener}
+use Rattle.radio_seats_rows.specs.declared.seat.Listener.{Listener}
 use Rattle.radio_fallback.specs.declared.walking.Found.{Found}
 use Rattle.radio_fallback.specs.declared.walking.Landing.{Landing}
 use Rattle.radio_fallback.specs.declared.walking.Landing.TheVariants.{Lands, Stops}
-use Rattle.radio_seats.specs.Seats.{count_at, sits_there}
+use Rattle.radio_seats_rows.specs.Seats.{count_at, sits_there}
 
 -- the end of the stream of a mount where one may sit
 pub record StreamEnd : Type 0 where

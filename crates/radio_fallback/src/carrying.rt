@@ -1,8 +1,8 @@
 //! How a move carries listeners along.
 
 ghost use Rattle.std.specs.Prelude.{◌≡◌, ◌+◌, ◌<◌, ◌^◌, true, IsSome, Some};
-ghost use Rattle.radio_seats.specs.Board.{is_prepared};
-ghost use Rattle.radio_seats.specs.Seats.{AreByNumber, listener_of, last_mount_of};
+ghost use Rattle.radio_seats_rows.specs.Board.{is_prepared};
+ghost use Rattle.radio_seats_rows.specs.Seats.{AreByNumber, listener_of, last_mount_of};
 ghost use Rattle.radio_fallback.specs.Carry.{turn_of, after_turn, carried};
 ghost use Rattle.radio_fallback.specs.Heard.{heard, OthersStay, IsAt, Fits, GoesOver, GoesOff};
 ghost use Rattle.radio_fallback.specs.Walk.{with_ends};
@@ -12,7 +12,7 @@ use crate::moves::Turn;
 use crate::walker::Walker;
 use crate::{Attachments, Carried, Move, View};
 use radio_blocks::Place;
-use radio_listeners::{LentSeat, Seats};
+use radio_seats::{LentSeat, Seats};
 use radio_values::MountName;
 
 /// Carries the listeners along whom the move concerns, one after the other in the order of their

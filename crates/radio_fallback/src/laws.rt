@@ -1,9 +1,9 @@
 //! Laws of a carry: functions that do nothing, each with a law for its contract.
 
 ghost use Rattle.std.specs.Prelude.{◌≡◌, ℕ, List, Some};
-ghost use Rattle.radio_seats.specs.declared.seat.Seat.{Seat};
-ghost use Rattle.radio_seats.specs.declared.seat.Listener.{Listener};
-ghost use Rattle.radio_seats.specs.Seats.{listener_of, seat_of, AreByNumber};
+ghost use Rattle.radio_seats_rows.specs.declared.seat.Seat.{Seat};
+ghost use Rattle.radio_seats_rows.specs.declared.seat.Listener.{Listener};
+ghost use Rattle.radio_seats_rows.specs.Seats.{listener_of, seat_of, AreByNumber};
 ghost use Rattle.radio_fallback.specs.declared.moves.Move.{Move};
 ghost use Rattle.radio_fallback.specs.Walk.{Sight};
 ghost use Rattle.radio_fallback.specs.Carry.{carried, numbers_of, turn_of, at_his_turn};

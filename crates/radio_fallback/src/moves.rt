@@ -2,7 +2,7 @@
 
 ghost use Rattle.std.specs.Prelude.{◌≡◌};
 ghost use Rattle.std.specs.Option.{option_copied};
-ghost use Rattle.radio_seats.specs.Seats.{others_of};
+ghost use Rattle.radio_seats_rows.specs.Seats.{others_of};
 ghost use Rattle.radio_fallback.specs.Carry.{concerns, walks_on, is_asked, turn_by};
 
 use crate::walker::{MOST_MOUNTS, Walker};

@@ -2,13 +2,13 @@
 
 ghost use Rattle.std.specs.Prelude.{◌≡◌};
 ghost use Rattle.std.specs.Option.{option_copied};
-ghost use Rattle.radio_seats.specs.Seats.{others_of};
+ghost use Rattle.radio_seats_rows.specs.Seats.{others_of};
 ghost use Rattle.radio_fallback.specs.Walk.{is_full, is_full_for, is_twice_for, sits_already, found_at, stop_of, landing_at, landing_here, hands_on, next_mount, walk};
 
 use crate::{Found, Landing, View};
 use radio_creds::Pair;
-use radio_listeners::Seats;
 use radio_policy::Rule;
+use radio_seats::Seats;
 use radio_values::MountName;
 
 /// At how many mounts a walk looks at the most.

@@ -7,8 +7,8 @@ ghost use Rattle.radio_fallback.specs.Walk.{found_at, stop_of, stop_in, landing}
 use crate::View;
 use crate::walker::{MOST_MOUNTS, Walker, landed};
 use radio_creds::Pair;
-use radio_listeners::Seats;
 use radio_policy::Rule;
+use radio_seats::Seats;
 use radio_values::MountName;
 
 /// What a walk finds at a mount.

@@ -3,7 +3,7 @@ use Rattle.std.proofs.Common.{◌≡◌, ℕ, Bool, true, false, cond, List, [],
 use Rattle.std.specs.Prelude.{drop, codes, map}
 use Rattle.std.specs.Str.{bytes_eq}
 use Rattle.radio_addr.specs.declared.peer.Peer.{Peer}
-use Rattle.radio_settings.specs.declared.settings.Settings.{Settings}
+use Rattle.radio_settings_values.specs.declared.settings.Settings.{Settings}
 use Rattle.radio_access.specs.Lists.{Lists}
 use Rattle.radio_heads.specs.declared.outcome.Progress.{Progress}
 use Rattle.radio_heads.specs.declared.outcome.Progress.TheVariants.{More, Whole}
@@ -40,7 +40,7 @@ use Rattle.radio_floor.specs.declared.labelled.Connection.{Connection}
 use Rattle.radio_floor.specs.declared.labelled.Connection.TheVariants.{Client, Relay}
 use Rattle.radio_floor.specs.ScriptState.{ScriptState, Performed, AsksOn, ComesTo, ComesToClient, ComesToRelay, IsPerformed, on_connection, connection_of}
 use Rattle.radio_floor.specs.ScriptState.{opening_script, opens, connects, relay_named, closes, exchanges, for_new_label, pulled_on}
-use Rattle.radio_settings.specs.declared.settings.RelaySetting.{RelaySetting}
+use Rattle.radio_settings_values.specs.declared.settings.RelaySetting.{RelaySetting}
 use Rattle.radio_pull.specs.Pulling.{Pulling, event_of}
 use Rattle.radio_relay.specs.Items.{items_of}
 use Rattle.radio_events.specs.declared.state.Ending.TheVariants.{Done}

@@ -9,8 +9,8 @@ use Rattle.radio_events.specs.declared.reply.Reply.TheVariants.{Arrived}
 use Rattle.radio_addr.specs.declared.peer.Peer.{Peer}
 use Rattle.radio_values.specs.Cleaning.{cleaned}
 use Rattle.radio_values.specs.Limits.{max_title}
-use Rattle.radio_settings.specs.declared.settings.Settings.{Settings}
-use Rattle.radio_settings.specs.declared.settings.RelaySetting.{RelaySetting}
+use Rattle.radio_settings_values.specs.declared.settings.Settings.{Settings}
+use Rattle.radio_settings_values.specs.declared.settings.RelaySetting.{RelaySetting}
 use Rattle.radio_values.specs.MountName.{is_mount_name}
 use Rattle.radio_relay.specs.Request.{request_text}
 use Rattle.radio_pull.specs.Pulling.{Pulling, Standing, begun}

@@ -1,6 +1,6 @@
 -- The transcript of deliveries and of scripts, of a server of some settings to which nothing has happened yet.
 use Rattle.std.specs.Prelude.{ℕ, List, Option, Result}
-use Rattle.radio_settings.specs.declared.settings.Settings.{Settings}
+use Rattle.radio_settings_values.specs.declared.settings.Settings.{Settings}
 use Rattle.radio_access.specs.Lists.{Lists}
 use Rattle.radio_deliveries.specs.declared.delivery.Delivery.{Delivery}
 use Rattle.radio_answers.specs.declared.web_answers.WebAnswers.{WebAnswers}

@@ -21,7 +21,7 @@ use radio_pull::RelayPull;
 use radio_relay::request_text;
 use radio_script::push_answer;
 use radio_session::{Session, State, WebAnswers};
-use radio_settings::{RelaySetting, Settings};
+use radio_settings_values::{RelaySetting, Settings};
 use radio_tables::Table;
 use radio_values::MountName;
 use std::alloc::Global;

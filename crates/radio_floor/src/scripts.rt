@@ -9,7 +9,7 @@ use crate::script_server::ScriptServer;
 use radio_access::Lists;
 use radio_script::{CountedRead, CountedWrite, Delivery, PlayFault, RunFault, play_with, run_with};
 use radio_session::WebAnswers;
-use radio_settings::Settings;
+use radio_settings_values::Settings;
 use std::alloc::Global;
 
 /// The lines `out` and `shut` that deliveries come to.

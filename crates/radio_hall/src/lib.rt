@@ -1,20 +1,18 @@
-//! A book that several threads call, under one lock.
+//! The server for threads, under one name: the hall, the queue of new connections, and the workers that serve them.
 //!
-//! - [`Hall`]: the lock round a book; [`Hall::apply`] is one event, in the lock's order.
-//! - [`Caller`]: whom a worker asks, of `radio_events`: a hall is a [`SharedServer`](radio_events::SharedServer).
-//! - [`passes_gain_what_was_applied`]: a law, which runs no code.
+//! - [`Hall`] is a book that threads call, each through its [`Pass`]; [`settle`] holds the passes against it in the end.
+//! - [`Intake`] is the queue from the acceptor to the workers, and [`Accepts`] says when the acceptor accepts.
+//! - [`Conn`] is a connection over a [`Line`]. A [`Worker`] admits and serves connections; [`run_workers`] runs one in each
+//!   thread. A [`Gate`] is told of each write.
 //!
-//! Whenever the lock is free, its book has what [`Book::is_told`](radio_book::Book::is_told) says:
-//! there is one history, a run from the opening state, and the core stands for the state after it.
+//! Each of these has its contracts in the crate that it comes from.
 #![tactic(auto)]
 
-mod callers;
-mod hall;
-mod laws;
-
-pub use hall::Hall;
-pub use laws::passes_gain_what_was_applied;
-pub use radio_events::Caller;
-
-/// What a call answers where memory was refused.
-pub type OutOfMemory = std::alloc::AllocError;
+pub use radio_book::{Chronicle, Entry, House, Kept, Pass, Receipt, Stamp, Unkept};
+pub use radio_connections::{Conn, Gate, Line, OpenGate};
+pub use radio_hall_lock::{Caller, Hall, OutOfMemory};
+pub use radio_intake::{Intake, IntakePass};
+pub use radio_lines::Accepts;
+pub use radio_serving::{Turn, Watched, Worker};
+pub use radio_settling::{SettleFault, settle};
+pub use radio_workers::{Call, Post, Seat, Seen, Workplace, add_seat, run_workers};

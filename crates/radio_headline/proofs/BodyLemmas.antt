@@ -5,7 +5,7 @@ use Rattle.std.specs.List.{AllByRecursion, concat}
 use Rattle.std.specs.Str.{bytes_eq}
 use Rattle.std.proofs.lemmas.List.Concat.{flat_map-append}
 use Rattle.radio_blocks.specs.Cutting.{blocks_of}
-use Rattle.radio_settings.specs.declared.settings.Settings.{Settings}
+use Rattle.radio_settings_values.specs.declared.settings.Settings.{Settings}
 use Rattle.radio_access.specs.Lists.{Lists}
 use Rattle.radio_policy.specs.declared.rule.Rule.TheVariants.{BadMethod}
 use Rattle.radio_events.specs.declared.event.Event.{Event}

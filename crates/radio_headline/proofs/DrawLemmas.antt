@@ -2,14 +2,14 @@
 use Rattle.std.proofs.Common.{◌≡◌, ℕ, Bool, true, false, cond, List, [], ◌∷◌, ◌++◌, refl, sym, ap, subst, ◌∙◌, append-nil, append_assoc}
 use Rattle.std.specs.Prelude.{flat_map, map}
 use Rattle.std.proofs.lemmas.List.Concat.{flat_map-append}
-use Rattle.radio_settings.specs.declared.settings.Settings.{Settings}
+use Rattle.radio_settings_values.specs.declared.settings.Settings.{Settings}
 use Rattle.radio_access.specs.Lists.{Lists}
 use Rattle.radio_events.specs.declared.event.Event.{Event}
 use Rattle.radio_events.specs.declared.reply.Reply.{Reply}
 use Rattle.radio_events.specs.declared.reply.Reply.TheVariants.{Arrived, Feeding, Seated, Drawn, Noted, Text, Deny, Finished, Stray}
 use Rattle.radio_core.specs.Handing.{data_in, is_number, of_client, handed, handed_at, delivered}
 use Rattle.radio_core.specs.Step.{reply_to, world_after}
-use Rattle.radio_seats.specs.Seats.{seat_of}
+use Rattle.radio_seats_rows.specs.Seats.{seat_of}
 use Rattle.radio_laws.specs.Stretches.{AreSlices, AreStretches, Cut, Sitting, StretchesAreCut, StretchesAreWhole, begun_sittings, cut_at_sittings, cut_behind, sittings}
 use Rattle.radio_events.specs.Events.{client_in}
 use Rattle.radio_house.specs.World.{World, opening}

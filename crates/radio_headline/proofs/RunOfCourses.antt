@@ -3,7 +3,7 @@ use Rattle.std.proofs.Common.{◌≡◌, inl, inr, ℕ, ◌+◌, List, [], ◌�
 use Rattle.std.specs.List.{concat}
 use Rattle.std.proofs.lemmas.List.{append-nil}
 use Rattle.radio_blocks.specs.Cutting.{blocks_of}
-use Rattle.radio_settings.specs.declared.settings.Settings.{Settings}
+use Rattle.radio_settings_values.specs.declared.settings.Settings.{Settings}
 use Rattle.radio_access.specs.Lists.{Lists}
 use Rattle.radio_heads.specs.Head.{ShowsRequest}
 use Rattle.radio_heads.specs.Laws.{IsSettled, HeadsLieWithin}

@@ -1,6 +1,6 @@
 -- The laws of every run, joined at one event.
 use Rattle.std.specs.Prelude.{ℕ, List}
-use Rattle.radio_settings.specs.declared.settings.Settings.{Settings}
+use Rattle.radio_settings_values.specs.declared.settings.Settings.{Settings}
 use Rattle.radio_access.specs.Lists.{Lists}
 use Rattle.radio_events.specs.declared.event.Event.{Event}
 use Rattle.radio_events.specs.declared.event.ListenRequest.{ListenRequest}

@@ -1,7 +1,7 @@
 //! Laws from bytes to bytes, which run no code.
 
 ghost use Rattle.std.specs.Prelude.{ℕ, List};
-ghost use Rattle.radio_settings.specs.declared.settings.Settings.{Settings};
+ghost use Rattle.radio_settings_values.specs.declared.settings.Settings.{Settings};
 ghost use Rattle.radio_access.specs.Lists.{Lists};
 ghost use Rattle.radio_events.specs.declared.event.Event.{Event};
 ghost use Rattle.radio_headline.specs.Lawful.{IsLawful};

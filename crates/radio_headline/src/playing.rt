@@ -11,7 +11,7 @@ use crate::laws::played_scripts_hear_slices;
 use radio_access::Lists;
 use radio_answers::WebAnswers;
 use radio_script::{CountedRead, CountedWrite, PlayFault};
-use radio_settings::Settings;
+use radio_settings_values::Settings;
 use std::alloc::Global;
 
 /// Plays a script: reads it line by line, runs each delivery through a server of these settings and lists,

@@ -6,11 +6,11 @@ use Rattle.std.specs.Str.{bytes_eq}
 use Rattle.std.proofs.Math.Path.{fun_ext}
 use Rattle.radio_tables.specs.Lists.{update_first}
 use Rattle.radio_access.specs.Lists.{lets_in}
-use Rattle.radio_settings.specs.Options.{options_for}
+use Rattle.radio_settings_values.specs.Options.{options_for}
 use Rattle.radio_fallback.specs.Walk.{Sight, with_ends}
 use Rattle.radio_parts.specs.Parts.{ends_in}
 use Rattle.radio_parts.specs.Sessions.{Session, by_mount, is_of, session_of, with_session, without_session}
-use Rattle.radio_seats.proofs.Lists.{map_filtered, map_found, map_placed}
+use Rattle.radio_seats_rows.proofs.Lists.{map_filtered, map_found, map_placed}
 use Rattle.radio_house.specs.declared.live.LiveMount.{LiveMount}
 use Rattle.radio_house.specs.Registry.{Registry, house_of}
 use Rattle.radio_house.specs.Facts.{fallback_of, live_end, live_number, sight_of}

@@ -1,6 +1,6 @@
 -- From which moment on the time of somebody is over, so that before it no clock ends him.
 use Rattle.std.specs.Prelude.{ℕ, min}
-use Rattle.radio_seats.specs.Guests.{first_moment}
+use Rattle.radio_seats_rows.specs.Guests.{first_moment}
 use Rattle.radio_parts.specs.Due.{last_moment, due_at, guest_due, session_due, earliest}
 use Rattle.radio_house.specs.Clients.{Client}
 use Rattle.radio_house.specs.declared.clients.ClientState.{ClientState}

@@ -12,14 +12,14 @@ use Rattle.radio_policy.specs.Table.{Row, arrive_rows, source_rows, relay_rows, 
 use Rattle.radio_addr.specs.declared.peer.Peer.{Peer}
 use Rattle.radio_creds.specs.Credentials.{Credentials}
 use Rattle.radio_values.specs.declared.field.Shown.{Shown}
-use Rattle.radio_settings.specs.declared.settings.Settings.{Settings}
+use Rattle.radio_settings_values.specs.declared.settings.Settings.{Settings}
 use Rattle.radio_values.specs.MountName.{is_mount_name}
-use Rattle.radio_settings.specs.Web.{is_web_path}
-use Rattle.radio_settings.specs.Options.{options_for}
+use Rattle.radio_settings_values.specs.Web.{is_web_path}
+use Rattle.radio_settings_values.specs.Options.{options_for}
 use Rattle.radio_access.specs.Lists.{is_denied, is_allowed, lets_in}
 use Rattle.radio_access.specs.SourcePair.{is_source_pair}
 use Rattle.radio_access.specs.ContentTypes.{is_refused_type}
-use Rattle.radio_seats.specs.declared.seat.Listener.{Listener}
+use Rattle.radio_seats_rows.specs.declared.seat.Listener.{Listener}
 use Rattle.radio_fallback.specs.declared.walking.Landing.{Landing}
 use Rattle.radio_fallback.specs.Walk.{Sight, found_at, landing, stop_in}
 use Rattle.radio_events.specs.declared.event.SourceRequest.{SourceRequest}

@@ -2,7 +2,7 @@
 use Rattle.std.specs.Prelude.{ℕ, Bool, ◌&&◌, not, List}
 use Rattle.std.specs.Str.{bytes_eq}
 use Rattle.radio_access.specs.Lists.{Lists, lets_in}
-use Rattle.radio_seats.specs.declared.seat.Seat.{Seat}
+use Rattle.radio_seats_rows.specs.declared.seat.Seat.{Seat}
 
 -- it is a seat at the mount, of one whom its users do not let in
 abbrev pub is_shut_out : Lists → List ℕ → Seat → Bool

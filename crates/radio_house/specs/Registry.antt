@@ -1,6 +1,6 @@
 -- What is kept of all mounts together: all of the house but its sessions.
 use Rattle.std.specs.Prelude.{ℕ, List}
-use Rattle.radio_settings.specs.declared.settings.Settings.{Settings}
+use Rattle.radio_settings_values.specs.declared.settings.Settings.{Settings}
 use Rattle.radio_access.specs.Lists.{Lists}
 use Rattle.radio_parts.specs.Sessions.{Session}
 use Rattle.radio_house.specs.Clients.{Client}

@@ -1,7 +1,7 @@
 -- What the settings make of a stream.
 use Rattle.std.specs.Prelude.{ℕ, List, unwrap_or}
 use Rattle.radio_values.specs.declared.field.Shown.{Shown}
-use Rattle.radio_settings.specs.Options.{options_for}
+use Rattle.radio_settings_values.specs.Options.{options_for}
 use Rattle.radio_house.specs.House.{House}
 
 -- what a stream on the mount shows: the name and the genre that the settings give it, else its own

@@ -1,9 +1,9 @@
 -- What has had its time.
 use Rattle.std.specs.Prelude.{◌≡◌, ◌↔◌, ℕ, ◌-◌, ◌*◌, ◌<◌, ◌≤◌, Bool, true, false, if◌then◌else◌, List, Some}
 use Rattle.radio_policy.specs.declared.rule.Rule.TheVariants.{HeaderTimeout}
-use Rattle.radio_settings.specs.declared.settings.Settings.{Settings}
-use Rattle.radio_settings.specs.Options.{options_for}
-use Rattle.radio_seats.specs.declared.seat.Seat.{Seat}
+use Rattle.radio_settings_values.specs.declared.settings.Settings.{Settings}
+use Rattle.radio_settings_values.specs.Options.{options_for}
+use Rattle.radio_seats_rows.specs.declared.seat.Seat.{Seat}
 use Rattle.radio_parts.specs.Sessions.{Session}
 use Rattle.radio_parts.specs.Timeouts.{lies_back, lags_behind, has_sat_out, is_silent}
 use Rattle.radio_house.specs.declared.clients.ClientState.{ClientState}

@@ -2,8 +2,8 @@
 use Rattle.std.specs.Prelude.{ℕ, Bool, false, if◌then◌else◌, List, [], Option, Some, None, codes, find}
 use Rattle.std.specs.Option.{option_map_or, option_or}
 use Rattle.std.specs.Str.{bytes_eq}
-use Rattle.radio_settings.specs.declared.settings.RelaySetting.{RelaySetting}
-use Rattle.radio_settings.specs.declared.settings.Settings.{Settings}
+use Rattle.radio_settings_values.specs.declared.settings.RelaySetting.{RelaySetting}
+use Rattle.radio_settings_values.specs.declared.settings.Settings.{Settings}
 use Rattle.radio_values.specs.declared.field.Shown.{Shown}
 use Rattle.radio_values.specs.Shown.{shown_of}
 use Rattle.radio_house.specs.House.{House}

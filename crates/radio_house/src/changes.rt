@@ -7,7 +7,7 @@ ghost use Rattle.radio_house.specs.Clients.{newcomer, in_state, with_client, wit
 ghost use Rattle.radio_house.specs.Fallbacks.{with_fallback};
 ghost use Rattle.radio_house.specs.Live.{with_live};
 ghost use Rattle.radio_parts.specs.Sessions.{opened, with_session};
-ghost use Rattle.radio_seats.specs.Board.{is_prepared};
+ghost use Rattle.radio_seats_rows.specs.Board.{is_prepared};
 ghost use Rattle.radio_house.specs.Relays.{Relay as RelayOf, relay_of, risen, with_relay, with_relay_ended, without_relay, put_back};
 ghost use Rattle.radio_house.specs.Timeouts.{timed_out};
 ghost use Rattle.radio_house.specs.declared.clients.ClientState.TheVariants.{Ended, Feeds};

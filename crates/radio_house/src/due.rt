@@ -2,7 +2,7 @@
 
 ghost use Rattle.std.specs.Prelude.{◌≡◌};
 ghost use Rattle.radio_parts.specs.Due.{earliest, guest_due, last_moment};
-ghost use Rattle.radio_seats.specs.Guests.{first_moment};
+ghost use Rattle.radio_seats_rows.specs.Guests.{first_moment};
 ghost use Rattle.radio_house.specs.Due.{client_due, first_due};
 ghost use Rattle.radio_house.specs.World.{world};
 

@@ -2,15 +2,15 @@
 
 ghost use Rattle.std.specs.Prelude.{◌≡◌};
 ghost use Rattle.radio_policy.specs.declared.rule.Rule.{Rule as RuleOf};
-ghost use Rattle.radio_seats.specs.Seats.{with_ended};
-ghost use Rattle.radio_seats.specs.Rests.{how_many};
+ghost use Rattle.radio_seats_rows.specs.Seats.{with_ended};
+ghost use Rattle.radio_seats_rows.specs.Rests.{how_many};
 ghost use Rattle.radio_house.specs.Outsiders.{is_shut_out};
 
 use crate::registry::Registry;
 use radio_access::Lists;
 use radio_attached::Listeners;
 use radio_policy::Rule;
-use radio_seats::{Guest, SeatTest};
+use radio_seats_rows::{Guest, SeatTest};
 use radio_values::MountName;
 
 /// The users of the mount do not let the guest in.

@@ -9,7 +9,7 @@ use crate::fallbacks::Fallback;
 use crate::live::LiveMount;
 use crate::relays::Relay;
 use radio_access::Lists;
-use radio_settings::Settings;
+use radio_settings_values::Settings;
 use radio_tables::Table;
 use std::alloc::Global;
 use std::marker::Model;

@@ -2,7 +2,7 @@
 
 ghost use Rattle.std.specs.Prelude.{◌≡◌};
 ghost use Rattle.std.specs.Option.{option_copied};
-ghost use Rattle.radio_settings.specs.Options.{options_for};
+ghost use Rattle.radio_settings_values.specs.Options.{options_for};
 ghost use Rattle.radio_fallback.specs.Walk.{found_at};
 ghost use Rattle.radio_house.specs.Facts.{fallback_of, sight_of, walks_to};
 ghost use Rattle.radio_house.specs.Live.{bare_house};
@@ -12,7 +12,7 @@ use crate::registry::Registry;
 use radio_attached::Listeners;
 use radio_creds::Pair;
 use radio_fallback::{View, Walk};
-use radio_settings::Settings;
+use radio_settings_values::Settings;
 use radio_values::MountName;
 
 impl Registry {

@@ -1,7 +1,7 @@
 //! How clients and relays stand.
 
 ghost use Rattle.std.specs.Prelude.{◌≡◌, is_some};
-ghost use Rattle.radio_seats.specs.Seats.{listener_of};
+ghost use Rattle.radio_seats_rows.specs.Seats.{listener_of};
 ghost use Rattle.radio_house.specs.Relays.{relay_of};
 ghost use Rattle.radio_house.specs.World.{world, standing_of, standing_of_listener, standing_of_relay};
 
@@ -11,8 +11,8 @@ use crate::registry::Registry;
 use crate::relays::RelayState;
 use radio_addr::Peer;
 use radio_attached::Listeners;
-use radio_listeners::ListenerStanding;
 use radio_policy::Rule;
+use radio_seats::ListenerStanding;
 use radio_values::MountName;
 
 /// How a client or a relay stands: what decides which of his events count.

@@ -2,14 +2,14 @@
 //! anything is to be heard.
 
 ghost use Rattle.std.specs.Prelude.{◌≡◌, true, OnOk};
-ghost use Rattle.radio_seats.specs.Board.{is_prepared};
+ghost use Rattle.radio_seats_rows.specs.Board.{is_prepared};
 ghost use Rattle.radio_house.specs.Waiting.{is_on_demand, feeds_on_demand};
 
 use crate::OutOfMemory;
 use crate::house::House;
 use crate::registry::Registry;
 use radio_attached::Listeners;
-use radio_settings::RelaySetting;
+use radio_settings_values::RelaySetting;
 use radio_values::MountName;
 
 impl House<'_> {

@@ -13,15 +13,15 @@ use Rattle.radio_laws.specs.Access.{IsHis, AccessIsKept}
 use Rattle.radio_laws.specs.Admission.{IsBlockStart, IsEarliestStart, IsSeated, BeginsAtABlock}
 use Rattle.radio_changes.specs.Changes.{changed}
 use Rattle.radio_house.specs.House.{House}
-use Rattle.radio_settings.specs.Options.{options_for}
+use Rattle.radio_settings_values.specs.Options.{options_for}
 use Rattle.radio_core.specs.Listen.{first_seat}
 use Rattle.radio_facts.specs.Streams.{burst_of, interval_for}
-use Rattle.radio_seats.specs.Seats.{seat_of, seat_in}
+use Rattle.radio_seats_rows.specs.Seats.{seat_of, seat_in}
 use Rattle.radio_parts.specs.Sessions.{Session}
 use Rattle.radio_parts.specs.Stream.{AreRising, WholeStream, end_of, burst_start}
 use Rattle.radio_core.specs.Sound.{IsSound}
 use Rattle.radio_core.specs.Step.{outcome, reply_to, world_after}
-use Rattle.radio_seats.proofs.SeatLaws.{has_sat_down}
+use Rattle.radio_seats_rows.proofs.SeatLaws.{has_sat_down}
 use Rattle.std.proofs.lemmas.Bool.{and_parts}
 use Rattle.radio_access.specs.Lists.{lets_in}
 use Rattle.radio_fallback.proofs.TurnLemmas.{lands_where_he_fits}

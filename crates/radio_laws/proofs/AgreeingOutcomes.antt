@@ -4,13 +4,13 @@ use Rattle.std.specs.Option.{option_map_or}
 use Rattle.std.specs.Str.{bytes_eq}
 use Rattle.radio_addr.specs.declared.peer.Peer.{Peer}
 use Rattle.radio_creds.specs.Credentials.{Credentials}
-use Rattle.radio_settings.specs.declared.web.WebPath.{WebPath}
-use Rattle.radio_settings.specs.declared.web.WebPath.TheVariants.{IcecastStatus, Page as AtPage}
-use Rattle.radio_settings.specs.Web.{web_path}
+use Rattle.radio_settings_values.specs.declared.web.WebPath.{WebPath}
+use Rattle.radio_settings_values.specs.declared.web.WebPath.TheVariants.{IcecastStatus, Page as AtPage}
+use Rattle.radio_settings_values.specs.Web.{web_path}
 use Rattle.radio_policy.specs.Verdicts.{verdict_in}
-use Rattle.radio_seats.specs.declared.seat.Listener.{Listener}
-use Rattle.radio_seats.specs.declared.seat.Seat.{Seat}
-use Rattle.radio_seats.specs.Seats.{seat_in, seat_of}
+use Rattle.radio_seats_rows.specs.declared.seat.Listener.{Listener}
+use Rattle.radio_seats_rows.specs.declared.seat.Seat.{Seat}
+use Rattle.radio_seats_rows.specs.Seats.{seat_in, seat_of}
 use Rattle.radio_fallback.proofs.FitsLemmas.{sits_last}
 use Rattle.radio_parts.specs.Sessions.{Session}
 use Rattle.radio_fallback.specs.declared.walking.Found.{Found}
@@ -48,7 +48,7 @@ use Rattle.radio_laws.proofs.AgreeingWalks.{Onward, found_alike, landing_alike, 
 use Rattle.radio_laws.proofs.WalkLemmas.{falls_back}
 use Rattle.radio_laws.proofs.WebLaws.{is_path}
 use Rattle.radio_access.specs.Lists.{Lists, with_user_at, without_user_at}
-use Rattle.radio_seats.specs.Rests.{how_many}
+use Rattle.radio_seats_rows.specs.Rests.{how_many}
 use Rattle.radio_house.specs.Outsiders.{is_shut_out}
 use Rattle.radio_laws.proofs.Agreeing.{none_out, how_many_alike}
 

@@ -16,7 +16,7 @@ use Rattle.radio_parts.specs.Sessions.{Session, session_of, opened, with_session
 use Rattle.radio_core.proofs.CalledHome.{house_called}
 use Rattle.radio_core.proofs.SoundSessions.{begun_cases}
 use Rattle.radio_core.proofs.Standings.{Turns, asks, turns_feeding, turns_raised}
-use Rattle.radio_seats.specs.Seats.{with_session_at}
+use Rattle.radio_seats_rows.specs.Seats.{with_session_at}
 
 module _ (w : World) (s : IsSound w) (P : Session → Type 0)
     (old : (mount : List ℕ) (session : Session) → session_of w.house.live mount ≡ Some session → P session) where

@@ -8,9 +8,9 @@ use Rattle.radio_policy.specs.declared.judgement.Verdict.TheVariants.{Allow}
 use Rattle.radio_policy.specs.Table.{row}
 use Rattle.radio_policy.specs.Verdicts.{verdict_in}
 use Rattle.radio_creds.specs.Credentials.{Credentials}
-use Rattle.radio_settings.specs.declared.settings.Login.{Login}
-use Rattle.radio_settings.specs.declared.settings.Settings.{Settings}
-use Rattle.radio_settings.specs.Options.{options_for}
+use Rattle.radio_settings_values.specs.declared.settings.Login.{Login}
+use Rattle.radio_settings_values.specs.declared.settings.Settings.{Settings}
+use Rattle.radio_settings_values.specs.Options.{options_for}
 use Rattle.radio_events.specs.declared.command.OpenedBy.TheVariants.{Source}
 use Rattle.radio_access.specs.CommandPairs.{is_login_sent, is_admin_pair}
 use Rattle.radio_fallback.proofs.MovedCounts.{moved_as_counted}
@@ -23,8 +23,8 @@ use Rattle.radio_changes.specs.Changes.{answered, carried_along, changed, sessio
 use Rattle.radio_core.specs.Allowed.{IsCommanded}
 use Rattle.radio_facts.specs.CommandFacts.{opened_by, opens_as_source, is_live, sits_at}
 use Rattle.radio_policy.specs.declared.rule.Rule.TheVariants.{NoMount, NoDestination, SameMount, NoClient, Killed}
-use Rattle.radio_seats.specs.declared.seat.Seat.{Seat}
-use Rattle.radio_seats.specs.Seats.{seat_in, seat_of, count_at, AreByNumber}
+use Rattle.radio_seats_rows.specs.declared.seat.Seat.{Seat}
+use Rattle.radio_seats_rows.specs.Seats.{seat_in, seat_of, count_at, AreByNumber}
 use Rattle.radio_tables.proofs.KeyLaws.{by_number}
 use Rattle.radio_fallback.specs.declared.moves.Move.{Move}
 use Rattle.radio_fallback.specs.declared.moves.Move.TheVariants.{Ended, To}

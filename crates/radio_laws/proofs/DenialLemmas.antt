@@ -12,13 +12,13 @@ use Rattle.radio_policy.specs.Table.{Row, arrive_rows}
 use Rattle.radio_policy.specs.Verdicts.{verdict_in, Denies}
 use Rattle.radio_addr.specs.declared.peer.Peer.{Peer}
 use Rattle.radio_creds.specs.Credentials.{Credentials}
-use Rattle.radio_settings.specs.declared.settings.Login.{Login}
-use Rattle.radio_settings.specs.Options.{options_for}
+use Rattle.radio_settings_values.specs.declared.settings.Login.{Login}
+use Rattle.radio_settings_values.specs.Options.{options_for}
 use Rattle.radio_access.specs.SourcePair.{is_login, is_source_pair}
 use Rattle.radio_tables.specs.Lists.{Has}
 use Rattle.radio_tables.proofs.KeyLaws.{by_number}
-use Rattle.radio_seats.specs.declared.seat.Listener.{Listener}
-use Rattle.radio_seats.specs.Seats.{listener_of}
+use Rattle.radio_seats_rows.specs.declared.seat.Listener.{Listener}
+use Rattle.radio_seats_rows.specs.Seats.{listener_of}
 use Rattle.radio_events.specs.declared.event.Event.{Event}
 use Rattle.radio_events.specs.declared.event.Event.TheVariants.{Arrive, Source, Listen}
 use Rattle.radio_events.specs.declared.event.SourceRequest.{SourceRequest}

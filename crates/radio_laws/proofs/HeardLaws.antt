@@ -8,9 +8,9 @@ use Rattle.radio_house.specs.World.{World}
 use Rattle.radio_parts.proofs.NumberOrder.{same_order}
 use Rattle.radio_parts.specs.Sessions.{Session, session_of}
 use Rattle.radio_parts.specs.Stream.{AreRising, end_of}
-use Rattle.radio_seats.specs.declared.seat.Listener.{Listener}
-use Rattle.radio_seats.specs.Seats.{AreByNumber, with_session_at}
-use Rattle.radio_seats.proofs.GivenLaws.{numbers_hearing}
+use Rattle.radio_seats_rows.specs.declared.seat.Listener.{Listener}
+use Rattle.radio_seats_rows.specs.Seats.{AreByNumber, with_session_at}
+use Rattle.radio_seats_rows.proofs.GivenLaws.{numbers_hearing}
 use Rattle.radio_core.specs.Sound.{IsSound}
 use Rattle.radio_core.proofs.HeardLemmas.{heard_cases}
 

@@ -5,7 +5,7 @@ use Rattle.std.specs.Prelude.{if◌then◌else◌, fold, not}
 use Rattle.std.specs.Option.{option_map}
 use Rattle.radio_policy.specs.declared.rule.Rule.TheVariants.{TimeOver, HeaderTimeout}
 use Rattle.radio_tables.proofs.FindLaws.{found_has}
-use Rattle.radio_seats.proofs.EndLaws.{kept_seat}
+use Rattle.radio_seats_rows.proofs.EndLaws.{kept_seat}
 use Rattle.radio_house.specs.declared.clients.ClientState.TheVariants.{Ended}
 use Rattle.radio_changes.specs.Changes.{before_silence, session_silenced, silent_in, ticked}
 use Rattle.radio_house.specs.Clients.{Client, client_of, with_state}
@@ -18,8 +18,8 @@ use Rattle.radio_house.specs.World.{World}
 use Rattle.radio_parts.proofs.ApartLemmas.{kept_apart}
 use Rattle.radio_parts.proofs.SilentSessions.{no_pass}
 use Rattle.radio_core.proofs.SilentLemmas.{silent_then}
-use Rattle.radio_seats.specs.declared.seat.Seat.{Seat}
-use Rattle.radio_seats.specs.Seats.{seat_of}
+use Rattle.radio_seats_rows.specs.declared.seat.Seat.{Seat}
+use Rattle.radio_seats_rows.specs.Seats.{seat_of}
 use Rattle.radio_core.specs.Moves.{moved_into}
 use Rattle.radio_core.proofs.Fates.{Fate, GoesOn, IsEnded, HasStopped, IsMoved, HasEnded, Nobody}
 use Rattle.radio_core.proofs.TickLemmas.{ClockCause, ClockCarries, clients_after, fates_silence, sound_sat_out}

@@ -4,15 +4,15 @@ use Rattle.std.specs.Prelude.{if◌then◌else◌, fold, nat_lt}
 use Rattle.std.specs.Option.{option_map}
 use Rattle.std.proofs.lemmas.List.Sums.{fold-append}
 use Rattle.radio_policy.specs.declared.rule.Rule.TheVariants.{TimeOver}
-use Rattle.radio_settings.specs.Options.{options_for}
+use Rattle.radio_settings_values.specs.Options.{options_for}
 use Rattle.radio_tables.proofs.KeyLaws.{by_number}
-use Rattle.radio_seats.specs.declared.seat.Listener.{Listener}
-use Rattle.radio_seats.specs.declared.seat.Seat.{Seat}
-use Rattle.radio_seats.specs.declared.seat.Seating.{Seating}
-use Rattle.radio_seats.specs.declared.seat.Seating.TheVariants.{Sits as HasSeat, Finished as HasLostIt}
-use Rattle.radio_seats.specs.Seats.{listener_of, seat_held, seat_in, seat_of, last_mount, last_mount_of, with_session_at, without_listener, AreByNumber}
-use Rattle.radio_seats.proofs.EndLaws.{had_seat, kept_seat}
-use Rattle.radio_seats.proofs.SeatLaws.{beside_left, beside_seated, listener_seated}
+use Rattle.radio_seats_rows.specs.declared.seat.Listener.{Listener}
+use Rattle.radio_seats_rows.specs.declared.seat.Seat.{Seat}
+use Rattle.radio_seats_rows.specs.declared.seat.Seating.{Seating}
+use Rattle.radio_seats_rows.specs.declared.seat.Seating.TheVariants.{Sits as HasSeat, Finished as HasLostIt}
+use Rattle.radio_seats_rows.specs.Seats.{listener_of, seat_held, seat_in, seat_of, last_mount, last_mount_of, with_session_at, without_listener, AreByNumber}
+use Rattle.radio_seats_rows.proofs.EndLaws.{had_seat, kept_seat}
+use Rattle.radio_seats_rows.proofs.SeatLaws.{beside_left, beside_seated, listener_seated}
 use Rattle.radio_fallback.specs.declared.moves.Move.{Move}
 use Rattle.radio_fallback.specs.declared.moves.Move.TheVariants.{Ended, Up}
 use Rattle.radio_parts.specs.Sessions.{Session}

@@ -13,10 +13,10 @@ use Rattle.radio_mounts.specs.Exchange.{Comes, Stays, first_true, second_true, I
 use Rattle.radio_mounts.specs.declared.part.MountPart.{MountPart}
 use Rattle.radio_parts.specs.Sessions.{Session, is_of}
 use Rattle.radio_policy.specs.declared.rule.Rule.TheVariants.{Lagged}
-use Rattle.radio_seats.specs.declared.seat.Listener.{Listener}
-use Rattle.radio_seats.specs.declared.seat.Seating.{Seating}
-use Rattle.radio_seats.specs.declared.seat.Seating.TheVariants.{Sits, Finished}
-use Rattle.radio_seats.specs.Seats.{heard_to, last_mount, lost_by}
+use Rattle.radio_seats_rows.specs.declared.seat.Listener.{Listener}
+use Rattle.radio_seats_rows.specs.declared.seat.Seating.{Seating}
+use Rattle.radio_seats_rows.specs.declared.seat.Seating.TheVariants.{Sits, Finished}
+use Rattle.radio_seats_rows.specs.Seats.{heard_to, last_mount, lost_by}
 use Rattle.radio_laws.specs.LentParts.{all_but}
 use Rattle.radio_laws.specs.Locality.{AgreeWithin, FedBeyond, LastBeyond, ListenersAgree, SameListener, SameSession, SessionsAgree}
 

@@ -5,14 +5,14 @@ use Rattle.std.proofs.lemmas.Bool.Decides.{nat_tests}
 use Rattle.std.proofs.lemmas.Slice.Eq.{bytes_eq-Decides}
 use Rattle.radio_creds.specs.Credentials.{Credentials}
 use Rattle.radio_addr.specs.declared.peer.Peer.{Peer}
-use Rattle.radio_settings.specs.declared.settings.Settings.{Settings}
+use Rattle.radio_settings_values.specs.declared.settings.Settings.{Settings}
 use Rattle.radio_access.specs.Lists.{Lists}
 use Rattle.radio_tables.proofs.KeyLaws.{by_number, by_name}
-use Rattle.radio_seats.specs.declared.seat.Listener.{Listener}
-use Rattle.radio_seats.specs.declared.seat.Seat.{Seat}
-use Rattle.radio_seats.specs.Seats.{seats_at, count_at, SitsAs, has_user, sits_there, with_session_at, AreByNumber}
-use Rattle.radio_seats.proofs.CountLaws.{NobodyCame, nobody_came, nobody_came_hearing, nobody_came_leaving}
-use Rattle.radio_seats.proofs.CountLaws.{one_more_at, no_more_elsewhere, nobody_sits_as}
+use Rattle.radio_seats_rows.specs.declared.seat.Listener.{Listener}
+use Rattle.radio_seats_rows.specs.declared.seat.Seat.{Seat}
+use Rattle.radio_seats_rows.specs.Seats.{seats_at, count_at, SitsAs, has_user, sits_there, with_session_at, AreByNumber}
+use Rattle.radio_seats_rows.proofs.CountLaws.{NobodyCame, nobody_came, nobody_came_hearing, nobody_came_leaving}
+use Rattle.radio_seats_rows.proofs.CountLaws.{one_more_at, no_more_elsewhere, nobody_sits_as}
 use Rattle.radio_fallback.specs.Walk.{MaySit, is_full, is_twice_for, sits_already}
 use Rattle.radio_events.specs.declared.event.Event.{Event}
 use Rattle.radio_events.specs.declared.event.ListenRequest.{ListenRequest}
@@ -21,7 +21,7 @@ use Rattle.radio_house.specs.declared.standing.Standing.TheVariants.{Undecided}
 use Rattle.std.specs.Prelude.{if◌then◌else◌, fold}
 use Rattle.std.proofs.lemmas.Bool.{and_parts}
 use Rattle.radio_access.specs.Lists.{lets_in}
-use Rattle.radio_settings.specs.Options.{options_for}
+use Rattle.radio_settings_values.specs.Options.{options_for}
 use Rattle.radio_fallback.specs.declared.moves.Move.{Move}
 use Rattle.radio_fallback.specs.declared.moves.Move.TheVariants.{Ended as SessionEnds, Up}
 use Rattle.radio_fallback.proofs.FaresLemmas.{keeps_limit, sit_once}
@@ -41,7 +41,7 @@ use Rattle.radio_core.proofs.SoundRuns.{sound_after, sound_opening}
 use Rattle.radio_core.proofs.TickLemmas.{sound_sat_out, ticked_fates}
 use Rattle.radio_policy.specs.declared.rule.Rule.TheVariants.{TimeOver}
 use Rattle.radio_laws.proofs.ObeyLemmas.{nobody_came_losing}
-use Rattle.radio_seats.proofs.EndLaws.{nobody_came_ending}
+use Rattle.radio_seats_rows.proofs.EndLaws.{nobody_came_ending}
 use Rattle.radio_house.specs.Facts.{sight_of}
 use Rattle.radio_parts.specs.Timeouts.{has_sat_out}
 use Rattle.radio_core.proofs.Soundness.{has_new_seat, beside_new_seat}

@@ -11,7 +11,7 @@ use Rattle.radio_policy.specs.Table.{row, command_rows}
 use Rattle.radio_policy.specs.Verdicts.{verdict_in}
 use Rattle.radio_addr.specs.declared.peer.Peer.{Peer}
 use Rattle.radio_creds.specs.Credentials.{Credentials}
-use Rattle.radio_settings.specs.declared.settings.RelayAccess.{RelayAccess}
+use Rattle.radio_settings_values.specs.declared.settings.RelayAccess.{RelayAccess}
 use Rattle.radio_access.specs.CommandPairs.{is_admin_pair, is_relay_pair, is_relays}
 use Rattle.radio_access.specs.SourcePair.{is_user_with}
 use Rattle.radio_events.specs.declared.command.Asked.{Asked}

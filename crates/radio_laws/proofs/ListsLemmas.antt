@@ -2,11 +2,11 @@
 use Rattle.std.proofs.Common.{◌≡◌, ◌⊎◌, inl, inr, true, ℕ, ◌+◌, ◌<◌, Option, Some, List, [], ◌∷◌, length, refl, ap, sym, subst, ◌∙◌}
 use Rattle.radio_addr.specs.declared.peer.Peer.{Peer}
 use Rattle.radio_policy.specs.declared.rule.Rule.{Rule}
-use Rattle.radio_settings.specs.declared.settings.Settings.{Settings}
+use Rattle.radio_settings_values.specs.declared.settings.Settings.{Settings}
 use Rattle.radio_access.specs.Lists.{Lists, passes, lets_in}
 use Rattle.radio_events.specs.declared.event.Event.{Event}
-use Rattle.radio_seats.specs.declared.seat.Seat.{Seat}
-use Rattle.radio_seats.specs.Seats.{seat_of}
+use Rattle.radio_seats_rows.specs.declared.seat.Seat.{Seat}
+use Rattle.radio_seats_rows.specs.Seats.{seat_of}
 use Rattle.radio_house.specs.declared.standing.Standing.TheVariants.{Undecided}
 use Rattle.radio_core.specs.Finishes.{Finishes}
 use Rattle.radio_core.specs.Handing.{handed_at}
@@ -27,7 +27,7 @@ use Rattle.radio_creds.specs.UserList.{UserList, with_user, without_user}
 use Rattle.radio_access.proofs.UserLaws.{with_changed, let_in_beside}
 use Rattle.radio_policy.specs.declared.rule.Rule.TheVariants.{ListenerPassword}
 use Rattle.radio_tables.proofs.KeyLaws.{by_name}
-use Rattle.radio_seats.proofs.EndLaws.{had_seat}
+use Rattle.radio_seats_rows.proofs.EndLaws.{had_seat}
 use Rattle.radio_house.specs.Outsiders.{is_shut_out}
 use Rattle.radio_changes.specs.Changes.{answered, outsiders_ended}
 use Rattle.radio_core.specs.ListsSteps.{ListsStep, Stay, IsAdded, IsDeleted}

@@ -4,10 +4,10 @@ use Rattle.std.specs.Prelude.{◌+◌, length}
 use Rattle.std.proofs.lemmas.Slice.Eq.{bytes_eq-Decides}
 use Rattle.radio_tables.proofs.FindLaws.{found_passes}
 use Rattle.radio_values.specs.declared.field.Shown.{Shown}
-use Rattle.radio_settings.specs.Options.{options_for}
+use Rattle.radio_settings_values.specs.Options.{options_for}
 use Rattle.radio_policy.specs.declared.rule.Rule.TheVariants.{Lagged, Killed}
-use Rattle.radio_seats.specs.declared.seat.Listener.{Listener}
-use Rattle.radio_seats.specs.declared.seat.Seat.{Seat}
+use Rattle.radio_seats_rows.specs.declared.seat.Listener.{Listener}
+use Rattle.radio_seats_rows.specs.declared.seat.Seat.{Seat}
 use Rattle.radio_parts.specs.Sessions.{Session, is_of, session_of, opened, with_session, fed, titled}
 use Rattle.radio_parts.specs.Timeouts.{lags_behind}
 use Rattle.radio_fallback.specs.declared.moves.Move.TheVariants.{Ended as HasEnded, To}
@@ -46,7 +46,7 @@ use Rattle.radio_laws.proofs.AgreeingWalks.{carried_alike}
 use Rattle.radio_laws.proofs.AgreeingOutcomes.{in_place, onward_by, all_one, outcome_alike}
 use Rattle.radio_access.specs.Lists.{Lists, with_user_at, without_user_at}
 use Rattle.radio_policy.specs.declared.rule.Rule.TheVariants.{ListenerPassword}
-use Rattle.radio_seats.specs.Seats.{with_ended, with_session_at}
+use Rattle.radio_seats_rows.specs.Seats.{with_ended, with_session_at}
 use Rattle.radio_house.specs.Outsiders.{is_shut_out}
 use Rattle.radio_laws.proofs.Agreeing.{none_out}
 

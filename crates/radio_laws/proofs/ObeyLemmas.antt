@@ -2,11 +2,11 @@
 use Rattle.std.proofs.Common.{◌≡◌, Bool, true, false, ℕ, ◌≤◌, Option, Some, List, [], ◌∷◌, length, refl, ap, sym, subst, arith}
 use Rattle.std.specs.Prelude.{if◌then◌else◌}
 use Rattle.radio_policy.specs.declared.rule.Rule.{Rule}
-use Rattle.radio_seats.specs.declared.seat.Listener.{Listener}
-use Rattle.radio_seats.specs.declared.seat.Seating.{Seating}
-use Rattle.radio_seats.specs.declared.seat.Seating.TheVariants.{Sits as HasSeat, Finished as HasLostIt}
-use Rattle.radio_seats.specs.Seats.{is_listener, is_seat_at, lost_by, loses, seats_at, with_end}
-use Rattle.radio_seats.proofs.CountLaws.{NobodyCame}
+use Rattle.radio_seats_rows.specs.declared.seat.Listener.{Listener}
+use Rattle.radio_seats_rows.specs.declared.seat.Seating.{Seating}
+use Rattle.radio_seats_rows.specs.declared.seat.Seating.TheVariants.{Sits as HasSeat, Finished as HasLostIt}
+use Rattle.radio_seats_rows.specs.Seats.{is_listener, is_seat_at, lost_by, loses, seats_at, with_end}
+use Rattle.radio_seats_rows.proofs.CountLaws.{NobodyCame}
 use Rattle.radio_events.specs.declared.command.Command.{Command as TheCommand}
 use Rattle.radio_events.specs.declared.event.Event.{Event}
 use Rattle.radio_changes.specs.declared.change.Change.TheVariants.{Obey}

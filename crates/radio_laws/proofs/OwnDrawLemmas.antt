@@ -9,11 +9,11 @@ use Rattle.radio_tables.proofs.FindLaws.{find_same, find_apart, found_has}
 use Rattle.radio_attachments.specs.declared.attachment.Attachment.{Attachment}
 use Rattle.radio_attachments.specs.Rows.{is_attached, AreInOrder}
 use Rattle.radio_attachments.proofs.Forks.{in_order_updated}
-use Rattle.radio_seats.specs.declared.seat.Listener.{Listener}
-use Rattle.radio_seats.specs.declared.seat.Seat.{Seat}
-use Rattle.radio_seats.specs.Seats.{seat_in, seat_of, with_place}
-use Rattle.radio_seats.proofs.SeatLaws.{beside_moved, has_heard}
-use Rattle.radio_settings.specs.declared.settings.Settings.{Settings}
+use Rattle.radio_seats_rows.specs.declared.seat.Listener.{Listener}
+use Rattle.radio_seats_rows.specs.declared.seat.Seat.{Seat}
+use Rattle.radio_seats_rows.specs.Seats.{seat_in, seat_of, with_place}
+use Rattle.radio_seats_rows.proofs.SeatLaws.{beside_moved, has_heard}
+use Rattle.radio_settings_values.specs.declared.settings.Settings.{Settings}
 use Rattle.radio_parts.specs.Kept.{first_start, kept_from, kept_session, kept_stream}
 use Rattle.radio_parts.specs.Parts.{Part}
 use Rattle.radio_parts.specs.Sessions.{Session, is_of, session_of, HasRisingStarts}

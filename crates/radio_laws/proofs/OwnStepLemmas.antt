@@ -12,9 +12,9 @@ use Rattle.radio_policy.specs.declared.judgement.Verdict.{Verdict}
 use Rattle.radio_policy.specs.declared.judgement.Verdict.TheVariants.{Allow, Deny as Denied}
 use Rattle.radio_policy.specs.declared.rule.Rule.TheVariants.{NumbersSpent, Lagged}
 use Rattle.radio_policy.specs.Verdicts.{verdict_in}
-use Rattle.radio_seats.specs.declared.seat.Seat.{Seat}
-use Rattle.radio_seats.specs.Seats.{with_ended}
-use Rattle.radio_seats.proofs.Lists.{same_number}
+use Rattle.radio_seats_rows.specs.declared.seat.Seat.{Seat}
+use Rattle.radio_seats_rows.specs.Seats.{with_ended}
+use Rattle.radio_seats_rows.proofs.Lists.{same_number}
 use Rattle.radio_parts.specs.Kept.{kept_session, longer_kept}
 use Rattle.radio_parts.specs.Parts.{Part, end_in, part_received, part_titled}
 use Rattle.radio_parts.specs.Sessions.{Session, is_of, session_of, longer, with_title, HasRisingStarts}

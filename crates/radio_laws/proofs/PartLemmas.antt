@@ -8,13 +8,13 @@ use Rattle.radio_policy.specs.declared.rule.Rule.TheVariants.{Lagged}
 use Rattle.radio_policy.specs.declared.judgement.Verdict.{Verdict}
 use Rattle.radio_policy.specs.declared.judgement.Verdict.TheVariants.{Allow, Deny as Denied}
 use Rattle.radio_policy.specs.Verdicts.{verdict_in}
-use Rattle.radio_seats.specs.declared.seat.Listener.{Listener}
-use Rattle.radio_seats.specs.declared.seat.Seat.{Seat}
-use Rattle.radio_seats.specs.declared.seat.Seating.{Seating}
-use Rattle.radio_seats.specs.declared.seat.Seating.TheVariants.{Sits as HasSeat, Finished}
-use Rattle.radio_seats.specs.Seats.{seat_in, seat_held, seat_of, listener_of, with_place, with_ended, finished_if, ended_if, lost_by}
-use Rattle.radio_seats.proofs.SeatLaws.{beside_moved, has_heard}
-use Rattle.radio_seats.proofs.EndLaws.{have_ended}
+use Rattle.radio_seats_rows.specs.declared.seat.Listener.{Listener}
+use Rattle.radio_seats_rows.specs.declared.seat.Seat.{Seat}
+use Rattle.radio_seats_rows.specs.declared.seat.Seating.{Seating}
+use Rattle.radio_seats_rows.specs.declared.seat.Seating.TheVariants.{Sits as HasSeat, Finished}
+use Rattle.radio_seats_rows.specs.Seats.{seat_in, seat_held, seat_of, listener_of, with_place, with_ended, finished_if, ended_if, lost_by}
+use Rattle.radio_seats_rows.proofs.SeatLaws.{beside_moved, has_heard}
+use Rattle.radio_seats_rows.proofs.EndLaws.{have_ended}
 use Rattle.radio_parts.specs.Parts.{Part, end_in, part_received, part_titled}
 use Rattle.radio_parts.specs.Sessions.{Session, session_of, longer, with_title}
 use Rattle.radio_parts.specs.Timeouts.{lags_behind}

@@ -3,15 +3,15 @@ use Rattle.std.proofs.Common.{◌≡◌, ◌⊎◌, inl, inr, Bool, ℕ, Option,
 use Rattle.std.specs.Option.{option_map}
 use Rattle.radio_policy.specs.declared.rule.Rule.{Rule}
 use Rattle.radio_tables.proofs.KeyLaws.{by_number}
-use Rattle.radio_seats.specs.declared.seat.Listener.{Listener}
-use Rattle.radio_seats.specs.declared.seat.Seat.{Seat}
-use Rattle.radio_seats.specs.declared.seat.Seating.{Seating}
-use Rattle.radio_seats.specs.declared.seat.Seating.TheVariants.{Sits as HasSeat, Finished as HasLostIt}
-use Rattle.radio_seats.specs.Seats.{is_listener, listener_of, seat_in, seat_of, last_mount, AreByNumber}
-use Rattle.radio_seats.specs.Seats.{in_session_at, hears_session, with_session_at, with_place, lost_by, loses, with_end, with_ended}
-use Rattle.radio_seats.proofs.EndLaws.{LosesSeat, same_or_loses}
-use Rattle.radio_seats.proofs.GivenLaws.{listener_hearing, seat_hearing}
-use Rattle.radio_seats.proofs.SeatLaws.{beside_moved, has_heard}
+use Rattle.radio_seats_rows.specs.declared.seat.Listener.{Listener}
+use Rattle.radio_seats_rows.specs.declared.seat.Seat.{Seat}
+use Rattle.radio_seats_rows.specs.declared.seat.Seating.{Seating}
+use Rattle.radio_seats_rows.specs.declared.seat.Seating.TheVariants.{Sits as HasSeat, Finished as HasLostIt}
+use Rattle.radio_seats_rows.specs.Seats.{is_listener, listener_of, seat_in, seat_of, last_mount, AreByNumber}
+use Rattle.radio_seats_rows.specs.Seats.{in_session_at, hears_session, with_session_at, with_place, lost_by, loses, with_end, with_ended}
+use Rattle.radio_seats_rows.proofs.EndLaws.{LosesSeat, same_or_loses}
+use Rattle.radio_seats_rows.proofs.GivenLaws.{listener_hearing, seat_hearing}
+use Rattle.radio_seats_rows.proofs.SeatLaws.{beside_moved, has_heard}
 use Rattle.radio_fallback.specs.declared.moves.Move.{Move}
 use Rattle.radio_fallback.specs.Walk.{Sight}
 use Rattle.radio_fallback.specs.Fares.{seat_at_end}

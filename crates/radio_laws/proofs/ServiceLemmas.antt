@@ -18,7 +18,7 @@ use Rattle.radio_changes.specs.declared.change.Change.{Change}
 use Rattle.radio_changes.specs.declared.change.Change.TheVariants.{Nothing, SetTitle, End, EndAndLeave}
 use Rattle.radio_core.specs.declared.outcome.Outcome.{Outcome}
 use Rattle.radio_events.specs.declared.reply.Reply.TheVariants.{Noted, Finished, Stray}
-use Rattle.radio_seats.specs.declared.seat.Seat.{Seat}
+use Rattle.radio_seats_rows.specs.declared.seat.Seat.{Seat}
 use Rattle.radio_house.specs.declared.standing.Standing.{Standing}
 use Rattle.radio_house.specs.declared.standing.Standing.TheVariants.{Unknown, Undecided, Feeds, Sits, Answered}
 use Rattle.radio_house.specs.World.{World, standing_of, has_relay}
@@ -36,7 +36,7 @@ use Rattle.radio_core.specs.Listen.{first_seat, takes_seat, sits_where}
 use Rattle.radio_facts.specs.Streams.{head_of}
 use Rattle.radio_core.specs.Draw.{hands_out}
 use Rattle.radio_core.proofs.DrawLemmas.{hands_out_at, draws_so}
-use Rattle.radio_seats.specs.Seats.{seat_of}
+use Rattle.radio_seats_rows.specs.Seats.{seat_of}
 use Rattle.radio_laws.specs.Service.{IsTakenIn, IsHanded, Serves, ChangesNothing}
 use Rattle.radio_parts.specs.Sessions.{Session, session_of}
 use Rattle.radio_core.specs.Sound.{IsSound}

@@ -2,7 +2,7 @@
 use Rattle.std.proofs.Common.{◌≡◌, Bool, true, false, ℕ, ◌++◌, Option, Some, List, [], ◌∷◌, refl, ap, sym, ◌∙◌, if◌then◌else◌}
 use Rattle.std.specs.Prelude.{not, map, filter, length, flat_map, unwrap_or}
 use Rattle.std.specs.Str.Lossy.{utf8_lossy}
-use Rattle.radio_settings.specs.Options.{options_for}
+use Rattle.radio_settings_values.specs.Options.{options_for}
 use Rattle.radio_listing.specs.declared.rows.MountRow.{MountRow}
 use Rattle.radio_listing.specs.declared.rows.ListenerRow.{ListenerRow}
 use Rattle.radio_listing.specs.declared.rows.PublicRow.{PublicRow}
@@ -17,9 +17,9 @@ use Rattle.radio_events.specs.declared.command.Listing.TheVariants.{Status, Stat
 use Rattle.radio_events.specs.declared.event.Event.{Event}
 use Rattle.radio_events.specs.declared.event.Event.TheVariants.{Listen, Command}
 use Rattle.radio_events.specs.declared.event.ListenRequest.{ListenRequest}
-use Rattle.radio_settings.specs.Web.{web_path}
-use Rattle.radio_settings.specs.declared.web.WebPath.{WebPath}
-use Rattle.radio_settings.specs.declared.web.WebPath.TheVariants.{IcecastStatus}
+use Rattle.radio_settings_values.specs.Web.{web_path}
+use Rattle.radio_settings_values.specs.declared.web.WebPath.{WebPath}
+use Rattle.radio_settings_values.specs.declared.web.WebPath.TheVariants.{IcecastStatus}
 use Rattle.radio_listing.specs.declared.rows.Server.{Server}
 use Rattle.radio_listing.specs.Icecast.{icecast_data, icecast_text}
 use Rattle.radio_core.specs.Pages.{IsShownBy, IsListing, IsAtPath}

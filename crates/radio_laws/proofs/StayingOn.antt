@@ -14,14 +14,14 @@ use Rattle.radio_policy.specs.declared.rule.Rule.{Rule}
 use Rattle.radio_tables.specs.Lists.{Has}
 use Rattle.radio_tables.proofs.FindLaws.{find_here, find_later}
 use Rattle.radio_tables.proofs.KeyLaws.{by_number}
-use Rattle.radio_seats.specs.declared.seat.Listener.{Listener}
-use Rattle.radio_seats.specs.declared.seat.Seat.{Seat}
-use Rattle.radio_seats.specs.declared.seat.Seating.{Seating}
-use Rattle.radio_seats.specs.declared.seat.Seating.TheVariants.{Sits, Finished}
-use Rattle.radio_seats.specs.Seats.{is_listener, listener_of, seat_held, seat_in, seat_of, is_seat_at, count_at, has_user, is_user_at, sits_there}
-use Rattle.radio_seats.specs.Seats.{with_end, without_listener, AreByNumber, SitsAs}
-use Rattle.radio_seats.proofs.Lists.{one, held, passing_removed}
-use Rattle.radio_seats.proofs.SeatLaws.{beside_left, is_no_listener}
+use Rattle.radio_seats_rows.specs.declared.seat.Listener.{Listener}
+use Rattle.radio_seats_rows.specs.declared.seat.Seat.{Seat}
+use Rattle.radio_seats_rows.specs.declared.seat.Seating.{Seating}
+use Rattle.radio_seats_rows.specs.declared.seat.Seating.TheVariants.{Sits, Finished}
+use Rattle.radio_seats_rows.specs.Seats.{is_listener, listener_of, seat_held, seat_in, seat_of, is_seat_at, count_at, has_user, is_user_at, sits_there}
+use Rattle.radio_seats_rows.specs.Seats.{with_end, without_listener, AreByNumber, SitsAs}
+use Rattle.radio_seats_rows.proofs.Lists.{one, held, passing_removed}
+use Rattle.radio_seats_rows.proofs.SeatLaws.{beside_left, is_no_listener}
 use Rattle.radio_parts.proofs.NumberOrder.{order_left, same_order}
 use Rattle.radio_fallback.specs.declared.moves.Move.TheVariants.{Ended}
 use Rattle.radio_fallback.specs.declared.moves.Turn.TheVariants.{Stays, GoesTo, IsOut}

@@ -5,17 +5,17 @@ use Rattle.std.specs.Option.{option_map, option_map_or}
 use Rattle.std.specs.Str.{bytes_eq}
 use Rattle.radio_policy.specs.declared.rule.Rule.{Rule}
 use Rattle.radio_policy.specs.declared.rule.Rule.TheVariants.{HeaderTimeout, TimeOver, SourceSilent, NotLive}
-use Rattle.radio_settings.specs.declared.settings.Settings.{Settings}
-use Rattle.radio_settings.specs.Options.{options_for}
+use Rattle.radio_settings_values.specs.declared.settings.Settings.{Settings}
+use Rattle.radio_settings_values.specs.Options.{options_for}
 use Rattle.radio_house.specs.Fallbacks.{Fallback, set_for}
 use Rattle.radio_tables.proofs.KeyLaws.{by_number, by_name}
-use Rattle.radio_seats.specs.declared.seat.Listener.{Listener}
-use Rattle.radio_seats.specs.declared.seat.Seat.{Seat}
-use Rattle.radio_seats.specs.declared.seat.Seating.{Seating}
-use Rattle.radio_seats.specs.declared.seat.Seating.TheVariants.{Sits as HasSeat, Finished as HasLostIt}
-use Rattle.radio_seats.proofs.EndLaws.{LosesSeat, have_ended, same_or_loses}
-use Rattle.radio_seats.proofs.SeatLaws.{listener_seated}
-use Rattle.radio_seats.specs.Seats.{listener_of, seat_held, seat_in, seat_of, ended_if, finished_if, without_listener, AreByNumber}
+use Rattle.radio_seats_rows.specs.declared.seat.Listener.{Listener}
+use Rattle.radio_seats_rows.specs.declared.seat.Seat.{Seat}
+use Rattle.radio_seats_rows.specs.declared.seat.Seating.{Seating}
+use Rattle.radio_seats_rows.specs.declared.seat.Seating.TheVariants.{Sits as HasSeat, Finished as HasLostIt}
+use Rattle.radio_seats_rows.proofs.EndLaws.{LosesSeat, have_ended, same_or_loses}
+use Rattle.radio_seats_rows.proofs.SeatLaws.{listener_seated}
+use Rattle.radio_seats_rows.specs.Seats.{listener_of, seat_held, seat_in, seat_of, ended_if, finished_if, without_listener, AreByNumber}
 use Rattle.radio_fallback.specs.declared.moves.Move.TheVariants.{Ended as SessionEnds}
 use Rattle.radio_fallback.specs.declared.moves.Turn.TheVariants.{Stays as TurnStays, GoesTo, IsOut}
 use Rattle.radio_fallback.specs.declared.walking.Found.{Found}

@@ -1,7 +1,7 @@
 -- the law of those who are told that they were finished
 use Rattle.std.proofs.Common.{◌≡◌, ◌⊎◌, inl, inr, ℕ, List, [], ◌∷◌, ◌++◌, refl, ap}
 use Rattle.radio_policy.specs.declared.rule.Rule.{Rule}
-use Rattle.radio_settings.specs.declared.settings.Settings.{Settings}
+use Rattle.radio_settings_values.specs.declared.settings.Settings.{Settings}
 use Rattle.radio_access.specs.Lists.{Lists}
 use Rattle.radio_events.specs.declared.event.Event.{Event}
 use Rattle.radio_house.specs.declared.standing.Standing.TheVariants.{Finished as HasFinished}

@@ -13,14 +13,14 @@ use Rattle.radio_access.specs.declared.lists.MountUsers.{MountUsers}
 use Rattle.radio_access.specs.Lists.{Lists, users_at, has_users, has_user_at, with_user_at, without_user_at, accepts, lets_in, passes}
 use Rattle.radio_access.proofs.UserLaws.{with_changed, let_in_beside, let_in_still, let_in_then, accepted_set, accepted_beside, refused_gone, accepted_without}
 use Rattle.radio_tables.proofs.KeyLaws.{by_name}
-use Rattle.radio_seats.specs.declared.seat.Listener.{Listener}
-use Rattle.radio_seats.specs.declared.seat.Seat.{Seat}
-use Rattle.radio_seats.specs.declared.seat.Seating.{Seating}
-use Rattle.radio_seats.specs.declared.seat.Seating.TheVariants.{Sits as HasSeat, Finished as HasLostIt}
-use Rattle.radio_seats.specs.Rests.{how_many}
-use Rattle.radio_seats.specs.Seats.{seat_of, seat_in, listener_of, is_seat_at, holds_of, ended_if, finished_if, with_ended, count_at}
-use Rattle.radio_seats.proofs.EndLaws.{LosesSeat, same_or_loses, kept_seat}
-use Rattle.radio_seats.proofs.Lists.{one, passing_mapped}
+use Rattle.radio_seats_rows.specs.declared.seat.Listener.{Listener}
+use Rattle.radio_seats_rows.specs.declared.seat.Seat.{Seat}
+use Rattle.radio_seats_rows.specs.declared.seat.Seating.{Seating}
+use Rattle.radio_seats_rows.specs.declared.seat.Seating.TheVariants.{Sits as HasSeat, Finished as HasLostIt}
+use Rattle.radio_seats_rows.specs.Rests.{how_many}
+use Rattle.radio_seats_rows.specs.Seats.{seat_of, seat_in, listener_of, is_seat_at, holds_of, ended_if, finished_if, with_ended, count_at}
+use Rattle.radio_seats_rows.proofs.EndLaws.{LosesSeat, same_or_loses, kept_seat}
+use Rattle.radio_seats_rows.proofs.Lists.{one, passing_mapped}
 use Rattle.radio_events.specs.declared.command.Command.{Command as TheCommand}
 use Rattle.radio_events.specs.declared.command.Command.TheVariants.{AddUser, DeleteUser}
 use Rattle.radio_events.specs.declared.event.Event.{Event}

@@ -7,8 +7,8 @@ use Rattle.std.proofs.lemmas.Bool.Decides.{nat_tests}
 use Rattle.radio_policy.specs.declared.rule.Rule.{Rule}
 use Rattle.radio_policy.specs.declared.rule.Rule.TheVariants.{FallbackDepth}
 use Rattle.radio_creds.specs.Credentials.{Credentials}
-use Rattle.radio_settings.specs.Options.{options_for}
-use Rattle.radio_seats.specs.Seats.{seats_at}
+use Rattle.radio_settings_values.specs.Options.{options_for}
+use Rattle.radio_seats_rows.specs.Seats.{seats_at}
 use Rattle.radio_fallback.specs.declared.walking.Landing.{Landing}
 use Rattle.radio_fallback.specs.declared.walking.Landing.TheVariants.{Lands, Stops}
 use Rattle.radio_fallback.specs.Walk.{Sight, is_full, is_full_for, found_at, stop_of, landing_at, landing_here, next_mount, onward, walk}

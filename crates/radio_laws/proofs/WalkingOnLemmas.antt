@@ -7,16 +7,16 @@ use Rattle.radio_policy.specs.declared.judgement.Verdict.{Verdict}
 use Rattle.radio_policy.specs.declared.judgement.Verdict.TheVariants.{Allow}
 use Rattle.radio_policy.specs.Verdicts.{verdict_in}
 use Rattle.radio_addr.specs.declared.peer.Peer.{Peer}
-use Rattle.radio_settings.specs.Options.{options_for}
+use Rattle.radio_settings_values.specs.Options.{options_for}
 use Rattle.radio_tables.proofs.KeyLaws.{by_number}
 use Rattle.radio_fallback.specs.declared.moves.Move.{Move}
 use Rattle.radio_fallback.specs.declared.moves.Move.TheVariants.{Ended, Up}
 use Rattle.radio_fallback.specs.declared.moves.Turn.TheVariants.{Stays, GoesTo, IsOut}
 use Rattle.radio_fallback.specs.Fares.{seat_at_end}
 use Rattle.radio_fallback.proofs.Faring.{Faring, HasStayed, HasGone, HasLost, fares, nobody_stays}
-use Rattle.radio_seats.specs.declared.seat.Seat.{Seat}
-use Rattle.radio_seats.specs.Seats.{listener_of, seat_in, seat_of, AreByNumber}
-use Rattle.radio_seats.proofs.SeatLaws.{beside_left}
+use Rattle.radio_seats_rows.specs.declared.seat.Seat.{Seat}
+use Rattle.radio_seats_rows.specs.Seats.{listener_of, seat_in, seat_of, AreByNumber}
+use Rattle.radio_seats_rows.proofs.SeatLaws.{beside_left}
 use Rattle.radio_events.specs.declared.event.Event.{Event}
 use Rattle.radio_events.specs.declared.event.Event.TheVariants.{Source, SourceEnd, Command, RelayUp, Clock}
 use Rattle.radio_events.specs.declared.command.CommandRequest.{CommandRequest}
@@ -24,7 +24,7 @@ use Rattle.radio_values.specs.declared.field.Shown.{Shown}
 use Rattle.radio_core.specs.Closing.{Closes, OfClient, OfRelay}
 use Rattle.radio_core.proofs.ClosingLemmas.{closes_his}
 use Rattle.radio_events.specs.declared.event.SourceRequest.{SourceRequest}
-use Rattle.radio_seats.specs.declared.seat.Seating.TheVariants.{Finished as HasFinished}
+use Rattle.radio_seats_rows.specs.declared.seat.Seating.TheVariants.{Finished as HasFinished}
 use Rattle.radio_events.specs.declared.reply.Reply.TheVariants.{Noted, Stray}
 use Rattle.radio_changes.specs.declared.change.Change.TheVariants.{Nothing, Answer, End, EndAndLeave}
 use Rattle.radio_core.specs.declared.outcome.Outcome.{Outcome}
@@ -57,7 +57,7 @@ use Rattle.radio_laws.specs.Users.{SittersAreLetIn}
 use Rattle.radio_access.specs.Lists.{lets_in}
 use Rattle.radio_fallback.specs.Fares.{HadASeat}
 use Rattle.radio_fallback.proofs.FaresLemmas.{had_seats}
-use Rattle.radio_seats.proofs.EndLaws.{had_seat}
+use Rattle.radio_seats_rows.proofs.EndLaws.{had_seat}
 use Rattle.radio_policy.specs.declared.rule.Rule.TheVariants.{TimeOver}
 use Rattle.radio_parts.specs.Timeouts.{has_sat_out}
 

@@ -8,10 +8,10 @@ use Rattle.radio_policy.specs.Table.{source_rows}
 use Rattle.radio_policy.specs.Verdicts.{verdict_in}
 use Rattle.radio_addr.specs.declared.peer.Peer.{Peer}
 use Rattle.radio_values.specs.MountName.{is_mount_name}
-use Rattle.radio_settings.specs.Web.{web_path}
-use Rattle.radio_settings.specs.declared.web.WebPath.{WebPath}
-use Rattle.radio_settings.specs.declared.web.WebPath.TheVariants.{IcecastStatus, Page as AtPage}
-use Rattle.radio_settings.specs.declared.web.WebSettings.{WebSettings}
+use Rattle.radio_settings_values.specs.Web.{web_path}
+use Rattle.radio_settings_values.specs.declared.web.WebPath.{WebPath}
+use Rattle.radio_settings_values.specs.declared.web.WebPath.TheVariants.{IcecastStatus, Page as AtPage}
+use Rattle.radio_settings_values.specs.declared.web.WebSettings.{WebSettings}
 use Rattle.radio_events.specs.declared.event.Event.{Event}
 use Rattle.radio_events.specs.declared.event.Event.TheVariants.{Listen}
 use Rattle.radio_events.specs.declared.event.ListenRequest.{ListenRequest}

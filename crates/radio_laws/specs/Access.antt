@@ -2,10 +2,10 @@ use Rattle.std.specs.Prelude.{◌≡◌, ℕ, List, Option, Some}
 use Rattle.radio_events.specs.declared.event.Event.{Event}
 use Rattle.radio_events.specs.declared.event.Event.TheVariants.{Draw}
 use Rattle.radio_events.specs.declared.reply.Reply.TheVariants.{Drawn}
-use Rattle.radio_seats.specs.declared.seat.Seat.{Seat}
+use Rattle.radio_seats_rows.specs.declared.seat.Seat.{Seat}
 use Rattle.radio_house.specs.declared.standing.Standing.TheVariants.{Sits}
 use Rattle.radio_laws.specs.Open.{IsOpenTo}
-use Rattle.radio_seats.specs.Seats.{seat_of}
+use Rattle.radio_seats_rows.specs.Seats.{seat_of}
 use Rattle.radio_parts.specs.Sessions.{Session}
 use Rattle.radio_core.specs.Step.{reply_to}
 use Rattle.radio_parts.specs.Stream.{data_at}

@@ -7,9 +7,9 @@ use Rattle.radio_creds.specs.Credentials.{Credentials}
 use Rattle.md5.specs.Md5.{md5}
 use Rattle.radio_addr.specs.declared.address.Address.{Address}
 use Rattle.radio_access.specs.Lists.{passes, lets_in, has_users, has_user_at}
-use Rattle.radio_settings.specs.Options.{options_for}
-use Rattle.radio_seats.specs.declared.seat.Seat.{Seat}
-use Rattle.radio_seats.specs.Seats.{seat_of, count_at}
+use Rattle.radio_settings_values.specs.Options.{options_for}
+use Rattle.radio_seats_rows.specs.declared.seat.Seat.{Seat}
+use Rattle.radio_seats_rows.specs.Seats.{seat_of, count_at}
 use Rattle.radio_events.specs.declared.command.Asked.TheVariants.{Command as Asks}
 use Rattle.radio_events.specs.declared.command.Command.{Command as TheCommand}
 use Rattle.radio_events.specs.declared.command.Command.TheVariants.{MoveClients, KillClient, KillSource, SetTitle, SetFallback, AddUser, DeleteUser}

@@ -5,10 +5,10 @@ use Rattle.radio_policy.specs.declared.rule.Rule.TheVariants.{AddressDenied, Add
 use Rattle.radio_policy.specs.Verdicts.{Denies}
 use Rattle.radio_addr.specs.declared.peer.Peer.{Peer}
 use Rattle.radio_creds.specs.Credentials.{Credentials}
-use Rattle.radio_settings.specs.declared.settings.MountSetting.{MountSetting}
-use Rattle.radio_settings.specs.declared.settings.RelaySetting.{RelaySetting}
-use Rattle.radio_settings.specs.declared.web.WebPath.{WebPath}
-use Rattle.radio_settings.specs.Options.{options_for}
+use Rattle.radio_settings_values.specs.declared.settings.MountSetting.{MountSetting}
+use Rattle.radio_settings_values.specs.declared.settings.RelaySetting.{RelaySetting}
+use Rattle.radio_settings_values.specs.declared.web.WebPath.{WebPath}
+use Rattle.radio_settings_values.specs.Options.{options_for}
 use Rattle.radio_values.specs.declared.field.Shown.{Shown}
 use Rattle.radio_access.specs.Lists.{is_denied, is_allowed}
 use Rattle.radio_access.specs.ContentTypes.{is_refused_type}

@@ -2,8 +2,8 @@
 use Rattle.std.specs.Prelude.{◌≡◌, ℕ, nat_lt, true, false, None, Some}
 use Rattle.radio_policy.specs.declared.rule.Rule.{Rule}
 use Rattle.radio_fallback.specs.declared.moves.Move.{Move}
-use Rattle.radio_seats.specs.declared.seat.Seat.{Seat}
-use Rattle.radio_seats.specs.Seats.{listener_of, seat_of, last_mount_of}
+use Rattle.radio_seats_rows.specs.declared.seat.Seat.{Seat}
+use Rattle.radio_seats_rows.specs.Seats.{listener_of, seat_of, last_mount_of}
 use Rattle.radio_parts.specs.Timeouts.{has_sat_out}
 use Rattle.radio_events.specs.declared.event.Event.{Event}
 use Rattle.radio_events.specs.declared.event.Event.TheVariants.{Clock}

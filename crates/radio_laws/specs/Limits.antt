@@ -1,9 +1,9 @@
 -- How many may be there, how many may sit at a mount, and who may sit there once alone.
 use Rattle.std.specs.Prelude.{◌≡◌, ℕ, ◌<◌, ◌≤◌, Bool, false, List, length, Option, Some}
 use Rattle.radio_creds.specs.Credentials.{Credentials}
-use Rattle.radio_settings.specs.Options.{options_for}
-use Rattle.radio_seats.specs.declared.seat.Seat.{Seat}
-use Rattle.radio_seats.specs.Seats.{seats_at, seat_of}
+use Rattle.radio_settings_values.specs.Options.{options_for}
+use Rattle.radio_seats_rows.specs.declared.seat.Seat.{Seat}
+use Rattle.radio_seats_rows.specs.Seats.{seats_at, seat_of}
 use Rattle.radio_addr.specs.declared.peer.Peer.{Peer}
 use Rattle.radio_values.specs.declared.field.Shown.{Shown}
 use Rattle.radio_events.specs.declared.event.Event.{Event}

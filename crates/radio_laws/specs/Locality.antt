@@ -1,9 +1,9 @@
 -- What an event does goes by the mounts that it can reach, and by no other: states that agree on these answer it alike, and agree on them still.
 use Rattle.std.specs.Prelude.{◌≡◌, ◌↔◌, Bool, true, false, ℕ, List, Some}
-use Rattle.radio_settings.specs.Options.{options_for}
-use Rattle.radio_seats.specs.declared.seat.Listener.{Listener}
-use Rattle.radio_seats.specs.declared.seat.Seat.{Seat}
-use Rattle.radio_seats.specs.Seats.{seat_of, last_mount, last_mount_of}
+use Rattle.radio_settings_values.specs.Options.{options_for}
+use Rattle.radio_seats_rows.specs.declared.seat.Listener.{Listener}
+use Rattle.radio_seats_rows.specs.declared.seat.Seat.{Seat}
+use Rattle.radio_seats_rows.specs.Seats.{seat_of, last_mount, last_mount_of}
 use Rattle.radio_mounts.specs.Agree.{AllAgree}
 use Rattle.radio_parts.specs.Sessions.{Session, session_of}
 use Rattle.radio_events.specs.declared.event.Event.{Event}
@@ -19,7 +19,7 @@ use Rattle.radio_core.specs.Step.{reply_to, world_after}
 use Rattle.radio_house.specs.World.{World, standing_of}
 use Rattle.radio_laws.specs.Shown.{IsPath}
 use Rattle.radio_laws.specs.Walks.{FallsBack}
-use Rattle.radio_settings.specs.declared.web.WebPath.TheVariants.{IcecastStatus}
+use Rattle.radio_settings_values.specs.declared.web.WebPath.TheVariants.{IcecastStatus}
 
 -- In all that follows some mounts are within reach, and the others beyond it.
 

@@ -1,11 +1,11 @@
 -- Which mounts wait for a session, and which are wanted, in the words of the settings.
 use Rattle.std.specs.Prelude.{◌≡◌, ℕ, true, List}
-use Rattle.radio_settings.specs.declared.settings.RelaySetting.{RelaySetting}
-use Rattle.radio_settings.specs.declared.settings.Settings.{Settings}
+use Rattle.radio_settings_values.specs.declared.settings.RelaySetting.{RelaySetting}
+use Rattle.radio_settings_values.specs.declared.settings.Settings.{Settings}
 use Rattle.radio_tables.specs.Lists.{Has}
-use Rattle.radio_seats.specs.declared.seat.Listener.{Listener}
-use Rattle.radio_seats.specs.declared.seat.Seat.{Seat}
-use Rattle.radio_seats.specs.declared.seat.Seating.TheVariants.{Sits}
+use Rattle.radio_seats_rows.specs.declared.seat.Listener.{Listener}
+use Rattle.radio_seats_rows.specs.declared.seat.Seat.{Seat}
+use Rattle.radio_seats_rows.specs.declared.seat.Seating.TheVariants.{Sits}
 use Rattle.radio_house.specs.Waiting.{is_on_demand}
 use Rattle.radio_facts.specs.Wanted.{wanted}
 use Rattle.radio_house.specs.World.{World}

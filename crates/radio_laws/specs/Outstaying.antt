@@ -1,8 +1,8 @@
 -- After the clock was heard, nobody is there whose time is over.
 use Rattle.std.specs.Prelude.{◌≡◌, ℕ, nat_lt, true, false, List, Some}
 use Rattle.radio_events.specs.declared.event.Event.TheVariants.{Clock}
-use Rattle.radio_seats.specs.declared.seat.Seat.{Seat}
-use Rattle.radio_seats.specs.Seats.{seat_of}
+use Rattle.radio_seats_rows.specs.declared.seat.Seat.{Seat}
+use Rattle.radio_seats_rows.specs.Seats.{seat_of}
 use Rattle.radio_laws.specs.Walks.{FallsBack}
 use Rattle.radio_house.specs.Clients.{Client, client_of}
 use Rattle.radio_parts.specs.Sessions.{Session, session_of}

@@ -3,7 +3,7 @@ use Rattle.std.specs.Prelude.{◌≡◌, ℕ, Some, find}
 use Rattle.std.specs.Option.{option_map}
 use Rattle.std.specs.Str.{bytes_eq}
 use Rattle.radio_attachments.specs.Rows.{is_attached, AreInOrder}
-use Rattle.radio_seats.specs.declared.seat.Seat.{Seat}
+use Rattle.radio_seats_rows.specs.declared.seat.Seat.{Seat}
 use Rattle.radio_parts.specs.Kept.{kept_session}
 use Rattle.radio_parts.specs.Sessions.{session_of}
 use Rattle.radio_mounts.specs.Attached.{place_in}

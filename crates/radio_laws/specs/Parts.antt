@@ -1,9 +1,9 @@
 -- One mount's part of the state goes by itself: a draw of one who sits there, a block of its source, a title.
 use Rattle.std.specs.Prelude.{◌≡◌, ℕ, Bool, if◌then◌else◌, List, Option, None, Some}
 use Rattle.std.specs.Str.{bytes_eq}
-use Rattle.radio_seats.specs.declared.seat.Listener.{Listener}
-use Rattle.radio_seats.specs.declared.seat.Seat.{Seat}
-use Rattle.radio_seats.specs.Seats.{seat_of, with_place}
+use Rattle.radio_seats_rows.specs.declared.seat.Listener.{Listener}
+use Rattle.radio_seats_rows.specs.declared.seat.Seat.{Seat}
+use Rattle.radio_seats_rows.specs.Seats.{seat_of, with_place}
 use Rattle.radio_parts.specs.Parts.{Part, part_received, part_titled}
 use Rattle.radio_parts.specs.Sessions.{Session, session_of}
 use Rattle.radio_events.specs.declared.event.Event.TheVariants.{Push, Title, Draw}

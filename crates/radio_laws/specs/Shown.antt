@@ -4,13 +4,13 @@ use Rattle.std.specs.Str.Lossy.{utf8_lossy}
 use Rattle.radio_addr.specs.declared.peer.Peer.{Peer}
 use Rattle.radio_creds.specs.Credentials.{Credentials}
 use Rattle.radio_values.specs.declared.field.Shown.{Shown}
-use Rattle.radio_settings.specs.declared.web.WebPath.{WebPath}
-use Rattle.radio_settings.specs.declared.web.WebPath.TheVariants.{IcecastStatus, Page as AtPage}
-use Rattle.radio_settings.specs.Options.{options_for}
-use Rattle.radio_seats.specs.declared.seat.Seat.{Seat}
-use Rattle.radio_seats.specs.declared.seat.Listener.{Listener}
-use Rattle.radio_seats.specs.declared.seat.Seating.TheVariants.{Sits}
-use Rattle.radio_seats.specs.Seats.{seats_at, count_at}
+use Rattle.radio_settings_values.specs.declared.web.WebPath.{WebPath}
+use Rattle.radio_settings_values.specs.declared.web.WebPath.TheVariants.{IcecastStatus, Page as AtPage}
+use Rattle.radio_settings_values.specs.Options.{options_for}
+use Rattle.radio_seats_rows.specs.declared.seat.Seat.{Seat}
+use Rattle.radio_seats_rows.specs.declared.seat.Listener.{Listener}
+use Rattle.radio_seats_rows.specs.declared.seat.Seating.TheVariants.{Sits}
+use Rattle.radio_seats_rows.specs.Seats.{seats_at, count_at}
 use Rattle.radio_listing.specs.declared.rows.MountRow.{MountRow}
 use Rattle.radio_listing.specs.declared.rows.Server.{Server}
 use Rattle.radio_listing.specs.Icecast.{icecast_data, icecast_text}

@@ -1,11 +1,11 @@
 -- The stretches of which all that a listener is handed is made.
 use Rattle.std.specs.Prelude.{◌≡◌, ◌⊎◌, ◌==◌, ℕ, ◌-◌, ◌≤◌, if◌then◌else◌, length, Option, Some, None, List, [], ◌∷◌, ◌++◌, take, drop}
-use Rattle.radio_settings.specs.declared.settings.Settings.{Settings}
+use Rattle.radio_settings_values.specs.declared.settings.Settings.{Settings}
 use Rattle.radio_access.specs.Lists.{Lists}
 use Rattle.radio_events.specs.declared.event.Event.{Event}
-use Rattle.radio_seats.specs.declared.seat.Seat.{Seat}
+use Rattle.radio_seats_rows.specs.declared.seat.Seat.{Seat}
 use Rattle.radio_core.specs.Handing.{handed, handed_at, delivered}
-use Rattle.radio_seats.specs.Seats.{seat_of}
+use Rattle.radio_seats_rows.specs.Seats.{seat_of}
 use Rattle.radio_parts.specs.Sessions.{Session, session_of}
 use Rattle.radio_core.specs.Step.{world_after}
 use Rattle.radio_core.specs.Moves.{TakesTo}

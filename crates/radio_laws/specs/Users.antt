@@ -4,8 +4,8 @@ use Rattle.md5.specs.Md5.{md5}
 use Rattle.radio_addr.specs.declared.address.Address.{Address}
 use Rattle.radio_creds.specs.Credentials.{Credentials}
 use Rattle.radio_access.specs.Lists.{passes, lets_in}
-use Rattle.radio_seats.specs.declared.seat.Seat.{Seat}
-use Rattle.radio_seats.specs.Seats.{seat_of}
+use Rattle.radio_seats_rows.specs.declared.seat.Seat.{Seat}
+use Rattle.radio_seats_rows.specs.Seats.{seat_of}
 use Rattle.radio_events.specs.declared.command.Command.TheVariants.{AddUser, DeleteUser}
 use Rattle.radio_events.specs.declared.event.Event.{Event}
 use Rattle.radio_core.specs.Allowed.{IsCommanded}

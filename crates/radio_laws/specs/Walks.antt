@@ -1,6 +1,6 @@
 -- By which mounts a walk comes, in the words of the settings and of what commands have set.
 use Rattle.std.specs.Prelude.{◌≡◌, ℕ, suc, true, List, Some, None}
-use Rattle.radio_settings.specs.Options.{options_for}
+use Rattle.radio_settings_values.specs.Options.{options_for}
 use Rattle.radio_house.specs.Fallbacks.{Fallback, set_for}
 use Rattle.radio_house.specs.World.{World}
 use Rattle.radio_laws.specs.Limits.{IsFullAt}

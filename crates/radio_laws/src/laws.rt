@@ -2,7 +2,7 @@
 //! definitions that `Core::step` follows.
 
 ghost use Rattle.std.specs.Prelude.{◌≡◌, ◌≤◌, Bool, ℕ, List, [], ◌∷◌, ◌++◌, Some};
-ghost use Rattle.radio_settings.specs.declared.settings.Settings.{Settings};
+ghost use Rattle.radio_settings_values.specs.declared.settings.Settings.{Settings};
 ghost use Rattle.radio_laws.specs.Shown.{OnlyWhoMayIsShown, WhoMayIsShown, WhoVisitsIsShown, NobodyFeedsAPath, HiddenAreLeftOut, HiddenAreNotToldOnTheWeb, SightIsKept};
 ghost use Rattle.radio_access.specs.Lists.{Lists};
 ghost use Rattle.radio_events.specs.declared.event.Event.{Event};

@@ -17,7 +17,7 @@ use radio_lines::{Reach, Sockets};
 use radio_outlet::LogQueue;
 use radio_proxy::Pending;
 use radio_serving::WebAnswers;
-use radio_settings::Settings;
+use radio_settings_values::Settings;
 use radio_sockets::{Acceptor, Coming, Doors, open_desks};
 use std::alloc::Global;
 use std::io;

@@ -5,7 +5,7 @@ use Rattle.radio_events.specs.Endings.{ending_word}
 use Rattle.radio_log.specs.declared.facts.Fact.{Fact}
 use Rattle.radio_log.specs.declared.facts.Fact.TheVariants.{RelayUp, RelayGone, RelayFailed, MountGone, Title, Warning}
 use Rattle.radio_policy.specs.declared.rule.Rule.TheVariants.{SourceSilent, SourceKilled}
-use Rattle.radio_settings.specs.declared.settings.Master.{Master}
+use Rattle.radio_settings_values.specs.declared.settings.Master.{Master}
 use Rattle.radio_masters.specs.declared.relay_end.RelayEnd.{RelayEnd}
 use Rattle.radio_masters.specs.declared.relay_end.RelayEnd.TheVariants.{NoAddress, NoAnswer, Status, Left, By, NotWished, OutOfMemory}
 use Rattle.radio_masters.specs.declared.relay_log.PullEnd.{PullEnd}

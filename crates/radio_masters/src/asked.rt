@@ -8,7 +8,7 @@ use crate::failing::Failing;
 use crate::relay_log::{PullEnd, RelayLog};
 use radio_events::{Event, Reply};
 use radio_session::Server;
-use radio_settings::RelaySetting;
+use radio_settings_values::RelaySetting;
 use radio_values::MountName;
 use std::alloc::Global;
 use std::marker::Model;

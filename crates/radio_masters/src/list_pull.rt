@@ -12,7 +12,7 @@ use crate::asking::Asking;
 use crate::list_answer::{ListFault, MAX_LIST, read_list_answer};
 use radio_connections::{Line, Received};
 use radio_relay::list_request;
-use radio_settings::SlaveSetting;
+use radio_settings_values::SlaveSetting;
 use radio_values::MountName;
 use std::alloc::Global;
 use std::collections::BTreeSet;

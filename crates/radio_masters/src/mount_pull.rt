@@ -17,7 +17,7 @@ use radio_heads::{MAX_HEAD, Progress, read_response};
 use radio_pull::{RelayPull, ask, close, take};
 use radio_relay::request_text;
 use radio_session::{Ending, Server, State};
-use radio_settings::RelaySetting;
+use radio_settings_values::RelaySetting;
 use std::alloc::Global;
 use std::marker::Model;
 

@@ -12,7 +12,7 @@ use crate::{OutOfMemory, RelayEnd};
 use radio_events::{Event, Reply};
 use radio_log::{Fact, RelayFailed, RelayGone, RelayUp, Text, Title};
 use radio_notes::Log;
-use radio_settings::RelaySetting;
+use radio_settings_values::RelaySetting;
 use radio_values::MountName;
 use std::alloc::Global;
 

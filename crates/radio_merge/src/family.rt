@@ -7,7 +7,7 @@ ghost use Rattle.std.specs.Option.{option_copied};
 
 use radio_events::Entry;
 use radio_policy::Rule;
-use radio_seats::Seat;
+use radio_seats_rows::Seat;
 use radio_values::{Shown, Title};
 use std::marker::Model;
 

@@ -12,7 +12,7 @@ use crate::searching::find_order;
 use crate::{Family, MergeFault, Stamp};
 use radio_access::Lists;
 use radio_events::Entry;
-use radio_settings::Settings;
+use radio_settings_values::Settings;
 use std::alloc::Global;
 
 /// Returns one history of all lists, through which a new core of these settings and lists steps with the same replies.

@@ -16,7 +16,7 @@ use crate::{Family, MergeFault, OutOfMemory, Stamp};
 use radio_access::Lists;
 use radio_core::Core;
 use radio_events::{Entry, Event};
-use radio_settings::Settings;
+use radio_settings_values::Settings;
 use std::alloc::{AllocError, Global};
 
 /// A core that has stepped through a history, and how far that has taken the lists.

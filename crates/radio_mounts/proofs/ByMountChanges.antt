@@ -13,8 +13,8 @@ use Rattle.radio_tables.proofs.FindLaws.{find_apart, find_here, find_later, find
 use Rattle.radio_tables.proofs.KeyLaws.{find_placed, name_is}
 use Rattle.radio_attachments.specs.declared.attachment.Attachment.{Attachment}
 use Rattle.radio_attachments.specs.Rows.{is_attached, at_place}
-use Rattle.radio_seats.specs.declared.seat.Listener.{Listener}
-use Rattle.radio_seats.specs.Seats.{sits_at}
+use Rattle.radio_seats_rows.specs.declared.seat.Listener.{Listener}
+use Rattle.radio_seats_rows.specs.Seats.{sits_at}
 use Rattle.radio_fallback.specs.Heard.{OthersStay, IsAt, GoesOver}
 use Rattle.radio_mounts.specs.Parts.{MountAttachments, has_part}
 use Rattle.radio_mounts.specs.Attached.{is_of_mount, with_boxed, advanced_there, with_sitters, found_in, places_in}
@@ -107,7 +107,7 @@ module _ (mount : List ℕ) (boxed : Attachment) (rows : List MountAttachments) 
   attached_there = update_first (is_of_mount mount) (with_boxed (Some boxed)) rows
 
   its_own : is_attached boxed.id boxed ≡ true
-  its_own = Rattle.radio_seats.proofs.Lists.same_number boxed.id
+  its_own = Rattle.radio_seats_rows.proofs.Lists.same_number boxed.id
 
   pub attached_others : OthersStay (places_in rows) (places_in attached_there) boxed.id
   attached_others at other apart =

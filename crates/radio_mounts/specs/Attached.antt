@@ -8,8 +8,8 @@ use Rattle.radio_attachments.specs.declared.attachment.Attachment.{Attachment}
 use Rattle.radio_attachments.specs.Rows.{is_attached, at_place, put_in, lags}
 use Rattle.radio_mounts.specs.declared.part.MountPart.{MountPart}
 use Rattle.radio_mounts.specs.Parts.{MountAttachments, ByMount, attached_to}
-use Rattle.radio_seats.specs.declared.seat.Listener.{Listener}
-use Rattle.radio_seats.specs.Seats.{sits_at}
+use Rattle.radio_seats_rows.specs.declared.seat.Listener.{Listener}
+use Rattle.radio_seats_rows.specs.Seats.{sits_at}
 
 abbrev pub is_of_mount : List ℕ → MountAttachments → Bool
 is_of_mount mount row = bytes_eq row.mount mount

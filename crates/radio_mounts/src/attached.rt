@@ -1,11 +1,11 @@
 //! What is done to the attachments of one mount.
 
 ghost use Rattle.std.specs.Prelude.{◌≡◌, filter, not};
-ghost use Rattle.radio_seats.specs.Seats.{sits_at};
+ghost use Rattle.radio_seats_rows.specs.Seats.{sits_at};
 
 use crate::part::MountPart;
 use radio_attachments::{Attachment, AttachmentTest, AttachmentTree, BoxedAttachment};
-use radio_listeners::Seats;
+use radio_seats::Seats;
 use radio_tables::{Change, Swap};
 use radio_values::MountName;
 use std::mem;
@@ -110,7 +110,7 @@ struct SitsElsewhere<'a> {
 
 impl AttachmentTest for SitsElsewhere<'_> {
     ghost use Rattle.std.specs.Prelude.{not};
-    ghost use Rattle.radio_seats.specs.Seats.{sits_at};
+    ghost use Rattle.radio_seats_rows.specs.Seats.{sits_at};
 
     ghost passes = { λ test row. not (sits_at test.seats.now.seats row.id test.mount.now) };
 

@@ -6,7 +6,7 @@ ghost use Rattle.radio_parts.specs.Sessions.{session_of};
 ghost use Rattle.std.specs.Str.{bytes_eq};
 ghost use Rattle.radio_tables.specs.Lists.{update_first, Each};
 ghost use Rattle.radio_attachments.specs.Rows.{at_place, lags, AreInOrder};
-ghost use Rattle.radio_seats.specs.Seats.{sits_at};
+ghost use Rattle.radio_seats_rows.specs.Seats.{sits_at};
 ghost use Rattle.radio_fallback.specs.Heard.{OthersStay, IsAt, GoesOver};
 ghost use Rattle.radio_mounts.specs.Attached.{is_of_mount, without_id, with_boxed, found_in, attachments_in, places_in, without_lagging, with_attached};
 ghost use Rattle.radio_mounts.specs.Parts.{has_part};
@@ -18,8 +18,8 @@ use crate::parts::MountParts;
 use radio_attachments::{AttachmentTree, BoxedAttachment};
 use radio_blocks::Place;
 use radio_fallback::Attachments;
-use radio_listeners::Seats;
 use radio_parts::Session;
+use radio_seats::Seats;
 use radio_values::MountName;
 
 impl MountParts {

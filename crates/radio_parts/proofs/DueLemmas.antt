@@ -4,12 +4,12 @@ use Rattle.std.specs.Prelude.{if◌then◌else◌, fold}
 use Rattle.std.specs.Option.{option_map_or}
 use Rattle.std.proofs.lemmas.Bool.Decides.{nat_tests}
 use Rattle.radio_policy.specs.declared.rule.Rule.{Rule}
-use Rattle.radio_settings.specs.declared.settings.Settings.{Settings}
-use Rattle.radio_settings.specs.Options.{options_for}
+use Rattle.radio_settings_values.specs.declared.settings.Settings.{Settings}
+use Rattle.radio_settings_values.specs.Options.{options_for}
 use Rattle.radio_tables.specs.Lists.{Each}
-use Rattle.radio_seats.specs.declared.seat.Seating.{Seating}
-use Rattle.radio_seats.specs.declared.seat.Seating.TheVariants.{Sits, Finished}
-use Rattle.radio_seats.specs.Seats.{advanced, moved, lost_by, loses, holds_of}
+use Rattle.radio_seats_rows.specs.declared.seat.Seating.{Seating}
+use Rattle.radio_seats_rows.specs.declared.seat.Seating.TheVariants.{Sits, Finished}
+use Rattle.radio_seats_rows.specs.Seats.{advanced, moved, lost_by, loses, holds_of}
 use Rattle.radio_parts.specs.Due.{last_moment, due_at, listener_due, earliest}
 use Rattle.radio_parts.specs.Timeouts.{lies_back, has_sat_out}
 

@@ -8,9 +8,9 @@ use Rattle.std.specs.declared.cmp.Ordering.TheVariants.{Less}
 use Rattle.std.proofs.lemmas.Bool.Decides.{nat_tests}
 use Rattle.radio_policy.specs.declared.rule.Rule.{Rule}
 use Rattle.radio_tables.specs.Lists.{Each}
-use Rattle.radio_seats.specs.declared.seat.Listener.{Listener}
-use Rattle.radio_seats.specs.declared.seat.Seat.{Seat}
-use Rattle.radio_seats.specs.Seats.{is_listener, seated, advanced, finished_if, loses, with_seat, with_place, with_end, with_ended, without_listener, AreByNumber}
+use Rattle.radio_seats_rows.specs.declared.seat.Listener.{Listener}
+use Rattle.radio_seats_rows.specs.declared.seat.Seat.{Seat}
+use Rattle.radio_seats_rows.specs.Seats.{is_listener, seated, advanced, finished_if, loses, with_seat, with_place, with_end, with_ended, without_listener, AreByNumber}
 use Rattle.radio_parts.proofs.NumberLists.{IsRising, placed_rising, kept_rising, numbers_updated, numbers_mapped, numbers_placed, numbers_without}
 
 abbrev number : Listener → ℕ

@@ -4,7 +4,7 @@ use Rattle.std.specs.Prelude.{find, if◌then◌else◌}
 use Rattle.std.specs.Option.{option_map}
 use Rattle.radio_tables.specs.Lists.{update_first}
 use Rattle.radio_tables.proofs.FindLaws.{find_here, find_later, find_same, changed_alike}
-use Rattle.radio_seats.specs.declared.seat.Listener.{Listener}
+use Rattle.radio_seats_rows.specs.declared.seat.Listener.{Listener}
 use Rattle.radio_parts.specs.Sessions.{Session, is_of, session_of, longer, fed}
 use Rattle.radio_parts.specs.Parts.{end_in, with_its_session}
 

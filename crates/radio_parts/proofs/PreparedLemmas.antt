@@ -5,7 +5,7 @@ use Rattle.std.specs.Str.{bytes_eq}
 use Rattle.std.proofs.lemmas.Slice.Eq.{bytes_eq-Decides}
 use Rattle.radio_tables.specs.Lists.{update_first}
 use Rattle.radio_tables.proofs.KeyLaws.{by_name}
-use Rattle.radio_seats.specs.Board.{is_prepared}
+use Rattle.radio_seats_rows.specs.Board.{is_prepared}
 use Rattle.radio_parts.specs.Prepared.{LiveArePrepared}
 use Rattle.radio_parts.specs.Sessions.{Session, is_of, session_of, with_session, without_session}
 use Rattle.radio_parts.proofs.SessionLookups.{is_over, beside_ended, beside_begun}

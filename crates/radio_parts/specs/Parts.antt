@@ -3,8 +3,8 @@ use Rattle.std.specs.Prelude.{ℕ, List, Option, Some}
 use Rattle.std.specs.Option.{option_map, option_map_or}
 use Rattle.radio_policy.specs.declared.rule.Rule.TheVariants.{Lagged}
 use Rattle.radio_tables.specs.Lists.{update_first}
-use Rattle.radio_seats.specs.declared.seat.Listener.{Listener}
-use Rattle.radio_seats.specs.Seats.{with_ended}
+use Rattle.radio_seats_rows.specs.declared.seat.Listener.{Listener}
+use Rattle.radio_seats_rows.specs.Seats.{with_ended}
 use Rattle.radio_parts.specs.Sessions.{Session, is_of, longer, session_of, with_title}
 use Rattle.radio_parts.specs.Stream.{end_of}
 use Rattle.radio_parts.specs.Timeouts.{lags_behind}

@@ -1,6 +1,6 @@
 -- Listeners can be seated at live mounts.
 use Rattle.std.specs.Prelude.{◌≡◌, ℕ, true, is_some, List}
-use Rattle.radio_seats.specs.Board.{is_prepared}
+use Rattle.radio_seats_rows.specs.Board.{is_prepared}
 use Rattle.radio_parts.specs.Sessions.{Session, session_of}
 
 -- each live mount is prepared

@@ -3,8 +3,8 @@
 ghost use Rattle.std.specs.Prelude.{◌≡◌};
 ghost use Rattle.radio_parts.specs.Due.{due_at, home_due, seat_due};
 
-use radio_seats::{Guest, GuestMoment, Seat};
-use radio_settings::Settings;
+use radio_seats_rows::{Guest, GuestMoment, Seat};
+use radio_settings_values::Settings;
 use radio_values::MountName;
 
 /// The last moment that there is, for what is due at none.

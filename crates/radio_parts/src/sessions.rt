@@ -5,7 +5,7 @@ ghost use Rattle.radio_parts.specs.Sessions.{opened};
 
 use crate::OutOfMemory;
 use crate::stream::Stream;
-use radio_seats::KeptName;
+use radio_seats_rows::KeptName;
 use radio_values::{MountName, Shown, Title};
 use std::alloc::Global;
 use std::marker::Model;

@@ -3,8 +3,8 @@
 ghost use Rattle.std.specs.Prelude.{◌≡◌};
 ghost use Rattle.radio_parts.specs.Timeouts.{lies_back};
 
-use radio_seats::{Guest, SeatTest};
-use radio_settings::Settings;
+use radio_seats_rows::{Guest, SeatTest};
+use radio_settings_values::Settings;
 
 /// Whether the moment lies so many seconds back, or more.
 pub fn lies_back(seconds: u32, moment: u64, now: u64) -> bool
@@ -24,7 +24,7 @@ pub struct HasSatOut<'a> {
 
 impl SeatTest for HasSatOut<'_> {
     ghost use Rattle.std.specs.Prelude.{[]};
-    ghost use Rattle.radio_seats.specs.Guests.{seat_of_guest};
+    ghost use Rattle.radio_seats_rows.specs.Guests.{seat_of_guest};
     ghost use Rattle.radio_parts.specs.Timeouts.{has_sat_out};
 
     ghost passes = { λ test guest. has_sat_out test.settings.now test.now (seat_of_guest 0 [] 0 guest) };

@@ -5,7 +5,7 @@ use lib.Pointwise.{pointwise}
 use Rattle.radio_masters.specs.declared.failing.Failing.{Failing}
 use Rattle.radio_masters.specs.declared.turns.Waiting.{Waiting}
 use Rattle.radio_masters.specs.Turns.{HaveTheirTurn}
-use Rattle.radio_settings.specs.declared.settings.RelaySetting.{RelaySetting}
+use Rattle.radio_settings_values.specs.declared.settings.RelaySetting.{RelaySetting}
 use Rattle.radio_tries.specs.Tries.{free_places}
 
 -- a relay that has begun, and how it had failed before

@@ -10,7 +10,7 @@ use mio::net::TcpStream;
 use radio_board::Board;
 use radio_lines::{Reach, SocketLine, Sockets, moment};
 use radio_masters::{ListLog, ListPull, keep_first};
-use radio_settings::SlaveSetting;
+use radio_settings_values::SlaveSetting;
 use radio_tries::{MOST_SILENT_MS, Pause, after, list_due_ms, pause_at};
 use radio_values::MountName;
 use std::alloc::Global;

@@ -11,7 +11,7 @@ use crate::station::Station;
 use radio_board::Board;
 use radio_events::SharedServer;
 use radio_lines::{Reach, moment};
-use radio_settings::{Settings, SlaveSetting};
+use radio_settings_values::{Settings, SlaveSetting};
 use std::sync::{Arc, Mutex, Wait};
 use std::thread;
 use std::thread::{Scope, Threads, sleep};

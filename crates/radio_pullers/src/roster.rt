@@ -3,13 +3,13 @@
 ghost use Rattle.std.specs.Prelude.{◌≡◌, ◌<◌, ◌-◌, ℕ, List, [], ◌∷◌, ◌++◌, length, map, take, if◌then◌else◌, IfOk, IfSome, OnOk, OnErr, MatchOption};
 ghost use Rattle.std.specs.Arc.{arc_value};
 ghost use Rattle.std.specs.List.{swap_remove};
-ghost use Rattle.radio_settings.specs.declared.settings.RelaySetting.{RelaySetting};
+ghost use Rattle.radio_settings_values.specs.declared.settings.RelaySetting.{RelaySetting};
 ghost use Rattle.radio_pullers.specs.Running.{mounts_of};
 
 use crate::OutOfMemory;
 use crate::running::RunningRelay;
 use radio_masters::Failing;
-use radio_settings::RelaySetting;
+use radio_settings_values::RelaySetting;
 use radio_tries::Outcome;
 use radio_values::MountName;
 use std::alloc::Global;

@@ -4,7 +4,7 @@ ghost use Rattle.std.specs.Prelude.{◌≡◌};
 ghost use Rattle.std.specs.Arc.{arc_value};
 
 use radio_masters::Failing;
-use radio_settings::RelaySetting;
+use radio_settings_values::RelaySetting;
 use radio_tries::Outcome;
 use radio_values::MountName;
 use std::marker::Model;

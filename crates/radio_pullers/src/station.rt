@@ -4,7 +4,7 @@ ghost use Rattle.std.specs.Prelude.{◌≡◌};
 
 use radio_board::Board;
 use radio_lines::Reach;
-use radio_settings::Settings;
+use radio_settings_values::Settings;
 use radio_values::MountName;
 use std::collections::BTreeSet;
 use std::sync::Mutex;

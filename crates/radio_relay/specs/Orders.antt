@@ -4,10 +4,10 @@ use Rattle.std.specs.BTreeMap.{is_at}
 use Rattle.std.specs.List.{flat_map, list_any}
 use Rattle.std.specs.Option.{option_map}
 use Rattle.std.specs.Str.{bytes_eq}
-use Rattle.radio_settings.specs.declared.settings.MountSetting.{MountSetting}
-use Rattle.radio_settings.specs.declared.settings.RelaySetting.{RelaySetting}
-use Rattle.radio_settings.specs.declared.settings.Settings.{Settings}
-use Rattle.radio_settings.specs.declared.settings.SlaveSetting.{SlaveSetting}
+use Rattle.radio_settings_values.specs.declared.settings.MountSetting.{MountSetting}
+use Rattle.radio_settings_values.specs.declared.settings.RelaySetting.{RelaySetting}
+use Rattle.radio_settings_values.specs.declared.settings.Settings.{Settings}
+use Rattle.radio_settings_values.specs.declared.settings.SlaveSetting.{SlaveSetting}
 use Rattle.radio_relay.specs.declared.orders.RelayOrder.{RelayOrder}
 use Rattle.radio_relay.specs.declared.orders.RelayOrder.TheVariants.{Start, Stop}
 use Rattle.radio_relay.specs.StreamList.{name_order, with_one}

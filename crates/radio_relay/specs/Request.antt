@@ -6,10 +6,10 @@ use Rattle.base64.specs.Engines.{standard}
 use Rattle.base64.specs.GeneralPurpose.{encode_of}
 use Rattle.percent_encoding.specs.Percent.{percent_encode_byte}
 use Rattle.radio_heads.specs.Answer.{line, header_line}
-use Rattle.radio_settings.specs.declared.settings.Login.{Login}
-use Rattle.radio_settings.specs.declared.settings.Master.{Master}
-use Rattle.radio_settings.specs.declared.settings.RelaySetting.{RelaySetting}
-use Rattle.radio_settings.specs.declared.settings.SlaveSetting.{SlaveSetting}
+use Rattle.radio_settings_values.specs.declared.settings.Login.{Login}
+use Rattle.radio_settings_values.specs.declared.settings.Master.{Master}
+use Rattle.radio_settings_values.specs.declared.settings.RelaySetting.{RelaySetting}
+use Rattle.radio_settings_values.specs.declared.settings.SlaveSetting.{SlaveSetting}
 
 -- a byte that stands for itself in a path: a letter, a digit, or one of `-`, `.`, `_`, `~` and `/` (RFC 3986, sections 2.3 and 3.3)
 abbrev pub is_path_byte : ℕ → Bool

@@ -3,7 +3,7 @@ ghost use Rattle.std.specs.Prelude.{◌≡◌, ◌++◌, IfOk, OnOk};
 ghost use Rattle.radio_relay.specs.Orders.{orders, mounts_in_question, with_all, local_mounts, wished_at, listed_at, relay_listed, is_wished, order_of};
 
 use crate::OutOfMemory;
-use radio_settings::{Login, Master, RelaySetting, Settings, SlaveSetting};
+use radio_settings_values::{Login, Master, RelaySetting, Settings, SlaveSetting};
 use radio_values::MountName;
 use std::alloc::Global;
 use std::collections::BTreeSet;

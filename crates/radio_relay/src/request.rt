@@ -7,7 +7,7 @@ ghost use Rattle.radio_relay.specs.Request.{request_text, list_request, request_
 use crate::OutOfMemory;
 use base64::engine::general_purpose::STANDARD;
 use percent_encoding::{AsciiSet, NON_ALPHANUMERIC, ascii_set, percent_encode};
-use radio_settings::{Login, Master, RelaySetting, SlaveSetting};
+use radio_settings_values::{Login, Master, RelaySetting, SlaveSetting};
 use std::alloc::Global;
 
 /// What stands in a path as `%XX`: every byte but letters, digits and `-._~/` (RFC 3986, sections 2.3 and 3.3).

@@ -4,8 +4,8 @@ use Rattle.std.specs.Prelude.{find, if◌then◌else◌}
 use Rattle.std.specs.Option.{option_map}
 use Rattle.std.proofs.lemmas.List.{drop_all, drop_more}
 use Rattle.radio_keys.specs.declared.key.Key.{Key}
-use Rattle.radio_documents.specs.declared.section.ValueKind.{ValueKind}
-use Rattle.radio_documents.specs.Sections.{NamedContent, as_named}
+use Rattle.radio_settings.specs.declared.section.ValueKind.{ValueKind}
+use Rattle.radio_settings.specs.Sections.{NamedContent, as_named}
 use Rattle.radio_review.specs.Meant.{is_near, near}
 
 abbrev pub Known : Type 0

@@ -5,8 +5,8 @@ use Rattle.std.specs.Str.{chars}
 use Rattle.strsim.specs.Edits.{levenshtein_row}
 use Rattle.radio_keys.specs.declared.key.Key.{Key as KeyOf}
 use Rattle.radio_keys.specs.Keys.{word}
-use Rattle.radio_documents.specs.declared.section.Section.{Section}
-use Rattle.radio_documents.specs.Sections.{NamedContent, home_of, keys_of}
+use Rattle.radio_settings.specs.declared.section.Section.{Section}
+use Rattle.radio_settings.specs.Sections.{NamedContent, home_of, keys_of}
 use Rattle.radio_review.specs.declared.meant.Meant.{Meant}
 use Rattle.radio_review.specs.declared.meant.Meant.TheVariants.{At, Key, Nothing}
 

@@ -3,7 +3,7 @@
 //! - [`unknown_keys`]: the keys of a text that no table has, each with its line, and what may have been meant.
 //! - [`locate`]: the table, the line and the value at which a text has a fault of a key.
 //!
-//! `radio_documents` says which keys there are. Lines are found by [`entries_of`], which walks the text once.
+//! `radio_settings` says which keys there are. Lines are found by [`entries_of`], which walks the text once.
 #![tactic(auto)]
 
 mod entries;

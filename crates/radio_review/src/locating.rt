@@ -3,8 +3,8 @@
 use crate::OutOfMemory;
 use crate::entries::entries_of;
 use crate::unknown::{mount_of, place_word, text_at};
-use radio_documents::{Place, Section, ValueKind, faulty_table, key_of};
 use radio_keys::{Key, SettingsFault};
+use radio_settings::{Place, Section, ValueKind, faulty_table, key_of};
 use std::alloc::Global;
 use toml::{Table, Value};
 

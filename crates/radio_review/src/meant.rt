@@ -1,10 +1,10 @@
 //! What a key that no table has may have been meant for.
 ghost use Rattle.std.specs.Prelude.{◌≡◌, IfOk, map};
-ghost use Rattle.radio_documents.specs.Sections.{as_named};
+ghost use Rattle.radio_settings.specs.Sections.{as_named};
 ghost use Rattle.radio_review.specs.Meant.{is_near, meant_by, near, nearest};
 
 use crate::OutOfMemory;
-use radio_documents::{KnownKey, Section, home_of};
+use radio_settings::{KnownKey, Section, home_of};
 use std::alloc::Global;
 use strsim::levenshtein;
 

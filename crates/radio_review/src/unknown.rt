@@ -3,7 +3,7 @@
 use crate::OutOfMemory;
 use crate::entries::{Entries, entries_of};
 use crate::meant::{Meant, meant_by};
-use radio_documents::{SECTIONS, Section};
+use radio_settings::{SECTIONS, Section};
 use std::alloc::{AllocError, Global};
 use toml::{Table, Value};
 

@@ -1,8 +1,6 @@
-pub mod Lists
-pub mod MountLemmas
-pub mod MountCounts
-pub mod UserLemmas
-pub mod SeatLaws
-pub mod GivenLaws
-pub mod EndLaws
-pub mod CountLaws
+pub mod RowLemmas
+pub mod RowCounts
+pub mod TestedRows
+pub mod GivenRows
+pub mod OtherLemmas
+pub mod ListedLemmas

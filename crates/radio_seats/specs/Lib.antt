@@ -1,9 +1,4 @@
-pub mod Seats
-pub mod Guests
-pub mod Board
-pub mod Mounts
-pub mod Rows
-pub mod Rests
-pub mod Marks
-pub mod Users
-pub mod SameUsers
+pub mod Shown
+pub mod Lent
+pub mod Listed
+pub mod Further

@@ -1,36 +1,24 @@
-//! The seats of listeners, as rows that know their mount by a number, and the mounts that were
-//! prepared.
+//! The table of listeners: who sits at which mount, and who has lost his seat where, and by which
+//! rule.
 //!
-//! - [`Listener`], [`Seating`], [`Seat`]: the listeners as contracts see them, and as the
-//!   definitions of `specs/Seats` change them.
-//! - [`ListenerRow`], [`RowState`], [`NumberedSeat`], [`Guest`]: a listener as he is kept, small, and
-//!   moved without memory.
-//! - [`Hears`], [`Moves`], [`Ends`], [`FinishesAt`]: what is done to a row. Each leaves the
-//!   listener's user as he is ([`KeepsUser`]). A [`SeatTest`] asks something of a [`Guest`], and a
-//!   [`GuestMoment`] is a moment of his.
-//! - [`Rows`]: the rows in the order of their numbers, and an index of them by user; [`UserAt`] is
-//!   whom it is asked for.
-//! - [`Mounts`]: the prepared mounts, each with its number, its name and the counts of those who sit
-//!   there, or sat there last.
-//! - [`KeptName`]: a name apart from what holds it.
-//! - What is found after each change, for proofs: `proofs/SeatLaws.antt`, `proofs/EndLaws.antt` and `proofs/CountLaws.antt`.
+//! - [`Seats`]: the table. Contracts see it as a board: the names of the mounts that were prepared,
+//!   and the list of its listeners, in the order of their numbers. It has a row of each, which knows
+//!   its mount by a number, and the mounts with their counts.
+//! - [`LentSeat`], [`ListenerStanding`]: what the table answers of a listener.
+//! - [`Seats::guests_at`]: who sits at a mount, each as a [`LentListener`].
+//! - [`Seats::last_mount`]: where a listener sits, or sat last.
+//! - [`Seats::next`], [`Seats::count_beside`], [`Seats::user_beside`]: what a move asks, which takes listeners
+//!   in the order of their numbers, and leaves his own seat out of account.
 #![tactic(auto)]
 
-mod changes;
-mod kept_name;
-mod mounts;
-mod row;
-mod rows;
-mod seat;
-mod users;
+mod advance;
+mod beside;
+mod last;
+mod lent;
+mod listed;
+mod seats;
 
-pub use changes::{Ends, FinishesAt, GuestMoment, Hears, KeepsUser, Moves, SeatTest};
-pub use kept_name::KeptName;
-pub use mounts::{Mount, Mounts};
-pub use row::{ListenerRow, NumberedSeat, RowState};
-pub use rows::Rows;
-pub use seat::{Guest, Listener, Seat, Seating};
-pub use users::UserAt;
-
-/// What a call answers where memory was refused. Nothing has changed then.
-pub type OutOfMemory = std::alloc::AllocError;
+pub use lent::{LentSeat, ListenerStanding};
+pub use listed::LentListener;
+pub use radio_seats_rows::{Listener, Seat, Seating};
+pub use seats::Seats;

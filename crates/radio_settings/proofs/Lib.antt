@@ -1,2 +1,6 @@
-mod RepeatLemmas
-mod PlaceLemmas
+mod FaultLemmas
+mod PartLemmas
+mod DocumentLemmas
+mod LawLemmas
+mod OnLiterals
+mod SectionLemmas

@@ -1,17 +1,57 @@
--- The paths of the web site.
-use Rattle.std.specs.Prelude.{ℕ, Bool, ◌&&◌, if◌then◌else◌, List, Option, None, Some, is_some, codes}
-use Rattle.std.specs.Str.{bytes_eq}
-use Rattle.radio_settings.specs.declared.web.WebPath.{WebPath}
-use Rattle.radio_settings.specs.declared.web.WebPath.TheVariants.{IcecastStatus, Page}
-use Rattle.radio_settings.specs.declared.web.WebSettings.{WebSettings}
+-- The table `[web]`.
+use Rattle.std.specs.Prelude.{ℕ, true, false, Option, List, [], ◌∷◌, ◌++◌, option_map}
+use Rattle.std.specs.Option.{option_map_or}
+use Rattle.toml.specs.Parse.{parse_document}
+use Rattle.toml.specs.Data.{Members}
+use Rattle.radio_keys.specs.declared.fault.SettingsFault.{SettingsFault}
+use Rattle.radio_keys.specs.declared.key.Key.TheVariants.{Web, AllowOrigin, IcecastStatus, Page, CacheControl, BrowserCommands, LogPolls}
+use Rattle.radio_keys.specs.Lookup.{text_at, flag_or, table_at}
+use Rattle.radio_keys.specs.Rows.{Row, row, faults_in, first_fault, flag, optional, origin}
+use Rattle.radio_settings_values.specs.declared.web.WebSettings.{WebSettings}
+use Rattle.radio_settings.specs.declared.web.AnswerSettings.{AnswerSettings}
 
--- what a path names in the web site, of what is on
-unfoldable pub web_path : WebSettings → List ℕ → Option WebPath
-web_path web path =
-    if web.icecast_status && bytes_eq path (codes "/status-json.xsl") then Some IcecastStatus
-    else if web.page && bytes_eq path (codes "/") then Some Page
-    else None
+-- what the web site has
+abbrev pub site_rows : List Row
+site_rows = row AllowOrigin origin optional ∷ row IcecastStatus flag optional ∷ row Page flag optional ∷ []
 
--- the path is one of the web site
-abbrev pub is_web_path : WebSettings → List ℕ → Bool
-is_web_path web path = is_some (web_path web path)
+-- how requests and answers are dealt with
+abbrev pub answer_rows : List Row
+answer_rows = row CacheControl flag optional ∷ row BrowserCommands flag optional ∷ row LogPolls flag optional ∷ []
+
+abbrev pub web_rows : List Row
+web_rows = site_rows ++ answer_rows
+
+-- the first fault of its keys
+unfoldable pub web_fault : Members → Option SettingsFault
+web_fault table = first_fault (faults_in web_rows table)
+
+unfoldable pub web_of : Members → WebSettings
+web_of table = record {
+  allow_origin = text_at AllowOrigin table;
+  icecast_status = flag_or IcecastStatus table false;
+  page = flag_or Page table false;
+}
+
+unfoldable pub answers_fault : Members → Option SettingsFault
+answers_fault table = first_fault (faults_in answer_rows table)
+
+-- what the table says of answers
+unfoldable pub answers_of : Members → AnswerSettings
+answers_of table = record {
+  has_table = true;
+  cache_control = flag_or CacheControl table false;
+  browser_commands = flag_or BrowserCommands table false;
+  log_polls = flag_or LogPolls table true;
+}
+
+-- without a table
+abbrev pub no_answers : AnswerSettings
+no_answers = record { has_table = false; cache_control = false; browser_commands = false; log_polls = true }
+
+-- what a document says of them
+abbrev pub answers_in : Members → AnswerSettings
+answers_in document = option_map_or answers_of (table_at Web document) no_answers
+
+-- what a text says of them, if it is TOML
+abbrev pub answers_told : List ℕ → Option AnswerSettings
+answers_told text = option_map answers_in (parse_document text)

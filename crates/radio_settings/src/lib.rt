@@ -1,27 +1,36 @@
-//! The settings of a station.
+//! The settings of a station, read from TOML.
 //!
-//! - [`Settings`] has them, table by table. The values in them ([`MountName`], [`Text`], [`Field`], [`AllowedOrigin`],
-//!   numbers [`Within`] a range) are those of `radio_values`.
-//! - [`Settings::options`] says what holds for a mount.
-//! - [`NamedSettings`] are tables by the names of mounts, of which no two have one.
-//! - [`WebSettings`] is the table `[web]`: which paths the web site has, and what [`AllowedOrigin`] its answers name.
+//! - [`read_settings`] gives the settings of a text, or its first fault in the order of the table in `docs/FORMATS.md`:
+//!   a [`SettingsFault`] that names a [`Key`], both of `radio_keys`.
+//! - [`read_answers`] gives what it says of requests and answers: [`AnswerSettings`].
+//! - [`read_proxies`] gives the path of the list of proxies.
+//! - [`laws`] says what holds of every text.
 //!
-//! `radio_documents` reads them from a text.
+//! Each table of the text has a file of its own, and one under `specs` with its keys, ranges and defaults.
 #![tactic(auto)]
 
+mod access;
+mod document;
+mod faulty;
+pub mod laws;
+mod limits;
+mod listen;
+mod logins;
+mod masters;
 mod mounts;
-mod options;
-mod places;
-mod settings;
+mod named;
+mod relays;
+mod section;
+mod slave;
 mod web;
 
-pub use mounts::{MountSettings, Named, NamedSettings, RelaySettings};
-pub use settings::{
-    AccessSettings, AddressLists, Bytes, LimitSettings, ListenSettings, ListenerOptions, Login,
-    Master, MountOptions, MountSetting, Port, RelayAccess, RelaySetting, SecondsOfDay, Settings,
-    SlaveSetting, SomeBytes, StreamOptions, UserOptions,
-};
-pub use web::{WebPath, WebSettings};
+pub use document::{read_answers, read_proxies, read_settings};
+pub use faulty::{Place, faulty_table, key_of};
+pub use radio_keys::{Key, SettingsFault};
+pub use radio_settings_values::Settings;
+pub use radio_values::{MountName, Shown};
+pub use section::{KnownKey, SECTIONS, Section, ValueKind, home_of};
+pub use web::AnswerSettings;
 
 /// The error of each call that takes memory: there was none.
 pub type OutOfMemory = std::alloc::AllocError;

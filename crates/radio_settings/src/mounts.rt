@@ -1,118 +1,173 @@
-//! The mounts that the settings name, and the relays.
-ghost use Rattle.std.specs.Prelude.{◌≡◌, ℕ, IfOk, List, MatchResult, None, Some, find, map};
-ghost use Rattle.std.specs.Option.{option_copied};
-ghost use Rattle.std.specs.Str.{bytes_eq};
-ghost use Rattle.radio_settings.specs.Repeats.{first_repeat};
+//! The tables `[[mount]]`.
+ghost use Rattle.std.specs.Prelude.{◌≡◌, IfOk, [], ◌∷◌, map};
+ghost use Rattle.toml.specs.Data.{no_members};
+ghost use Rattle.std.specs.List.{flat_map};
+ghost use Rattle.toml.specs.View.{table_view};
+ghost use Rattle.radio_keys.specs.Rows.{faults_in, first_fault};
+ghost use Rattle.radio_keys.specs.Reading.{Reads, ReadsAs};
+ghost use Rattle.radio_settings.specs.Parts.{mounts_fault};
+ghost use Rattle.radio_settings.specs.Mounts.{listeners_fault, listeners_of, mount_fault, mount_of, mount_rows, mounts_of};
+ghost use Rattle.radio_settings.specs.Mounts.{options_fault, options_of, source_fault, source_of, stream_fault, stream_of, users_fault, users_of};
 
-use crate::places::{item_at, places_of};
-use crate::{MountSetting, OutOfMemory, RelaySetting};
-use radio_values::MountName;
-use std::alloc::Global;
-use std::collections::BTreeMap;
-use std::marker::Model;
+use crate::{Key, OutOfMemory, SettingsFault};
+use radio_keys::{
+    field, flag_or, name, number, number_or, required_name, tables_at, text, text_or,
+};
+use radio_settings_values::{
+    AccessSettings, LimitSettings, ListenerOptions, Login, MountOptions, MountSetting,
+    StreamOptions, UserOptions,
+};
+use std::alloc::{AllocError, Global};
+use toml::Table;
 
-/// The tables `[[mount]]`, in their order. No two have one name.
-pub type MountSettings = NamedSettings<MountSetting>;
-
-/// The tables `[[relay]]`, in their order. No two feed one mount.
-pub type RelaySettings = NamedSettings<RelaySetting>;
-
-/// A table of a list that goes by the name of a mount.
-pub trait Named: Drop {
-    // That name.
-    ghost name_of: { Self → List ℕ };
-
-    /// That name.
-    fn name(&self) -> MountName
-        ensures { result ≡ name_of self.now };
-}
-
-/// A mount goes by its own name.
-impl Named for MountSetting {
-    ghost name_of = { λ mount. mount.name };
-
-    fn name(&self) -> MountName {
-        self.name
-    }
-}
-
-/// A relay goes by the mount that it feeds.
-impl Named for RelaySetting {
-    ghost name_of = { λ relay. relay.local_mount };
-
-    fn name(&self) -> MountName {
-        self.local_mount
-    }
-}
-
-/// Tables of a list, in their order. No two go by one name.
-pub struct NamedSettings<T: Named> {
-    list: Vec<T>,
-    /// Where in the list the one of a name stands.
-    places: BTreeMap<MountName, usize>,
-}
-
-impl<T: Named> Drop for NamedSettings<T> {
-    fn drop(self) {
-        let NamedSettings { list, places } = self;
-        drop(list);
-        drop(places);
-    }
-}
-
-impl<T: Named> Model for NamedSettings<T> {
-    ghost use Rattle.std.specs.Prelude.{◌≡◌, List, None, map};
-    ghost use Rattle.radio_settings.specs.Places.{HasPlaces};
-    ghost use Rattle.radio_settings.specs.Repeats.{first_repeat};
-
-    ghost Value = { List T };
-
-    ghost view = { λ a. a.list.items };
-
-    ghost invariant = { λ a. (first_repeat (map T.name_of a.list.items) ≡ None) × HasPlaces a.places (map T.name_of a.list.items) };
-}
-
-impl<T: Named> NamedSettings<T> {
-    /// Tables of different names, or the first name that stands twice. An `Err` outside means that memory ran out.
-    pub fn new(
-        alloc: Global,
-        list: Vec<T>,
-    ) -> Result<Result<NamedSettings<T>, MountName>, OutOfMemory>
-        ensures { let names = map T.name_of list.items in
-            IfOk result (λ made. MatchResult made (λ named. (first_repeat names ≡ None) × (named ≡ list.items)) (λ name. first_repeat names ≡ Some name)) }
-    {
-        let names = names_of(alloc, list.as_slice())?;
-        match places_of(alloc, names.as_slice())? {
-            Ok(places) => Ok(Ok(NamedSettings { list, places })),
-            Err(name) => Ok(Err(name)),
-        }
-    }
-
-    /// All of them, in the order of the text.
-    pub fn as_slice(&self) -> &[T]
-        ensures all { result.now ≡ self.now }
-        ensures apart { first_repeat (map T.name_of self.now) ≡ None }
-    {
-        self.list.as_slice()
-    }
-
-    /// The one of a name.
-    pub fn get(&self, name: &MountName) -> Option<&T>
-        ensures { option_copied result ≡ find (λ table. bytes_eq (T.name_of table) name.now) self.now }
-    {
-        match self.places.get(name) {
-            Some(place) => item_at(self.list.as_slice(), *place),
-            None => None,
-        }
-    }
-}
-
-fn names_of<T: Named>(alloc: Global, tables: &[T]) -> Result<Vec<MountName>, OutOfMemory>
-    ensures { IfOk result (λ names. names.items ≡ map T.name_of tables.now) }
+/// All mounts that have a table.
+#[tactic(auto, unfolding(crate::specs::Parts::mounts_fault))]
+pub fn mounts(
+    alloc: Global,
+    document: &Table,
+    access: &AccessSettings,
+    limits: &LimitSettings,
+) -> Result<Vec<MountSetting>, SettingsFault>
+    ensures { let d = table_view document.now in
+        ReadsAs (λ v. v.items) (mounts_fault d) (mounts_of access.now limits.now d) result }
 {
-    let mut names = Vec::new(alloc);
+    let tables = tables_at(alloc, document, Key::Mount)?;
+    mounts_in(alloc, tables.as_slice(), access, limits)
+}
+
+fn mounts_in(
+    alloc: Global,
+    tables: &[&Table],
+    access: &AccessSettings,
+    limits: &LimitSettings,
+) -> Result<Vec<MountSetting>, SettingsFault>
+    ensures { let ts = map (λ t. table_view t.now) tables.now in
+        ReadsAs (λ v. v.items) (first_fault (flat_map (faults_in mount_rows) ts)) (map (mount_of access.now limits.now) ts) result }
+{
+    let mut mounts = Vec::new(alloc);
     for table in tables {
-        names.push(table.name())?;
+        mounts.push(mount(alloc, table, access, limits)?)?;
     }
-    Ok(names)
+    Ok(mounts)
+}
+
+#[tactic(auto, using(crate::proofs::PartLemmas::mount_parts), unfolding(crate::specs::Mounts::mount_of))]
+pub(crate) fn mount(
+    alloc: Global,
+    table: &Table,
+    access: &AccessSettings,
+    limits: &LimitSettings,
+) -> Result<MountSetting, SettingsFault>
+    ensures { let t = table_view table.now in
+        Reads (mount_fault t) (mount_of access.now limits.now t) result }
+{
+    Ok(MountSetting {
+        name: required_name(table, Key::MountName)?,
+        options: options(alloc, table, access, limits)?,
+    })
+}
+
+/// What a table sets for a mount.
+#[tactic(auto, using(crate::proofs::PartLemmas::options_parts), unfolding(crate::specs::Mounts::options_of))]
+fn options(
+    alloc: Global,
+    table: &Table,
+    access: &AccessSettings,
+    limits: &LimitSettings,
+) -> Result<MountOptions, SettingsFault>
+    ensures { let t = table_view table.now in
+        Reads (options_fault t) (options_of access.now limits.now t) result }
+{
+    let source = source(alloc, table, access)?;
+    let listeners = listeners(table)?;
+    let (stream, users) = stream_and_users(alloc, table, limits)?;
+    Ok(MountOptions {
+        source,
+        listeners,
+        stream,
+        users,
+    })
+}
+
+fn stream_and_users(
+    alloc: Global,
+    table: &Table,
+    limits: &LimitSettings,
+) -> Result<(StreamOptions, UserOptions), SettingsFault>
+    ensures { let t = table_view table.now in
+        Reads (first_fault (stream_fault t ∷ users_fault t ∷ [])) (stream_of limits.now t, users_of t) result }
+{
+    let stream = stream(alloc, table, limits)?;
+    let users = users(alloc, table)?;
+    Ok((stream, users))
+}
+
+#[tactic(auto, unfolding(crate::specs::Mounts::source_fault, crate::specs::Mounts::source_of))]
+fn source(alloc: Global, table: &Table, access: &AccessSettings) -> Result<Login, SettingsFault>
+    ensures { let t = table_view table.now in
+        Reads (source_fault t) (source_of access.now t) result }
+{
+    Ok(Login {
+        username: text_or(alloc, table, Key::Username, "source")?,
+        password: text_or(alloc, table, Key::Password, access.source_password.as_str())?,
+    })
+}
+
+#[tactic(auto, unfolding(crate::specs::Mounts::listeners_fault, crate::specs::Mounts::listeners_of))]
+fn listeners(table: &Table) -> Result<ListenerOptions, SettingsFault>
+    ensures { let t = table_view table.now in
+        Reads (listeners_fault t) (listeners_of t) result }
+{
+    Ok(ListenerOptions {
+        max_listeners: number(table, Key::MaxListeners)?,
+        max_listener_duration: number(table, Key::MaxListenerDuration)?,
+        fallback_mount: name(table, Key::FallbackMount)?,
+        fallback_override: flag_or(table, Key::FallbackOverride, false)?,
+        fallback_when_full: flag_or(table, Key::FallbackWhenFull, false)?,
+    })
+}
+
+#[tactic(auto, unfolding(crate::specs::Mounts::stream_fault, crate::specs::Mounts::stream_of))]
+fn stream(
+    alloc: Global,
+    table: &Table,
+    limits: &LimitSettings,
+) -> Result<StreamOptions, SettingsFault>
+    ensures { let t = table_view table.now in
+        Reads (stream_fault t) (stream_of limits.now t) result }
+{
+    Ok(StreamOptions {
+        hidden: flag_or(table, Key::Hidden, false)?,
+        burst_size: number_or(table, Key::BurstSize, limits.burst_size.get())?,
+        mp3_metadata_interval: number_or(table, Key::Mp3MetadataInterval, 16000)?,
+        stream_name: field(alloc, table, Key::StreamName)?,
+        genre: field(alloc, table, Key::Genre)?,
+    })
+}
+
+#[tactic(auto, unfolding(crate::specs::Mounts::users_fault, crate::specs::Mounts::users_of))]
+fn users(alloc: Global, table: &Table) -> Result<UserOptions, SettingsFault>
+    ensures { let t = table_view table.now in
+        Reads (users_fault t) (users_of t) result }
+{
+    Ok(UserOptions {
+        htpasswd: text(alloc, table, Key::Htpasswd)?,
+        allow_duplicate_users: flag_or(table, Key::AllowDuplicateUsers, true)?,
+    })
+}
+
+/// What holds for a mount that has no table: all defaults. The empty table has no fault, so an `Err` means that memory
+/// ran out.
+pub fn default_options(
+    alloc: Global,
+    access: &AccessSettings,
+    limits: &LimitSettings,
+) -> Result<MountOptions, OutOfMemory>
+    ensures { IfOk result (λ options. options ≡ options_of access.now limits.now no_members) }
+{
+    let empty = Table::new(alloc);
+    match options(alloc, &empty, access, limits) {
+        Ok(options) => Ok(options),
+        Err(_) => Err(AllocError),
+    }
 }

@@ -11,8 +11,8 @@ use crate::SettleFault;
 use crate::settling::settle_book;
 use radio_access::Lists;
 use radio_book::{Entry, House, Kept, Pass};
-use radio_hall::Hall;
-use radio_settings::Settings;
+use radio_hall_lock::Hall;
+use radio_settings_values::Settings;
 use std::alloc::Global;
 
 /// Holds all passes of a hall against its history, once the threads have been joined; the history then. A new core of these settings

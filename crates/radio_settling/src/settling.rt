@@ -13,7 +13,7 @@ use crate::{OutOfMemory, SettleFault};
 use radio_access::Lists;
 use radio_book::{Book, Entry, House, Kept, Pass, Stamp};
 use radio_merge::{ControlLine, Family, MergeFault, merge};
-use radio_settings::Settings;
+use radio_settings_values::Settings;
 use std::alloc::Global;
 
 /// Holds all passes of a server against its lists, when nobody calls any more. Returns the one history that all lists are, through

@@ -3,8 +3,8 @@ use Rattle.std.specs.Prelude.{ℕ, Bool, false, ◌||◌, ◌==◌, ◌-◌, ◌
 use Rattle.std.specs.Str.{bytes_eq}
 use Rattle.radio_addr.specs.declared.address.Address.{Address}
 use Rattle.radio_addr.specs.declared.address.Address.TheVariants.{V4, V6}
-use Rattle.radio_settings.specs.declared.settings.MountSetting.{MountSetting}
-use Rattle.radio_settings.specs.declared.settings.Settings.{Settings}
+use Rattle.radio_settings_values.specs.declared.settings.MountSetting.{MountSetting}
+use Rattle.radio_settings_values.specs.declared.settings.Settings.{Settings}
 
 -- only this machine reaches it: IPv4 from 127.0.0.0 to 127.255.255.255, and `::1`
 abbrev pub is_loopback : Option Address → Bool

@@ -6,7 +6,7 @@ use Rattle.std.specs.String.{string_bytes}
 use Rattle.radio_keys.specs.declared.fault.SettingsFault.{SettingsFault}
 use Rattle.radio_keys.specs.declared.fault.SettingsFault.TheVariants.{OutOfMemory as NoMemoryForSettings}
 use Rattle.radio_keys.specs.Words.{fault_text}
-use Rattle.radio_documents.specs.Sections.{section_word}
+use Rattle.radio_settings.specs.Sections.{section_word}
 use Rattle.radio_log.specs.declared.facts.FaultyKey.{FaultyKey}
 use Rattle.radio_startup.specs.declared.fault.FileFault.{FileFault}
 use Rattle.radio_startup.specs.declared.fault.FileFault.TheVariants.{CannotRead, Line, NotToml, Settings, OutOfMemory}

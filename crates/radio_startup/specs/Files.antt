@@ -5,12 +5,12 @@ use Rattle.radio_access.specs.Lists.{Lists, no_lists, with_users}
 use Rattle.radio_addr.specs.declared.lines.AddressRange.{AddressRange}
 use Rattle.radio_addr.specs.Lists.{list_of}
 use Rattle.radio_creds.specs.UserList.{users_of}
-use Rattle.radio_documents.specs.Document.{reading_of}
-use Rattle.radio_documents.specs.Listen.{ProxiesTold}
-use Rattle.radio_documents.specs.Web.{answers_told}
-use Rattle.radio_settings.specs.declared.settings.AddressLists.{AddressLists}
-use Rattle.radio_settings.specs.declared.settings.MountSetting.{MountSetting}
-use Rattle.radio_settings.specs.declared.settings.Settings.{Settings}
+use Rattle.radio_settings.specs.Document.{reading_of}
+use Rattle.radio_settings.specs.Listen.{ProxiesTold}
+use Rattle.radio_settings.specs.Web.{answers_told}
+use Rattle.radio_settings_values.specs.declared.settings.AddressLists.{AddressLists}
+use Rattle.radio_settings_values.specs.declared.settings.MountSetting.{MountSetting}
+use Rattle.radio_settings_values.specs.declared.settings.Settings.{Settings}
 use Rattle.radio_startup.specs.declared.files.Station.{Station}
 
 -- which file holds which bytes

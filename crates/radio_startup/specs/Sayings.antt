@@ -1,7 +1,7 @@
 -- What the program says of faults, of keys that are passed over, and in the log.
 use Rattle.std.specs.Prelude.{◌≡◌, ◌==◌, ℕ, List, [], ◌++◌, length, codes, decimal, min, if◌then◌else◌}
 use Rattle.std.specs.String.{string_bytes}
-use Rattle.radio_documents.specs.Sections.{section_word}
+use Rattle.radio_settings.specs.Sections.{section_word}
 use Rattle.radio_keys.specs.Keys.{word}
 use Rattle.radio_log.specs.declared.facts.Fact.{Fact}
 use Rattle.radio_log.specs.declared.facts.Fact.TheVariants.{Started}

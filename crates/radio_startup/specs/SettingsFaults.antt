@@ -2,7 +2,7 @@
 use Rattle.std.specs.Prelude.{◌≡◌, Result, Err}
 use Rattle.radio_keys.specs.declared.fault.SettingsFault.{SettingsFault}
 use Rattle.radio_keys.specs.declared.fault.SettingsFault.TheVariants.{NotToml as NoToml, OutOfMemory as NoMemory}
-use Rattle.radio_settings.specs.declared.settings.Settings.{Settings as SettingsOf}
+use Rattle.radio_settings_values.specs.declared.settings.Settings.{Settings as SettingsOf}
 use Rattle.radio_startup.specs.declared.fault.FileFault.{FileFault}
 use Rattle.radio_startup.specs.declared.fault.FileFault.TheVariants.{CannotRead, Line, NotToml, Settings, OutOfMemory}
 

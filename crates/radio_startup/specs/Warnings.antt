@@ -5,15 +5,15 @@ use Rattle.std.specs.Option.{option_to_list}
 use Rattle.std.specs.Str.{bytes_eq}
 use Rattle.std.specs.String.{string_bytes}
 use Rattle.radio_addr.specs.Addresses.{peer_of}
-use Rattle.radio_documents.specs.Sections.{section_word}
+use Rattle.radio_settings.specs.Sections.{section_word}
 use Rattle.radio_keys.specs.Keys.{word}
 use Rattle.radio_log.specs.declared.facts.Warning.{Warning}
 use Rattle.radio_review.specs.declared.meant.Meant.{Meant}
 use Rattle.radio_review.specs.declared.meant.Meant.TheVariants.{At, Key}
 use Rattle.radio_review.specs.declared.unknown.UnknownKey.{UnknownKey}
-use Rattle.radio_settings.specs.declared.settings.AccessSettings.{AccessSettings}
-use Rattle.radio_settings.specs.declared.settings.MountSetting.{MountSetting}
-use Rattle.radio_settings.specs.declared.settings.Settings.{Settings}
+use Rattle.radio_settings_values.specs.declared.settings.AccessSettings.{AccessSettings}
+use Rattle.radio_settings_values.specs.declared.settings.MountSetting.{MountSetting}
+use Rattle.radio_settings_values.specs.declared.settings.Settings.{Settings}
 use Rattle.radio_startup.specs.Doubts.{is_loopback, is_named, is_example, limited_listeners}
 
 -- a warning of a key that the settings have

@@ -4,7 +4,7 @@ ghost use Rattle.radio_addr.specs.Addresses.{peer_of};
 ghost use Rattle.radio_startup.specs.Doubts.{is_example, is_loopback, is_named, limit_of, limited_listeners};
 
 use radio_addr::{Address, read_peer};
-use radio_settings::{MountSetting, Settings};
+use radio_settings_values::{MountSetting, Settings};
 use radio_values::MountName;
 
 /// Whether a password is one of the example, which everybody knows.

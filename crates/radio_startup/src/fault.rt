@@ -8,9 +8,9 @@ ghost use Rattle.radio_startup.specs.Sayings.{IsReasonOf};
 
 use crate::misreading::Misreading;
 use crate::notices::words_of;
-use radio_documents::SettingsFault;
 use radio_log::{FaultyKey, Text};
 use radio_review::FaultPlace;
+use radio_settings::SettingsFault;
 use std::alloc::Global;
 use std::{fmt, io};
 

@@ -2,9 +2,9 @@
 
 ghost use Rattle.std.specs.Prelude.{◌≡◌, ℕ, List, Ok, Some, IfOk, IfErr, codes};
 ghost use Rattle.std.specs.Str.{valid_up_to};
-ghost use Rattle.radio_documents.specs.Document.{reading_of};
-ghost use Rattle.radio_documents.specs.Listen.{ProxiesTold};
-ghost use Rattle.radio_documents.specs.Web.{answers_told};
+ghost use Rattle.radio_settings.specs.Document.{reading_of};
+ghost use Rattle.radio_settings.specs.Listen.{ProxiesTold};
+ghost use Rattle.radio_settings.specs.Web.{answers_told};
 ghost use Rattle.radio_startup.specs.declared.fault.FileFault.TheVariants.{OutOfMemory as NoMemory};
 ghost use Rattle.radio_startup.specs.Files.{AreListsOf, AreProxiesOf, IsStationOf};
 ghost use Rattle.radio_startup.specs.Misreadings.{IsMisreadAt};
@@ -17,9 +17,9 @@ use crate::misreading::misread;
 use crate::reading::ReadsFiles;
 use radio_access::Lists;
 use radio_addr::AddressList;
-use radio_documents::{AnswerSettings, SettingsFault};
 use radio_review::{UnknownKey, locate, unknown_keys};
-use radio_settings::Settings;
+use radio_settings::{AnswerSettings, SettingsFault};
+use radio_settings_values::Settings;
 use radio_values::Text;
 use std::alloc::Global;
 use std::marker::Model;
@@ -196,7 +196,7 @@ fn proxies_path(alloc: Global, bytes: &[u8]) -> Result<Option<Text>, FileFault>
     let Ok(text) = str::from_utf8(bytes) else {
         return Err(misread(alloc, bytes, 0, "not UTF-8"));
     };
-    match radio_documents::read_proxies(alloc, text) {
+    match radio_settings::read_proxies(alloc, text) {
         Ok(path) => Ok(path),
         Err(fault) => Err(FileFault::Settings { fault, at: None }),
     }
@@ -226,7 +226,7 @@ fn answers_of(alloc: Global, bytes: &[u8]) -> Result<AnswerSettings, FileFault>
     let Ok(text) = str::from_utf8(bytes) else {
         return Err(misread(alloc, bytes, 0, "not UTF-8"));
     };
-    match radio_documents::read_answers(alloc, text) {
+    match radio_settings::read_answers(alloc, text) {
         Ok(answers) => Ok(answers),
         Err(fault) => Err(FileFault::Settings { fault, at: None }),
     }
@@ -237,7 +237,7 @@ fn settings_in(alloc: Global, text: &str) -> Result<Settings, FileFault>
     ensures settings { IfOk result (λ settings. reading_of text.now ≡ Ok settings) }
     ensures fault { IfErr result (IsFaultOf (reading_of text.now)) }
 {
-    match radio_documents::read_settings(alloc, text) {
+    match radio_settings::read_settings(alloc, text) {
         Ok(settings) => Ok(settings),
         Err(SettingsFault::NotToml) => Err(not_toml(alloc, text)),
         Err(fault) => {

@@ -11,7 +11,7 @@ use crate::reading::ReadsFiles;
 use radio_access::Lists;
 use radio_addr::{AddressList, ListFault};
 use radio_creds::Users;
-use radio_settings::{AddressLists, MountSetting, Settings};
+use radio_settings_values::{AddressLists, MountSetting, Settings};
 use radio_values::Text;
 use std::alloc::Global;
 

@@ -10,7 +10,7 @@ use crate::limits::limit_named;
 use crate::warnings::warnings_of;
 use radio_log::{Fact, Moment, Note, Text, line};
 use radio_review::UnknownKey;
-use radio_settings::Settings;
+use radio_settings_values::Settings;
 use std::alloc::{AllocGlobal, Global};
 use std::fmt::Display;
 use std::fs::Files;

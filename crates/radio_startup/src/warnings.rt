@@ -9,7 +9,7 @@ use crate::OutOfMemory;
 use crate::doubts::{is_example, is_loopback, is_named, limited_listeners};
 use radio_log::{KeyPlace, Text, Warning};
 use radio_review::{Meant, UnknownKey};
-use radio_settings::{AccessSettings, MountSetting, Settings};
+use radio_settings_values::{AccessSettings, MountSetting, Settings};
 use radio_values::Text as Password;
 use std::alloc::Global;
 

@@ -2,9 +2,9 @@
 use Rattle.std.specs.Prelude.{ℕ, ◌-◌, ◌/◌, List, [], unwrap_or, length, map}
 use Rattle.std.specs.Option.{option_map}
 use Rattle.radio_creds.specs.Credentials.{Credentials}
-use Rattle.radio_settings.specs.Options.{options_for}
-use Rattle.radio_listeners.specs.Listed.{ListedGuest, guests_at}
-use Rattle.radio_seats.specs.Seats.{count_at}
+use Rattle.radio_settings_values.specs.Options.{options_for}
+use Rattle.radio_seats.specs.Listed.{ListedGuest, guests_at}
+use Rattle.radio_seats_rows.specs.Seats.{count_at}
 use Rattle.radio_listing.specs.declared.rows.PublicRow.{PublicRow}
 use Rattle.radio_listing.specs.declared.rows.MountRow.{MountRow}
 use Rattle.radio_listing.specs.declared.rows.ListenerRow.{ListenerRow}

@@ -1,8 +1,8 @@
 -- What is shown at the paths of the web site.
 use Rattle.std.specs.Prelude.{ℕ, List, codes}
-use Rattle.radio_settings.specs.declared.settings.Settings.{Settings}
-use Rattle.radio_settings.specs.declared.web.WebPath.{WebPath}
-use Rattle.radio_settings.specs.declared.web.WebPath.TheVariants.{IcecastStatus, Page as AtPage}
+use Rattle.radio_settings_values.specs.declared.settings.Settings.{Settings}
+use Rattle.radio_settings_values.specs.declared.web.WebPath.{WebPath}
+use Rattle.radio_settings_values.specs.declared.web.WebPath.TheVariants.{IcecastStatus, Page as AtPage}
 use Rattle.radio_listing.specs.declared.rows.Server.{Server}
 use Rattle.radio_listing.specs.Icecast.{icecast_text}
 use Rattle.radio_listing.specs.Reached.{base_url}

@@ -3,7 +3,7 @@
 //! - [`shown`]: a listing, for everybody, an operator or a relay.
 //! - [`page`]: what is at a path of the web site.
 //!
-//! Both look at the house (`radio_house`) and at the listeners (`radio_seats`), and change nothing. The rows of a text are looked up
+//! Both look at the house (`radio_house`) and at the listeners (`radio_seats_rows`), and change nothing. The rows of a text are looked up
 //! here (`listings`); its bytes are `radio_listing`'s.
 #![tactic(auto)]
 

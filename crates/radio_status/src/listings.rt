@@ -4,7 +4,7 @@ ghost use Rattle.std.specs.Prelude.{◌≡◌, ◌++◌, [], ◌∷◌, map, unw
 ghost use Rattle.std.specs.Option.{option_map};
 ghost use Rattle.radio_listing.specs.Listeners.{listeners_text};
 ghost use Rattle.radio_listing.specs.Public.{status_text};
-ghost use Rattle.radio_listeners.specs.Listed.{lent_guest};
+ghost use Rattle.radio_seats.specs.Listed.{lent_guest};
 ghost use Rattle.radio_status.specs.Listings.{shown, public_row, mount_row, mount_rows, listener_row, listener_rows, user_of};
 ghost use Rattle.radio_house.specs.World.{world};
 ghost use Rattle.radio_mounts.specs.Parts.{live_in};
@@ -17,13 +17,13 @@ use radio_attached::Listeners;
 use radio_creds::Pair;
 use radio_events::{Listing, Text};
 use radio_house::House;
-use radio_listeners::LentListener;
 use radio_listing::{
     ListenerRow, MountRow, PublicRow, Text as Shown, list_clients, list_mounts, stats, status,
     stream_list,
 };
 use radio_mounts::MountPart;
 use radio_parts::Session;
+use radio_seats::LentListener;
 use radio_values::{MountName, Title};
 use std::alloc::Global;
 

@@ -13,7 +13,7 @@ use radio_attached::Listeners;
 use radio_events::Text;
 use radio_house::House;
 use radio_listing::{Server, Text as Shown, base_url, icecast_status};
-use radio_settings::WebPath;
+use radio_settings_values::WebPath;
 use std::alloc::Global;
 
 /// What is shown at the path, where these listen, to one who calls the server by this host. `OutOfMemory` where

@@ -4,7 +4,7 @@ use Rattle.std.specs.List.{enumerate_from}
 use Rattle.std.specs.Arc.{arc_value}
 use Rattle.std.specs.declared.sync.Arc.{Arc}
 use Rattle.std.proofs.lemmas.List.{map-append, take_more, length-map, length-take-le}
-use Rattle.radio_settings.specs.declared.settings.RelaySetting.{RelaySetting}
+use Rattle.radio_settings_values.specs.declared.settings.RelaySetting.{RelaySetting}
 use Rattle.radio_tries.specs.Tries.{Trials, queue, waiting_of}
 
 module _ {X : Type 0} where

@@ -8,8 +8,8 @@ use Rattle.radio_masters.specs.declared.relay_end.RelayEnd.{RelayEnd}
 use Rattle.radio_masters.specs.declared.relay_end.RelayEnd.TheVariants.{NotWished}
 use Rattle.radio_masters.specs.declared.turns.Waiting.{Waiting}
 use Rattle.radio_masters.specs.Ends.{keeps_place}
-use Rattle.radio_settings.specs.declared.settings.RelaySetting.{RelaySetting}
-use Rattle.radio_settings.specs.declared.settings.Settings.{Settings}
+use Rattle.radio_settings_values.specs.declared.settings.RelaySetting.{RelaySetting}
+use Rattle.radio_settings_values.specs.declared.settings.Settings.{Settings}
 use Rattle.radio_relay.specs.Orders.{is_listed, relay_at}
 use Rattle.radio_relay.specs.StreamList.{name_order}
 use Rattle.radio_tries.specs.declared.outcome.Outcome.{Outcome}

@@ -4,8 +4,8 @@ use Rattle.std.specs.Arc.{arc_value}
 use Rattle.radio_relay.specs.declared.orders.RelayOrder.{RelayOrder}
 use Rattle.radio_relay.specs.declared.orders.RelayOrder.TheVariants.{Start, Stop}
 use Rattle.radio_relay.specs.Orders.{relay_at}
-use Rattle.radio_settings.specs.declared.settings.RelaySetting.{RelaySetting}
-use Rattle.radio_settings.specs.declared.settings.Settings.{Settings}
+use Rattle.radio_settings_values.specs.declared.settings.RelaySetting.{RelaySetting}
+use Rattle.radio_settings_values.specs.declared.settings.Settings.{Settings}
 use Rattle.radio_tries.specs.declared.wishes.Sorted.{Sorted}
 
 -- the mounts whose relays orders stop

@@ -11,7 +11,7 @@ ghost use Rattle.radio_tries.specs.Tries.{IsStarted, due_of, ended, failing_of, 
 use crate::OutOfMemory;
 use crate::outcome::Outcome;
 use radio_masters::{Failing, Waiting, in_turn};
-use radio_settings::{RelaySetting, Settings};
+use radio_settings_values::{RelaySetting, Settings};
 use radio_values::MountName;
 use std::alloc::Global;
 use std::collections::{BTreeMap, BTreeSet};

@@ -6,7 +6,7 @@ ghost use Rattle.radio_tries.specs.Wishes.{Sorts, in_order, is_own, own_of, othe
 
 use crate::OutOfMemory;
 use radio_relay::RelayOrder;
-use radio_settings::{RelaySetting, Settings};
+use radio_settings_values::{RelaySetting, Settings};
 use radio_values::MountName;
 use std::alloc::Global;
 use std::sync::Arc;

@@ -1,7 +1,7 @@
 -- What is bound.
 use Rattle.std.specs.Prelude.{◌≡◌, List, ◌++◌, codes, decimal}
 use Rattle.std.specs.String.{string_bytes}
-use Rattle.radio_settings.specs.declared.settings.ListenSettings.{ListenSettings}
+use Rattle.radio_settings_values.specs.declared.settings.ListenSettings.{ListenSettings}
 use Rattle.radiod.specs.declared.fault.Fault.{Fault}
 use Rattle.radiod.specs.declared.fault.Fault.TheVariants.{CannotBind, OutOfMemory}
 use Rattle.radiod.specs.declared.fault.NotBound.{NotBound}

@@ -7,9 +7,9 @@
 #![tactic(auto)]
 
 ghost use Rattle.std.specs.Prelude.{◌≡◌, ℕ, IfErr, IfOk, List, Ok, Option, length};
-ghost use Rattle.radio_documents.specs.Document.{reading_of};
+ghost use Rattle.radio_settings.specs.Document.{reading_of};
 ghost use Rattle.radio_review.specs.declared.unknown.UnknownKey.{UnknownKey as UnknownKeyOf};
-ghost use Rattle.radio_settings.specs.declared.settings.Settings.{Settings as SettingsOf};
+ghost use Rattle.radio_settings_values.specs.declared.settings.Settings.{Settings as SettingsOf};
 ghost use Rattle.radio_startup.specs.Warnings.{warnings_of};
 ghost use Rattle.radiod.specs.declared.fault.Fault.TheVariants.{File};
 ghost use Rattle.radiod.specs.Checks.{verdict};

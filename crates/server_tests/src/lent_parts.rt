@@ -5,11 +5,11 @@ use crate::calls::{CALLS, Callee, number_given, serve, step_copy};
 use crate::stations::{core, settings};
 use radio_access::Lists;
 use radio_core::{Control, Core};
-use radio_documents::SettingsFault;
 use radio_events::{Event, Reply};
 use radio_merge::is_same_reply;
 use radio_mounts::{MountPart, PartAnswer};
-use radio_seats::OutOfMemory;
+use radio_seats_rows::OutOfMemory;
+use radio_settings::SettingsFault;
 use radio_values::MountName;
 use std::alloc::{AllocGlobal, Global};
 

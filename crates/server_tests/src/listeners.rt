@@ -5,7 +5,7 @@ use radio_addr::Peer;
 use radio_attached::Listeners;
 use radio_blocks::Place;
 use radio_policy::Rule;
-use radio_seats::{Guest, KeptName, OutOfMemory, Seat, SeatTest};
+use radio_seats_rows::{Guest, KeptName, OutOfMemory, Seat, SeatTest};
 use radio_values::MountName;
 use std::alloc::{AllocGlobal, Global};
 

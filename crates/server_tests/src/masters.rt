@@ -6,7 +6,7 @@ use crate::stations::{Station, core, settings};
 use radio_core::Core;
 use radio_masters::{Asked, ListFault, ListPull, MountPull, PullTurn, read_list_answer};
 use radio_session::Ending;
-use radio_settings::{RelaySetting, Settings, SlaveSetting};
+use radio_settings_values::{RelaySetting, Settings, SlaveSetting};
 use radio_values::MountName;
 use std::alloc::Global;
 use std::collections::BTreeSet;

@@ -6,10 +6,10 @@ use crate::calls::{arrival, command_event, listen_event, push_event, source_even
 use crate::stations::{core, settings};
 use radio_access::Lists;
 use radio_core::Core;
-use radio_documents::SettingsFault;
 use radio_events::{Asked, Command, Entry, Event, Reply};
 use radio_merge::{ControlLine, Family, MergeFault, MountItem, MountList, Stamp, merge};
 use radio_policy::Rule;
+use radio_settings::SettingsFault;
 use radio_values::MountName;
 use std::alloc::{AllocGlobal, Global};
 

@@ -5,7 +5,7 @@ use bytes::Bytes;
 use radio_blocks::Block;
 use radio_mounts::MountParts;
 use radio_parts::Session;
-use radio_seats::OutOfMemory;
+use radio_seats_rows::OutOfMemory;
 use radio_values::{MountName, Shown, Title};
 use std::alloc::{AllocGlobal, Global};
 

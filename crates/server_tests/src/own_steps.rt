@@ -7,7 +7,7 @@ use radio_blocks::{Block, Pieces};
 use radio_events::{Event, Reply};
 use radio_mounts::{MountPart, PartAnswer};
 use radio_parts::Session;
-use radio_seats::OutOfMemory;
+use radio_seats_rows::OutOfMemory;
 use radio_values::{MountName, Shown, Title};
 use std::alloc::{AllocGlobal, Global};
 

@@ -11,7 +11,7 @@ use crate::rows::{LISTENER, SOURCE, TITLED};
 use crate::workers::seats::{MemoryPost, add_passes, seats_for};
 use radio_book::{Entry, House, Kept, Pass};
 use radio_events::{Event, Reply};
-use radio_hall::Hall;
+use radio_hall_lock::Hall;
 use radio_intake::{Intake, IntakePass, ROOM};
 use radio_serving::{Gate, WebAnswers};
 use radio_workers::{Seat, Workplace, run_workers};

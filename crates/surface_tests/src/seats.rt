@@ -5,9 +5,9 @@ ghost use Rattle.std.specs.Prelude.{◌≡◌, IfOk};
 use radio_addr::Peer;
 use radio_blocks::Place;
 use radio_creds::basic;
-use radio_listeners::{ListenerStanding, Seats};
 use radio_policy::Rule;
-use radio_seats::{KeptName, OutOfMemory, Seat};
+use radio_seats::{ListenerStanding, Seats};
+use radio_seats_rows::{KeptName, OutOfMemory, Seat};
 use radio_values::MountName;
 use std::alloc::{AllocGlobal, Global};
 

@@ -3,10 +3,10 @@
 use crate::seats::{come, has_lost, sits_at};
 use radio_creds::Pair;
 use radio_fallback::{Landing, Move, View, carry, walk_from};
-use radio_listeners::Seats;
 use radio_mounts::MountParts;
 use radio_policy::Rule;
-use radio_seats::OutOfMemory;
+use radio_seats::Seats;
+use radio_seats_rows::OutOfMemory;
 use radio_values::MountName;
 use std::alloc::{AllocGlobal, Global};
 

@@ -2,7 +2,7 @@
 
 use super::*;
 use radio_relay::{RelayOrder, plan, read_stream_list};
-use radio_settings::RelaySetting;
+use radio_settings_values::RelaySetting;
 use radio_values::MountName;
 use std::collections::BTreeSet;
 

@@ -2,7 +2,7 @@
 
 use super::*;
 use radio_relay::{list_request, request_text};
-use radio_settings::{RelaySetting, SlaveSetting};
+use radio_settings_values::{RelaySetting, SlaveSetting};
 
 /// Settings, and what their relay and their slave send.
 const REQUESTS: &[(&str, &[u8], &[u8])] = &[

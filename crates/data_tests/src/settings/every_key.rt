@@ -1,7 +1,7 @@
 //! Every key given once and read back, and every default.
 
-use radio_documents::{AnswerSettings, read_answers, read_proxies, read_settings};
-use radio_settings::{
+use radio_settings::{AnswerSettings, read_answers, read_proxies, read_settings};
+use radio_settings_values::{
     Login, MountOptions, RelaySetting, Settings, SlaveSetting, WebPath, WebSettings,
 };
 use radio_values::{Field, MountName, Text, Within};

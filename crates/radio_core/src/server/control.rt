@@ -2,7 +2,7 @@
 
 ghost use Rattle.std.specs.Prelude.{◌≡◌, true, map, IsOk, IfOk, OnOk, OnErr};
 ghost use Rattle.std.specs.Option.{option_copied};
-ghost use Rattle.radio_seats.specs.Seats.{last_mount_of, sits_at};
+ghost use Rattle.radio_seats_rows.specs.Seats.{last_mount_of, sits_at};
 ghost use Rattle.radio_facts.specs.Wanted.{wanted};
 ghost use Rattle.radio_house.specs.World.{opening, standing_of, has_relay};
 ghost use Rattle.radio_changes.specs.Changes.{NeedsNoMemory};
@@ -25,7 +25,7 @@ use radio_changes::{Change, TimedState};
 use radio_events::{Event, Reply};
 use radio_facts::wanted;
 use radio_house::{House, Standing};
-use radio_settings::Settings;
+use radio_settings_values::Settings;
 use radio_values::MountName;
 use std::alloc::Global;
 use std::marker::Model;

@@ -1,11 +1,11 @@
 ghost use Rattle.std.specs.Prelude.{◌≡◌, ℕ, ◌≤◌, None, Some, IfOk};
 ghost use Rattle.radio_core.specs.Draw.{comes_to, draws, hands_out};
 ghost use Rattle.radio_core.specs.Outcomes.{out_of_place};
-ghost use Rattle.radio_seats.specs.Seats.{seat_of};
+ghost use Rattle.radio_seats_rows.specs.Seats.{seat_of};
 ghost use Rattle.radio_parts.specs.Sessions.{session_of};
 ghost use Rattle.std.specs.Option.{option_copied};
-ghost use Rattle.radio_seats.specs.declared.seat.Seat.{Seat as SeatOf};
-ghost use Rattle.radio_listeners.specs.Lent.{lent_seat};
+ghost use Rattle.radio_seats_rows.specs.declared.seat.Seat.{Seat as SeatOf};
+ghost use Rattle.radio_seats.specs.Lent.{lent_seat};
 ghost use Rattle.radio_house.specs.Waiting.{heard_at, silence_of};
 ghost use Rattle.radio_core.specs.CanStep.{CanDraw};
 ghost use Rattle.radio_mounts.specs.Steps.{IsKept};
@@ -21,8 +21,8 @@ use radio_blocks::{Pieces, Place};
 use radio_changes::Change;
 use radio_events::Reply;
 use radio_house::Standing;
-use radio_listeners::LentSeat;
 use radio_parts::{Session, Stream};
+use radio_seats::LentSeat;
 use radio_values::MountName;
 
 /// What a draw comes to: the reply, and the place up to which the listener has heard his stream then, if he is handed anything.

@@ -17,7 +17,7 @@ use radio_fallback::Landing;
 use radio_house::{House, Standing};
 use radio_parts::Session;
 use radio_policy::{Action, Rule, Verdict, judge};
-use radio_seats::Seat;
+use radio_seats_rows::Seat;
 use radio_values::{MountName, Shown};
 use std::alloc::Global;
 

@@ -11,7 +11,7 @@ use crate::outcome::Outcome;
 use radio_changes::Change;
 use radio_events::{ListenRequest, Reply};
 use radio_house::Standing;
-use radio_settings::WebPath;
+use radio_settings_values::WebPath;
 use radio_status::page;
 
 impl Control {

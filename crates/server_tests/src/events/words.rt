@@ -6,8 +6,8 @@ use crate::calls::{
 use radio_access::Lists;
 use radio_blocks::Pieces;
 use radio_core::{Core, OutOfMemory};
-use radio_documents::{SettingsFault, read_settings};
 use radio_events::{Asked, Command, Event, Listing, OpenedBy, Reply, Text};
+use radio_settings::{SettingsFault, read_settings};
 use radio_values::{MountName, Shown};
 use std::alloc::Global;
 

@@ -2,10 +2,10 @@
 
 use radio_access::Lists;
 use radio_core::OutOfMemory;
-use radio_documents::{SettingsFault, read_settings};
 use radio_floor::{Delivery, RunFault, Transcript, run};
 use radio_script::read_delivery;
 use radio_session::WebAnswers;
+use radio_settings::{SettingsFault, read_settings};
 use std::alloc::Global;
 
 const EIGHT_BYTES: &[u8] = b"open 1 10.0.0.1\n\

@@ -6,7 +6,7 @@ ghost use Rattle.radio_intake.specs.Passes.{all_parts};
 use crate::memory_line::{Manners, MemoryLine};
 use radio_addr::Peer;
 use radio_book::{House, Kept, Pass};
-use radio_hall::Hall;
+use radio_hall_lock::Hall;
 use radio_intake::{Intake, IntakePass};
 use radio_notes::Log;
 use radio_serving::Turn;

@@ -1,9 +1,9 @@
 use Rattle.std.proofs.Common.{◌==◌, ◌||◌, List, ap, sym, ◌∙◌}
 use Rattle.std.specs.Prelude.{map}
 use Rattle.radio_attachments.specs.declared.attachment.Attachment.{Attachment}
-use Rattle.radio_listeners.proofs.RowLemmas.{same_board}
+use Rattle.radio_seats.proofs.RowLemmas.{same_board}
 use Rattle.radio_policy.specs.declared.rule.Rule.TheVariants.{Lagged}
-use Rattle.radio_seats.specs.Board.{Board}
+use Rattle.radio_seats_rows.specs.Board.{Board}
 use Rattle.radio_attached.specs.Losses.{ended_where}
 use Rattle.radio_mounts.specs.Attached.{is_among}
 use Rattle.radio_attached.proofs.LossLemmas.{ends_more, ends_nobody}

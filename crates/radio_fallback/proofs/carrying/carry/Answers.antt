@@ -1,6 +1,6 @@
 use Rattle.std.proofs.Common.{◌≡◌, ◌<◌, ◌^◌, ℕ, List, length, refl, ap, sym, subst, ◌∙◌, arith}
-use Rattle.radio_seats.specs.Board.{Board}
-use Rattle.radio_listeners.proofs.RowLemmas.{same_board}
+use Rattle.radio_seats_rows.specs.Board.{Board}
+use Rattle.radio_seats.proofs.RowLemmas.{same_board}
 use Rattle.radio_parts.specs.Parts.{ends_in}
 use Rattle.radio_parts.specs.Sessions.{Session}
 use Rattle.radio_fallback.specs.Walk.{with_ends}

@@ -1,7 +1,7 @@
 use Rattle.std.proofs.Common.{◌≡◌, ◌⊎◌, inl, inr, true, ℕ, ◌+◌, List, [], ◌∷◌, drop, ap, sym, subst, refl, ◌∙◌}
 use Rattle.std.proofs.lemmas.List.{drop_all, drop_more}
-use Rattle.radio_settings.specs.declared.settings.RelaySetting.{RelaySetting}
-use Rattle.radio_seats.specs.Board.{is_prepared}
+use Rattle.radio_settings_values.specs.declared.settings.RelaySetting.{RelaySetting}
+use Rattle.radio_seats_rows.specs.Board.{is_prepared}
 use Rattle.radio_house.specs.Waiting.{feeds_on_demand}
 use Rattle.radio_house.proofs.WaitingLemmas.{first_or_other}
 use Rattle.radio_house.proofs.waiting.prepare_each.Goals as goal

@@ -1,5 +1,5 @@
 use Rattle.std.proofs.Common.{◌≡◌, ◌⊎◌, true, drop, ℕ, List}
-use Rattle.radio_seats.specs.Board.{is_prepared}
+use Rattle.radio_seats_rows.specs.Board.{is_prepared}
 use Rattle.radio_house.specs.Waiting.{feeds_on_demand}
 use Rattle.radio_house.proofs.waiting.prepare_each.Given as goal
 

@@ -1,5 +1,5 @@
 use Rattle.std.proofs.Common.{◌≡◌, ◌++◌, map, drop}
-use Rattle.radio_listeners.specs.Listed.{lent_guest}
+use Rattle.radio_seats.specs.Listed.{lent_guest}
 use Rattle.radio_status.specs.Listings.{listener_row}
 use Rattle.radio_status.proofs.listings.listener_rows.Given as goal
 

@@ -1,6 +1,6 @@
 use Rattle.std.proofs.Common.{◌≡◌, ℕ, true, None, List, ap, sym, subst, ◌∙◌}
-use Rattle.radio_seats.specs.Board.{Board, is_prepared}
-use Rattle.radio_seats.specs.Seats.{last_mount_of, with_seat}
+use Rattle.radio_seats_rows.specs.Board.{Board, is_prepared}
+use Rattle.radio_seats_rows.specs.Seats.{last_mount_of, with_seat}
 use Rattle.radio_fallback.specs.Heard.{heard}
 use Rattle.radio_attached.specs.Attached.{AreAttached, Listening}
 use Rattle.radio_mounts.specs.Attached.{places_in}

@@ -1,6 +1,6 @@
 use Rattle.std.proofs.Common.{ℕ, List, ap, sym, subst, ◌∙◌}
-use Rattle.radio_seats.specs.Board.{Board}
-use Rattle.radio_seats.specs.Seats.{sits_at, with_place}
+use Rattle.radio_seats_rows.specs.Board.{Board}
+use Rattle.radio_seats_rows.specs.Seats.{sits_at, with_place}
 use Rattle.radio_fallback.specs.Heard.{heard, GoesOver, IsAt}
 use Rattle.radio_attached.specs.Attached.{AreAttached, Listening}
 use Rattle.radio_mounts.specs.Attached.{places_in}

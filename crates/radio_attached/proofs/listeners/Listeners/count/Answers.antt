@@ -1,7 +1,7 @@
 use Rattle.std.proofs.Common.{ap, sym, subst, ◌∙◌}
 use Rattle.std.specs.List.Sorted.{IsStrictlySortedBy}
 use Rattle.std.specs.Ordering.{nat_cmp}
-use Rattle.radio_seats.specs.Seats.{count_at, AreByNumber}
+use Rattle.radio_seats_rows.specs.Seats.{count_at, AreByNumber}
 use Rattle.radio_fallback.proofs.HeardLemmas.{count_heard, numbers_heard}
 use Rattle.radio_mounts.specs.Attached.{places_in}
 use Rattle.radio_attached.specs.Attached.{Listening}

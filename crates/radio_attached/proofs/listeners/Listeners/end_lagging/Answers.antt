@@ -3,8 +3,8 @@ use Rattle.std.specs.Prelude.{map}
 use Rattle.radio_attachments.specs.declared.attachment.Attachment.{Attachment}
 use Rattle.radio_parts.specs.Timeouts.{lags_behind}
 use Rattle.radio_policy.specs.declared.rule.Rule.TheVariants.{Lagged}
-use Rattle.radio_seats.specs.Board.{Board}
-use Rattle.radio_seats.specs.Seats.{with_ended}
+use Rattle.radio_seats_rows.specs.Board.{Board}
+use Rattle.radio_seats_rows.specs.Seats.{with_ended}
 use Rattle.radio_fallback.specs.Heard.{heard}
 use Rattle.radio_attached.specs.Attached.{AreAttached, Listening}
 use Rattle.radio_mounts.specs.Attached.{places_in}

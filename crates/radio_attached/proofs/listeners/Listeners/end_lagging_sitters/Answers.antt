@@ -5,7 +5,7 @@ use Rattle.radio_fallback.proofs.HeardLemmas.{numbers_heard}
 use Rattle.radio_mounts.specs.Attached.{places_in}
 use Rattle.radio_parts.specs.Timeouts.{lags_behind}
 use Rattle.radio_policy.specs.declared.rule.Rule.TheVariants.{Lagged}
-use Rattle.radio_seats.specs.Seats.{AreByNumber}
+use Rattle.radio_seats_rows.specs.Seats.{AreByNumber}
 use Rattle.radio_attached.specs.Attached.{Listening}
 use Rattle.radio_attached.proofs.LaggingTurns.{fewer_turns, turns_begin, turns_end, turns_go_on}
 use Rattle.radio_attached.proofs.ListenersLemmas.{same_listening}

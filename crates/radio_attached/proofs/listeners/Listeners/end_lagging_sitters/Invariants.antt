@@ -2,7 +2,7 @@ use Rattle.std.proofs.Common.{◌≡◌, length}
 use Rattle.radio_fallback.specs.Carry.{numbers_past}
 use Rattle.radio_parts.specs.Timeouts.{lags_behind}
 use Rattle.radio_policy.specs.declared.rule.Rule.TheVariants.{Lagged}
-use Rattle.radio_seats.specs.Seats.{with_ended}
+use Rattle.radio_seats_rows.specs.Seats.{with_ended}
 use Rattle.radio_attached.proofs.LaggingTurns.{turns}
 use Rattle.radio_attached.proofs.listeners.Listeners.end_lagging_sitters.Given as goal
 

@@ -2,8 +2,8 @@ use Rattle.std.proofs.Common.{◌≡◌, [], List, not, ap, sym, subst, ◌∙�
 use Rattle.std.specs.Prelude.{filter, map}
 use Rattle.radio_attachments.specs.declared.attachment.Attachment.{Attachment}
 use Rattle.radio_policy.specs.declared.rule.Rule.TheVariants.{Lagged}
-use Rattle.radio_seats.specs.Board.{Board, is_prepared}
-use Rattle.radio_seats.specs.Seats.{sits_at}
+use Rattle.radio_seats_rows.specs.Board.{Board, is_prepared}
+use Rattle.radio_seats_rows.specs.Seats.{sits_at}
 use Rattle.radio_mounts.specs.Attached.{is_among}
 use Rattle.radio_mounts.specs.Exchange.{IsExchanged}
 use Rattle.radio_attached.specs.Attached.{Listening, listening}

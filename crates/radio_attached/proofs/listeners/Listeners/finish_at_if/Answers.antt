@@ -1,10 +1,10 @@
 use Rattle.std.proofs.Common.{◌≡◌, ℕ, None, List, refl, ap, sym, subst, ◌∙◌}
 use Rattle.std.specs.Prelude.{if◌then◌else◌}
-use Rattle.radio_seats.specs.Board.{Board}
-use Rattle.radio_seats.specs.Guests.{passes_at}
-use Rattle.radio_seats.specs.Rests.{how_many}
-use Rattle.radio_seats.specs.Seats.{AreByNumber, sits_at, with_ended}
-use Rattle.radio_seats.specs.declared.seat.Listener.{Listener}
+use Rattle.radio_seats_rows.specs.Board.{Board}
+use Rattle.radio_seats_rows.specs.Guests.{passes_at}
+use Rattle.radio_seats_rows.specs.Rests.{how_many}
+use Rattle.radio_seats_rows.specs.Seats.{AreByNumber, sits_at, with_ended}
+use Rattle.radio_seats_rows.specs.declared.seat.Listener.{Listener}
 use Rattle.radio_fallback.specs.Heard.{heard}
 use Rattle.radio_attached.specs.Attached.{AreAttached, Listening}
 use Rattle.radio_mounts.specs.Attached.{places_in}

@@ -1,8 +1,8 @@
 use Rattle.std.proofs.Common.{◌<◌, ap, sym, subst, ◌∙◌}
-use Rattle.radio_seats.specs.Guests.{passes_in}
-use Rattle.radio_seats.specs.Rests.{how_many}
-use Rattle.radio_seats.specs.Seats.{with_ended}
-use Rattle.radio_listeners.proofs.RowLemmas.{all_have_ended, end_at_one, fewer_left}
+use Rattle.radio_seats_rows.specs.Guests.{passes_in}
+use Rattle.radio_seats_rows.specs.Rests.{how_many}
+use Rattle.radio_seats_rows.specs.Seats.{with_ended}
+use Rattle.radio_seats.proofs.RowLemmas.{all_have_ended, end_at_one, fewer_left}
 use Rattle.radio_attached.specs.Attached.{Listening}
 use Rattle.radio_attached.specs.Attached.{Listening}
 use Rattle.radio_attached.proofs.ListenersLemmas.{same_listening}

@@ -1,7 +1,7 @@
 use Rattle.std.proofs.Common.{◌≡◌, ◌<◌, subst}
 use Rattle.std.specs.Prelude.{MatchOption}
-use Rattle.radio_seats.specs.Guests.{passes_in, passes_at}
-use Rattle.radio_seats.specs.Rests.{how_many}
+use Rattle.radio_seats_rows.specs.Guests.{passes_in, passes_at}
+use Rattle.radio_seats_rows.specs.Rests.{how_many}
 use Rattle.radio_mounts.specs.Attached.{places_in}
 use Rattle.radio_attached.specs.Attached.{Listening}
 use Rattle.radio_attached.proofs.ListenersLemmas.{some_heard}

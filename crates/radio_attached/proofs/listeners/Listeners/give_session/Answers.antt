@@ -1,6 +1,6 @@
 use Rattle.std.proofs.Common.{refl, ap, sym, subst, ◌∙◌}
-use Rattle.radio_seats.specs.Board.{Board}
-use Rattle.radio_seats.specs.Seats.{with_session_at}
+use Rattle.radio_seats_rows.specs.Board.{Board}
+use Rattle.radio_seats_rows.specs.Seats.{with_session_at}
 use Rattle.radio_fallback.specs.Heard.{heard}
 use Rattle.radio_attached.specs.Attached.{AreAttached, Listening}
 use Rattle.radio_mounts.specs.Attached.{places_in}

@@ -1,6 +1,6 @@
 use Rattle.std.proofs.Common.{◌≡◌, List, ap, sym, subst, ◌∙◌}
 use Rattle.std.specs.Prelude.{IfOk, map}
-use Rattle.radio_listeners.specs.Listed.{ListedGuest, lent_guest, guests_at}
+use Rattle.radio_seats.specs.Listed.{ListedGuest, lent_guest, guests_at}
 use Rattle.radio_mounts.specs.Attached.{places_in}
 use Rattle.radio_attached.specs.Attached.{Listening}
 use Rattle.radio_attached.proofs.HeardReads.{guests_heard}

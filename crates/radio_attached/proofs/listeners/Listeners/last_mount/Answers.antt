@@ -1,5 +1,5 @@
 use Rattle.std.proofs.Common.{ap, sym, ◌∙◌}
-use Rattle.radio_seats.specs.Seats.{last_mount_of}
+use Rattle.radio_seats_rows.specs.Seats.{last_mount_of}
 use Rattle.radio_mounts.specs.Attached.{places_in}
 use Rattle.radio_attached.specs.Attached.{Listening}
 use Rattle.radio_attached.proofs.HeardReads.{last_heard}

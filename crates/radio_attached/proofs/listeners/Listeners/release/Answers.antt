@@ -1,8 +1,8 @@
 use Rattle.std.proofs.Common.{ℕ, ◌==◌, not, ap, sym, ◌∙◌}
 use Rattle.std.specs.Prelude.{◌&&◌}
 use Rattle.std.specs.Str.{bytes_eq}
-use Rattle.radio_seats.specs.Board.{is_prepared}
-use Rattle.radio_seats.specs.Seats.{named_at}
+use Rattle.radio_seats_rows.specs.Board.{is_prepared}
+use Rattle.radio_seats_rows.specs.Seats.{named_at}
 use Rattle.radio_mounts.specs.Attached.{places_in}
 use Rattle.radio_attached.specs.Attached.{Listening}
 use Rattle.radio_attached.proofs.HeardReads.{named_heard}

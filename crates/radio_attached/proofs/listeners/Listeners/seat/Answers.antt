@@ -1,10 +1,10 @@
 use Rattle.std.proofs.Common.{◌≡◌, Some, None, ap, sym, ◌∙◌}
 use Rattle.std.specs.Prelude.{unwrap_or}
 use Rattle.std.specs.Option.{option_map}
-use Rattle.radio_seats.specs.declared.seat.Seat.{Seat}
-use Rattle.radio_seats.specs.Guests.{seat_of_guest}
-use Rattle.radio_seats.specs.Seats.{seat_of}
-use Rattle.radio_listeners.specs.Lent.{lent_seat}
+use Rattle.radio_seats_rows.specs.declared.seat.Seat.{Seat}
+use Rattle.radio_seats_rows.specs.Guests.{seat_of_guest}
+use Rattle.radio_seats_rows.specs.Seats.{seat_of}
+use Rattle.radio_seats.specs.Lent.{lent_seat}
 use Rattle.radio_mounts.specs.Attached.{places_in}
 use Rattle.radio_attached.specs.Attached.{Listening}
 use Rattle.radio_attached.proofs.HeardReads.{heard_seat, seat_heard}

@@ -1,6 +1,6 @@
 use Rattle.std.proofs.Common.{ap, sym, ◌∙◌}
-use Rattle.radio_seats.specs.Seats.{listener_of}
-use Rattle.radio_listeners.specs.Lent.{standing_in}
+use Rattle.radio_seats_rows.specs.Seats.{listener_of}
+use Rattle.radio_seats.specs.Lent.{standing_in}
 use Rattle.radio_mounts.specs.Attached.{places_in}
 use Rattle.radio_attached.specs.Attached.{Listening}
 use Rattle.radio_attached.proofs.HeardReads.{standing_heard}

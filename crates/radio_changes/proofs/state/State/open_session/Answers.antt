@@ -1,7 +1,7 @@
 use Rattle.std.proofs.Common.{sym, subst, arith}
 use Rattle.std.proofs.lemmas.List.{length-map}
 use Rattle.radio_attached.specs.Attached.{Listening}
-use Rattle.radio_seats.specs.Seats.{hears_session, with_session_at}
+use Rattle.radio_seats_rows.specs.Seats.{hears_session, with_session_at}
 use Rattle.radio_house.specs.Live.{AreLive}
 use Rattle.radio_changes.proofs.PreparedSeats.{seats_changed}
 use Rattle.radio_changes.proofs.state.State.open_session.Goals as goal

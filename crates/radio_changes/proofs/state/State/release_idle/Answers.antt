@@ -1,6 +1,6 @@
 use Rattle.std.proofs.Common.{◌≡◌, ◌==◌, false, sym, subst, ◌∙◌}
 use Rattle.std.specs.Prelude.{is_some}
-use Rattle.radio_seats.specs.Seats.{named_at}
+use Rattle.radio_seats_rows.specs.Seats.{named_at}
 use Rattle.radio_parts.proofs.PreparedLemmas.{idle_released}
 use Rattle.radio_house.proofs.LiveMounts.{heard_alike}
 use Rattle.radio_house.specs.Registry.{house_of}

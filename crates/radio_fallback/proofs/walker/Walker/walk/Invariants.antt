@@ -1,6 +1,6 @@
 use Rattle.std.proofs.Common.{◌≡◌}
 use Rattle.std.specs.Option.{option_copied}
-use Rattle.radio_seats.specs.Seats.{others_of}
+use Rattle.radio_seats_rows.specs.Seats.{others_of}
 use Rattle.radio_fallback.specs.Walk.{walk}
 use Rattle.radio_fallback.proofs.walker.Walker.walk.Given as goal
 

@@ -1,7 +1,7 @@
 use Rattle.std.proofs.Common.{◌<◌, ℕ, List, [], ◌∷◌, ◌++◌, length, arith, ap, sym, ◌∙◌}
 use Rattle.std.specs.Arc.{arc_value}
 use Rattle.radio_masters.specs.declared.turns.Waiting.{Waiting}
-use Rattle.radio_settings.specs.declared.settings.RelaySetting.{RelaySetting}
+use Rattle.radio_settings_values.specs.declared.settings.RelaySetting.{RelaySetting}
 use Rattle.radio_tries.specs.Tries.{due_of, tried_at, waiting_of}
 use Rattle.radio_tries.proofs.Queues.{queue_more}
 use Rattle.radio_tries.proofs.tries.Tries.waiting.Goals as goal

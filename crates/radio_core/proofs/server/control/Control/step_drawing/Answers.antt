@@ -1,7 +1,7 @@
 use Rattle.std.proofs.Common.{◌≡◌, Some, List, ap, sym, ◌∙◌}
-use Rattle.radio_seats.specs.declared.seat.Listener.{Listener}
-use Rattle.radio_seats.specs.Seats.{seat_of}
-use Rattle.radio_listeners.specs.Lent.{lent_seat}
+use Rattle.radio_seats_rows.specs.declared.seat.Listener.{Listener}
+use Rattle.radio_seats_rows.specs.Seats.{seat_of}
+use Rattle.radio_seats.specs.Lent.{lent_seat}
 use Rattle.radio_changes.specs.KeptChanges.{kept_changed}
 use Rattle.radio_core.specs.declared.outcome.Outcome.{Outcome}
 use Rattle.radio_core.specs.Draw.{comes_to, draws}

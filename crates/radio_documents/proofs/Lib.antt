@@ -1,6 +1,0 @@
-mod FaultLemmas
-mod PartLemmas
-mod DocumentLemmas
-mod LawLemmas
-mod OnLiterals
-mod SectionLemmas

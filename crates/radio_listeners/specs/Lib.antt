@@ -1,4 +1,0 @@
-pub mod Shown
-pub mod Lent
-pub mod Listed
-pub mod Further

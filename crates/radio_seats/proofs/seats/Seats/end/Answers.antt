@@ -1,0 +1,50 @@
+use Rattle.std.proofs.Common.{◌≡◌, Option, None, Some, refl, ap, sym, subst, ◌∙◌}
+use Rattle.std.specs.Prelude.{find, map}
+use Rattle.std.specs.Option.{option_map}
+use Rattle.radio_policy.specs.declared.rule.Rule.{Rule}
+use Rattle.radio_tables.specs.Lists.{update_first}
+use Rattle.radio_seats_rows.specs.declared.row.ListenerRow.{ListenerRow}
+use Rattle.radio_seats_rows.specs.declared.row.RowState.{RowState}
+use Rattle.radio_seats_rows.specs.declared.row.RowState.TheVariants.{Seated, Ended}
+use Rattle.radio_seats_rows.specs.Board.{Board}
+use Rattle.radio_seats_rows.specs.Mounts.{name_in, sitting_in}
+use Rattle.radio_seats_rows.specs.Rows.{is_row, ended, number_of, last_number, with_state}
+use Rattle.radio_seats.specs.Shown.{sits_by, names_by, named, number_in, last_in, AreCounted}
+use Rattle.radio_seats_rows.specs.Seats.{with_end}
+use Rattle.radio_seats.proofs.RowCounts.{held_number, held_last, goes_from, stays_there, one_less}
+use Rattle.radio_seats.proofs.RowLemmas.{same_board, seats_ended}
+use Rattle.radio_seats.proofs.seats.Seats.end.Goals as goal
+
+abbrev ending : Rule → ListenerRow → ListenerRow
+ending rule row = with_state (ended rule row.state) row
+
+-- who has lost his seat sits nowhere, and names the mount where he sat
+nowhere : (rule : Rule) (row : Option ListenerRow) → (number_in (option_map (ending rule) row) ≡ None) × (last_in (option_map (ending rule) row) ≡ last_in row)
+nowhere rule None = (refl, refl)
+nowhere rule (Some row) = by_state row.state where
+  by_state : (state : RowState) → (number_of (ended rule state) ≡ None) × (Some (last_number (ended rule state)) ≡ Some (last_number state))
+  by_state (Seated seat) = (refl, refl)
+  by_state (Ended other mount) = (refl, refl)
+
+pub invariant_of-self : goal.invariant_of-self
+invariant_of-self c =
+    let mounts = c.self.inside.mounts.mounts in
+    let rows = c.self.inside.rows in
+    let id = c.args.id in
+    let none = nowhere c.args.rule (find (is_row id) rows) in
+    let from = c.number_of-from.result in
+    subst (AreCounted c.leave.new.self.mounts) (sym c.change.ensures) (record {
+      sitting = one_less sits_by (sitting_in mounts) rows (update_first (is_row id) (ending c.args.rule) rows) from c.self.invariant.sitting (sitting_in c.leave.new.self.mounts)
+          (goes_from sits_by number_in held_number rows id (ending c.args.rule) from c.number_of-from.ensures.number none.0) c.leave.ensures.sitting;
+      naming = λ k.
+          c.leave.ensures.naming k ∙ c.self.invariant.naming k
+          ∙ sym (stays_there names_by last_in held_last rows id (ending c.args.rule) none.1 k);
+    })
+
+pub returns : goal.returns
+returns c =
+    let mounts = c.self.inside.mounts in
+    same_board c.leave.new.self.names c.args.self.now.prepared _ _ (c.leave.ensures.prepared ∙ ap (λ (b : Board). b.prepared) c.self.view_is)
+    (ap (map (named (name_in c.leave.new.self.mounts))) c.change.ensures
+    ∙ seats_ended (name_in mounts.mounts) (name_in c.leave.new.self.mounts) c.self.inside.rows c.leave.ensures.names c.args.id c.args.rule
+    ∙ ap (λ (b : Board). with_end b.seats c.args.id c.args.rule) c.self.view_is)

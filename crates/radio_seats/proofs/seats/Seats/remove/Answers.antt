@@ -1,0 +1,38 @@
+use Rattle.std.proofs.Common.{ap, sym, subst, ◌∙◌, ◌-◌}
+use Rattle.std.specs.Prelude.{filter, map, not}
+use Rattle.radio_seats_rows.specs.Board.{Board}
+use Rattle.radio_seats_rows.specs.Mounts.{name_in, sitting_in, naming_in, one_at}
+use Rattle.radio_seats_rows.specs.Rows.{is_row}
+use Rattle.radio_seats.specs.Shown.{sits_by, names_by, named, number_in, last_in, AreCounted}
+use Rattle.radio_seats_rows.specs.Seats.{without_listener}
+use Rattle.radio_seats.proofs.RowCounts.{held_number, held_last, one_goes, one_less}
+use Rattle.radio_seats.proofs.RowLemmas.{same_board, seats_without}
+use Rattle.radio_seats.proofs.seats.Seats.remove.Goals as goal
+
+pub invariant_of-self : goal.invariant_of-self
+invariant_of-self c =
+    let mounts = c.self.inside.mounts.mounts in
+    let rows = c.self.inside.rows in
+    let id = c.args.id in
+    let later = c.give_up.new.self.mounts in
+    let rising = c.number_of-from.ensures.rising in
+    let from = c.number_of-from.result in
+    let last = c.last_of-last.result in
+    subst (AreCounted later) (sym c.remove.ensures.removed) (record {
+      sitting = one_less sits_by (sitting_in mounts) rows (filter (λ row. not (is_row id row)) rows) from c.self.invariant.sitting (sitting_in later)
+          (one_goes sits_by number_in held_number rows rising from id c.number_of-from.ensures.number)
+          (λ k. c.give_up.ensures.sitting k ∙ c.leave.ensures.sitting k);
+      naming = one_less names_by (naming_in mounts) rows (filter (λ row. not (is_row id row)) rows) last c.self.invariant.naming (naming_in later)
+          (one_goes names_by last_in held_last rows rising last id c.last_of-last.ensures)
+          (λ k. c.give_up.ensures.naming k ∙ ap (λ n. n - one_at last k) (c.leave.ensures.naming k));
+    })
+
+pub returns : goal.returns
+returns c =
+    let mounts = c.self.inside.mounts in
+    let later = c.give_up.new.self in
+    same_board later.names c.args.self.now.prepared _ _
+    (c.give_up.ensures.prepared ∙ c.leave.ensures.prepared ∙ ap (λ (b : Board). b.prepared) c.self.view_is)
+    (ap (map (named (name_in later.mounts))) c.remove.ensures.removed
+    ∙ seats_without (name_in mounts.mounts) (name_in later.mounts) c.self.inside.rows (λ k. c.give_up.ensures.names k ∙ c.leave.ensures.names k) c.args.id
+    ∙ ap (λ (b : Board). without_listener b.seats c.args.id) c.self.view_is)

@@ -1,0 +1,28 @@
+//! What the table answers of a listener.
+
+use radio_blocks::Place;
+use radio_policy::Rule;
+use radio_seats_rows::Guest;
+use radio_values::MountName;
+
+/// A seat that a table lends.
+#[derive(Clone, Copy)]
+pub struct LentSeat<'a> {
+    /// How far he has heard the stream of his session.
+    pub place: Place,
+    /// The mount that he hears.
+    pub mount: &'a MountName,
+    /// The number of the session that he hears.
+    pub session: u64,
+    /// Who has the seat.
+    pub guest: &'a Guest,
+}
+
+/// How one stands who was admitted as a listener.
+#[derive(Clone, Copy)]
+pub enum ListenerStanding {
+    /// He has a seat.
+    HasSeat,
+    /// He has lost his seat by the rule.
+    HasLost(Rule),
+}

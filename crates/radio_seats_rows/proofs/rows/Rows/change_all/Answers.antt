@@ -1,0 +1,11 @@
+use Rattle.std.proofs.Common.{sym, subst}
+use Rattle.radio_seats_rows.specs.Users.{AreKept}
+use Rattle.radio_seats_rows.proofs.UserLemmas.{kept_mapped}
+use Rattle.radio_seats_rows.proofs.rows.Rows.change_all.Goals as goal
+
+pub invariant_of-self : goal.invariant_of-self
+invariant_of-self g c =
+    let change = c.args.change.now in
+    subst (AreKept c.self.inside.users.seats) (sym c.change_all.ensures)
+    (kept_mapped (g.C.Change.gives change) (λ row. g.met.C.Change.keeps_key change row) (λ row. g.met.C.KeepsUser.same_user change row)
+    c.self.inside.users.seats c.self.inside.rows c.self.invariant)

@@ -1,0 +1,9 @@
+pub mod Seats
+pub mod Guests
+pub mod Board
+pub mod Mounts
+pub mod Rows
+pub mod Rests
+pub mod Marks
+pub mod Users
+pub mod SameUsers

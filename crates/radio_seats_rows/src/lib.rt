@@ -1,0 +1,36 @@
+//! The seats of listeners, as rows that know their mount by a number, and the mounts that were
+//! prepared.
+//!
+//! - [`Listener`], [`Seating`], [`Seat`]: the listeners as contracts see them, and as the
+//!   definitions of `specs/Seats` change them.
+//! - [`ListenerRow`], [`RowState`], [`NumberedSeat`], [`Guest`]: a listener as he is kept, small, and
+//!   moved without memory.
+//! - [`Hears`], [`Moves`], [`Ends`], [`FinishesAt`]: what is done to a row. Each leaves the
+//!   listener's user as he is ([`KeepsUser`]). A [`SeatTest`] asks something of a [`Guest`], and a
+//!   [`GuestMoment`] is a moment of his.
+//! - [`Rows`]: the rows in the order of their numbers, and an index of them by user; [`UserAt`] is
+//!   whom it is asked for.
+//! - [`Mounts`]: the prepared mounts, each with its number, its name and the counts of those who sit
+//!   there, or sat there last.
+//! - [`KeptName`]: a name apart from what holds it.
+//! - What is found after each change, for proofs: `proofs/SeatLaws.antt`, `proofs/EndLaws.antt` and `proofs/CountLaws.antt`.
+#![tactic(auto)]
+
+mod changes;
+mod kept_name;
+mod mounts;
+mod row;
+mod rows;
+mod seat;
+mod users;
+
+pub use changes::{Ends, FinishesAt, GuestMoment, Hears, KeepsUser, Moves, SeatTest};
+pub use kept_name::KeptName;
+pub use mounts::{Mount, Mounts};
+pub use row::{ListenerRow, NumberedSeat, RowState};
+pub use rows::Rows;
+pub use seat::{Guest, Listener, Seat, Seating};
+pub use users::UserAt;
+
+/// What a call answers where memory was refused. Nothing has changed then.
+pub type OutOfMemory = std::alloc::AllocError;

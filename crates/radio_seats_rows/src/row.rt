@@ -1,0 +1,127 @@
+//! The rows of the table, in which a mount is a number.
+
+ghost use Rattle.std.specs.Prelude.{◌≡◌};
+ghost use Rattle.radio_seats_rows.specs.Rows.{number_of, last_number, holds_in, holds_at, user_state, state_moment};
+
+use crate::{Guest, GuestMoment, SeatTest};
+use radio_blocks::Place;
+use radio_policy::Rule;
+use radio_tables::Row;
+
+/// A seat, in which the mount is its number.
+#[derive(Drop)]
+pub struct NumberedSeat {
+    // what a push and a draw read comes first, and lies together
+    /// How far he has heard the stream of his session.
+    pub place: Place,
+    /// The number of the mount that he hears.
+    pub mount: u64,
+    /// The number of the session that he hears.
+    pub session: u64,
+    /// Who has the seat.
+    pub guest: Guest,
+}
+
+/// Whether a listener sits.
+#[derive(Drop)]
+pub enum RowState {
+    /// He has this seat.
+    Seated(NumberedSeat),
+    /// He has lost his seat at the mount of this number by the rule.
+    Ended {
+        /// The rule.
+        rule: Rule,
+        /// The number of the mount where he sat last.
+        mount: u64,
+    },
+}
+
+impl RowState {
+    /// The number of the mount where he sits.
+    pub fn mount(&self) -> Option<u64>
+        ensures { result ≡ number_of self.now }
+    {
+        match self {
+            RowState::Seated(seat) => Some(seat.mount),
+            RowState::Ended { .. } => None,
+        }
+    }
+
+    /// The number of the mount where he sits, or sat last.
+    pub fn last_mount(&self) -> u64
+        ensures { result ≡ last_number self.now }
+    {
+        match self {
+            RowState::Seated(seat) => seat.mount,
+            RowState::Ended { mount, .. } => *mount,
+        }
+    }
+
+    /// Whether it is a seat of which the test holds.
+    pub fn passes<T: SeatTest>(&self, test: &T) -> bool
+        ensures { result ≡ holds_in (T.passes test.now) self.now }
+    {
+        match self {
+            RowState::Seated(seat) => test.passes(&seat.guest),
+            RowState::Ended { .. } => false,
+        }
+    }
+
+    /// Whether it is such a seat at the mount of this number.
+    pub fn passes_at<T: SeatTest>(&self, number: u64, test: &T) -> bool
+        ensures { result ≡ holds_at (T.passes test.now) number self.now }
+    {
+        match self {
+            RowState::Seated(seat) => seat.mount == number && test.passes(&seat.guest),
+            RowState::Ended { .. } => false,
+        }
+    }
+
+    /// The moment of the guest who has the seat, or the other where it is lost.
+    pub fn moment_or<M: GuestMoment>(&self, moment: &M, other: u64) -> u64
+        ensures { result ≡ state_moment (M.gives moment.now) other self.now }
+    {
+        match self {
+            RowState::Seated(seat) => moment.moment(&seat.guest),
+            RowState::Ended { .. } => other,
+        }
+    }
+
+    /// Whether it is a seat at the mount of this number, of one who sent this user.
+    pub fn is_of_user(&self, number: u64, user: &[u8]) -> bool
+        ensures { result ≡ user_state number user.now self.now }
+    {
+        match self {
+            RowState::Seated(seat) => seat.mount == number && seat.guest.has_user(user),
+            RowState::Ended { .. } => false,
+        }
+    }
+}
+
+/// A listener, as the table keeps him.
+#[derive(Drop)]
+pub struct ListenerRow {
+    /// His number.
+    pub id: u64,
+    /// The mark of the user that he sent when he sat down, if he did.
+    pub mark: Option<u64>,
+    /// Whether he sits.
+    pub state: RowState,
+}
+
+impl Row for ListenerRow {
+    type Key = u64;
+
+    ghost use Rattle.radio_tables.proofs.KeyLaws.{number_is};
+    ghost use Rattle.radio_seats_rows.specs.Rows.{is_row};
+
+    ghost key = { λ row. row.id };
+
+    ghost has_key = { is_row };
+
+    ghost has_key_is = { λ id row. number_is id row.id };
+
+    fn key(&self) -> u64 {
+        self.id
+    }
+}

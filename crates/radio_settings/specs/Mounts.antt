@@ -1,0 +1,108 @@
+-- The tables `[[mount]]`.
+use Rattle.std.specs.Prelude.{Option, false, true, List, [], ◌∷◌, ◌++◌, codes, map}
+use Rattle.toml.specs.Data.{Members}
+use Rattle.radio_keys.specs.declared.fault.SettingsFault.{SettingsFault}
+use Rattle.radio_keys.specs.declared.key.Key.TheVariants.{Mount, MountName, Username, Password, MaxListeners, MaxListenerDuration, FallbackMount}
+use Rattle.radio_keys.specs.declared.key.Key.TheVariants.{FallbackOverride, FallbackWhenFull, Hidden, BurstSize, Mp3MetadataInterval, StreamName, Genre}
+use Rattle.radio_keys.specs.declared.key.Key.TheVariants.{Htpasswd, AllowDuplicateUsers}
+use Rattle.radio_keys.specs.Lookup.{text_at, text_or, field_at, number_at, number_or, flag_or, tables_at}
+use Rattle.radio_keys.specs.Rows.{Row, row, faults_in, first_fault, text, number, flag, mount_name, required, optional}
+use Rattle.radio_settings_values.specs.declared.settings.AccessSettings.{AccessSettings}
+use Rattle.radio_settings_values.specs.declared.settings.LimitSettings.{LimitSettings}
+use Rattle.radio_settings_values.specs.declared.settings.ListenerOptions.{ListenerOptions}
+use Rattle.radio_settings_values.specs.declared.settings.Login.{Login}
+use Rattle.radio_settings_values.specs.declared.settings.MountOptions.{MountOptions}
+use Rattle.radio_settings_values.specs.declared.settings.MountSetting.{MountSetting}
+use Rattle.radio_settings_values.specs.declared.settings.StreamOptions.{StreamOptions}
+use Rattle.radio_settings_values.specs.declared.settings.UserOptions.{UserOptions}
+
+abbrev pub source_rows : List Row
+source_rows = row Username text optional ∷ row Password text optional ∷ []
+
+abbrev pub listener_rows : List Row
+listener_rows =
+    row MaxListeners (number 0 1000000) optional
+    ∷ row MaxListenerDuration (number 1 31536000) optional
+    ∷ row FallbackMount mount_name optional
+    ∷ row FallbackOverride flag optional
+    ∷ row FallbackWhenFull flag optional
+    ∷ []
+
+abbrev pub stream_rows : List Row
+stream_rows =
+    row Hidden flag optional
+    ∷ row BurstSize (number 0 1073741824) optional
+    ∷ row Mp3MetadataInterval (number 1 1000000) optional
+    ∷ row StreamName text optional
+    ∷ row Genre text optional
+    ∷ []
+
+abbrev pub user_rows : List Row
+user_rows = row Htpasswd text optional ∷ row AllowDuplicateUsers flag optional ∷ []
+
+abbrev pub option_rows : List Row
+option_rows = source_rows ++ (listener_rows ++ (stream_rows ++ user_rows))
+
+abbrev pub mount_rows : List Row
+mount_rows = row MountName mount_name required ∷ option_rows
+
+-- the first fault of all its keys but its name, and of some of them
+unfoldable pub options_fault : Members → Option SettingsFault
+options_fault table = first_fault (faults_in option_rows table)
+
+unfoldable pub source_fault : Members → Option SettingsFault
+source_fault table = first_fault (faults_in source_rows table)
+
+unfoldable pub listeners_fault : Members → Option SettingsFault
+listeners_fault table = first_fault (faults_in listener_rows table)
+
+unfoldable pub stream_fault : Members → Option SettingsFault
+stream_fault table = first_fault (faults_in stream_rows table)
+
+unfoldable pub users_fault : Members → Option SettingsFault
+users_fault table = first_fault (faults_in user_rows table)
+
+-- its source's password is by default that of the whole station
+unfoldable pub source_of : AccessSettings → Members → Login
+source_of access table =
+    record { username = text_or Username table (codes "source"); password = text_or Password table access.source_password }
+
+unfoldable pub listeners_of : Members → ListenerOptions
+listeners_of table = record {
+  max_listeners = number_at MaxListeners table;
+  max_listener_duration = number_at MaxListenerDuration table;
+  fallback_mount = text_at FallbackMount table;
+  fallback_override = flag_or FallbackOverride table false;
+  fallback_when_full = flag_or FallbackWhenFull table false;
+}
+
+-- its burst is by default that of `[limits]`
+unfoldable pub stream_of : LimitSettings → Members → StreamOptions
+stream_of limits table = record {
+  hidden = flag_or Hidden table false;
+  burst_size = number_or BurstSize table limits.burst_size;
+  mp3_metadata_interval = number_or Mp3MetadataInterval table 16000;
+  stream_name = field_at StreamName table;
+  genre = field_at Genre table;
+}
+
+unfoldable pub users_of : Members → UserOptions
+users_of table = record { htpasswd = text_at Htpasswd table; allow_duplicate_users = flag_or AllowDuplicateUsers table true }
+
+-- what a table sets for a mount
+unfoldable pub options_of : AccessSettings → LimitSettings → Members → MountOptions
+options_of access limits table =
+    record { source = source_of access table; listeners = listeners_of table; stream = stream_of limits table; users = users_of table }
+
+-- the first fault of the keys of one
+unfoldable pub mount_fault : Members → Option SettingsFault
+mount_fault table = first_fault (faults_in mount_rows table)
+
+unfoldable pub mount_of : AccessSettings → LimitSettings → Members → MountSetting
+mount_of access limits table = record {
+  name = text_or MountName table [];
+  options = options_of access limits table;
+}
+
+abbrev pub mounts_of : AccessSettings → LimitSettings → Members → List MountSetting
+mounts_of access limits document = map (mount_of access limits) (tables_at Mount document)

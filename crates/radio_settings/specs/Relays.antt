@@ -1,0 +1,59 @@
+-- The tables `[[relay]]`.
+use Rattle.std.specs.Prelude.{ℕ, false, List, [], ◌∷◌, ◌++◌, Option, None, Some, map}
+use Rattle.toml.specs.Data.{Members}
+use Rattle.radio_keys.specs.declared.fault.SettingsFault.{SettingsFault}
+use Rattle.radio_keys.specs.declared.key.Key.TheVariants.{Relay, Server, Port, Mount, LocalMount, Username, Password, OnDemand}
+use Rattle.radio_keys.specs.Lookup.{text_at, text_or, flag_or, tables_at}
+use Rattle.radio_keys.specs.Rows.{Row, row, faults_in, first_fault, text, flag, mount_name, required, optional, required_with}
+use Rattle.radio_settings_values.specs.declared.settings.Login.{Login}
+use Rattle.radio_settings_values.specs.declared.settings.RelaySetting.{RelaySetting}
+use Rattle.radio_settings.specs.Masters.{master_rows, master_of}
+
+-- both a user and a password, or neither
+abbrev pub pair_rows : List Row
+pair_rows = row Username text (required_with Password) ∷ row Password text (required_with Username) ∷ []
+
+-- the mount to pull, and the mount that it feeds
+abbrev pub relay_mount_rows : List Row
+relay_mount_rows = row Mount mount_name required ∷ row LocalMount mount_name optional ∷ []
+
+abbrev pub relay_rows : List Row
+relay_rows = master_rows Server Port ++ (relay_mount_rows ++ (pair_rows ++ row OnDemand flag optional ∷ []))
+
+abbrev pub login_from : Option (List ℕ) → Option (List ℕ) → Option Login
+login_from (Some username) (Some password) = Some (record { username = username; password = password })
+login_from _ _ = None
+
+-- the first fault of the two mounts
+unfoldable pub relay_mounts_fault : Members → Option SettingsFault
+relay_mounts_fault table = first_fault (faults_in relay_mount_rows table)
+
+abbrev pub pulled_mount_of : Members → List ℕ
+pulled_mount_of table = text_or Mount table []
+
+-- by default the mount that it pulls
+abbrev pub local_mount_of : Members → List ℕ
+local_mount_of table = text_or LocalMount table (pulled_mount_of table)
+
+-- the first fault of the two keys
+unfoldable pub pair_fault : Members → Option SettingsFault
+pair_fault table = first_fault (faults_in pair_rows table)
+
+unfoldable pub pair_of : Members → Option Login
+pair_of table = login_from (text_at Username table) (text_at Password table)
+
+-- the first fault of the keys of one
+unfoldable pub relay_fault : Members → Option SettingsFault
+relay_fault table = first_fault (faults_in relay_rows table)
+
+unfoldable pub relay_of : Members → RelaySetting
+relay_of table = record {
+  master = master_of Server Port table;
+  mount = pulled_mount_of table;
+  local_mount = local_mount_of table;
+  login = pair_of table;
+  on_demand = flag_or OnDemand table false;
+}
+
+abbrev pub relays_of : Members → List RelaySetting
+relays_of document = map relay_of (tables_at Relay document)

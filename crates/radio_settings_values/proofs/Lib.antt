@@ -1,0 +1,2 @@
+mod RepeatLemmas
+mod PlaceLemmas

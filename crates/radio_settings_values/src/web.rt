@@ -1,0 +1,58 @@
+//! What a station's web site reads: the table `[web]`, and the paths that it puts on.
+ghost use Rattle.std.specs.Prelude.{◌≡◌};
+ghost use Rattle.radio_settings_values.specs.Web.{is_web_path, web_path};
+
+use radio_values::AllowedOrigin;
+
+/// The table `[web]`: what browsers are told, and the scripts of web sites. Where it is absent nothing of it is on.
+pub struct WebSettings {
+    /// Whose pages may read streams and what everybody may read; `None` where nothing is said of it.
+    pub allow_origin: Option<AllowedOrigin>,
+    /// Whether `/status-json.xsl` answers what Icecast answers there.
+    pub icecast_status: bool,
+    /// Whether `/` answers a page of what is on air.
+    pub page: bool,
+}
+
+impl Drop for WebSettings {
+    fn drop(self) {
+        let WebSettings {
+            allow_origin,
+            icecast_status: _,
+            page: _,
+        } = self;
+        drop(allow_origin);
+    }
+}
+
+/// What a path of the web site names.
+#[derive(Clone, Copy, Debug, PartialEq, Eq)]
+pub enum WebPath {
+    /// `/status-json.xsl`: what Icecast answers there.
+    IcecastStatus,
+    /// `/`: the page of what is on air.
+    Page,
+}
+
+impl WebSettings {
+    /// What a path names in the web site; `None` where it names nothing there, or that is not on.
+    #[tactic(auto, unfolding(crate::specs::Web::web_path))]
+    pub fn path(&self, path: &[u8]) -> Option<WebPath>
+        ensures { result ≡ web_path self.now path.now }
+    {
+        if self.icecast_status && path == b"/status-json.xsl".as_slice() {
+            return Some(WebPath::IcecastStatus);
+        }
+        if self.page && path == b"/".as_slice() {
+            return Some(WebPath::Page);
+        }
+        None
+    }
+
+    /// Whether the path is one of the web site, so that no mount can have it for its name.
+    pub fn has(&self, path: &[u8]) -> bool
+        ensures { result ≡ is_web_path self.now path.now }
+    {
+        self.path(path).is_some()
+    }
+}
