@@ -17,10 +17,12 @@ use Rattle.radio_attachments.specs.declared.attachment.Attachment.{Attachment}
 use Rattle.radio_attachments.specs.Rows.{is_attached}
 use Rattle.radio_fallback.specs.Heard.{Heard, heard, heard_by, heard_seating}
 use Rattle.radio_mounts.specs.Agree.{AllAgree}
-use Rattle.radio_mounts.specs.Attached.{found_in, is_among, place_in, places_in}
+use Rattle.radio_mounts.specs.Attached.{found_in, places_in}
+use Rattle.radio_mount_part.specs.Attached.{is_among, place_in}
 use Rattle.radio_mounts.specs.Exchange.{IsExchanged}
-use Rattle.radio_mounts.specs.Parts.{ByMount, MountAttachments, has_part}
-use Rattle.radio_mounts.specs.declared.part.MountPart.{MountPart}
+use Rattle.radio_mounts.specs.Parts.{ByMount, has_part}
+use Rattle.radio_mount_part.specs.Parts.{MountAttachments}
+use Rattle.radio_mount_part.specs.declared.part.MountPart.{MountPart}
 use Rattle.radio_attached.specs.Lent.{AsBefore, HeardTo, LaggedOut, HaveTheirPlaces, IsLent, IsSeenAfter}
 use Rattle.radio_attached.specs.Losses.{ended_where}
 use Rattle.radio_attached.proofs.FitsChanges.{each_found, seat_left}

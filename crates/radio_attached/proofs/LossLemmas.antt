@@ -19,7 +19,7 @@ use Rattle.radio_seats_rows.specs.Seats.{seat_held, loses, lost_by, with_end, wi
 use Rattle.radio_fallback.specs.Carry.{numbers_of}
 use Rattle.radio_fallback.specs.Heard.{Heard, heard_seating, heard_by, heard}
 use Rattle.radio_attached.specs.Losses.{ended_where}
-use Rattle.radio_mounts.specs.Attached.{is_among}
+use Rattle.radio_mount_part.specs.Attached.{is_among}
 
 -- he is attached where he sits, and nowhere else
 abbrev pub FitsHim : Heard → Listener → Type 0

@@ -4,7 +4,8 @@ use Rattle.radio_parts.specs.Sessions.{Session}
 use Rattle.radio_seats_rows.specs.Board.{Board, is_prepared}
 use Rattle.radio_seats_rows.specs.declared.seat.Listener.{Listener}
 use Rattle.radio_fallback.specs.Heard.{Fits, heard}
-use Rattle.radio_mounts.specs.Parts.{ByMount, MountAttachments}
+use Rattle.radio_mounts.specs.Parts.{ByMount}
+use Rattle.radio_mount_part.specs.Parts.{MountAttachments}
 use Rattle.radio_mounts.specs.Attached.{places_in}
 use Rattle.radio_mounts.specs.Parts.{has_part}
 

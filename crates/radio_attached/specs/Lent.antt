@@ -5,9 +5,9 @@ use Rattle.std.specs.Str.{bytes_eq}
 use Rattle.radio_attachments.specs.Rows.{is_attached}
 use Rattle.radio_attached.specs.Attached.{Listening}
 use Rattle.radio_mounts.specs.Agree.{AllAgree}
-use Rattle.radio_mounts.specs.Attached.{is_among, place_in}
+use Rattle.radio_mount_part.specs.Attached.{is_among, place_in}
 use Rattle.radio_mounts.specs.Exchange.{IsInPlace}
-use Rattle.radio_mounts.specs.declared.part.MountPart.{MountPart}
+use Rattle.radio_mount_part.specs.declared.part.MountPart.{MountPart}
 use Rattle.radio_parts.specs.Sessions.{session_of}
 use Rattle.radio_policy.specs.declared.rule.Rule.{Rule}
 use Rattle.radio_policy.specs.declared.rule.Rule.TheVariants.{Lagged}

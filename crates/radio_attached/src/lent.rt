@@ -10,26 +10,24 @@ ghost use Rattle.radio_seats_rows.specs.Seats.{next_number, with_ended, AreByNum
 
 use crate::Listeners;
 use crate::listeners::end_each;
-use radio_attachments::AttachmentTree;
-use radio_mounts::{MountPart, sitters_among};
+use radio_mount_part::{ListedPart, sitters_among};
 use radio_policy::Rule;
 use radio_seats::LentSeat;
 use radio_values::MountName;
-use std::mem;
 
 impl Listeners {
     /// Puts the part in the place of its mount's, which it returns. A part that nobody feeds can only
     /// take the place of such a one, and one that a source feeds that of one which the same source
     /// feeds; else nothing changes, and `Err` has the part itself. Whoever has lagged out there, and
     /// still has its seat, loses it. It takes no memory.
-    pub fn exchange(&mut self, part: MountPart) -> Result<MountPart, MountPart>
+    pub fn exchange(&mut self, part: ListedPart) -> Result<ListedPart, ListedPart>
         ensures ok { IfOk result (λ there. IsLent part there self.old self.new) }
         ensures back { OnErr result (result ≡ Err part) }
         ensures err { OnErr result (self.new ≡ self.old) }
     {
         let mut part = part;
-        let mount = part.mount;
-        let lagged = mem::replace(&mut part.lagged, AttachmentTree::new());
+        let mount = part.part().mount;
+        let lagged = part.take_lagged();
         match self.parts.exchange(part) {
             Ok(there) => {
                 self.is_whole = false;
@@ -39,7 +37,7 @@ impl Listeners {
             }
             Err(part) => {
                 let mut part = part;
-                part.lagged = lagged;
+                part.set_lagged(lagged);
                 Err(part)
             }
         }

@@ -13,7 +13,8 @@ ghost use Rattle.radio_fallback.specs.Walk.{with_ends};
 ghost use Rattle.radio_parts.specs.Parts.{ends_in};
 ghost use Rattle.radio_attached.specs.Losses.{ended_where};
 ghost use Rattle.radio_fallback.specs.Heard.{OthersStay, GoesOff};
-ghost use Rattle.radio_mounts.specs.Attached.{is_among, places_in};
+ghost use Rattle.radio_mounts.specs.Attached.{places_in};
+ghost use Rattle.radio_mount_part.specs.Attached.{is_among};
 ghost use Rattle.radio_mounts.specs.Parts.{has_part};
 
 use crate::OutOfMemory;
@@ -70,6 +71,13 @@ impl Listeners {
             parts: MountParts::new(alloc),
             is_whole: true,
         }
+    }
+
+    /// Each part that is made from now on keeps a list of what happens to it. Of a stream at least so many bytes will be kept.
+    pub fn keep_lists(&mut self, alloc: Global, queue: u64)
+        ensures { self.new ≡ self.old }
+    {
+        self.parts.keep_lists(alloc, queue);
     }
 
     /// Prepares the mount: listeners can be seated there from now on. Nothing changes if it was

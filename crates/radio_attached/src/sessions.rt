@@ -9,7 +9,7 @@ ghost use Rattle.radio_seats_rows.specs.Board.{is_prepared};
 use crate::{Listeners, OutOfMemory};
 use radio_blocks::Block;
 use radio_mounts::MountParts;
-use radio_parts::Session;
+use radio_parts::NewSession;
 use radio_values::{MountName, Title};
 
 impl Listeners {
@@ -21,7 +21,7 @@ impl Listeners {
     }
 
     /// Begins this session on its mount. It takes no memory.
-    pub fn open(&mut self, session: Session)
+    pub fn open(&mut self, session: NewSession)
         requires { is_prepared self.old.prepared session.mount ≡ true }
         ensures { self.new ≡ record self.old { live = with_session self.old.live session } }
     {

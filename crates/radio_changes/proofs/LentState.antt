@@ -19,7 +19,7 @@ use Rattle.radio_house.specs.World.{World, world}
 use Rattle.radio_house.specs.declared.live.LiveMount.{LiveMount}
 use Rattle.radio_mounts.specs.Agree.{AllAgree}
 use Rattle.radio_mounts.specs.Exchange.{Comes, Stays, first_true, second_true, IsInPlace}
-use Rattle.radio_mounts.specs.declared.part.MountPart.{MountPart}
+use Rattle.radio_mount_part.specs.declared.part.MountPart.{MountPart}
 use Rattle.radio_parts.specs.Due.{last_moment, listener_due, session_due}
 use Rattle.radio_parts.specs.Sessions.{Session, session_of}
 use Rattle.radio_parts.proofs.DueLemmas.{due_by_last, heard_due, lost_due}

@@ -4,9 +4,9 @@ use Rattle.std.specs.Option.{option_map_or}
 use Rattle.radio_attached.specs.Lent.{HaveTheirPlaces, IsSeenAfter}
 use Rattle.radio_house.specs.World.{World}
 use Rattle.radio_mounts.specs.Agree.{AllAgree}
-use Rattle.radio_mounts.specs.Attached.{is_among}
+use Rattle.radio_mount_part.specs.Attached.{is_among}
 use Rattle.radio_mounts.specs.Exchange.{IsInPlace}
-use Rattle.radio_mounts.specs.declared.part.MountPart.{MountPart}
+use Rattle.radio_mount_part.specs.declared.part.MountPart.{MountPart}
 use Rattle.radio_parts.specs.Due.{last_moment, session_due}
 use Rattle.radio_parts.specs.Sessions.{session_of}
 use Rattle.radio_seats_rows.specs.Seats.{sits_at}

@@ -66,6 +66,14 @@ impl State {
         }
     }
 
+    /// Each mount's part that is made from now on keeps a list of what happens to it.
+    pub(crate) fn keep_lists(&mut self)
+        ensures { self.new ≡ self.old }
+    {
+        let queue = self.registry.settings().limits.queue_size.get() as u64;
+        self.listeners.keep_lists(self.alloc, queue);
+    }
+
     /// The house, which is all of the state but the table of listeners.
     pub(crate) fn house(&self) -> House<'_>
         ensures { result ≡ self.now.house }

@@ -19,7 +19,7 @@ use radio_attached::Listeners;
 use radio_blocks::Place;
 use radio_fallback::Carried;
 use radio_house::House;
-use radio_mounts::MountPart;
+use radio_mount_part::ListedPart;
 use radio_parts::{LAST_MOMENT, due_at, seat_due};
 use radio_settings_values::Settings;
 use radio_values::MountName;
@@ -108,10 +108,17 @@ impl TimedState {
         self.state.advance_at(mount, id, place);
     }
 
+    /// Each mount's part that is made from now on keeps a list of what happens to it.
+    pub fn keep_lists(&mut self)
+        ensures { self.new ≡ self.old }
+    {
+        self.state.keep_lists();
+    }
+
     /// Puts the part in the place of its mount's, which it returns. Whoever has lagged out there, and
     /// still has its seat, loses it. `Err` has the part itself, and nothing has changed, if the two
     /// have no sessions of one source. It takes no memory.
-    pub fn exchange(&mut self, part: MountPart) -> Result<MountPart, MountPart>
+    pub fn exchange(&mut self, part: ListedPart) -> Result<ListedPart, ListedPart>
         ensures ok { IfOk result (λ there. IsLentTo part there self.old self.new) }
         ensures back { OnErr result (result ≡ Err part) }
         ensures err { OnErr result (self.new ≡ self.old) }

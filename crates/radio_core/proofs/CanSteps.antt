@@ -5,7 +5,7 @@ use Rattle.radio_events.specs.declared.event.Event.TheVariants.{Arrive, Source, 
 use Rattle.radio_events.specs.declared.event.Event.TheVariants.{RelayUp, RelayDown, Clock}
 use Rattle.radio_events.specs.Events.{TakesNoMemory}
 use Rattle.radio_house.specs.World.{World}
-use Rattle.radio_mounts.specs.Steps.{IsKept}
+use Rattle.radio_mount_part.specs.Steps.{IsKept}
 use Rattle.radio_parts.specs.Sessions.{Session, session_of}
 use Rattle.radio_seats_rows.specs.declared.seat.Seat.{Seat}
 use Rattle.radio_seats_rows.specs.Seats.{seat_of}

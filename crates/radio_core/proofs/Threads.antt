@@ -1,6 +1,6 @@
 -- A core may go to another thread.
 use denote.Param.Send.{IsSend, sendable, view_send}
-use Rattle.radio_attached.proofs.Threads.{declared_send}
+use Rattle.radio_mount_part.proofs.Threads.{declared_send}
 use Rattle.radio_changes.proofs.Threads.{timed_state_send}
 use Rattle.radio_core.specs.contracts.server.control.Control as control
 use Rattle.radio_core.specs.contracts.server.Core as core

@@ -2,7 +2,7 @@
 use Rattle.std.specs.Prelude.{◌≡◌, ℕ, List, []}
 use Rattle.radio_changes.specs.Lent.{IsLentTo}
 use Rattle.radio_house.specs.World.{World}
-use Rattle.radio_mounts.specs.declared.part.MountPart.{MountPart}
+use Rattle.radio_mount_part.specs.declared.part.MountPart.{MountPart}
 
 -- a part of the mount to which nobody is attached
 pub record StandsIn (name : List ℕ) (part : MountPart) : Type 0 where

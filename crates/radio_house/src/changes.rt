@@ -21,7 +21,7 @@ use crate::relays::{Relay, RelayState, SetRelayState};
 use crate::timeouts::TimesOut;
 use radio_addr::Peer;
 use radio_attached::Listeners;
-use radio_parts::Session;
+use radio_parts::NewSession;
 use radio_policy::Rule;
 use radio_tables::Table;
 use radio_values::{MountName, Shown};
@@ -67,7 +67,7 @@ impl Registry {
         ensures err { OnErr result (self.new ≡ self.old) }
         ensures err_seats { OnErr result (seats.new ≡ seats.old) }
     {
-        let session = Session::new(alloc, mount, id, shown, self.time)?;
+        let session = NewSession::new(alloc, mount, id, shown, self.time)?;
         self.live.insert(LiveMount { mount, number: id })?;
         seats.open(session);
         self.set_state(id, ClientState::Feeds(mount));
@@ -90,7 +90,7 @@ impl Registry {
         ensures err { OnErr result (self.new ≡ self.old) }
         ensures err_seats { OnErr result (seats.new ≡ seats.old) }
     {
-        let session = Session::new(alloc, mount, id, shown, self.time)?;
+        let session = NewSession::new(alloc, mount, id, shown, self.time)?;
         let before = relay_state(&self.relays, id);
         // their numbers rise, so that what is put back is what was there
         let _relays = self.relays.len();

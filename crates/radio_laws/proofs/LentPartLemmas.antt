@@ -10,7 +10,7 @@ use Rattle.radio_house.specs.House.{House}
 use Rattle.radio_house.specs.World.{World}
 use Rattle.radio_mounts.specs.Agree.{AllAgree}
 use Rattle.radio_mounts.specs.Exchange.{Comes, Stays, first_true, second_true, IsInPlace}
-use Rattle.radio_mounts.specs.declared.part.MountPart.{MountPart}
+use Rattle.radio_mount_part.specs.declared.part.MountPart.{MountPart}
 use Rattle.radio_parts.specs.Sessions.{Session, is_of}
 use Rattle.radio_policy.specs.declared.rule.Rule.TheVariants.{Lagged}
 use Rattle.radio_seats_rows.specs.declared.seat.Listener.{Listener}

@@ -19,11 +19,11 @@ use Rattle.radio_parts.specs.Parts.{Part}
 use Rattle.radio_parts.specs.Sessions.{Session, is_of, session_of, HasRisingStarts}
 use Rattle.radio_parts.specs.Stream.{no_data, data_at}
 use Rattle.radio_parts.proofs.KeptStreams.{kept_data, kept_end}
-use Rattle.radio_mounts.specs.Attached.{place_in}
-use Rattle.radio_mounts.specs.Steps.{IsKept, portion_at, place_after, heard_on, part_after}
-use Rattle.radio_mounts.specs.declared.drawing.Portion.{Portion}
-use Rattle.radio_mounts.specs.declared.part.MountPart.{MountPart}
-use Rattle.radio_mounts.specs.declared.step.PartAnswer.TheVariants.{Replied}
+use Rattle.radio_mount_part.specs.Attached.{place_in}
+use Rattle.radio_mount_part.specs.Steps.{IsKept, portion_at, place_after, heard_on, part_after}
+use Rattle.radio_mount_part.specs.declared.drawing.Portion.{Portion}
+use Rattle.radio_mount_part.specs.declared.part.MountPart.{MountPart}
+use Rattle.radio_mount_part.specs.declared.step.PartAnswer.TheVariants.{Replied}
 use Rattle.radio_events.specs.declared.event.Event.{Event}
 use Rattle.radio_events.specs.declared.event.Event.TheVariants.{Draw}
 use Rattle.radio_events.specs.declared.reply.Reply.{Reply}

@@ -22,13 +22,13 @@ use Rattle.radio_parts.specs.Stream.{WholeStream, end_of}
 use Rattle.radio_parts.specs.Timeouts.{lags_behind}
 use Rattle.radio_parts.proofs.KeptStreams.{kept_end, kept_more}
 use Rattle.radio_parts.proofs.RisingLemmas.{rising_more}
-use Rattle.radio_mounts.specs.Attached.{place_in}
-use Rattle.radio_mounts.specs.Parts.{with_session_changed}
-use Rattle.radio_mounts.specs.Steps.{portion_at, is_fed_by, is_spent_with, part_answers, part_fed, part_lagged}
-use Rattle.radio_mounts.specs.declared.drawing.Portion.{Portion}
-use Rattle.radio_mounts.specs.declared.part.MountPart.{MountPart}
-use Rattle.radio_mounts.specs.declared.step.PartAnswer.{PartAnswer}
-use Rattle.radio_mounts.specs.declared.step.PartAnswer.TheVariants.{Replied, Elsewhere}
+use Rattle.radio_mount_part.specs.Attached.{place_in}
+use Rattle.radio_mount_part.specs.Parts.{with_session_changed}
+use Rattle.radio_mount_part.specs.Steps.{portion_at, is_fed_by, is_spent_with, part_answers, part_fed, part_lagged}
+use Rattle.radio_mount_part.specs.declared.drawing.Portion.{Portion}
+use Rattle.radio_mount_part.specs.declared.part.MountPart.{MountPart}
+use Rattle.radio_mount_part.specs.declared.step.PartAnswer.{PartAnswer}
+use Rattle.radio_mount_part.specs.declared.step.PartAnswer.TheVariants.{Replied, Elsewhere}
 use Rattle.radio_mounts.proofs.LaggingLemmas.{far, among_is, rest_is}
 use Rattle.radio_events.specs.declared.event.Event.{Event}
 use Rattle.radio_events.specs.declared.event.Event.TheVariants.{Arrive, Source, Push, SourceEnd, Title, Listen, Draw, Command, Leave, RelayUp, RelayDown, Clock}

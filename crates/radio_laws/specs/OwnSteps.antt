@@ -6,10 +6,10 @@ use Rattle.radio_attachments.specs.Rows.{is_attached, AreInOrder}
 use Rattle.radio_seats_rows.specs.declared.seat.Seat.{Seat}
 use Rattle.radio_parts.specs.Kept.{kept_session}
 use Rattle.radio_parts.specs.Sessions.{session_of}
-use Rattle.radio_mounts.specs.Attached.{place_in}
-use Rattle.radio_mounts.specs.Steps.{CanDraw, part_answers, part_after}
-use Rattle.radio_mounts.specs.declared.part.MountPart.{MountPart}
-use Rattle.radio_mounts.specs.declared.step.PartAnswer.TheVariants.{Replied}
+use Rattle.radio_mount_part.specs.Attached.{place_in}
+use Rattle.radio_mount_part.specs.Steps.{CanDraw, part_answers, part_after}
+use Rattle.radio_mount_part.specs.declared.part.MountPart.{MountPart}
+use Rattle.radio_mount_part.specs.declared.step.PartAnswer.TheVariants.{Replied}
 use Rattle.radio_events.specs.declared.event.Event.{Event}
 use Rattle.radio_events.specs.declared.event.Event.TheVariants.{Push, Title, Draw}
 use Rattle.radio_events.specs.declared.reply.Reply.{Reply}

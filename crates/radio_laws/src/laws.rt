@@ -30,7 +30,7 @@ ghost use Rattle.radio_laws.specs.Locality.{AgreeWithin, AnswersAlike, IsWithin,
 ghost use Rattle.radio_changes.specs.Counts.{counted};
 ghost use Rattle.radio_changes.specs.Lent.{IsLentTo};
 ghost use Rattle.radio_core.specs.Planned.{planned, with_counts};
-ghost use Rattle.radio_mounts.specs.declared.part.MountPart.{MountPart};
+ghost use Rattle.radio_mount_part.specs.declared.part.MountPart.{MountPart};
 ghost use Rattle.radio_laws.specs.Parts.{PartsDraw, PartsReceive, PartsAreTitled};
 ghost use Rattle.radio_laws.specs.OwnSteps.{OwnStepsAreTheServers, OwnStepsAreAnswered};
 ghost use Rattle.radio_core.specs.Step.{Represents, reply_to};

@@ -1,29 +1,10 @@
--- The items of the lists of mounts.
-use Rattle.std.specs.Prelude.{Bool, true, false, Option, Some, None}
-use Rattle.radio_policy.specs.declared.rule.Rule.{Rule}
-use Rattle.radio_policy.specs.declared.rule.Rule.TheVariants.{Lagged}
+-- The lines of the control's list.
+use Rattle.std.specs.Prelude.{Option, Some, None}
 use Rattle.radio_events.specs.declared.entry.Entry.{Entry}
 use Rattle.radio_merge.specs.declared.family.ControlLine.{ControlLine}
 use Rattle.radio_merge.specs.declared.family.ControlLine.TheVariants.{Cut, Made}
-use Rattle.radio_merge.specs.declared.family.MountItem.{MountItem}
-use Rattle.radio_merge.specs.declared.family.MountItem.TheVariants.{Detach, Own}
-
--- the rule by which a push, and nothing else, finishes listeners
-abbrev pub is_lagged : Option Rule → Bool
-is_lagged (Some Lagged) = true
-is_lagged rule = false
-
--- an end that a push made is no entry of a merge
-abbrev pub is_left_out : MountItem → Bool
-is_left_out (Detach grant rule) = is_lagged rule
-is_left_out item = false
 
 -- the entry of a line of the control's list, if it is no cut
 abbrev pub line_entry : ControlLine → Option Entry
 line_entry (Made entry) = Some entry
 line_entry (Cut list from to) = None
-
--- the own entry of whoever has a grant
-abbrev pub own_entry : MountItem → Option Entry
-own_entry (Own grant moment entry) = Some entry
-own_entry item = None

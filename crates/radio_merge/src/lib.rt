@@ -20,12 +20,13 @@ mod replaying;
 mod same;
 mod searching;
 
-pub use family::{Attaching, ControlLine, Family, MountItem, MountList};
+pub use family::{ControlLine, Family, MountList};
 pub use fault::MergeFault;
 pub use laws::the_control_makes_the_rest;
 pub use merging::merge;
 pub use radio_chronicle::Stamp;
 pub use radio_events::Entry;
+pub use radio_mount_part::{Attaching, MountItem};
 pub use same::{is_same_event, is_same_reply};
 
 /// The error of a call if memory was refused.

@@ -4,7 +4,7 @@ use Rattle.std.specs.Prelude.{find, fold, min, if◌then◌else◌}
 use Rattle.std.specs.Option.{option_map_or}
 use Rattle.radio_parts.specs.Due.{session_due}
 use Rattle.radio_parts.specs.Sessions.{Session}
-use Rattle.radio_mounts.specs.declared.part.MountPart.{MountPart}
+use Rattle.radio_mount_part.specs.declared.part.MountPart.{MountPart}
 use Rattle.radio_mounts.specs.Parts.{earlier_due, has_session, live_in}
 use Rattle.radio_mounts.proofs.LiveLemmas.{live_none, live_some}
 

@@ -16,8 +16,10 @@ use Rattle.radio_attachments.specs.Rows.{is_attached, at_place}
 use Rattle.radio_seats_rows.specs.declared.seat.Listener.{Listener}
 use Rattle.radio_seats_rows.specs.Seats.{sits_at}
 use Rattle.radio_fallback.specs.Heard.{OthersStay, IsAt, GoesOver}
-use Rattle.radio_mounts.specs.Parts.{MountAttachments, has_part}
-use Rattle.radio_mounts.specs.Attached.{is_of_mount, with_boxed, advanced_there, with_sitters, found_in, places_in}
+use Rattle.radio_mounts.specs.Parts.{has_part}
+use Rattle.radio_mount_part.specs.Parts.{MountAttachments}
+use Rattle.radio_mounts.specs.Attached.{is_of_mount, found_in, places_in}
+use Rattle.radio_mount_part.specs.Attached.{with_boxed, advanced_there, with_sitters}
 use Rattle.radio_mounts.proofs.ByMountLemmas.{changed_here, changed_there, stays_so, put_there, with_alike, not_his}
 
 abbrev place_in : Option Attachment → Option ℕ

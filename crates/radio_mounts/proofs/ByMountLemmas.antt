@@ -11,8 +11,10 @@ use Rattle.radio_tables.proofs.FindLaws.{find_here, find_later, find_apart, find
 use Rattle.radio_attachments.specs.declared.attachment.Attachment.{Attachment}
 use Rattle.radio_attachments.specs.Rows.{is_attached, at_place, comes_before, put_in}
 use Rattle.radio_fallback.specs.Heard.{OthersStay, IsAt, GoesOver, GoesOff}
-use Rattle.radio_mounts.specs.Parts.{MountAttachments, has_part}
-use Rattle.radio_mounts.specs.Attached.{is_of_mount, without_id, with_boxed, found_in, places_in}
+use Rattle.radio_mounts.specs.Parts.{has_part}
+use Rattle.radio_mount_part.specs.Parts.{MountAttachments}
+use Rattle.radio_mounts.specs.Attached.{is_of_mount, found_in, places_in}
+use Rattle.radio_mount_part.specs.Attached.{without_id, with_boxed}
 
 -- a mount's row that has changed
 module _ (mount : List ℕ) (f : MountAttachments → MountAttachments) (same : (x : MountAttachments) → (f x).mount ≡ x.mount) where

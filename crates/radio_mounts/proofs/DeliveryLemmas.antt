@@ -11,9 +11,10 @@ use Rattle.radio_parts.specs.Kept.{longer_kept, kept_fed}
 use Rattle.radio_parts.specs.Parts.{end_in}
 use Rattle.radio_parts.specs.Sessions.{Session, is_of, session_of}
 use Rattle.radio_parts.proofs.PartLemmas.{none_changes}
-use Rattle.radio_mounts.specs.declared.part.Delivers.{Delivers}
-use Rattle.radio_mounts.specs.declared.part.MountPart.{MountPart}
-use Rattle.radio_mounts.specs.Parts.{IsDelivered, AreNamed, is_part_of, live_in, with_session_changed}
+use Rattle.radio_mounts.specs.declared.changes.Delivers.{Delivers}
+use Rattle.radio_mount_part.specs.declared.part.MountPart.{MountPart}
+use Rattle.radio_mounts.specs.Parts.{IsDelivered, AreNamed, live_in}
+use Rattle.radio_mount_part.specs.Parts.{is_part_of, with_session_changed}
 use Rattle.radio_mounts.proofs.LiveLemmas.{AreRising, its, session_found}
 
 abbrev pub Visits : Delivers → List ℕ → MountPart → Result ℕ AllocError → Delivers → MountPart → Type 0

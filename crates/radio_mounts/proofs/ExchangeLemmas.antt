@@ -15,10 +15,11 @@ use Rattle.radio_parts.specs.Sessions.{Session, GoNoFurther}
 use Rattle.radio_parts.specs.Stream.{end_of}
 use Rattle.radio_parts.proofs.PartLemmas.{none_changes}
 use Rattle.radio_mounts.specs.declared.exchange.PartSwap.{PartSwap}
-use Rattle.radio_mounts.specs.declared.part.MountPart.{MountPart}
+use Rattle.radio_mount_part.specs.declared.part.MountPart.{MountPart}
 use Rattle.radio_mounts.specs.Agree.{AllAgree}
 use Rattle.radio_mounts.specs.Exchange.{Comes, Stays, can_replace, left_for, put_for, same_source, same_name, first_true, second_true, of_mount, keeps_mount, IsInPlace, IsExchanged}
-use Rattle.radio_mounts.specs.Parts.{attached_to, by_mount_of, is_part_of, live_in, IsNamed, AreNamed}
+use Rattle.radio_mounts.specs.Parts.{by_mount_of, live_in, IsNamed, AreNamed}
+use Rattle.radio_mount_part.specs.Parts.{attached_to, is_part_of}
 use Rattle.radio_mounts.proofs.LiveLemmas.{its, live_none, live_some, session_found, AreRising}
 use Rattle.radio_mounts.proofs.PartAttachments.{found_attached}
 use Rattle.radio_mounts.proofs.PartLemmas.{AreWhole}

@@ -11,9 +11,11 @@ use Rattle.radio_attachments.specs.declared.attachment.Attachment.{Attachment}
 use Rattle.radio_attachments.specs.Rows.{is_attached, lags, IsBefore, AreInOrder}
 use Rattle.radio_attachments.proofs.Forks.{each_filtered}
 use Rattle.radio_attachments.proofs.Order.{is_apart}
-use Rattle.radio_mounts.specs.Parts.{MountAttachments, has_part}
-use Rattle.radio_mounts.specs.Attached.{is_of_mount, without_lagging, attachments_in, found_in, places_in}
-use Rattle.radio_mounts.specs.Attached.{is_among}
+use Rattle.radio_mounts.specs.Parts.{has_part}
+use Rattle.radio_mount_part.specs.Parts.{MountAttachments}
+use Rattle.radio_mounts.specs.Attached.{is_of_mount, attachments_in, found_in, places_in}
+use Rattle.radio_mount_part.specs.Attached.{without_lagging}
+use Rattle.radio_mount_part.specs.Attached.{is_among}
 use Rattle.radio_mounts.proofs.ByMountLemmas.{changed_here, changed_there, part_stays}
 
 abbrev place_in : Option Attachment → Option ℕ

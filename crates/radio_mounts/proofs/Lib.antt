@@ -7,5 +7,4 @@ pub mod PartAttachments
 pub mod PartLemmas
 pub mod AskedSessions
 pub mod PlaceLemmas
-pub mod DrawingLemmas
 pub mod ExchangeLemmas

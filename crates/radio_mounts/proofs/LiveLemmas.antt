@@ -16,8 +16,9 @@ use Rattle.radio_tables.proofs.FindLaws.{find_here, find_later, finds_none}
 use Rattle.radio_tables.proofs.KeyLaws.{name_is}
 use Rattle.radio_parts.specs.Sessions.{Session, is_of, session_of, by_mount, with_session, without_session}
 use Rattle.radio_parts.proofs.PartLemmas.{none_changes}
-use Rattle.radio_mounts.specs.declared.part.MountPart.{MountPart}
-use Rattle.radio_mounts.specs.Parts.{is_part_of, live_in, with_session_in, with_session_changed, IsNamed, AreNamed}
+use Rattle.radio_mount_part.specs.declared.part.MountPart.{MountPart}
+use Rattle.radio_mounts.specs.Parts.{live_in, IsNamed, AreNamed}
+use Rattle.radio_mount_part.specs.Parts.{is_part_of, with_session_in, with_session_changed}
 
 abbrev names : List MountPart → List (List ℕ)
 names parts = map (λ (part : MountPart). part.mount) parts

@@ -10,9 +10,11 @@ use Rattle.radio_tables.specs.Lists.{update_first, placed, Each}
 use Rattle.radio_tables.proofs.EachLaws.{Each_each, Each_kept, Each_updated, Each_placed}
 use Rattle.radio_tables.proofs.FindLaws.{find_here, find_later, passes_none}
 use Rattle.radio_parts.specs.Sessions.{GoNoFurther}
-use Rattle.radio_mounts.specs.declared.part.MountPart.{MountPart}
-use Rattle.radio_mounts.specs.Parts.{is_part_of, IsNamed, MountAttachments, by_mount_of, attached_to, attached_in}
-use Rattle.radio_mounts.specs.Attached.{is_of_mount, on_part, with_attached}
+use Rattle.radio_mount_part.specs.declared.part.MountPart.{MountPart}
+use Rattle.radio_mounts.specs.Parts.{IsNamed, by_mount_of, attached_in}
+use Rattle.radio_mount_part.specs.Parts.{is_part_of, MountAttachments, attached_to}
+use Rattle.radio_mounts.specs.Attached.{is_of_mount, with_attached}
+use Rattle.radio_mount_part.specs.Attached.{on_part}
 use Rattle.radio_mounts.proofs.LiveLemmas.{AreRising, are_others, rest_rises, part_added, part_removed, sessions_left}
 use Rattle.radio_mounts.proofs.PartLemmas.{AreWhole, attached_changed, both_so}
 

@@ -11,8 +11,9 @@ use Rattle.radio_parts.specs.Parts.{end_in}
 use Rattle.radio_parts.specs.Sessions.{Session, GoNoFurther, is_of, by_mount, session_of, with_session, with_title, without_session}
 use Rattle.radio_parts.specs.Stream.{end_of}
 use Rattle.radio_parts.proofs.FurthestLemmas.{closed_within, titled_within, delivered_within}
-use Rattle.radio_mounts.specs.declared.part.MountPart.{MountPart}
-use Rattle.radio_mounts.specs.Parts.{is_part_of, live_in, with_session_in, with_session_changed, IsNamed, AreNamed, MountAttachments, ByMount, by_mount_of, with_live, attached_to, attached_in, has_part}
+use Rattle.radio_mount_part.specs.declared.part.MountPart.{MountPart}
+use Rattle.radio_mounts.specs.Parts.{live_in, IsNamed, AreNamed, ByMount, by_mount_of, with_live, attached_in, has_part}
+use Rattle.radio_mount_part.specs.Parts.{is_part_of, with_session_in, with_session_changed, MountAttachments, attached_to}
 use Rattle.radio_mounts.proofs.LiveLemmas.{AreRising, session_changed, session_ended, session_begun}
 
 -- no session goes further, and each has the name of its mount

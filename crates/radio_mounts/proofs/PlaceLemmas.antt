@@ -2,9 +2,11 @@
 use Rattle.std.proofs.Common.{◌≡◌, ℕ, Option, List, ap, sym, ◌∙◌}
 use Rattle.std.specs.Prelude.{find}
 use Rattle.std.specs.Option.{option_map}
-use Rattle.radio_mounts.specs.declared.part.MountPart.{MountPart}
-use Rattle.radio_mounts.specs.Parts.{ByMount, MountAttachments, attached_to, by_mount_of, is_part_of}
-use Rattle.radio_mounts.specs.Attached.{found_in, place_in, places_in}
+use Rattle.radio_mount_part.specs.declared.part.MountPart.{MountPart}
+use Rattle.radio_mounts.specs.Parts.{ByMount, by_mount_of}
+use Rattle.radio_mount_part.specs.Parts.{MountAttachments, attached_to, is_part_of}
+use Rattle.radio_mounts.specs.Attached.{found_in, places_in}
+use Rattle.radio_mount_part.specs.Attached.{place_in}
 use Rattle.radio_mounts.proofs.PartAttachments.{found_through}
 
 pub place_seen : (parts : List MountPart) (now : ByMount) (mount : List ℕ) (id : ℕ) (found : Option MountPart) → by_mount_of parts ≡ now

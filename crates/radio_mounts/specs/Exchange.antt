@@ -3,10 +3,11 @@ use Rattle.std.specs.Prelude.{◌≡◌, refl, ◌==◌, ◌&&◌, Bool, true, f
 use Rattle.std.specs.Str.{bytes_eq}
 use Rattle.std.proofs.lemmas.Slice.Eq.{bytes_eq-Decides}
 use Rattle.radio_parts.specs.Sessions.{Session, session_of}
-use Rattle.radio_mounts.specs.declared.part.MountPart.{MountPart}
+use Rattle.radio_mount_part.specs.declared.part.MountPart.{MountPart}
 use Rattle.radio_mounts.specs.Agree.{AllAgree}
 use Rattle.radio_mounts.specs.Attached.{is_of_mount}
-use Rattle.radio_mounts.specs.Parts.{ByMount, attached_to}
+use Rattle.radio_mounts.specs.Parts.{ByMount}
+use Rattle.radio_mount_part.specs.Parts.{attached_to}
 
 -- the sessions are of one mount and one source
 abbrev pub is_of_source : Session → Session → Bool

@@ -2,4 +2,3 @@ pub mod Parts
 pub mod Agree
 pub mod Exchange
 pub mod Attached
-pub mod Steps

@@ -1,30 +1,19 @@
 -- The parts of the mounts, and the sessions among them.
 use Rattle.std.specs.Prelude.{◌≡◌, ℕ, Bool, List, Option, None, Some, find, false, filter_map, map, min, is_some, Result, IfOk, OnOk, OnErr}
 use Rattle.std.specs.declared.alloc.AllocError.{AllocError}
-use Rattle.std.specs.Option.{option_map, option_map_or}
+use Rattle.std.specs.Option.{option_map_or}
 use Rattle.std.specs.Str.{bytes_eq}
 use Rattle.radio_tables.specs.Lists.{Each}
-use Rattle.radio_attachments.specs.declared.attachment.Attachment.{Attachment}
 use Rattle.radio_parts.specs.Due.{session_due}
 use Rattle.radio_parts.specs.Kept.{longer_kept}
 use Rattle.radio_parts.specs.Parts.{end_in}
 use Rattle.radio_parts.specs.Sessions.{Session}
-use Rattle.radio_mounts.specs.declared.part.MountPart.{MountPart}
-
-abbrev pub is_part_of : List ℕ → MountPart → Bool
-is_part_of mount part = bytes_eq part.mount mount
+use Rattle.radio_mount_part.specs.Parts.{MountAttachments, attached_to, with_session_changed}
+use Rattle.radio_mount_part.specs.declared.part.MountPart.{MountPart}
 
 -- the sessions of the mounts that are live, in the order of their names
 abbrev pub live_in : List MountPart → List Session
 live_in parts = filter_map (λ (part : MountPart). part.session) parts
-
--- the part with this session, or with none
-abbrev pub with_session_in : Option Session → MountPart → MountPart
-with_session_in session part = record part { session = session }
-
--- the part whose session has changed, if its mount is live
-abbrev pub with_session_changed : (Session → Session) → MountPart → MountPart
-with_session_changed f part = record part { session = option_map f part.session }
 
 -- the mount is live, and this holds of its session
 abbrev pub has_session : (Session → Bool) → MountPart → Bool
@@ -47,14 +36,6 @@ abbrev pub IsDelivered : ℕ → List ℕ → ℕ → MountPart → Result ℕ A
 IsDelivered limit block moment part answer part' =
     (part'.mount ≡ part.mount) × OnOk answer (part' ≡ with_session_changed (longer_kept limit block moment) part)
     × IfOk answer (λ end. end ≡ end_in part'.session) × OnErr answer (part' ≡ part)
-
--- who is attached to one mount
-pub record MountAttachments : Type 0 where
-  pub mount : List ℕ
-  pub attachments : List Attachment
-
-abbrev pub attached_to : MountPart → MountAttachments
-attached_to part = record { mount = part.mount; attachments = part.attachments }
 
 -- who is attached to each mount that has a part
 abbrev pub attached_in : List MountPart → List MountAttachments

@@ -1,10 +1,7 @@
 //! What is done to the attachments of one mount.
 
-ghost use Rattle.std.specs.Prelude.{◌≡◌, filter, not};
-ghost use Rattle.radio_seats_rows.specs.Seats.{sits_at};
-
-use crate::part::MountPart;
-use radio_attachments::{Attachment, AttachmentTest, AttachmentTree, BoxedAttachment};
+use radio_attachments::{AttachmentTree, BoxedAttachment};
+use radio_mount_part::ListedPart;
 use radio_seats::Seats;
 use radio_tables::{Change, Swap};
 use radio_values::MountName;
@@ -17,10 +14,10 @@ pub(crate) struct Takes {
     pub(crate) boxed: Option<BoxedAttachment>,
 }
 
-impl Swap<MountPart> for Takes {
+impl Swap<ListedPart> for Takes {
     ghost use Rattle.std.specs.Prelude.{refl, find};
     ghost use Rattle.radio_attachments.specs.Rows.{is_attached};
-    ghost use Rattle.radio_mounts.specs.Attached.{on_part, without_id};
+    ghost use Rattle.radio_mount_part.specs.Attached.{on_part, without_id};
 
     ghost gives = { λ takes row. on_part (without_id takes.id) row };
 
@@ -28,8 +25,8 @@ impl Swap<MountPart> for Takes {
 
     ghost keeps_key = { λ takes row. refl };
 
-    fn swap(&mut self, row: &mut MountPart) {
-        self.boxed = row.attachments.take(self.id);
+    fn swap(&mut self, row: &mut ListedPart) {
+        self.boxed = row.take(self.id);
     }
 }
 
@@ -39,9 +36,9 @@ pub(crate) struct Puts {
     pub(crate) boxed: Option<BoxedAttachment>,
 }
 
-impl Swap<MountPart> for Puts {
+impl Swap<ListedPart> for Puts {
     ghost use Rattle.std.specs.Prelude.{refl, None};
-    ghost use Rattle.radio_mounts.specs.Attached.{on_part, with_boxed};
+    ghost use Rattle.radio_mount_part.specs.Attached.{on_part, with_boxed};
 
     ghost gives = { λ puts row. on_part (with_boxed puts.boxed) row };
 
@@ -49,10 +46,8 @@ impl Swap<MountPart> for Puts {
 
     ghost keeps_key = { λ puts row. refl };
 
-    fn swap(&mut self, row: &mut MountPart) {
-        if let Some(boxed) = self.boxed.take() {
-            row.attachments.put(boxed);
-        }
+    fn swap(&mut self, row: &mut ListedPart) {
+        row.put(self.boxed.take());
     }
 }
 
@@ -63,16 +58,16 @@ pub(crate) struct Advances {
     pub(crate) place: u64,
 }
 
-impl Change<MountPart> for Advances {
+impl Change<ListedPart> for Advances {
     ghost use Rattle.std.specs.Prelude.{refl};
-    ghost use Rattle.radio_mounts.specs.Attached.{on_part, advanced_there};
+    ghost use Rattle.radio_mount_part.specs.Attached.{on_part, advanced_there};
 
     ghost gives = { λ change row. on_part (advanced_there change.id change.place) row };
 
     ghost keeps_key = { λ change row. refl };
 
-    fn apply(&self, row: &mut MountPart) {
-        row.attachments.set_place(self.id, self.place);
+    fn apply(&self, row: &mut ListedPart) {
+        row.set_place(self.id, self.place);
     }
 }
 
@@ -84,10 +79,10 @@ pub(crate) struct TakesLagging {
     pub(crate) lagging: AttachmentTree,
 }
 
-impl Swap<MountPart> for TakesLagging {
+impl Swap<ListedPart> for TakesLagging {
     ghost use Rattle.std.specs.Prelude.{refl, filter};
     ghost use Rattle.radio_attachments.specs.Rows.{lags};
-    ghost use Rattle.radio_mounts.specs.Attached.{on_part, without_lagging};
+    ghost use Rattle.radio_mount_part.specs.Attached.{on_part, without_lagging};
 
     ghost gives = { λ takes row. on_part (without_lagging takes.end takes.queue) row };
 
@@ -95,27 +90,9 @@ impl Swap<MountPart> for TakesLagging {
 
     ghost keeps_key = { λ takes row. refl };
 
-    fn swap(&mut self, row: &mut MountPart) {
-        let lagging = row.attachments.take_lagging(self.end, self.queue);
+    fn swap(&mut self, row: &mut ListedPart) {
+        let lagging = row.take_lagging(self.end, self.queue);
         drop(mem::replace(&mut self.lagging, lagging));
-    }
-}
-
-/// The listener does not sit at the mount.
-#[derive(Drop)]
-struct SitsElsewhere<'a> {
-    seats: &'a Seats,
-    mount: &'a MountName,
-}
-
-impl AttachmentTest for SitsElsewhere<'_> {
-    ghost use Rattle.std.specs.Prelude.{not};
-    ghost use Rattle.radio_seats_rows.specs.Seats.{sits_at};
-
-    ghost passes = { λ test row. not (sits_at test.seats.now.seats row.id test.mount.now) };
-
-    fn passes(&self, row: &Attachment) -> bool {
-        !sits_at(self.seats, row.id, self.mount)
     }
 }
 
@@ -126,42 +103,15 @@ pub(crate) struct DetachesOthers<'a> {
     pub(crate) mount: &'a MountName,
 }
 
-impl Change<MountPart> for DetachesOthers<'_> {
+impl Change<ListedPart> for DetachesOthers<'_> {
     ghost use Rattle.std.specs.Prelude.{refl};
-    ghost use Rattle.radio_mounts.specs.Attached.{on_part, with_sitters};
+    ghost use Rattle.radio_mount_part.specs.Attached.{on_part, with_sitters};
 
     ghost gives = { λ change row. on_part (with_sitters change.seats.now.seats change.mount.now) row };
 
     ghost keeps_key = { λ change row. refl };
 
-    fn apply(&self, row: &mut MountPart) {
-        let test = SitsElsewhere {
-            seats: self.seats,
-            mount: self.mount,
-        };
-        drop(row.attachments.split(&test));
+    fn apply(&self, row: &mut ListedPart) {
+        row.detach_others(self.seats, self.mount);
     }
-}
-
-/// Returns whether the listener sits at the mount.
-fn sits_at(seats: &Seats, id: u64, mount: &MountName) -> bool
-    ensures { result ≡ sits_at seats.now.seats id mount.now }
-{
-    match seats.seat(id) {
-        Some(seat) => *seat.mount == *mount,
-        None => false,
-    }
-}
-
-/// Returns those of the listeners that were attached to the mount who sit there. It takes no memory.
-pub fn sitters_among(
-    attachments: AttachmentTree,
-    mount: &MountName,
-    seats: &Seats,
-) -> AttachmentTree
-    ensures { result ≡ filter (λ row. not (not (sits_at seats.now.seats row.id mount.now))) attachments }
-{
-    let mut attachments = attachments;
-    drop(attachments.split(&SitsElsewhere { seats, mount }));
-    attachments
 }

@@ -8,12 +8,12 @@ ghost use Rattle.radio_tables.specs.Lists.{update_first, Each};
 ghost use Rattle.radio_attachments.specs.Rows.{at_place, lags, AreInOrder};
 ghost use Rattle.radio_seats_rows.specs.Seats.{sits_at};
 ghost use Rattle.radio_fallback.specs.Heard.{OthersStay, IsAt, GoesOver};
-ghost use Rattle.radio_mounts.specs.Attached.{is_of_mount, without_id, with_boxed, found_in, attachments_in, places_in, without_lagging, with_attached};
+ghost use Rattle.radio_mounts.specs.Attached.{is_of_mount, found_in, attachments_in, places_in, with_attached};
+ghost use Rattle.radio_mount_part.specs.Attached.{without_id, with_boxed, without_lagging};
 ghost use Rattle.radio_mounts.specs.Parts.{has_part};
 
 use crate::OutOfMemory;
 use crate::attached::{Advances, DetachesOthers, Puts, Takes, TakesLagging};
-use crate::part::MountPart;
 use crate::parts::MountParts;
 use radio_attachments::{AttachmentTree, BoxedAttachment};
 use radio_blocks::Place;
@@ -45,7 +45,7 @@ impl MountParts {
         let Some(part) = self.parts.get(mount) else {
             return (None, None);
         };
-        (part.place(id), part.session.as_ref())
+        (part.place(id), part.session())
     }
 
     /// Makes it possible to attach listeners to the mount. `OutOfMemory` if memory was refused;
@@ -59,7 +59,8 @@ impl MountParts {
         if self.has_part(mount) {
             return Ok(());
         }
-        self.parts.insert(MountPart::new(*mount))?;
+        let part = self.new_part(*mount);
+        self.parts.insert(part)?;
         Ok(())
     }
 
@@ -70,7 +71,7 @@ impl MountParts {
         self.parts.get(mount).is_some()
     }
 
-    /// Removes the mount's part if the mount is not live, and nobody is attached there. It takes no
+    /// Removes the mount's part if the mount is not live, nobody is attached there, and no list is kept of it. It takes no
     /// memory.
     pub fn release(&mut self, mount: &MountName)
         ensures places { (other : _) (id : ℕ) → places_in self.new.attached other id ≡ places_in self.old.attached other id }
@@ -82,7 +83,10 @@ impl MountParts {
         let Some(part) = self.parts.get(mount) else {
             return;
         };
-        if part.session.is_none() && part.attachments.is_empty() {
+        if part.is_listed() {
+            return;
+        }
+        if part.part().session.is_none() && part.part().attachments.is_empty() {
             drop(self.parts.remove(mount));
         }
     }
@@ -150,7 +154,7 @@ impl MountParts {
         ensures once { AreInOrder (attachments_in (find (is_of_mount mount.now) self.now.attached)) }
     {
         match self.parts.get(mount) {
-            Some(part) => part.attachments.may_lag(end, queue),
+            Some(part) => part.may_lag(end, queue),
             None => false,
         }
     }

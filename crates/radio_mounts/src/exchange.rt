@@ -4,20 +4,20 @@ ghost use Rattle.std.specs.Prelude.{◌≡◌, Err, IfOk, OnErr};
 ghost use Rattle.radio_mounts.specs.Exchange.{can_replace, is_of_source, same_source, IsExchanged};
 ghost use Rattle.radio_parts.specs.Parts.{end_in};
 
-use crate::part::MountPart;
 use crate::parts::MountParts;
+use radio_mount_part::ListedPart;
 use radio_parts::Session;
-use radio_tables::Swap;
+use radio_tables::{Row, Swap};
 use std::mem;
 
 /// A part that takes the place of the mount's, if neither is live, or both are by one source.
 #[derive(Drop)]
 struct PartSwap {
-    part: MountPart,
+    part: ListedPart,
     is_put: bool,
 }
 
-impl Swap<MountPart> for PartSwap {
+impl Swap<ListedPart> for PartSwap {
     ghost use Rattle.radio_mounts.specs.Exchange.{can_replace, keeps_mount, left_for, put_for};
 
     ghost gives = { λ swap row. put_for swap.part row };
@@ -26,7 +26,7 @@ impl Swap<MountPart> for PartSwap {
 
     ghost keeps_key = { λ swap row. keeps_mount swap.part row };
 
-    fn swap(&mut self, row: &mut MountPart) {
+    fn swap(&mut self, row: &mut ListedPart) {
         self.is_put = can_replace(&self.part, row);
         if self.is_put {
             mem::swap(&mut self.part, row);
@@ -38,12 +38,12 @@ impl MountParts {
     /// Puts the part in the place of its mount's, which it returns. A part that nobody feeds can only
     /// take the place of such a one, and one that a source feeds that of one which the same source
     /// feeds. Else nothing changes, and `Err` has the part itself. It takes no memory.
-    pub fn exchange(&mut self, part: MountPart) -> Result<MountPart, MountPart>
+    pub fn exchange(&mut self, part: ListedPart) -> Result<ListedPart, ListedPart>
         ensures ok { IfOk result (λ there. IsExchanged part there self.old self.new) }
         ensures back { OnErr result (result ≡ Err part) }
         ensures err { OnErr result (self.new ≡ self.old) }
     {
-        let mount = part.mount;
+        let mount = part.key();
         self.furthest = self.furthest.max(stream_end(&part));
         // the parts are in the order of their mounts
         let _ = self.parts.len();
@@ -61,19 +61,20 @@ impl MountParts {
 }
 
 /// Returns where the stream of the part's session ends, in bytes; 0 if it has none.
-fn stream_end(part: &MountPart) -> u64
+fn stream_end(part: &ListedPart) -> u64
     ensures { result ≡ end_in part.now.session }
 {
-    match &part.session {
+    match part.session() {
         Some(session) => session.stream.end(),
         None => 0,
     }
 }
 
 /// Returns whether the part can take the place of this one.
-fn can_replace(part: &MountPart, row: &MountPart) -> bool
+fn can_replace(part: &ListedPart, row: &ListedPart) -> bool
     ensures { result ≡ can_replace part.now row.now }
 {
+    let (part, row) = (part.part(), row.part());
     part.mount == row.mount && has_same_source(&part.session, &row.session)
 }
 

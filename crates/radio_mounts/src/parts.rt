@@ -1,21 +1,23 @@
 //! The parts of all mounts.
 
-ghost use Rattle.std.specs.Prelude.{◌≡◌, [], true, map, OnOk, OnErr, IfOk};
+ghost use Rattle.std.specs.Prelude.{◌≡◌, [], true, None, map, OnOk, OnErr, IfOk};
 ghost use Rattle.std.specs.Option.{option_copied};
 ghost use Rattle.radio_parts.specs.Kept.{kept_fed, longer_kept};
 ghost use Rattle.radio_parts.specs.Parts.{end_in, ends_in};
 ghost use Rattle.radio_parts.specs.Sessions.{session_of, titled, with_session, without_session};
-ghost use Rattle.radio_mounts.specs.Parts.{is_part_of, live_in, has_part, with_session_changed, AreNamed};
-ghost use Rattle.radio_mounts.specs.declared.part.MountPart.{MountPart as PartOf};
+ghost use Rattle.radio_mounts.specs.Parts.{live_in, has_part, AreNamed};
+ghost use Rattle.radio_mount_part.specs.Parts.{is_part_of, with_session_changed};
+ghost use Rattle.radio_mount_part.specs.declared.part.MountPart.{MountPart as PartOf};
 ghost use Rattle.radio_tables.specs.Lists.{update_first};
 ghost use Rattle.std.specs.Cmp.Lexicographic.{slice_cmp};
 ghost use Rattle.std.specs.List.Sorted.{IsStrictlySortedBy};
 ghost use Rattle.std.specs.Ordering.{nat_cmp};
 
 use crate::OutOfMemory;
-use crate::part::{Delivers, MountPart, SessionSwap, TitleSwap};
+use crate::changes::{Delivers, SessionSwap, TitleSwap};
 use radio_blocks::{Block, Place};
-use radio_parts::Session;
+use radio_mount_part::{ListedPart, MountPart};
+use radio_parts::{NewSession, Session};
 use radio_tables::Table;
 use radio_values::{MountName, Title};
 use std::alloc::Global;
@@ -25,9 +27,19 @@ use std::marker::Model;
 /// live mounts' sessions, and who is attached to each mount.
 #[derive(Drop)]
 pub struct MountParts {
-    pub(crate) parts: Table<MountPart>,
+    pub(crate) parts: Table<ListedPart>,
     /// No session's stream goes further than this.
     pub(crate) furthest: u64,
+    /// How parts keep lists, if they do.
+    pub(crate) listing: Option<Listing>,
+}
+
+/// How parts keep lists.
+#[derive(Clone, Copy)]
+pub(crate) struct Listing {
+    pub(crate) alloc: Global,
+    /// How many bytes of a stream are kept at least.
+    pub(crate) queue: u64,
 }
 
 impl Model for MountParts {
@@ -49,6 +61,24 @@ impl MountParts {
         MountParts {
             parts: Table::new(alloc),
             furthest: 0,
+            listing: None,
+        }
+    }
+
+    /// Each part that is made from now on keeps a list of what happens to it. Of a stream at least so many bytes will be kept.
+    pub fn keep_lists(&mut self, alloc: Global, queue: u64)
+        ensures { self.new ≡ self.old }
+    {
+        self.listing = Some(Listing { alloc, queue });
+    }
+
+    /// Returns the part of a mount that is not live, and to which nobody is attached.
+    pub(crate) fn new_part(&self, mount: MountName) -> ListedPart
+        ensures { result ≡ record { mount = mount; session = None; attachments = []; lagged = [] } }
+    {
+        match self.listing {
+            Some(Listing { alloc, queue }) => ListedPart::listed(alloc, mount, queue),
+            None => ListedPart::unlisted(MountPart::new(mount)),
         }
     }
 
@@ -61,7 +91,7 @@ impl MountParts {
         let Some(part) = self.parts.get(mount) else {
             return None;
         };
-        part.session.as_ref()
+        part.session()
     }
 
     /// Returns the place behind the last byte of the stream of the mount's session; 0 if the mount is
@@ -76,14 +106,14 @@ impl MountParts {
     }
 
     /// Begins this session on its mount. It takes no memory.
-    pub fn open(&mut self, session: Session)
+    pub fn open(&mut self, session: NewSession)
         requires { has_part self.old.attached session.mount ≡ true }
         ensures { self.new ≡ record self.old { live = with_session self.old.live session } }
     {
         // the parts are in the order of their mounts
         let _ = self.parts.len();
-        let mount = *session.mount.get();
-        self.furthest = self.furthest.max(session.stream.end());
+        let mount = session.mount();
+        self.furthest = self.furthest.max(session.stream_end());
         let mut swap = SessionSwap {
             session: Some(session),
         };
@@ -134,7 +164,7 @@ impl MountParts {
 /// Adds a block to the stream of the mount's session at this moment, and returns where the stream ends
 /// then; 0 if the mount is not live. `OutOfMemory` if memory was refused; nothing has changed then.
 fn deliver(
-    parts: &mut Table<MountPart>,
+    parts: &mut Table<ListedPart>,
     mount: &MountName,
     block: &Block,
     moment: u64,

@@ -11,15 +11,15 @@ ghost use Rattle.radio_parts.specs.Sessions.{Session as SessionOf};
 ghost use Rattle.radio_parts.specs.Timeouts.{is_silent};
 ghost use Rattle.radio_mounts.specs.Parts.{earlier_due, has_session, live_in};
 
-use crate::part::MountPart;
 use crate::parts::MountParts;
+use radio_mount_part::ListedPart;
 use radio_parts::{LAST_MOMENT, Session, due_at, lies_back};
 use radio_tables::Table;
 use radio_values::MountName;
 
 impl MountParts {
     /// Returns all parts, in the order of the mounts' names.
-    pub fn all(&self) -> &Table<MountPart>
+    pub fn all(&self) -> &Table<ListedPart>
         ensures { live_in result.now ≡ self.now.live }
     {
         &self.parts
@@ -51,7 +51,7 @@ impl MountParts {
         let Some(part) = silent_part(&self.parts, seconds, now) else {
             return None;
         };
-        part.session.as_ref()
+        part.session()
     }
 
     /// Returns the earliest moment at which a session is due whose source may send nothing for so many
@@ -64,17 +64,17 @@ impl MountParts {
 }
 
 /// Returns the first part whose source has sent nothing in so many seconds.
-fn silent_part(parts: &Table<MountPart>, seconds: u32, now: u64) -> Option<&MountPart>
+fn silent_part(parts: &Table<ListedPart>, seconds: u32, now: u64) -> Option<&ListedPart>
     ensures { option_copied result ≡ find (has_session (is_silent seconds now)) parts.now }
 {
     parts.iter().find(|part| is_silent(part, seconds, now))
 }
 
 /// Returns whether the part's source, if its mount is live, has sent nothing in so many seconds.
-fn is_silent(part: &MountPart, seconds: u32, now: u64) -> bool
+fn is_silent(part: &ListedPart, seconds: u32, now: u64) -> bool
     ensures { result ≡ has_session (is_silent seconds now) part.now }
 {
-    match &part.session {
+    match part.session() {
         Some(session) => lies_back(seconds, session.last_block, now),
         None => false,
     }
@@ -82,7 +82,7 @@ fn is_silent(part: &MountPart, seconds: u32, now: u64) -> bool
 
 /// Returns the earliest moment at which a session of these parts is due; the last moment if no mount is
 /// live.
-fn earliest_due(parts: &Table<MountPart>, seconds: u32) -> u64
+fn earliest_due(parts: &Table<ListedPart>, seconds: u32) -> u64
     ensures { result ≡ fold (earlier_due seconds) last_moment parts.now }
 {
     parts.iter().fold(LAST_MOMENT, |first, part| earlier_due(first, part, seconds))
@@ -90,10 +90,10 @@ fn earliest_due(parts: &Table<MountPart>, seconds: u32) -> u64
 
 /// Returns the moment at which the part's session is due, if its mount is live and that is earlier
 /// than this moment; else this moment.
-fn earlier_due(first: u64, part: &MountPart, seconds: u32) -> u64
+fn earlier_due(first: u64, part: &ListedPart, seconds: u32) -> u64
     ensures { result ≡ earlier_due seconds first part.now }
 {
-    match &part.session {
+    match part.session() {
         Some(session) => first.min(due_at(seconds, session.last_block)),
         None => first,
     }

@@ -1,6 +1,6 @@
 //! What one mount does by itself: its session, the stream of that, and what has had its time there.
 //!
-//! - [`Session`]: what a source feeds to a mount. The parts of `radio_mounts` have them.
+//! - [`Session`]: what a source feeds to a mount. The parts of `radio_mounts` have them. A [`NewSession`] is one that begins.
 //! - [`Stream`]: the data of a session, of which the last blocks are kept.
 //! - [`lies_back`]: whether a moment lies so many seconds back; [`HasSatOut`] says of
 //!   a listener that he has had his time.
@@ -14,7 +14,7 @@ mod stream;
 mod timeouts;
 
 pub use due::{GuestDue, LAST_MOMENT, due_at, seat_due};
-pub use sessions::Session;
+pub use sessions::{NewSession, Session};
 pub use stream::Stream;
 pub use timeouts::{HasSatOut, lies_back};
 

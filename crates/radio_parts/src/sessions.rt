@@ -2,6 +2,7 @@
 
 ghost use Rattle.std.specs.Prelude.{◌≡◌, IfOk};
 ghost use Rattle.radio_parts.specs.Sessions.{opened};
+ghost use Rattle.radio_parts.specs.Stream.{end_of};
 
 use crate::OutOfMemory;
 use crate::stream::Stream;
@@ -71,5 +72,60 @@ impl Session {
             shown,
             last_block: moment,
         })
+    }
+}
+
+/// A session that begins: nothing has come of its stream yet, and it has no title. Contracts see the session.
+#[derive(Drop)]
+pub struct NewSession {
+    session: Session,
+    ghost begins: { session ≡ opened session.mount session.number session.shown session.last_block },
+}
+
+impl Model for NewSession {
+    ghost use Rattle.radio_parts.specs.Sessions.{Session};
+
+    ghost Value = { Session };
+
+    ghost view = { λ n. n.session };
+}
+
+impl NewSession {
+    /// Returns the session that begins on the mount at this moment, in milliseconds, of the source of that number.
+    /// `OutOfMemory` if memory was refused.
+    pub fn new(
+        alloc: Global,
+        mount: MountName,
+        number: u64,
+        shown: Shown,
+        moment: u64,
+    ) -> Result<NewSession, OutOfMemory>
+        ensures { IfOk result (λ session. session ≡ opened mount number shown moment) }
+    {
+        let session = Session::new(alloc, mount, number, shown, moment)?;
+        Ok(NewSession { session })
+    }
+
+    /// Returns the mount that is fed.
+    pub fn mount(&self) -> MountName
+        ensures { result ≡ self.now.mount }
+    {
+        *self.session.mount.get()
+    }
+
+    /// Returns the place behind the last byte of its stream.
+    pub fn stream_end(&self) -> u64
+        ensures { result ≡ end_of self.now.stream }
+    {
+        self.session.stream.end()
+    }
+
+    /// Returns the session.
+    pub fn into_session(self) -> Session
+        ensures same { result ≡ self }
+        ensures begins { result ≡ opened result.mount result.number result.shown result.last_block }
+    {
+        let NewSession { session, .. } = self;
+        session
     }
 }

@@ -6,7 +6,7 @@ use Rattle.radio_events.specs.declared.entry.Entry.{Entry}
 use Rattle.radio_chronicle.specs.History.{IsRun, IsTold}
 use Rattle.radio_merge.specs.declared.family.ControlLine.{ControlLine}
 use Rattle.radio_merge.specs.declared.family.ControlLine.TheVariants.{Made}
-use Rattle.radio_merge.specs.declared.family.MountItem.{MountItem}
+use Rattle.radio_mount_part.specs.declared.item.MountItem.{MountItem}
 use Rattle.radio_book.specs.Receipts.{ReceiptOf}
 use Rattle.radio_settling.specs.declared.fault.SettleFault.{SettleFault}
 use Rattle.radio_settling.specs.Settling.{IsSettled, Shows}

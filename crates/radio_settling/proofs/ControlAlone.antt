@@ -5,7 +5,7 @@ use Rattle.radio_events.specs.declared.entry.Entry.{Entry}
 use Rattle.radio_chronicle.specs.declared.stamp.Stamp.{Stamp}
 use Rattle.radio_merge.specs.declared.family.ControlLine.{ControlLine}
 use Rattle.radio_merge.specs.declared.family.ControlLine.TheVariants.{Made}
-use Rattle.radio_merge.specs.declared.family.MountItem.{MountItem}
+use Rattle.radio_mount_part.specs.declared.item.MountItem.{MountItem}
 use Rattle.radio_merge.specs.Merged.{Positions, PastCuts, Merged, Begins, LeavesOut, TakesOwn, TakesControl, IsMerge}
 
 -- what is left of the entries

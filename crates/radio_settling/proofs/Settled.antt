@@ -12,7 +12,7 @@ use Rattle.radio_house.specs.World.{World}
 use Rattle.radio_chronicle.specs.declared.stamp.Stamp.{Stamp}
 use Rattle.radio_chronicle.specs.Stamps.{stamp}
 use Rattle.radio_book.specs.Receipts.{ReceiptOf}
-use Rattle.radio_merge.specs.declared.family.MountItem.{MountItem}
+use Rattle.radio_mount_part.specs.declared.item.MountItem.{MountItem}
 use Rattle.radio_merge.specs.Merged.{IsSubsequence}
 use Rattle.radio_merge.specs.declared.family.ControlLine.{ControlLine}
 use Rattle.radio_settling.specs.declared.fault.SettleFault.{SettleFault}

@@ -21,7 +21,7 @@ use radio_listing::{
     ListenerRow, MountRow, PublicRow, Text as Shown, list_clients, list_mounts, stats, status,
     stream_list,
 };
-use radio_mounts::MountPart;
+use radio_mount_part::MountPart;
 use radio_parts::Session;
 use radio_seats::LentListener;
 use radio_values::{MountName, Title};
@@ -102,7 +102,7 @@ pub(crate) fn mount_rows<'a>(
 {
     let mut rows = Vec::new(alloc);
     for part in house.parts().all().iter() {
-        add_mount_row(&mut rows, house, seats, part)?;
+        add_mount_row(&mut rows, house, seats, part.part())?;
     }
     Ok(rows)
 }

@@ -1,5 +1,5 @@
 //! A mount's part that stands apart, as under a lock of its own: it does what it can by itself, and is
-//! lent to the control for all else. The replies are those of a core.
+//! lent to the control for all else. The replies are those of a core, and the part keeps a list of what happens to it.
 
 use crate::calls::{CALLS, Callee, number_given, serve, step_copy};
 use crate::stations::{core, settings};
@@ -7,7 +7,7 @@ use radio_access::Lists;
 use radio_core::{Control, Core};
 use radio_events::{Event, Reply};
 use radio_merge::is_same_reply;
-use radio_mounts::{MountPart, PartAnswer};
+use radio_mount_part::{ListedPart, MountItem, PartAnswer};
 use radio_seats_rows::OutOfMemory;
 use radio_settings::SettingsFault;
 use radio_values::MountName;
@@ -22,7 +22,7 @@ struct Apart<'a> {
     alloc: Global,
     mount: MountName,
     control: &'a mut Control,
-    part: Option<MountPart>,
+    part: Option<ListedPart>,
     core: &'a mut Core,
     /// How many calls the part did by itself.
     own: usize,
@@ -40,7 +40,7 @@ impl Apart<'_> {
     }
 
     /// The reply to the event by this part, if it can; else it is lent.
-    fn reply_by(&mut self, part: MountPart, event: Event) -> Result<Reply, OutOfMemory> {
+    fn reply_by(&mut self, part: ListedPart, event: Event) -> Result<Reply, OutOfMemory> {
         let mut part = part;
         match part.step(self.alloc, 0, QUEUE, event)? {
             PartAnswer::Replied(reply) => {
@@ -117,11 +117,40 @@ fn all_alike(alloc: Global, control: &mut Control, core: &mut Core, mount: Mount
         alike: 0,
     };
     serve(alloc, &mut apart, "/a");
-    apart.alike == CALLS && apart.own > 40
+    let Apart {
+        part,
+        own,
+        alike,
+        ..
+    } = apart;
+    alike == CALLS && own > 40 && is_listed(part, own)
+}
+
+/// Whether a list was kept of all that happened to the part, with so many own entries.
+fn is_listed(part: Option<ListedPart>, own: usize) -> bool {
+    let Some(part) = part else {
+        return false;
+    };
+    match part.into_items() {
+        Some(kept) => count_own(kept.items.as_slice()) == own && kept.items.len() > own,
+        None => false,
+    }
+}
+
+/// How many of the items are own entries.
+fn count_own(items: &[MountItem]) -> usize {
+    let mut count = 0usize;
+    for item in items {
+        if item.own_entry().is_some() {
+            count = count.saturating_add(1);
+        }
+    }
+    count
 }
 
 fn alike_beside(alloc: Global, core: &mut Core, mount: MountName) -> Result<bool, SettingsFault> {
     let mut control = Control::new(alloc, settings(alloc, "")?, Lists::new(alloc));
+    control.keep_lists();
     let alike = all_alike(alloc, &mut control, core, mount);
     drop(control);
     Ok(alike)

@@ -120,7 +120,11 @@ impl Maker {
 
 /// An item that a merge passes over or finds in the range of a cut.
 fn ended(rule: Option<Rule>) -> MountItem {
-    MountItem::Detach { grant: 0, rule }
+    MountItem::Detach {
+        id: 0,
+        grant: 0,
+        rule,
+    }
 }
 
 fn moving() -> Asked {

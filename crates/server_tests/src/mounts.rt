@@ -4,7 +4,7 @@
 use bytes::Bytes;
 use radio_blocks::Block;
 use radio_mounts::MountParts;
-use radio_parts::Session;
+use radio_parts::NewSession;
 use radio_seats_rows::OutOfMemory;
 use radio_values::{MountName, Shown, Title};
 use std::alloc::{AllocGlobal, Global};
@@ -32,7 +32,7 @@ fn begin(
     let nothing = b"".as_slice();
     let shown = Shown::clean(alloc, nothing, nothing, nothing)?;
     parts.prepare(mount)?;
-    let session = Session::new(alloc, *mount, number, shown, 0)?;
+    let session = NewSession::new(alloc, *mount, number, shown, 0)?;
     parts.open(session);
     Ok(())
 }

@@ -1,12 +1,12 @@
-//! Own steps of a mount's part: calls with ample memory, and what each replies. A body that gives up for
+//! Own steps of a mount's part: calls with ample memory, what each replies, and what the part's list has then. A body that gives up for
 //! want of memory is proved under any contract.
 
 use bytes::Bytes;
 use radio_attachments::{Attachment, BoxedAttachment};
 use radio_blocks::{Block, Pieces};
 use radio_events::{Event, Reply};
-use radio_mounts::{MountPart, PartAnswer};
-use radio_parts::Session;
+use radio_mount_part::{ListedPart, MountItem, PartAnswer};
+use radio_parts::NewSession;
 use radio_seats_rows::OutOfMemory;
 use radio_values::{MountName, Shown, Title};
 use std::alloc::{AllocGlobal, Global};
@@ -20,35 +20,34 @@ const SOURCE: u64 = 5;
 /// A listener that is attached to it.
 const LISTENER: u64 = 7;
 
-/// A mount that the source feeds, with the listener at the beginning of its stream.
-fn fed_part(alloc: Global, mount: MountName) -> Result<MountPart, OutOfMemory> {
+/// A mount that the source feeds, with the listener at the beginning of its stream. A list is kept.
+fn fed_part(alloc: Global, mount: MountName) -> Result<ListedPart, OutOfMemory> {
     let nothing = b"".as_slice();
     let shown = Shown::clean(alloc, nothing, nothing, nothing)?;
-    let mut part = MountPart::new(mount);
-    part.session = Some(Session::new(alloc, mount, SOURCE, shown, 0)?);
+    let mut part = ListedPart::listed(alloc, mount, QUEUE);
+    part.begin(NewSession::new(alloc, mount, SOURCE, shown, 0)?);
     let attachment = Attachment {
         id: LISTENER,
         place: 0,
     };
-    part.attachments
-        .put(BoxedAttachment::new(alloc, attachment)?);
+    part.put(Some(BoxedAttachment::new(alloc, attachment)?));
     Ok(part)
 }
 
 /// Whether the part notes the event, which comes at the second second.
-fn is_noted(alloc: Global, part: &mut MountPart, event: Event) -> Result<bool, OutOfMemory> {
+fn is_noted(alloc: Global, part: &mut ListedPart, event: Event) -> Result<bool, OutOfMemory> {
     let answer = part.step(alloc, 2_000, QUEUE, event)?;
     Ok(matches!(&answer, PartAnswer::Replied(Reply::Noted)))
 }
 
 /// Whether the part has nothing to say to the event.
-fn is_elsewhere(alloc: Global, part: &mut MountPart, event: Event) -> Result<bool, OutOfMemory> {
+fn is_elsewhere(alloc: Global, part: &mut ListedPart, event: Event) -> Result<bool, OutOfMemory> {
     let answer = part.step(alloc, 2_000, QUEUE, event)?;
     Ok(matches!(&answer, PartAnswer::Elsewhere(_)))
 }
 
 /// A source of this number sends the bytes: whether the part notes them.
-fn takes(alloc: Global, part: &mut MountPart, id: u64, bytes: &[u8]) -> Result<bool, OutOfMemory> {
+fn takes(alloc: Global, part: &mut ListedPart, id: u64, bytes: &[u8]) -> Result<bool, OutOfMemory> {
     match Block::new(Bytes::copy_from_slice(alloc, bytes)?) {
         Some(block) => is_noted(alloc, part, Event::Push { id, block }),
         None => Ok(false),
@@ -56,7 +55,7 @@ fn takes(alloc: Global, part: &mut MountPart, id: u64, bytes: &[u8]) -> Result<b
 }
 
 /// The source sets a title: whether the part notes it.
-fn takes_title(alloc: Global, part: &mut MountPart) -> Result<bool, OutOfMemory> {
+fn takes_title(alloc: Global, part: &mut ListedPart) -> Result<bool, OutOfMemory> {
     let text = Title::clean(alloc, b"a title".as_slice())?;
     is_noted(alloc, part, Event::Title { id: SOURCE, text })
 }
@@ -64,7 +63,7 @@ fn takes_title(alloc: Global, part: &mut MountPart) -> Result<bool, OutOfMemory>
 /// The listener has room for so many bytes: whether it is handed these, with a title or without.
 fn draws(
     alloc: Global,
-    part: &mut MountPart,
+    part: &mut ListedPart,
     room: u32,
     bytes: &[u8],
     titled: bool,
@@ -86,7 +85,7 @@ fn is_text(alloc: Global, pieces: &Pieces, bytes: &[u8]) -> Result<bool, OutOfMe
 }
 
 /// Whether the listener is handed what the source of its mount sends, and nothing that another sends.
-fn blocks_are_drawn(alloc: Global, part: &mut MountPart) -> Result<bool, OutOfMemory> {
+fn blocks_are_drawn(alloc: Global, part: &mut ListedPart) -> Result<bool, OutOfMemory> {
     let none = draws(alloc, part, 8, b"".as_slice(), false)?;
     let taken = takes(alloc, part, SOURCE, b"abc".as_slice())?;
     let strange = takes(alloc, part, 6, b"xyz".as_slice())?;
@@ -97,8 +96,8 @@ fn blocks_are_drawn(alloc: Global, part: &mut MountPart) -> Result<bool, OutOfMe
 }
 
 /// Whether the stream's last block came at the second second.
-fn is_dated(part: &MountPart) -> bool {
-    match &part.session {
+fn is_dated(part: &ListedPart) -> bool {
+    match part.session() {
         Some(session) => session.last_block == 2_000,
         None => false,
     }
@@ -106,13 +105,14 @@ fn is_dated(part: &MountPart) -> bool {
 
 fn hands_out(alloc: Global, mount: MountName) -> Result<bool, OutOfMemory> {
     let mut part = fed_part(alloc, mount)?;
-    Ok(blocks_are_drawn(alloc, &mut part)? && is_dated(&part))
+    let drawn = blocks_are_drawn(alloc, &mut part)? && is_dated(&part);
+    Ok(drawn && has_items(part, 2, 5, 0))
 }
 
 /// Whether a listener that is further behind than the queue is long lags out, and is answered elsewhere.
-fn laggards_are_noted(alloc: Global, part: &mut MountPart) -> Result<bool, OutOfMemory> {
+fn laggards_are_noted(alloc: Global, part: &mut ListedPart) -> Result<bool, OutOfMemory> {
     let near = takes(alloc, part, SOURCE, b"abcd".as_slice())?;
-    let keeps_up = part.lagged.is_empty();
+    let keeps_up = part.part().lagged.is_empty();
     let far = takes(alloc, part, SOURCE, b"e".as_slice())?;
     let draws = is_elsewhere(
         alloc,
@@ -129,7 +129,33 @@ fn laggards_are_noted(alloc: Global, part: &mut MountPart) -> Result<bool, OutOf
 fn lets_lag_out(alloc: Global, mount: MountName) -> Result<bool, OutOfMemory> {
     let mut part = fed_part(alloc, mount)?;
     let noted = laggards_are_noted(alloc, &mut part)?;
-    Ok(noted && part.attachments.is_empty() && part.lagged.get(LISTENER).is_some())
+    let inside = part.part();
+    let out = inside.attachments.is_empty() && inside.lagged.get(LISTENER).is_some();
+    Ok(noted && out && has_items(part, 2, 2, 1))
+}
+
+/// Whether the part's list has so many clients attached, own entries, and listeners that lagged.
+fn has_items(part: ListedPart, attached: usize, own: usize, lagged: usize) -> bool {
+    let Some(kept) = part.into_items() else {
+        return false;
+    };
+    let items = kept.items.as_slice();
+    let mut found = (0usize, 0usize, 0usize);
+    for item in items {
+        found = counted(found, item);
+    }
+    found == (attached, own, lagged)
+}
+
+/// The counts with one item more: of clients attached, own entries, and listeners that lagged.
+fn counted(found: (usize, usize, usize), item: &MountItem) -> (usize, usize, usize) {
+    let (attached, own, lagged) = found;
+    match item {
+        MountItem::Attach { .. } => (attached.saturating_add(1), own, lagged),
+        MountItem::Own { .. } => (attached, own.saturating_add(1), lagged),
+        MountItem::Detach { .. } if item.is_left_out() => (attached, own, lagged.saturating_add(1)),
+        MountItem::Detach { .. } | MountItem::Titled(_) => found,
+    }
 }
 
 #[test]

@@ -8,7 +8,7 @@ ghost use Rattle.radio_seats_rows.specs.declared.seat.Seat.{Seat as SeatOf};
 ghost use Rattle.radio_seats.specs.Lent.{lent_seat};
 ghost use Rattle.radio_house.specs.Waiting.{heard_at, silence_of};
 ghost use Rattle.radio_core.specs.CanStep.{CanDraw};
-ghost use Rattle.radio_mounts.specs.Steps.{IsKept};
+ghost use Rattle.radio_mount_part.specs.Steps.{IsKept};
 ghost use Rattle.radio_parts.specs.Kept.{first_start};
 ghost use Rattle.radio_parts.specs.Stream.{end_of};
 ghost use Rattle.radio_house.specs.World.{standing_of};

@@ -6,16 +6,23 @@ ghost use Rattle.radio_core.specs.Lending.{IsTakenOut, StandsIn};
 
 use super::control::Control;
 use crate::OutOfMemory;
-use radio_mounts::MountPart;
+use radio_mount_part::{ListedPart, MountPart};
 use radio_parts::Session;
 use radio_values::{MountName, Shown};
 
 impl Control {
+    /// Each mount's part that is made from now on keeps a list of what happens to it.
+    pub fn keep_lists(&mut self)
+        ensures { self.new ≡ self.old }
+    {
+        self.state.keep_lists();
+    }
+
     /// Puts a mount's part in the place of the one that is here, which it returns. Whoever has lagged
     /// out there, and still has its seat, loses it. A part that nobody feeds can only take the place of
     /// such a one, and one that a source feeds that of one which the same source feeds; else nothing
     /// changes, and `Err` has the part itself. It takes no memory.
-    pub fn exchange(&mut self, part: MountPart) -> Result<MountPart, MountPart>
+    pub fn exchange(&mut self, part: ListedPart) -> Result<ListedPart, ListedPart>
         ensures ok { IfOk result (λ there. IsLentTo part there self.old self.new) }
         ensures back { OnErr result (result ≡ Err part) }
         ensures err { OnErr result (self.new ≡ self.old) }
@@ -26,12 +33,12 @@ impl Control {
     /// Takes out the mount's part, and leaves one without data in its place, which the same source
     /// feeds, if one does. Returns `None` if the mount has no part; nothing has changed then.
     /// `OutOfMemory` if memory was refused; nothing has changed then.
-    pub fn take_out(&mut self, mount: &MountName) -> Result<Option<MountPart>, OutOfMemory>
+    pub fn take_out(&mut self, mount: &MountName) -> Result<Option<ListedPart>, OutOfMemory>
         ensures out { IfOk result (λ out. MatchOption out (self.new ≡ self.old) (λ part. IsTakenOut mount.now part self.old self.new)) }
         ensures err { OnErr result (self.new ≡ self.old) }
     {
         let stand_in = self.stand_in(mount)?;
-        match self.exchange(stand_in) {
+        match self.exchange(ListedPart::unlisted(stand_in)) {
             Ok(part) => Ok(Some(part)),
             Err(stand_in) => {
                 drop(stand_in);

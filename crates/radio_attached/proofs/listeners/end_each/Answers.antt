@@ -5,7 +5,7 @@ use Rattle.radio_seats.proofs.RowLemmas.{same_board}
 use Rattle.radio_policy.specs.declared.rule.Rule.TheVariants.{Lagged}
 use Rattle.radio_seats_rows.specs.Board.{Board}
 use Rattle.radio_attached.specs.Losses.{ended_where}
-use Rattle.radio_mounts.specs.Attached.{is_among}
+use Rattle.radio_mount_part.specs.Attached.{is_among}
 use Rattle.radio_attached.proofs.LossLemmas.{ends_more, ends_nobody}
 use Rattle.radio_attached.proofs.listeners.end_each.Goals as goal
 

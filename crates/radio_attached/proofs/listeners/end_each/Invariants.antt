@@ -2,7 +2,7 @@ use Rattle.std.proofs.Common.{◌≡◌, length}
 use Rattle.std.specs.Prelude.{map}
 use Rattle.radio_policy.specs.declared.rule.Rule.TheVariants.{Lagged}
 use Rattle.radio_attached.specs.Losses.{ended_where}
-use Rattle.radio_mounts.specs.Attached.{is_among}
+use Rattle.radio_mount_part.specs.Attached.{is_among}
 use Rattle.radio_attached.proofs.listeners.end_each.Given as goal
 
 -- once the rest have lost their seats too, all have

@@ -1,6 +1,6 @@
 use Rattle.std.proofs.Common.{ℕ}
 use Rattle.radio_mounts.proofs.DeliveryLemmas.{Told, was_delivered, is_to_none}
-use Rattle.radio_mounts.specs.declared.part.Delivers.{Delivers}
+use Rattle.radio_mounts.specs.declared.changes.Delivers.{Delivers}
 use Rattle.radio_mounts.proofs.parts.deliver.Goals as goal
 use Rattle.radio_mounts.proofs.parts.deliver.Goals.{In-Some, In-None}
 

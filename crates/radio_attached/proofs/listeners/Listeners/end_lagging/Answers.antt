@@ -9,8 +9,9 @@ use Rattle.radio_fallback.specs.Heard.{heard}
 use Rattle.radio_attached.specs.Attached.{AreAttached, Listening}
 use Rattle.radio_mounts.specs.Attached.{places_in}
 use Rattle.radio_attached.specs.Losses.{ended_where}
-use Rattle.radio_mounts.specs.Attached.{is_among}
-use Rattle.radio_mounts.specs.Parts.{ByMount, MountAttachments}
+use Rattle.radio_mount_part.specs.Attached.{is_among}
+use Rattle.radio_mounts.specs.Parts.{ByMount}
+use Rattle.radio_mount_part.specs.Parts.{MountAttachments}
 use Rattle.radio_attached.proofs.FitsChanges.{after_losses, lost_fits}
 use Rattle.radio_mounts.proofs.LaggingLemmas.{far, lost, later, is_lost, places_there, places_elsewhere, parts_stay}
 use Rattle.radio_attached.proofs.ListenersLemmas.{have_lagged, same_listening}

@@ -4,7 +4,8 @@ use Rattle.radio_attachments.specs.declared.attachment.Attachment.{Attachment}
 use Rattle.radio_policy.specs.declared.rule.Rule.TheVariants.{Lagged}
 use Rattle.radio_seats_rows.specs.Board.{Board, is_prepared}
 use Rattle.radio_seats_rows.specs.Seats.{sits_at}
-use Rattle.radio_mounts.specs.Attached.{is_among}
+use Rattle.radio_mount_part.specs.Attached.{is_among}
+use Rattle.radio_mount_part.specs.declared.part.MountPart.{MountPart}
 use Rattle.radio_mounts.specs.Exchange.{IsExchanged}
 use Rattle.radio_attached.specs.Attached.{Listening, listening}
 use Rattle.radio_attached.specs.Lent.{IsLent}
@@ -15,8 +16,7 @@ use Rattle.radio_attached.proofs.listeners.Listeners.exchange.Goals.{After-end_e
 
 is_put : (c : After-end_each) → IsExchanged (record c.args.part { lagged = [] }) c.in-Ok.there c.self.inside.parts c.exchange.new.self
 is_put c =
-    subst (λ (rows : List Attachment). IsExchanged (record c.args.part { lagged = rows }) c.in-Ok.there c.self.inside.parts c.exchange.new.self)
-    (c.replace-lagged.ensures.after ∙ c.new.ensures) c.in-Ok.ensures.ok
+    subst (λ (part : MountPart). IsExchanged part c.in-Ok.there c.self.inside.parts c.exchange.new.self) c.take_lagged-lagged.ensures.part c.in-Ok.ensures.ok
 
 abbrev after_losses : After-end_each → List Attachment → Board
 after_losses c lost = record {
@@ -29,7 +29,9 @@ left : (c : After-end_each) → c.end_each.new.seats
 left c =
     c.end_each.ensures.seats
     ∙ ap (after_losses c) (c.sitters_among-lost.ensures
-    ∙ ap (filter (λ (row : Attachment). not (not (sits_at c.self.inside.seats.seats row.id c.args.part.mount)))) c.replace-lagged.ensures.value)
+    ∙ ap (λ (part : MountPart). filter (λ (row : Attachment). not (not (sits_at c.self.inside.seats.seats row.id part.mount))) c.take_lagged-lagged.result)
+    c.part.ensures
+    ∙ ap (filter (λ (row : Attachment). not (not (sits_at c.self.inside.seats.seats row.id c.args.part.mount)))) c.take_lagged-lagged.ensures.lagged)
 
 pub invariant_of-self : goal.invariant_of-self
 invariant_of-self c = record {

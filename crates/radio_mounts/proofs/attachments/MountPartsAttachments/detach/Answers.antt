@@ -1,7 +1,8 @@
 use Rattle.std.proofs.Common.{refl, ap, sym, subst, ◌∙◌}
 use Rattle.radio_fallback.specs.Heard.{GoesOff}
 use Rattle.radio_mounts.specs.Parts.{ByMount, has_part}
-use Rattle.radio_mounts.specs.Attached.{without_id, places_in}
+use Rattle.radio_mounts.specs.Attached.{places_in}
+use Rattle.radio_mount_part.specs.Attached.{without_id}
 use Rattle.radio_mounts.proofs.ByMountLemmas.{detached_others, goes_off, part_stays}
 use Rattle.radio_mounts.proofs.attachments.MountPartsAttachments.detach.Goals as goal
 

@@ -1,8 +1,10 @@
 use Rattle.std.proofs.Common.{◌≡◌, ℕ, refl, ap, sym, subst, ◌∙◌}
 use Rattle.radio_tables.specs.Lists.{update_first}
 use Rattle.radio_fallback.specs.Heard.{IsAt, GoesOver}
-use Rattle.radio_mounts.specs.Parts.{ByMount, by_mount_of, has_part, is_part_of}
-use Rattle.radio_mounts.specs.Attached.{places_in, advanced_there, on_part, with_attached}
+use Rattle.radio_mounts.specs.Parts.{ByMount, by_mount_of, has_part}
+use Rattle.radio_mount_part.specs.Parts.{is_part_of}
+use Rattle.radio_mounts.specs.Attached.{places_in, with_attached}
+use Rattle.radio_mount_part.specs.Attached.{advanced_there, on_part}
 use Rattle.radio_mounts.proofs.ByMountChanges.{advanced_in, advanced_others, advanced_place, advanced_over}
 use Rattle.radio_mounts.proofs.ByMountLemmas.{part_stays}
 use Rattle.radio_mounts.proofs.PartLemmas.{AreWhole}

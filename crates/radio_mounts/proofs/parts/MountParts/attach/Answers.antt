@@ -1,6 +1,7 @@
 use Rattle.std.proofs.Common.{Some, refl, ap, ◌∙◌}
 use Rattle.radio_mounts.specs.Parts.{ByMount, has_part}
-use Rattle.radio_mounts.specs.Attached.{places_in, with_boxed}
+use Rattle.radio_mounts.specs.Attached.{places_in}
+use Rattle.radio_mount_part.specs.Attached.{with_boxed}
 use Rattle.radio_mounts.proofs.ByMountChanges.{attached_others, attached_at, attached_elsewhere}
 use Rattle.radio_mounts.proofs.ByMountLemmas.{part_stays}
 use Rattle.radio_mounts.proofs.parts.MountParts.attach.Goals as goal

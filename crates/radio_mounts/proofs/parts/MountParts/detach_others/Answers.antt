@@ -1,6 +1,7 @@
 use Rattle.std.proofs.Common.{◌≡◌, refl, ap, sym, subst, ◌∙◌}
 use Rattle.radio_mounts.specs.Parts.{ByMount, by_mount_of, has_part}
-use Rattle.radio_mounts.specs.Attached.{places_in, with_attached, with_sitters}
+use Rattle.radio_mounts.specs.Attached.{places_in, with_attached}
+use Rattle.radio_mount_part.specs.Attached.{with_sitters}
 use Rattle.radio_mounts.proofs.ByMountChanges.{left_there, left_at, left_elsewhere}
 use Rattle.radio_mounts.proofs.ByMountLemmas.{part_stays}
 use Rattle.radio_mounts.proofs.PartLemmas.{AreWhole}

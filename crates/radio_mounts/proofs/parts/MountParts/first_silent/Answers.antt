@@ -9,7 +9,7 @@ use Rattle.radio_mounts.proofs.parts.MountParts.first_silent.Goals as goal
 
 pub returns-clause-first : goal.returns-clause-first
 returns-clause-first c =
-    c.as_ref.ensures.value
+    c.session.ensures
     ∙ sym (ap session_in (sym c.silent_part.ensures ∙ ap option_copied c.in-Some.is))
     ∙ first_in (is_silent c.args.seconds c.args.now) c.self.inside.parts
     ∙ ap (λ (parts : ByMount). find (is_silent c.args.seconds c.args.now) parts.live) c.self.view_is

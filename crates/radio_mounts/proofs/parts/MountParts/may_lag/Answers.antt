@@ -4,8 +4,9 @@ use Rattle.std.specs.Option.{option_copied, option_map}
 use Rattle.radio_attachments.specs.declared.attachment.Attachment.{Attachment}
 use Rattle.radio_attachments.specs.Rows.{lags, AreInOrder}
 use Rattle.radio_tables.specs.Lists.{Each}
-use Rattle.radio_mounts.specs.declared.part.MountPart.{MountPart}
-use Rattle.radio_mounts.specs.Parts.{ByMount, by_mount_of, attached_to, is_part_of}
+use Rattle.radio_mount_part.specs.declared.part.MountPart.{MountPart}
+use Rattle.radio_mounts.specs.Parts.{ByMount, by_mount_of}
+use Rattle.radio_mount_part.specs.Parts.{attached_to, is_part_of}
 use Rattle.radio_mounts.specs.Attached.{is_of_mount, attachments_in}
 use Rattle.radio_mounts.proofs.PartAttachments.{found_through}
 use Rattle.radio_mounts.proofs.parts.MountParts.may_lag.Goals as goal

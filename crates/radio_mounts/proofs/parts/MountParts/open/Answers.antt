@@ -1,7 +1,8 @@
 use Rattle.std.proofs.Common.{◌≡◌, ℕ, true, List, Some, ap, ◌∙◌}
 use Rattle.radio_tables.specs.Lists.{update_first}
-use Rattle.radio_parts.specs.Sessions.{Session, with_session}
-use Rattle.radio_mounts.specs.Parts.{ByMount, by_mount_of, has_part, attached_in, is_part_of, with_live, with_session_in}
+use Rattle.radio_parts.specs.Sessions.{with_session}
+use Rattle.radio_mounts.specs.Parts.{ByMount, by_mount_of, has_part, attached_in, with_live}
+use Rattle.radio_mount_part.specs.Parts.{is_part_of, with_session_in}
 use Rattle.radio_mounts.proofs.PartLemmas.{begun_whole, begun_shown}
 use Rattle.radio_mounts.proofs.parts.MountParts.open.Goals as goal
 use Rattle.radio_mounts.proofs.parts.MountParts.open.Goals.{Joined-swap}
@@ -13,11 +14,11 @@ swapped : (c : Joined-swap) → c.swap.new.self ≡ update_first (is_part_of c.a
 swapped c =
     c.swap.ensures.row
     ∙ ap (λ (name : List ℕ). update_first (is_part_of name) (with_session_in (Some c.args.session)) c.self.inside.parts)
-    (c.get.ensures ∙ ap (λ (session : Session). session.mount) c.session.view_is)
+    c.mount-mount.ensures
 
 pub invariant_of-self : goal.invariant_of-self
 invariant_of-self c =
-    rw (c.max-self-inside.ensures, c.end.ensures, ap (λ (session : Session). session.stream) c.session.view_is, swapped c)
+    rw (c.max-self-inside.ensures, c.stream_end.ensures, swapped c)
     (begun_whole c.args.session c.self.inside.parts c.len.ensures.rising (there c) c.self.inside.furthest c.self.invariant)
 
 pub returns : goal.returns

@@ -2,7 +2,8 @@ use Rattle.std.proofs.Common.{◌≡◌, Some, None, ap, sym, ◌∙◌}
 use Rattle.std.specs.Prelude.{find}
 use Rattle.std.specs.Option.{option_copied}
 use Rattle.radio_parts.specs.Sessions.{session_of}
-use Rattle.radio_mounts.specs.Parts.{ByMount, is_part_of}
+use Rattle.radio_mounts.specs.Parts.{ByMount}
+use Rattle.radio_mount_part.specs.Parts.{is_part_of}
 use Rattle.radio_mounts.proofs.LiveLemmas.{its, session_found}
 use Rattle.radio_mounts.proofs.PlaceLemmas.{place_seen}
 use Rattle.radio_mounts.proofs.parts.MountParts.place_and_session.Goals as goal
@@ -27,6 +28,6 @@ pub returns-clause-session : goal.returns-clause-session
 returns-clause-session c =
     let mount = c.args.mount.now in
     let found : find (is_part_of mount) c.self.inside.parts ≡ Some c.in-Some.part.now = sym c.get.ensures ∙ ap option_copied c.in-Some.is in
-    c.as_ref.ensures.value
+    c.session.ensures
     ∙ sym (ap (λ (parts : ByMount). session_of parts.live mount) (sym c.self.view_is)
     ∙ session_found mount c.self.inside.parts c.self.invariant.1 c.len.ensures.rising ∙ ap (its mount) found)

@@ -2,8 +2,9 @@ use Rattle.std.proofs.Common.{◌≡◌, ℕ, [], Some, None, List, Option, fals
 use Rattle.std.specs.Prelude.{find, is_some}
 use Rattle.radio_tables.specs.Lists.{placed}
 use Rattle.radio_tables.proofs.FindLaws.{passes_none}
-use Rattle.radio_mounts.specs.declared.part.MountPart.{MountPart}
-use Rattle.radio_mounts.specs.Parts.{ByMount, MountAttachments, attached_in, has_part, is_part_of, live_in}
+use Rattle.radio_mount_part.specs.declared.part.MountPart.{MountPart}
+use Rattle.radio_mounts.specs.Parts.{ByMount, attached_in, has_part, live_in}
+use Rattle.radio_mount_part.specs.Parts.{MountAttachments, is_part_of}
 use Rattle.radio_mounts.specs.Attached.{is_of_mount, places_in}
 use Rattle.radio_mounts.proofs.ByMountChanges.{no_part, part_more, places_prepared, with_mount}
 use Rattle.radio_mounts.proofs.LiveLemmas.{part_added}
@@ -16,7 +17,7 @@ abbrev fresh : List ℕ → MountPart
 fresh mount = record { mount = mount; session = None; attachments = []; lagged = [] }
 
 inserted : (c : In_ok-insert) → c.insert.new.self ≡ placed by_name (fresh c.args.mount.now) c.self.inside.parts
-inserted c = c.in_ok-insert.ensures.ok ∙ ap (λ (part : MountPart). placed by_name part c.self.inside.parts) c.new.ensures
+inserted c = c.in_ok-insert.ensures.ok ∙ ap (λ (part : MountPart). placed by_name part c.self.inside.parts) c.new_part-part.ensures
 
 no_one : (found : Option MountPart) → is_some found ≡ false → found ≡ None
 no_one None e = refl

@@ -1,7 +1,8 @@
 use Rattle.std.proofs.Common.{refl, ap, sym, subst, ◌∙◌}
 use Rattle.radio_tables.specs.Lists.{update_first}
 use Rattle.radio_mounts.specs.Parts.{ByMount, by_mount_of}
-use Rattle.radio_mounts.specs.Attached.{is_of_mount, with_boxed, with_attached}
+use Rattle.radio_mounts.specs.Attached.{is_of_mount, with_attached}
+use Rattle.radio_mount_part.specs.Attached.{with_boxed}
 use Rattle.radio_mounts.proofs.PartLemmas.{AreWhole}
 use Rattle.radio_mounts.proofs.PartAttachments.{attachments_shown, attachments_whole}
 use Rattle.radio_mounts.proofs.parts.MountParts.put.Goals as goal

@@ -5,8 +5,10 @@ use Rattle.radio_tables.specs.Lists.{update_first}
 use Rattle.radio_attachments.specs.declared.attachment.Attachment.{Attachment}
 use Rattle.radio_attachments.specs.Rows.{at_place}
 use Rattle.radio_fallback.specs.Heard.{IsAt, GoesOver}
-use Rattle.radio_mounts.specs.Parts.{ByMount, MountAttachments, has_part}
-use Rattle.radio_mounts.specs.Attached.{is_of_mount, without_id, with_boxed, places_in}
+use Rattle.radio_mounts.specs.Parts.{ByMount, has_part}
+use Rattle.radio_mount_part.specs.Parts.{MountAttachments}
+use Rattle.radio_mounts.specs.Attached.{is_of_mount, places_in}
+use Rattle.radio_mount_part.specs.Attached.{without_id, with_boxed}
 use Rattle.radio_mounts.proofs.ByMountLemmas.{IsHis, found_his, moved_his, shifted_others, shifted_there, put_back_in, goes_over, part_stays, taken_out, cleared}
 use Rattle.radio_mounts.proofs.parts.MountParts.reattach.Goals as goal
 

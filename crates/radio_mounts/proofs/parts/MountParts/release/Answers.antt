@@ -1,10 +1,11 @@
-use Rattle.std.proofs.Common.{◌≡◌, Option, Some, None, true, false, List, refl, ap, sym, subst, ◌∙◌}
+use Rattle.std.proofs.Common.{◌≡◌, ◌==◌, length, Option, Some, None, true, false, List, refl, ap, sym, subst, ◌∙◌}
 use Rattle.std.specs.Prelude.{find, is_some, not}
 use Rattle.std.specs.Option.{option_copied, option_map}
 use Rattle.radio_tables.specs.Lists.{Each}
 use Rattle.radio_parts.specs.Sessions.{Session}
-use Rattle.radio_mounts.specs.declared.part.MountPart.{MountPart}
-use Rattle.radio_mounts.specs.Parts.{ByMount, MountAttachments, attached_to, attached_in, has_part, is_part_of, live_in}
+use Rattle.radio_mount_part.specs.declared.part.MountPart.{MountPart}
+use Rattle.radio_mounts.specs.Parts.{ByMount, attached_in, has_part, live_in}
+use Rattle.radio_mount_part.specs.Parts.{MountAttachments, attached_to, is_part_of}
 use Rattle.radio_mounts.specs.Attached.{is_of_mount, places_in}
 use Rattle.radio_mounts.proofs.ByMountChanges.{part_left, places_released, without_mount}
 use Rattle.radio_mounts.proofs.LiveLemmas.{part_removed}
@@ -23,7 +24,7 @@ no_session (Some session) e = cc
 silent : (c : After-drop) → Each (λ (part : MountPart). is_part_of c.args.mount.now part ≡ true → part.session ≡ None) c.self.inside.parts
 silent c =
     are_silent c.args.mount.now c.self.inside.parts c.in-Some.part.now c.len.ensures.rising (found c)
-    (no_session c.in-Some.part.now.session (c.is_none.ensures ∙ ap (λ b. not b) c.if-is_none.true))
+    (no_session c.in-Some.part.now.session (ap (λ (part : MountPart). is_some part.session) (sym c.part.ensures) ∙ c.is_none.ensures ∙ ap (λ b. not b) c.if-is_none.true))
 
 seen : (c : After-drop) → attached_in c.remove.new.self ≡ without_mount c.args.mount.now c.args.self.now.attached
 seen c =
@@ -43,7 +44,7 @@ invariant_of-self c =
 pub returns-then-is_empty-clause-places : goal.returns-then-is_empty-clause-places
 returns-then-is_empty-clause-places c = λ other id.
     ap (λ (rows : List MountAttachments). places_in rows other id) (seen c)
-    ∙ places_released c.args.mount.now c.args.self.now.attached (attached_to c.in-Some.part.now) (row c) (sym c.is_empty.ensures ∙ c.if-is_empty.true) other id
+    ∙ places_released c.args.mount.now c.args.self.now.attached (attached_to c.in-Some.part.now) (row c) (ap (λ (part : MountPart). length part.attachments == 0) (sym c.part-then-is_none.ensures) ∙ sym c.is_empty.ensures ∙ c.if-is_empty.true) other id
 
 pub returns-then-is_empty-clause-parts : goal.returns-then-is_empty-clause-parts
 returns-then-is_empty-clause-parts c = λ other apart.

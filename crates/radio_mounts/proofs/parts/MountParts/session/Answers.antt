@@ -2,7 +2,8 @@ use Rattle.std.proofs.Common.{◌≡◌, Some, None, ap, sym, ◌∙◌}
 use Rattle.std.specs.Prelude.{find}
 use Rattle.std.specs.Option.{option_copied}
 use Rattle.radio_parts.specs.Sessions.{session_of}
-use Rattle.radio_mounts.specs.Parts.{ByMount, is_part_of}
+use Rattle.radio_mounts.specs.Parts.{ByMount}
+use Rattle.radio_mount_part.specs.Parts.{is_part_of}
 use Rattle.radio_mounts.proofs.LiveLemmas.{session_found, its}
 use Rattle.radio_mounts.proofs.parts.MountParts.session.Goals as goal
 
@@ -17,6 +18,6 @@ pub returns : goal.returns
 returns c =
     let mount = c.args.mount.now in
     let found : find (is_part_of mount) c.self.inside.parts ≡ Some c.in-Some.part.now = sym c.get.ensures ∙ ap option_copied c.in-Some.is in
-    c.as_ref.ensures.value
+    c.session.ensures
     ∙ sym (ap (λ (parts : ByMount). session_of parts.live mount) (sym c.self.view_is)
     ∙ session_found mount c.self.inside.parts c.self.invariant.1 c.len.ensures.rising ∙ ap (its mount) found)

@@ -3,10 +3,12 @@ use Rattle.std.specs.Prelude.{find}
 use Rattle.std.specs.Option.{option_map, option_map_or}
 use Rattle.radio_attachments.specs.Rows.{is_attached}
 use Rattle.radio_mounts.specs.declared.attached.Takes.{Takes as TakesOf}
-use Rattle.radio_mounts.specs.declared.part.MountPart.{MountPart}
+use Rattle.radio_mount_part.specs.declared.part.MountPart.{MountPart}
 use Rattle.radio_tables.specs.Lists.{update_first}
-use Rattle.radio_mounts.specs.Parts.{ByMount, by_mount_of, attached_to, is_part_of}
-use Rattle.radio_mounts.specs.Attached.{is_of_mount, found_in, without_id, with_attached}
+use Rattle.radio_mounts.specs.Parts.{ByMount, by_mount_of}
+use Rattle.radio_mount_part.specs.Parts.{attached_to, is_part_of}
+use Rattle.radio_mounts.specs.Attached.{is_of_mount, found_in, with_attached}
+use Rattle.radio_mount_part.specs.Attached.{without_id}
 use Rattle.radio_mounts.proofs.PartLemmas.{AreWhole}
 use Rattle.radio_mounts.proofs.PartAttachments.{attachments_shown, attachments_whole, found_through}
 use Rattle.radio_mounts.proofs.parts.MountParts.take.Goals as goal

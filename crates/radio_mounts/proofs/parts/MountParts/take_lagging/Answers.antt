@@ -5,9 +5,11 @@ use Rattle.radio_attachments.proofs.Bounds.{none_pass}
 use Rattle.radio_attachments.specs.Rows.{lags}
 use Rattle.radio_tables.specs.Lists.{update_first}
 use Rattle.radio_mounts.specs.declared.attached.TakesLagging.{TakesLagging as TakesOf}
-use Rattle.radio_mounts.specs.declared.part.MountPart.{MountPart}
-use Rattle.radio_mounts.specs.Parts.{ByMount, MountAttachments, by_mount_of, attached_to, is_part_of}
-use Rattle.radio_mounts.specs.Attached.{is_of_mount, attachments_in, with_attached, without_lagging}
+use Rattle.radio_mount_part.specs.declared.part.MountPart.{MountPart}
+use Rattle.radio_mounts.specs.Parts.{ByMount, by_mount_of}
+use Rattle.radio_mount_part.specs.Parts.{MountAttachments, attached_to, is_part_of}
+use Rattle.radio_mounts.specs.Attached.{is_of_mount, attachments_in, with_attached}
+use Rattle.radio_mount_part.specs.Attached.{without_lagging}
 use Rattle.radio_mounts.proofs.LaggingLemmas.{nobody_lags}
 use Rattle.radio_mounts.proofs.PartLemmas.{AreWhole}
 use Rattle.radio_mounts.proofs.PartAttachments.{attachments_shown, attachments_whole, found_through}

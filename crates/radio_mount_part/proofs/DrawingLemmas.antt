@@ -8,8 +8,8 @@ use Rattle.radio_attachments.specs.declared.attachment.Attachment.{Attachment}
 use Rattle.radio_attachments.specs.Rows.{is_attached, at_place, FoundIsVisited, IsVisitedIn}
 use Rattle.radio_parts.specs.Sessions.{Session}
 use Rattle.radio_parts.proofs.PartLemmas.{none_changes}
-use Rattle.radio_mounts.specs.declared.drawing.Portion.{Portion}
-use Rattle.radio_mounts.specs.Steps.{IsDrawn, IsKept, heard_on}
+use Rattle.radio_mount_part.specs.declared.drawing.Portion.{Portion}
+use Rattle.radio_mount_part.specs.Steps.{IsDrawn, IsKept, heard_on}
 
 module _ {V : Type 0} (Visits : V → ℕ → Result Portion AllocError → V → ℕ → Type 0) (draws draws' : V) (id : ℕ) (rows rows' : List Attachment)
     (answer : Option (Result Portion AllocError)) (visited : IsVisitedIn Visits id draws rows answer draws' rows') (session : Option Session) (room : ℕ)

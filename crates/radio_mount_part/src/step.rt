@@ -1,13 +1,13 @@
 //! What an attached client and the mount's source do with the mount's part, by that part alone.
 
-ghost use Rattle.std.specs.Prelude.{◌≡◌, IfOk, OnOk, OnErr};
-ghost use Rattle.radio_mounts.specs.Steps.{is_fed_by, is_spent_with, part_answers, part_after, push_answered, push_done, title_answered, title_done, draw_answered, draw_done, with_all, CanDraw, KeepsFor};
+ghost use Rattle.std.specs.Prelude.{◌≡◌, IfOk, IsTrue, OnOk, OnErr};
+ghost use Rattle.radio_mount_part.specs.Steps.{is_fed_by, is_spent_with, part_answers, part_after, push_answered, push_done, title_answered, title_done, draw_answered, draw_done, with_all, CanDraw, KeepsFor};
 
 use crate::OutOfMemory;
 use crate::drawing::Portion;
 use crate::part::MountPart;
 use radio_attachments::AttachmentTree;
-use radio_blocks::Block;
+use radio_blocks::{Block, Place};
 use radio_events::{Event, Reply};
 use radio_policy::Rule;
 use radio_values::Title;
@@ -106,6 +106,39 @@ impl MountPart {
                 Ok(PartAnswer::Replied(Reply::Drawn { pieces, title }))
             }
             None => Ok(PartAnswer::Elsewhere(Event::Draw { id, room })),
+        }
+    }
+
+    /// Returns whether the event is no draw, or one of a listener of which no data was forgotten.
+    pub(crate) fn can_draw(&self, event: &Event) -> bool
+        ensures { IsTrue result → CanDraw self.now event.now }
+    {
+        match event {
+            Event::Draw { id, .. } => self.keeps_for(*id),
+            Event::Arrive { .. }
+            | Event::Source(_)
+            | Event::Push { .. }
+            | Event::SourceEnd { .. }
+            | Event::Title { .. }
+            | Event::Listen(_)
+            | Event::Command(_)
+            | Event::Leave { .. }
+            | Event::RelayUp { .. }
+            | Event::RelayDown { .. }
+            | Event::Clock { .. } => true,
+        }
+    }
+
+    /// Returns whether what follows the listener's place is kept, if it is attached here.
+    fn keeps_for(&self, id: u64) -> bool
+        ensures { IsTrue result → KeepsFor id self.now }
+    {
+        let Some(row) = self.attachments.get(id) else {
+            return true;
+        };
+        match &self.session {
+            Some(session) => session.stream.first() <= Place::new(row.place),
+            None => true,
         }
     }
 

@@ -1,6 +1,6 @@
 use Rattle.std.proofs.Common.{◌≡◌, length}
-use Rattle.radio_mounts.specs.Steps.{with_all}
-use Rattle.radio_mounts.proofs.part.MountPart.add_lagged.Given as goal
+use Rattle.radio_mount_part.specs.Steps.{with_all}
+use Rattle.radio_mount_part.proofs.part.MountPart.add_lagged.Given as goal
 
 -- once the rest are put in too, all are
 abbrev pub invariant-lagging : goal.invariant-lagging

@@ -2,12 +2,12 @@ use Rattle.std.proofs.Common.{◌≡◌, ℕ, Option, Some, List, Result, ap, su
 use Rattle.std.specs.declared.alloc.AllocError.{AllocError}
 use Rattle.radio_attachments.specs.declared.attachment.Attachment.{Attachment}
 use Rattle.radio_parts.specs.Sessions.{Session}
-use Rattle.radio_mounts.specs.declared.drawing.Portion.{Portion}
-use Rattle.radio_mounts.specs.declared.part.MountPart.{MountPart}
-use Rattle.radio_mounts.specs.Steps.{IsDrawn}
-use Rattle.radio_mounts.proofs.DrawingLemmas.{has_drawn, was_refused, is_absent}
-use Rattle.radio_mounts.specs.contracts.drawing.DrawsPlaceVisit.TheImpl.{visits-value as visits}
-use Rattle.radio_mounts.proofs.part.MountPart.draw.Goals as goal
+use Rattle.radio_mount_part.specs.declared.drawing.Portion.{Portion}
+use Rattle.radio_mount_part.specs.declared.part.MountPart.{MountPart}
+use Rattle.radio_mount_part.specs.Steps.{IsDrawn}
+use Rattle.radio_mount_part.proofs.DrawingLemmas.{has_drawn, was_refused, is_absent}
+use Rattle.radio_mount_part.specs.contracts.drawing.DrawsPlaceVisit.TheImpl.{visits-value as visits}
+use Rattle.radio_mount_part.proofs.part.MountPart.draw.Goals as goal
 
 -- the session that the visit has is the mount's
 drawn : (room : ℕ) (lent session : Option Session) → lent ≡ session → (place after : ℕ) (answer : Result Portion AllocError)

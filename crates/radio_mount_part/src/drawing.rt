@@ -1,7 +1,7 @@
 //! What a listener draws from its mount's stream.
 
 ghost use Rattle.std.specs.Prelude.{◌≡◌, Some, IfOk, OnOk, OnErr};
-ghost use Rattle.radio_mounts.specs.Steps.{IsDrawn, KeepsFor, part_hands, part_heard};
+ghost use Rattle.radio_mount_part.specs.Steps.{IsDrawn, KeepsFor, part_hands, part_heard};
 
 use crate::OutOfMemory;
 use crate::part::MountPart;
@@ -32,7 +32,7 @@ impl PlaceVisit for Draws<'_> {
     type Answer = Result<Portion, OutOfMemory>;
 
     ghost use Rattle.std.specs.Option.{option_copied};
-    ghost use Rattle.radio_mounts.specs.Steps.{IsDrawn};
+    ghost use Rattle.radio_mount_part.specs.Steps.{IsDrawn};
 
     ghost visits = { λ draws place answer draws' place'. IsDrawn (option_copied draws.session) draws.room place answer place' };
 

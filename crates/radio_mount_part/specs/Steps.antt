@@ -13,11 +13,11 @@ use Rattle.radio_parts.specs.Kept.{first_start, longer_kept}
 use Rattle.radio_parts.specs.Parts.{end_in}
 use Rattle.radio_parts.specs.Sessions.{Session, with_title}
 use Rattle.radio_parts.specs.Stream.{data_at, end_of}
-use Rattle.radio_mounts.specs.Parts.{with_session_changed}
-use Rattle.radio_mounts.specs.declared.drawing.Portion.{Portion}
-use Rattle.radio_mounts.specs.declared.part.MountPart.{MountPart}
-use Rattle.radio_mounts.specs.declared.step.PartAnswer.{PartAnswer}
-use Rattle.radio_mounts.specs.declared.step.PartAnswer.TheVariants.{Replied, Elsewhere}
+use Rattle.radio_mount_part.specs.Parts.{with_session_changed}
+use Rattle.radio_mount_part.specs.declared.drawing.Portion.{Portion}
+use Rattle.radio_mount_part.specs.declared.part.MountPart.{MountPart}
+use Rattle.radio_mount_part.specs.declared.step.PartAnswer.{PartAnswer}
+use Rattle.radio_mount_part.specs.declared.step.PartAnswer.TheVariants.{Replied, Elsewhere}
 
 -- what a listener at this place is handed who has room for so many bytes: nothing yet if the mount waits for a session
 abbrev pub portion_at : Option Session → ℕ → ℕ → Portion
