@@ -1,7 +1,7 @@
 //! The thread that accepts connections.
 
 ghost use Rattle.std.specs.Prelude.{◌≡◌, ◌⊎◌, ◌+◌, ◌-◌, ◌^◌, All, false, true, min};
-ghost use Rattle.radio_lines.specs.Accepting.{closed_in};
+ghost use Rattle.radio_intake.specs.Accepting.{closed_in};
 ghost use Rattle.radio_proxy.specs.Pending.{is_proxy};
 ghost use Rattle.radio_sockets.specs.Entitled.{IsEntitled};
 
@@ -13,8 +13,8 @@ use mio::Waker;
 use mio::net::TcpStream;
 use radio_addr::Peer;
 use radio_board::{Board, Mark};
-use radio_intake::{Intake, IntakePass, ROOM};
-use radio_lines::{Accepts, accept_next, moment};
+use radio_intake::{Accepts, Intake, IntakePass, ROOM, accept_next};
+use radio_lines::moment;
 use radio_log::Fact;
 use radio_notes::Log;
 use radio_proxy::{Named, Outcome, Pending, Settled};
