@@ -151,8 +151,8 @@ impl<'a, R: Clock + Wait> SocketPost<'a, R> {
         let is_called = self.lies_down(rest);
         let wait_ms = if is_called { 0 } else { rest.most_ms() };
         let told = self.sockets.hear(self.rt, wait_ms);
-        if !rest.is_turn() {
-            let _ = self.desk.take(Step::Wake);
+        if let Some(step) = rest.step_behind() {
+            let _ = self.desk.take(step);
         }
         let Ok(heard) = told else {
             self.board.stop();
