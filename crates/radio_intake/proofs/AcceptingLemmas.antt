@@ -1,5 +1,5 @@
 -- How many tries have failed in a row.
-use Rattle.std.proofs.Common.{◌≡◌, ◌+◌, ℕ, min, List, [], ◌∷◌, refl, arith}
+use Rattle.std.proofs.Common.{◌≡◌, ℕ, min, List, [], ◌∷◌, refl, arith}
 use Rattle.radio_intake.specs.declared.accepts.Tried.{Tried}
 use Rattle.radio_intake.specs.declared.accepts.Tried.TheVariants.{Accepted, Failed, NoDescriptor}
 use Rattle.radio_intake.specs.Laws.{accepting_after, failed_in_a_row}
