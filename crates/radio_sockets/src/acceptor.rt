@@ -261,12 +261,17 @@ impl Acceptor {
         } = settled;
         match outcome {
             Outcome::Named(named) => {
-                let coming = Coming {
+                let mut coming = Coming {
                     stream,
                     socket_peer: proxy,
                     named,
                 };
-                self.hand_on_read(rt, board, intake, pass, coming, number);
+                if self.doors.forget(&mut coming.stream).is_err() {
+                    // The system would go on telling of it here.
+                    drop(coming);
+                    return;
+                }
+                self.hand_on(rt, board, intake, pass, coming, number);
             }
             Outcome::Bad | Outcome::Left => {
                 drop(stream);
@@ -275,30 +280,6 @@ impl Acceptor {
                 self.tell_gone(rt, board, proxy, gone_word(outcome), seconds);
             }
         }
-    }
-
-    /// Hands a connection on to this worker whose header was read. It is closed if the system goes on telling of it here.
-    fn hand_on_read<R: Wait>(
-        &mut self,
-        rt: &R,
-        board: &Board,
-        intake: &Intake<Coming>,
-        pass: &mut IntakePass<Coming>,
-        coming: Coming,
-        number: usize,
-    )
-        requires own { pass.old.intake ≡ intake.now }
-        requires entitled { IsEntitled self.old.pending.proxies coming }
-        ensures own { pass.new.intake ≡ intake.now }
-        ensures proxies { self.new.pending.proxies ≡ self.old.pending.proxies }
-        ensures entitled { All (IsEntitled self.old.pending.proxies) pass.old.put → All (IsEntitled self.old.pending.proxies) pass.new.put }
-    {
-        let mut coming = coming;
-        if self.doors.forget(&mut coming.stream).is_err() {
-            drop(coming);
-            return;
-        }
-        self.hand_on(rt, board, intake, pass, coming, number);
     }
 
     /// Tells the log of a connection of this proxy that has ended so before a client has arrived.
