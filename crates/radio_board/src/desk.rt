@@ -89,7 +89,7 @@ impl Desk {
         }
     }
 
-    /// Returns the report of a worker in this state, of which only what it counts is filled in.
+    /// Returns a report of a worker in this state, with what the worker counts. All else in it is 0 or false.
     fn counted(&self, state: State) -> Report
         ensures { result.state ≡ state }
     {
