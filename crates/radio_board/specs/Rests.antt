@@ -1,7 +1,9 @@
 -- How a worker waits until its next turn. Times are in milliseconds, if nothing else is said.
-use Rattle.std.specs.Prelude.{ℕ, Bool, true, false, ◌+◌, ◌/◌, ◌&&◌, min, nat_lt, if◌then◌else◌}
+use Rattle.std.specs.Prelude.{ℕ, Bool, true, false, ◌+◌, ◌/◌, ◌&&◌, min, nat_lt, if◌then◌else◌, Option, None, Some}
 use Rattle.radio_board.specs.declared.rest.Rest.{Rest}
 use Rattle.radio_board.specs.declared.rest.Rest.TheVariants.{Turn, Asleep, Paused}
+use Rattle.radio_board.specs.declared.state.Step.{Step}
+use Rattle.radio_board.specs.declared.state.Step.TheVariants.{Wake}
 
 -- it waits at once for no longer than that
 abbrev pub most_rest : ℕ
@@ -26,3 +28,9 @@ abbrev pub is_turn : Rest → Bool
 is_turn (Turn ms) = true
 is_turn (Asleep ms) = false
 is_turn (Paused ms) = false
+
+-- the step of a worker that has waited so: it wakes, if it was marked as waiting
+abbrev pub step_behind : Rest → Option Step
+step_behind (Turn ms) = None
+step_behind (Asleep ms) = Some Wake
+step_behind (Paused ms) = Some Wake

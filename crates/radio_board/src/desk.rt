@@ -49,8 +49,10 @@ pub struct Desk {
 }
 
 impl Desk {
-    /// Returns that of a worker which has not begun.
-    pub fn new(waker: Waker) -> Desk {
+    /// Returns that of a worker which has not begun, and is woken by this.
+    pub fn new(waker: Waker) -> Desk
+        ensures { result.waker ≡ waker }
+    {
         Desk {
             waker,
             works: AtomicBool::new(false),
@@ -76,13 +78,28 @@ impl Desk {
 
     /// Returns what the desk reports. The state is read before what was drawn: a round that ends in between has set that first.
     pub fn report(&self) -> Report {
+        let state = State::of(self.state.load(Ordering::SeqCst));
         Report {
             works: self.works.load(Ordering::SeqCst),
-            state: State::of(self.state.load(Ordering::SeqCst)),
             came_us: self.came_us.load(Ordering::SeqCst),
             turn_ms: self.turn_ms.load(Ordering::SeqCst),
             read_ms: self.read_ms.load(Ordering::SeqCst),
             drawn_news: self.drawn_news.load(Ordering::SeqCst),
+            ..self.counted(state)
+        }
+    }
+
+    /// Returns a report of a worker in this state, with what the worker counts. All else in it is 0 or false.
+    fn counted(&self, state: State) -> Report
+        ensures { result.state ≡ state }
+    {
+        Report {
+            works: false,
+            state,
+            came_us: 0,
+            turn_ms: 0,
+            read_ms: 0,
+            drawn_news: 0,
             drawn: self.drawn.load(Ordering::SeqCst),
             has_listeners: self.has_listeners.load(Ordering::SeqCst),
             connections: self.connections.load(Ordering::SeqCst),

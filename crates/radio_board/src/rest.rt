@@ -1,7 +1,9 @@
 //! How a worker waits until its next turn.
 
 ghost use Rattle.std.specs.Prelude.{◌≡◌};
-ghost use Rattle.radio_board.specs.Rests.{rest_of, longest, is_turn};
+ghost use Rattle.radio_board.specs.Rests.{rest_of, longest, is_turn, step_behind};
+
+use crate::state::Step;
 
 /// How long a worker waits at once at most, in milliseconds. What comes then is noted at the moment when the wait began.
 pub const MOST_REST_MS: u64 = 100;
@@ -34,6 +36,16 @@ impl Rest {
         match self {
             Rest::Turn(_) => true,
             Rest::Asleep(_) | Rest::Paused(_) => false,
+        }
+    }
+
+    /// Returns the step of a worker that has waited so; `None` if it was not marked as waiting.
+    pub fn step_behind(self) -> Option<Step>
+        ensures { result ≡ step_behind self }
+    {
+        match self {
+            Rest::Turn(_) => None,
+            Rest::Asleep(_) | Rest::Paused(_) => Some(Step::Wake),
         }
     }
 }

@@ -1,4 +1,5 @@
 pub mod Lines
+pub mod Moments
 pub mod Connections
 pub mod Course
 pub mod Duties

@@ -11,8 +11,7 @@
 pub use radio_book::{Chronicle, Entry, House, Kept, Pass, Receipt, Stamp, Unkept};
 pub use radio_connections::{Conn, Gate, Line, OpenGate};
 pub use radio_hall_lock::{Caller, Hall, OutOfMemory};
-pub use radio_intake::{Intake, IntakePass};
-pub use radio_lines::Accepts;
+pub use radio_intake::{Accepts, Intake, IntakePass};
 pub use radio_serving::{Turn, Watched, Worker};
 pub use radio_settling::{SettleFault, settle};
 pub use radio_workers::{Call, Post, Seat, Seen, Workplace, add_seat, run_workers};

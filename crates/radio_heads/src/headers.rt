@@ -9,6 +9,9 @@ use std::marker::Model;
 /// The most headers that a head may have.
 pub const MAX_HEADERS: usize = 64;
 
+/// The media type of a stream whose head names none (Icecast 2.4 documentation).
+pub const DEFAULT_CONTENT_TYPE: &[u8] = b"audio/mpeg";
+
 /// The headers of a head. A contract sees their names and values, in order.
 #[derive(Drop)]
 pub(crate) struct Headers<'b> {

@@ -39,7 +39,7 @@ pub use additions::{Additions, add_headers};
 pub use answer::{Answer, TextKind, Welcome};
 pub use field_value::FieldValue;
 pub use head::Head;
-pub use headers::MAX_HEADERS;
+pub use headers::{DEFAULT_CONTENT_TYPE, MAX_HEADERS};
 pub use laws::{
     additions_read_back, answers_read_back, fronts_are_unfinished, heads_are_found,
     heads_lie_within, readings_agree, settled, unsaid_origins_change_nothing,

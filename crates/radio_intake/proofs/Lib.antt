@@ -1,2 +1,3 @@
 mod Sums
 mod Balances
+mod AcceptingLemmas

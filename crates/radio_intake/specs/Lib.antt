@@ -1,2 +1,5 @@
 pub mod Passes
 pub mod Balance
+pub mod Accepting
+pub mod Entrances
+pub mod Laws

@@ -1,7 +1,8 @@
 -- What a socket is ready for.
-use Rattle.std.specs.Prelude.{ℕ, ◌+◌, ◌-◌, ◌^◌, min, Bool, true, false, not, ◌&&◌, ◌||◌, nat_le, if◌then◌else◌}
+use Rattle.std.specs.Prelude.{ℕ, Bool, true, false, not, ◌&&◌, ◌||◌, nat_le, if◌then◌else◌}
 use Rattle.mio.specs.declared.event.event.Event.{Event}
 use Rattle.mio.specs.Event.{is_readable, is_writable, is_error, is_read_closed, is_write_closed}
+use Rattle.radio_connections.specs.Moments.{later}
 use Rattle.radio_lines.specs.declared.ready.Ready.{Ready}
 use Rattle.radio_lines.specs.declared.ready.Notice.{Notice}
 
@@ -21,10 +22,6 @@ after_told notice r = record r {
 -- whether there is something to do then: it is over, or has room or bytes that it had not; but for bytes that are not wanted
 abbrev pub brings_work : Notice → Ready → Bool
 brings_work notice r = notice.is_over || (notice.writes && not r.is_writable) || (notice.reads && not r.is_readable && not r.is_passed_over)
-
--- a moment so much later, which has at most 64 bits
-abbrev pub later : ℕ → ℕ → ℕ
-later ms more = min (2 ^ 64 - 1) (ms + more)
 
 -- a read gave bytes at this moment, and filled the buffer or not
 abbrev pub after_read : Bool → ℕ → Ready → Ready

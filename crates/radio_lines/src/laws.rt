@@ -1,15 +1,6 @@
-//! Laws of connections that are accepted, of sources' ends, and of sockets that are asked. Each is a function that does nothing, and
-//! its contract is the law.
+//! Laws of sources' ends, and of sockets that are asked. Each is a function that does nothing, and its contract is the law.
 
-ghost use Rattle.radio_lines.specs.Laws.{ClosingsFree, EndsAreHeld, EndsAreTold, FailuresRest, HundredFailuresEndIt, RoomIsTaken, StalledAreAskedAgain, UnwantedWait, UnwantedWakeNobody};
-
-/// After a failure none is accepted for a tenth of a second, and a hundred failures in a row end a server. Want of descriptors does
-/// not, and ends with the next closing.
-pub fn accepting_rests()
-    ensures end { HundredFailuresEndIt }
-    ensures rest { FailuresRest }
-    ensures freed { ClosingsFree }
-{}
+ghost use Rattle.radio_lines.specs.Laws.{EndsAreHeld, EndsAreTold, RoomIsTaken, StalledAreAskedAgain, UnwantedWait, UnwantedWakeNobody};
 
 /// The end of a source waits for listeners, for half a second at most.
 pub fn ends_are_told()

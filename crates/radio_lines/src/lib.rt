@@ -6,20 +6,16 @@
 //! - [`Activity`]: what the lines of a thread share with its loop; [`Pace`]: how fast they give what sources send;
 //!   [`NewsCount`]: what listeners have drawn, by which a source's end is held back.
 //! - [`Reach`], [`SystemNet`]: the net; [`moment`], [`moment_us`]: the clock.
-//! - [`accepting_rests`], [`ends_are_told`], [`sockets_are_left_alone`]: laws, which run no code.
-//! - [`accept_next`]: the next connection of an [`Entrance`]; [`Accepts`]: when one is accepted, and how many in a row
-//!   could not be.
+//! - [`ends_are_told`], [`sockets_are_left_alone`]: laws, which run no code.
 //!
 //! No clause says what a socket gives or takes, since the system holds it: what is proved is that a
 //! line tells its worker the bytes that the system has told it, and no others.
 #![tactic(auto)]
 
-mod accepts;
 mod activity;
 mod clock;
 mod closing;
 mod course;
-mod entrance;
 mod laws;
 mod line;
 mod pace;
@@ -29,12 +25,10 @@ mod ready;
 mod sockets;
 mod stream;
 
-pub use accepts::{Accepts, Tried};
 pub use activity::Activity;
 pub use clock::{moment, moment_us};
 pub use closing::NewsCount;
-pub use entrance::{AcceptFault, Accepted, Entrance, accept_next};
-pub use laws::{accepting_rests, ends_are_told, sockets_are_left_alone};
+pub use laws::{ends_are_told, sockets_are_left_alone};
 pub use line::SocketLine;
 pub use pace::Pace;
 pub use reach::{Reach, SystemNet};

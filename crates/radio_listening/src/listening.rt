@@ -115,11 +115,9 @@ impl Listening {
             proxies,
         } = self;
         let pending = pending_of(alloc, proxies, settings);
-        let mut acceptor = Acceptor::new(alloc, doors, pending);
+        let acceptor = Acceptor::new(alloc, doors, pending);
         let opened = open_board(net, alloc, &acceptor, service, log);
-        let fault = serve_by(rt, net, opened, server, settings, service, &mut acceptor);
-        drop(acceptor);
-        fault
+        serve_by(rt, net, opened, server, settings, service, acceptor)
     }
 }
 
@@ -145,7 +143,7 @@ fn serve_by<R, N, S>(
     server: &S,
     settings: &Settings,
     service: Service,
-    acceptor: &mut Acceptor,
+    acceptor: Acceptor,
 ) -> ServeFault
 where
     R: Clock + Threads + Wait + Sync,
@@ -154,7 +152,8 @@ where
     S::Pass: Send,
     ensures { IfErr opened (λ fault. result ≡ fault) }
 {
-    match opened {
+    let mut acceptor = acceptor;
+    let fault = match opened {
         Ok((board, mut sockets)) => {
             let fault = {
                 let station = Station {
@@ -165,14 +164,16 @@ where
                     service,
                     board: &board,
                 };
-                serve_all(&station, &mut sockets, acceptor)
+                serve_all(&station, &mut sockets, &mut acceptor)
             };
             drop(sockets);
             drop(board);
             fault
         }
         Err(fault) => fault,
-    }
+    };
+    drop(acceptor);
+    fault
 }
 
 /// What the workers and the acceptor tell each other by, and the sockets of the workers.

@@ -114,3 +114,7 @@ body note = moment_text note.moment ++ told note.fact
 -- a line: its body, and LF
 unfoldable pub line : Note → List ℕ
 line note = body note ++ codes "\n"
+
+-- so many bytes of lines wait at most in each place where lines wait
+abbrev pub most_waiting : ℕ
+most_waiting = 65536

@@ -2,6 +2,7 @@
 //!
 //! - [`line`] writes a [`Note`]: a [`Moment`] in UTC and a [`Fact`].
 //! - `facts` has what each kind of fact holds; a [`Text`] is what others have said of themselves.
+//! - [`MOST_WAITING`]: how many bytes of lines wait at most, for those who keep lines.
 //! - [`laws`] says what holds of all lines: that they are lines, and how they are read back.
 //!
 //! A line is that of `docs/FORMATS.md`, "The log", and in proofs that of `specs/Lines`.
@@ -22,7 +23,7 @@ pub use facts::{
     SourceGone, SourceUp, Title, Warning,
 };
 pub use moment::{LAST_SECOND, Moment};
-pub use notes::{Note, line};
+pub use notes::{MOST_WAITING, Note, line};
 pub use text::Text;
 
 /// The error of each call that takes memory: there was none.

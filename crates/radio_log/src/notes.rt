@@ -10,6 +10,9 @@ use std::alloc::Global;
 /// How many bytes most lines have at most.
 const USUAL_LENGTH: usize = 256;
 
+/// How many bytes of lines wait at most in each place where lines wait.
+pub const MOST_WAITING: usize = 65_536;
+
 /// A moment, and what was so then.
 #[derive(Drop)]
 pub struct Note<'a> {

@@ -4,7 +4,7 @@ use Rattle.radio_events.specs.declared.state.Ending.TheVariants.{By as ByRule}
 use Rattle.radio_events.specs.Endings.{ending_word}
 use Rattle.radio_log.specs.declared.facts.Fact.{Fact}
 use Rattle.radio_log.specs.declared.facts.Fact.TheVariants.{RelayUp, RelayGone, RelayFailed, MountGone, Title, Warning}
-use Rattle.radio_policy.specs.declared.rule.Rule.TheVariants.{SourceSilent, SourceKilled}
+use Rattle.radio_notes.specs.Ends.{mount_word_by}
 use Rattle.radio_settings_values.specs.declared.settings.Master.{Master}
 use Rattle.radio_masters.specs.declared.relay_end.RelayEnd.{RelayEnd}
 use Rattle.radio_masters.specs.declared.relay_end.RelayEnd.TheVariants.{NoAddress, NoAnswer, Status, Left, By, NotWished, OutOfMemory}
@@ -22,8 +22,7 @@ relay_word OutOfMemory = codes "out-of-memory"
 
 -- the word for the end of its mount
 abbrev pub mount_word : RelayEnd → List ℕ
-mount_word (By (ByRule SourceSilent)) = codes "source-silent"
-mount_word (By (ByRule SourceKilled)) = codes "source-killed"
+mount_word (By (ByRule rule)) = mount_word_by rule
 mount_word end = codes "source-left"
 
 -- a master as the log names it: its name and its port

@@ -1,11 +1,11 @@
 //! Why a relay has ended, or did not come up.
 
 ghost use Rattle.std.specs.Prelude.{◌≡◌};
-ghost use Rattle.radio_events.specs.declared.state.Ending.TheVariants.{BadPull, By as ByRule};
-ghost use Rattle.radio_masters.specs.declared.relay_end.RelayEnd.TheVariants.{By};
+ghost use Rattle.radio_events.specs.declared.state.Ending.TheVariants.{BadPull};
 ghost use Rattle.radio_masters.specs.Ends.{end_by, keeps_place};
 ghost use Rattle.radio_masters.specs.RelayFacts.{mount_word};
 
+use radio_notes::mount_word_by;
 use radio_policy::Rule;
 use radio_session::Ending;
 use std::fmt;
@@ -54,7 +54,7 @@ impl RelayEnd {
         ensures { result.now ≡ mount_word self }
     {
         match self {
-            RelayEnd::By(Ending::By(rule)) => word_of_rule(rule),
+            RelayEnd::By(Ending::By(rule)) => mount_word_by(rule),
             RelayEnd::By(Ending::Done)
             | RelayEnd::By(Ending::BadBody)
             | RelayEnd::By(Ending::BadPull)
@@ -75,46 +75,6 @@ fn of_answer(status: Option<u16>) -> RelayEnd
     match status {
         Some(status) if status != 200 => RelayEnd::Status(status),
         Some(_) | None => RelayEnd::By(Ending::BadPull),
-    }
-}
-
-/// The word for the end of a mount whose relay was finished by this rule.
-fn word_of_rule(rule: Rule) -> &'static str
-    ensures { result.now ≡ mount_word (By (ByRule rule)) }
-{
-    match rule {
-        Rule::SourceSilent => "source-silent",
-        Rule::SourceKilled => "source-killed",
-        Rule::AddressDenied
-        | Rule::AddressNotAllowed
-        | Rule::TooManyClients
-        | Rule::BadMount
-        | Rule::SourcePassword
-        | Rule::TooManySources
-        | Rule::MountInUse
-        | Rule::ContentType
-        | Rule::ListenerPassword
-        | Rule::NoMount
-        | Rule::UserTwice
-        | Rule::NotLive
-        | Rule::MountFull
-        | Rule::FallbackDepth
-        | Rule::NoCommand
-        | Rule::AdminPassword
-        | Rule::RelayPassword
-        | Rule::MissingArgument
-        | Rule::NoDestination
-        | Rule::SameMount
-        | Rule::NoClient
-        | Rule::NoUsers
-        | Rule::NoUser
-        | Rule::NumbersSpent
-        | Rule::BadHead
-        | Rule::BadMethod
-        | Rule::Lagged
-        | Rule::TimeOver
-        | Rule::HeaderTimeout
-        | Rule::Killed => "source-left",
     }
 }
 

@@ -34,8 +34,13 @@ end_word (Some Stalled) = codes "stalled"
 end_word (Some NoMemory) = codes "out-of-memory"
 end_word None = codes "left"
 
+-- the word for the end of a mount whose source, or relay, was finished by the rule
+abbrev pub mount_word_by : Rule → List ℕ
+mount_word_by SourceSilent = codes "source-silent"
+mount_word_by SourceKilled = codes "source-killed"
+mount_word_by rule = codes "source-left"
+
 -- the word for the end of a mount whose source has ended so
 abbrev pub mount_word : Option End → List ℕ
-mount_word (Some (By (ByRule SourceSilent))) = codes "source-silent"
-mount_word (Some (By (ByRule SourceKilled))) = codes "source-killed"
+mount_word (Some (By (ByRule rule))) = mount_word_by rule
 mount_word end = codes "source-left"

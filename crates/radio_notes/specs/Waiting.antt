@@ -1,10 +1,6 @@
 -- The lines that wait to be written.
 use Rattle.std.specs.Prelude.{ℕ, List}
 
--- so many bytes of lines wait at most
-abbrev pub most_waiting : ℕ
-most_waiting = 65536
-
 -- the lines, one behind the other, and how many were lost since a loss was told last
 pub record Waiting : Type 0 where
   pub lines : List ℕ

@@ -1,9 +1,7 @@
 //! How a connection ends, and the words and codes that the log has for it.
 
-ghost use Rattle.std.specs.Prelude.{◌≡◌, Some};
-ghost use Rattle.radio_events.specs.declared.state.Ending.TheVariants.{By as ByRule};
-ghost use Rattle.radio_notes.specs.declared.ends.End.TheVariants.{By};
-ghost use Rattle.radio_notes.specs.Ends.{code_of, code_of_end, end_word, mount_word};
+ghost use Rattle.std.specs.Prelude.{◌≡◌};
+ghost use Rattle.radio_notes.specs.Ends.{code_of, code_of_end, end_word, mount_word, mount_word_by};
 
 use radio_events::Ending;
 use radio_policy::{Rule, Status};
@@ -56,9 +54,9 @@ pub(crate) fn mount_word(end: Option<End>) -> &'static str
     }
 }
 
-/// The word for the end of a mount whose source was finished by this rule.
-fn mount_word_by(rule: Rule) -> &'static str
-    ensures { result.now ≡ mount_word (Some (By (ByRule rule))) }
+/// Returns the word for the end of a mount whose source, or relay, was finished by this rule.
+pub fn mount_word_by(rule: Rule) -> &'static str
+    ensures { result.now ≡ mount_word_by rule }
 {
     match rule {
         Rule::SourceSilent => "source-silent",

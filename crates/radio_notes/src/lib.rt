@@ -4,6 +4,7 @@
 //! - [`Account`]: what is noted of one connection, from its coming to its end.
 //! - [`Notice`]: what is to be told of an event, if it is done.
 //! - [`Told`]: what of a reply is noted.
+//! - [`mount_word_by`]: the word for the end of a mount, also of a relay's.
 //! - [`Log`]: the lines that wait to be written, as many as there is room for.
 //!
 //! What is noted, told, written and lost is decided by functions of plain values, whose contracts say it. `Account` and `Log`
@@ -26,7 +27,7 @@ mod told;
 mod visit;
 
 pub use account::Account;
-pub use ends::End;
+pub use ends::{End, mount_word_by};
 pub use log::Log;
 pub use notice::Notice;
 pub use told::Told;

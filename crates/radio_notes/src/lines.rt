@@ -6,13 +6,10 @@ ghost use Rattle.radio_notes.specs.Notices.{IsToldOf};
 ghost use Rattle.radio_notes.specs.Counts.{capped};
 
 use crate::{Notice, OutOfMemory};
-use radio_log::{Fact, Moment, Note, line};
+use radio_log::{Fact, MOST_WAITING, Moment, Note, line};
 use std::alloc::Global;
 use std::marker::Model;
 use std::mem;
-
-/// How many bytes of lines wait at most.
-const MOST_WAITING: usize = 65536;
 
 /// The lines that wait, one behind the other, and how many were lost since a loss was told last.
 ///
@@ -25,7 +22,8 @@ pub struct Lines {
 
 impl Model for Lines {
     ghost use Rattle.std.specs.Prelude.{◌≤◌, length};
-    ghost use Rattle.radio_notes.specs.Waiting.{Waiting, most_waiting};
+    ghost use Rattle.radio_log.specs.Lines.{most_waiting};
+    ghost use Rattle.radio_notes.specs.Waiting.{Waiting};
 
     ghost Value = { Waiting };
 

@@ -1,7 +1,7 @@
 //! The log of a thread.
 
 ghost use Rattle.std.specs.Prelude.{◌≤◌, length};
-ghost use Rattle.radio_notes.specs.Waiting.{most_waiting};
+ghost use Rattle.radio_log.specs.Lines.{most_waiting};
 
 use crate::Notice;
 use crate::lines::Lines;

@@ -1,10 +1,6 @@
 -- The lines that wait to be written, and those that were lost.
 use Rattle.std.specs.Prelude.{ℕ, List, ◌+◌, ◌-◌, ◌^◌, ◌++◌, ◌==◌, length, filter, min}
 
--- so many bytes wait at most
-abbrev pub most_waiting : ℕ
-most_waiting = 65536
-
 -- a number has 64 bits
 abbrev pub most_number : ℕ
 most_number = 2 ^ 64 - 1

@@ -1,14 +1,13 @@
 //! The lines that wait to be written.
 
 ghost use Rattle.std.specs.Prelude.{◌≡◌, ◌+◌, ◌≤◌, ◌<◌, length, min, [], false, if◌then◌else◌};
-ghost use Rattle.radio_outlet.specs.Queues.{Queue, most_waiting, added, dropped, lines_in, most_number};
+ghost use Rattle.radio_log.specs.Lines.{most_waiting};
+ghost use Rattle.radio_outlet.specs.Queues.{Queue, added, dropped, lines_in, most_number};
 
+use radio_log::MOST_WAITING;
 use std::alloc::Global;
 use std::marker::Model;
 use std::mem;
-
-/// How many bytes of lines wait at most.
-const MOST_WAITING: usize = 65_536;
 
 const LINE_END: u8 = b'\n';
 
@@ -23,7 +22,8 @@ pub struct Waiting {
 
 impl Model for Waiting {
     ghost use Rattle.std.specs.Prelude.{◌≤◌, length};
-    ghost use Rattle.radio_outlet.specs.Queues.{Queue, most_waiting};
+    ghost use Rattle.radio_log.specs.Lines.{most_waiting};
+    ghost use Rattle.radio_outlet.specs.Queues.{Queue};
 
     ghost Value = { Queue };
 

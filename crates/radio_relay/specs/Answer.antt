@@ -1,6 +1,6 @@
 -- What the head of a master's answer tells of the stream behind it.
 use Rattle.std.specs.Prelude.{ℕ, zero, suc, not, ◌==◌, List, [], codes, Option, None, Some, is_some, unwrap_or, Result, Ok, Err, if◌then◌else◌}
-use Rattle.radio_heads.specs.Headers.{value_of}
+use Rattle.radio_heads.specs.Headers.{default_content_type, value_of}
 use Rattle.radio_heads.specs.Response.{ResponseParts}
 use Rattle.radio_values.specs.declared.field.Shown.{Shown}
 use Rattle.radio_values.specs.Shown.{shown_of}
@@ -15,7 +15,7 @@ value_or other name head = unwrap_or (value_of name head.headers) other
 -- what it shows: a type, a name and a genre; where it names no type, the one that Icecast takes then
 abbrev pub shown_by : ResponseParts → Shown
 shown_by head = shown_of
-    (value_or (codes "audio/mpeg") (codes "Content-Type") head)
+    (value_or default_content_type (codes "Content-Type") head)
     (value_or [] (codes "icy-name") head)
     (value_or [] (codes "icy-genre") head)
 

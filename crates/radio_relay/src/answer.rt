@@ -4,16 +4,13 @@ ghost use Rattle.radio_texts.specs.Numbers.{number_of};
 ghost use Rattle.radio_relay.specs.Answer.{interval_in, interval_of, max_interval, shown_by, value_or};
 
 use crate::{OutOfMemory, PullFault};
-use radio_heads::ResponseHead;
+use radio_heads::{DEFAULT_CONTENT_TYPE, ResponseHead};
 use radio_texts::read_number;
 use radio_values::Shown;
 use std::alloc::Global;
 
 /// The longest metadata interval that a master may tell, in bytes.
 pub const MAX_INTERVAL: u64 = 16_777_216;
-
-/// The media type of a stream whose master names none (Icecast 2.4 documentation).
-const DEFAULT_CONTENT_TYPE: &[u8] = b"audio/mpeg";
 
 /// The bytes of sound between two metadata blocks (ICY convention, `icy-metaint`), with none where the stream has no
 /// metadata; or the first fault of the head.

@@ -9,7 +9,7 @@ use Rattle.radio_creds.specs.Credentials.{Credentials}
 use Rattle.radio_values.specs.declared.field.Shown.{Shown}
 use Rattle.radio_values.specs.Shown.{shown_of}
 use Rattle.radio_heads.specs.Head.{RequestParts}
-use Rattle.radio_heads.specs.Headers.{value_of}
+use Rattle.radio_heads.specs.Headers.{default_content_type, value_of}
 use Rattle.radio_answers.specs.declared.web_answers.WebAnswers.{WebAnswers}
 use Rattle.radio_session.specs.Browsers.{is_refused_pair}
 use Rattle.radio_session.specs.Framing.{is_word}
@@ -31,7 +31,7 @@ value_or other name request = unwrap_or (value_of name request.headers) other
 -- what a source tells of its stream: a type, a name and a genre; where it names no type, the one that Icecast takes then
 abbrev pub shown_by : RequestParts → Shown
 shown_by request = shown_of
-    (value_or (codes "audio/mpeg") (codes "Content-Type") request)
+    (value_or default_content_type (codes "Content-Type") request)
     (value_or [] (codes "ice-name") request)
     (value_or [] (codes "ice-genre") request)
 

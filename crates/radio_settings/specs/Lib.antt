@@ -12,3 +12,4 @@ pub mod Sections
 pub mod Document
 pub mod Parts
 pub mod Laws
+pub mod Faulty

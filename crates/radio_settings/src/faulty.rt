@@ -1,5 +1,8 @@
 //! Which table a fault of a document is in.
 
+ghost use Rattle.std.specs.Prelude.{◌≡◌, ◌+◌, ◌-◌, ◌^◌, Some, min};
+ghost use Rattle.radio_settings.specs.Faulty.{key_of};
+
 use crate::access::access;
 use crate::limits::limits;
 use crate::listen::listen;
@@ -31,19 +34,38 @@ pub fn faulty_table(alloc: Global, document: &Table) -> Option<Place> {
     if listen(alloc, document).is_err() {
         return alone(Section::Listen);
     }
+    faulty_below(alloc, document, &access)
+}
+
+/// The first table at fault of those behind `[listen]`.
+fn faulty_below(alloc: Global, document: &Table, access: &AccessSettings) -> Option<Place> {
     let Ok(limits) = limits(alloc, document) else {
         return alone(Section::Limits);
     };
     if web(alloc, document).is_err() {
         return alone(Section::Web);
     }
-    faulty_stream(alloc, document, &access, &limits)
+    faulty_stream(alloc, document, access, &limits)
 }
 
-fn alone(section: Section) -> Option<Place> {
+/// The table of this section, which is in no list.
+fn alone(section: Section) -> Option<Place>
+    ensures { result ≡ Some (record { section = section; number = 0 }) }
+{
     Some(Place { section, number: 0 })
 }
 
+/// The table of this section whose list has so many tables before it.
+fn in_list(section: Section, before: usize) -> Place
+    ensures { result ≡ record { section = section; number = min (2 ^ 64 - 1) (before + 1) } }
+{
+    Place {
+        section,
+        number: before.saturating_add(1),
+    }
+}
+
+/// The first table at fault of those of streams: mounts, relays and the slave.
 fn faulty_stream(
     alloc: Global,
     document: &Table,
@@ -56,12 +78,21 @@ fn faulty_stream(
     if let Some(place) = faulty_mount(alloc, mounts.as_slice(), access, limits) {
         return Some(place);
     }
+    faulty_pull(alloc, document)
+}
+
+/// The first table at fault of those by which streams are pulled in: relays and the slave.
+fn faulty_pull(alloc: Global, document: &Table) -> Option<Place> {
     let Ok(relays) = tables_at(alloc, document, Key::Relay) else {
         return alone(Section::Relay);
     };
     if let Some(place) = faulty_relay(alloc, relays.as_slice()) {
         return Some(place);
     }
+    faulty_slave(alloc, document)
+}
+
+fn faulty_slave(alloc: Global, document: &Table) -> Option<Place> {
     match table_at(document, Key::Slave) {
         Ok(Some(table)) if slave(alloc, table).is_ok() => None,
         Ok(None) => None,
@@ -75,35 +106,27 @@ fn faulty_mount(
     access: &AccessSettings,
     limits: &LimitSettings,
 ) -> Option<Place> {
-    let mut number: usize = 0;
-    for table in tables {
-        number = number.saturating_add(1);
+    for (before, table) in tables.iter().enumerate() {
         if mount(alloc, table, access, limits).is_err() {
-            return Some(Place {
-                section: Section::Mount,
-                number,
-            });
+            return Some(in_list(Section::Mount, before));
         }
     }
     None
 }
 
 fn faulty_relay(alloc: Global, tables: &[&Table]) -> Option<Place> {
-    let mut number: usize = 0;
-    for table in tables {
-        number = number.saturating_add(1);
+    for (before, table) in tables.iter().enumerate() {
         if relay(alloc, table).is_err() {
-            return Some(Place {
-                section: Section::Relay,
-                number,
-            });
+            return Some(in_list(Section::Relay, before));
         }
     }
     None
 }
 
 /// The key that a fault is of, unless it is of none.
-pub fn key_of(fault: &SettingsFault) -> Option<Key> {
+pub fn key_of(fault: &SettingsFault) -> Option<Key>
+    ensures { result ≡ key_of fault.now }
+{
     match fault {
         SettingsFault::Missing { key }
         | SettingsFault::WrongKind { key }

@@ -1,7 +1,7 @@
 -- What a try to accept a connection at the bound socket may come to.
 use Rattle.std.specs.Prelude.{◌≡◌, Bool, true, false}
-use Rattle.radio_lines.specs.declared.entrance.Accepted.{Accepted}
-use Rattle.radio_lines.specs.declared.entrance.Accepted.TheVariants.{One, Nothing, Failed, NoDescriptor}
+use Rattle.radio_intake.specs.declared.entrance.Accepted.{Accepted}
+use Rattle.radio_intake.specs.declared.entrance.Accepted.TheVariants.{One, Nothing, Failed, NoDescriptor}
 use Rattle.radio_sockets.specs.declared.doors.Newcomer.{Newcomer}
 use Rattle.radio_sockets.specs.declared.doors.Doors.{Doors}
 

@@ -1,6 +1,6 @@
 -- What holds of what a worker's post and the acceptor decide. Moments and times are in milliseconds.
 use Rattle.std.specs.Prelude.{◌≡◌, ◌⊎◌, ◌≤◌, ◌<◌, ◌+◌, ◌*◌, ◌^◌, ℕ, ℤ, pos, Bool, true, false, min}
-use Rattle.radio_sockets.specs.Steps.{acceptor_wait, called_of, has_to_do, is_alone, is_turn_due, lacks_descriptors, weight_of}
+use Rattle.radio_sockets.specs.Steps.{acceptor_wait, called_of, has_to_do, is_turn_due, lacks_descriptors, weight_of}
 
 -- newcomers wait for one turn at most: 64 of those that were put off are taken in before the next
 abbrev pub NewcomersAreTakenIn : Type 0

@@ -1,7 +1,7 @@
 //! The thread that accepts connections.
 
 ghost use Rattle.std.specs.Prelude.{◌≡◌, ◌⊎◌, ◌+◌, ◌-◌, ◌^◌, All, false, true, min};
-ghost use Rattle.radio_lines.specs.Accepting.{closed_in};
+ghost use Rattle.radio_intake.specs.Accepting.{closed_in};
 ghost use Rattle.radio_proxy.specs.Pending.{is_proxy};
 ghost use Rattle.radio_sockets.specs.Entitled.{IsEntitled};
 
@@ -13,8 +13,8 @@ use mio::Waker;
 use mio::net::TcpStream;
 use radio_addr::Peer;
 use radio_board::{Board, Mark};
-use radio_intake::{Intake, IntakePass, ROOM};
-use radio_lines::{Accepts, accept_next, moment};
+use radio_intake::{Accepts, Intake, IntakePass, ROOM, accept_next};
+use radio_lines::moment;
 use radio_log::Fact;
 use radio_notes::Log;
 use radio_proxy::{Named, Outcome, Pending, Settled};
@@ -261,12 +261,17 @@ impl Acceptor {
         } = settled;
         match outcome {
             Outcome::Named(named) => {
-                let coming = Coming {
+                let mut coming = Coming {
                     stream,
                     socket_peer: proxy,
                     named,
                 };
-                self.hand_on_read(rt, board, intake, pass, coming, number);
+                if self.doors.forget(&mut coming.stream).is_err() {
+                    // The system would go on telling of it here.
+                    drop(coming);
+                    return;
+                }
+                self.hand_on(rt, board, intake, pass, coming, number);
             }
             Outcome::Bad | Outcome::Left => {
                 drop(stream);
@@ -275,30 +280,6 @@ impl Acceptor {
                 self.tell_gone(rt, board, proxy, gone_word(outcome), seconds);
             }
         }
-    }
-
-    /// Hands a connection on to this worker whose header was read. It is closed if the system goes on telling of it here.
-    fn hand_on_read<R: Wait>(
-        &mut self,
-        rt: &R,
-        board: &Board,
-        intake: &Intake<Coming>,
-        pass: &mut IntakePass<Coming>,
-        coming: Coming,
-        number: usize,
-    )
-        requires own { pass.old.intake ≡ intake.now }
-        requires entitled { IsEntitled self.old.pending.proxies coming }
-        ensures own { pass.new.intake ≡ intake.now }
-        ensures proxies { self.new.pending.proxies ≡ self.old.pending.proxies }
-        ensures entitled { All (IsEntitled self.old.pending.proxies) pass.old.put → All (IsEntitled self.old.pending.proxies) pass.new.put }
-    {
-        let mut coming = coming;
-        if self.doors.forget(&mut coming.stream).is_err() {
-            drop(coming);
-            return;
-        }
-        self.hand_on(rt, board, intake, pass, coming, number);
     }
 
     /// Tells the log of a connection of this proxy that has ended so before a client has arrived.

@@ -15,7 +15,7 @@ use crate::{BindFault, OutOfMemory, ServeFault};
 use mio::net::{TcpListener, TcpStream};
 use mio::{Events, Interest, Poll, Token, Waker};
 use radio_addr::Peer;
-use radio_lines::{Accepted, Entrance};
+use radio_intake::{Accepted, Entrance};
 use radio_proxy::Named;
 use std::alloc::Global;
 use std::io;

@@ -116,21 +116,28 @@ impl<'a, R: Clock + Wait> SocketPost<'a, R> {
     }
 
     /// Waits until there is something to do, or a turn is due. Returns what was heard then; `None` where it is to stop.
-    fn wait(&mut self) -> Option<Heard> {
+    fn wait(&mut self) -> Option<Heard>
+        ensures clock { IfSome result (λ heard. self.new.clock_us ≡ heard.us) }
+    {
         let mut heard = self.hear()?;
         for _ in 1..MOST_WAITS {
-            let is_due = is_turn_due(self.moment(), self.turn_ms);
-            let waited = Waited {
-                is_ready: heard.is_ready,
-                is_due,
-                is_over: self.board.is_over(),
-            };
-            if ends_wait(waited) {
+            if self.ends_wait(heard) {
                 return Some(heard);
             }
             heard = self.hear()?;
         }
         Some(heard)
+    }
+
+    /// Returns whether a wait ends in which this was heard last.
+    fn ends_wait(&self, heard: Heard) -> bool
+        ensures { heard.is_ready ≡ true → result ≡ true }
+    {
+        ends_wait(Waited {
+            is_ready: heard.is_ready,
+            is_due: is_turn_due(self.moment(), self.turn_ms),
+            is_over: self.board.is_over(),
+        })
     }
 
     /// Hears what the system has to tell, and waits for it, if there is nothing to do. `None` where the system tells
@@ -144,8 +151,8 @@ impl<'a, R: Clock + Wait> SocketPost<'a, R> {
         let is_called = self.lies_down(rest);
         let wait_ms = if is_called { 0 } else { rest.most_ms() };
         let told = self.sockets.hear(self.rt, wait_ms);
-        if !rest.is_turn() {
-            let _ = self.desk.take(Step::Wake);
+        if let Some(step) = rest.step_behind() {
+            let _ = self.desk.take(step);
         }
         let Ok(heard) = told else {
             self.board.stop();

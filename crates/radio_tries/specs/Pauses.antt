@@ -1,11 +1,7 @@
 -- For how long threads of relays wait. Moments and times are in milliseconds.
-use Rattle.std.specs.Prelude.{ℕ, Bool, ◌+◌, ◌-◌, ◌^◌, min, nat_le, if◌then◌else◌}
+use Rattle.std.specs.Prelude.{ℕ, Bool, ◌-◌, min, nat_le, if◌then◌else◌}
 use Rattle.radio_tries.specs.declared.pause.Pause.{Pause}
 use Rattle.radio_tries.specs.declared.pause.Pause.TheVariants.{Stops, Past, Waits}
-
--- a moment so much later, which has at most 64 bits
-abbrev pub later : ℕ → ℕ → ℕ
-later ms more = min (2 ^ 64 - 1) (ms + more)
 
 -- so long after its last pull has ended a relay is tried again
 abbrev pub rest : ℕ

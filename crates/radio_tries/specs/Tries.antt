@@ -3,6 +3,7 @@ use Rattle.std.specs.Prelude.{◌≡◌, ℕ, Bool, true, false, ◌-◌, ◌^�
 use Rattle.std.specs.List.{enumerate_from}
 use Rattle.std.specs.BTreeMap.{insert_entry, is_at}
 use Rattle.std.specs.Map.{lookup}
+use Rattle.radio_connections.specs.Moments.{later}
 use Rattle.radio_masters.specs.declared.failing.Failing.{Failing}
 use Rattle.radio_masters.specs.declared.relay_end.RelayEnd.{RelayEnd}
 use Rattle.radio_masters.specs.declared.relay_end.RelayEnd.TheVariants.{NotWished}
@@ -14,7 +15,7 @@ use Rattle.radio_relay.specs.Orders.{is_listed, relay_at}
 use Rattle.radio_relay.specs.StreamList.{name_order}
 use Rattle.radio_tries.specs.declared.outcome.Outcome.{Outcome}
 use Rattle.radio_tries.specs.declared.tries.Tried.{Tried}
-use Rattle.radio_tries.specs.Pauses.{later, rest}
+use Rattle.radio_tries.specs.Pauses.{rest}
 
 -- whether a relay has ended since it is not wished any more
 abbrev pub is_not_wished : RelayEnd → Bool

@@ -1,7 +1,8 @@
 //! For how long threads of relays wait.
 
 ghost use Rattle.std.specs.Prelude.{◌≡◌, ◌*◌};
-ghost use Rattle.radio_tries.specs.Pauses.{later, pause_at};
+ghost use Rattle.radio_connections.specs.Moments.{later};
+ghost use Rattle.radio_tries.specs.Pauses.{pause_at};
 
 /// For how long a relay rests after a pull has ended, in milliseconds.
 pub const REST_MS: u64 = 5000;

@@ -1,4 +1,8 @@
 -- By which faults the parts of the program end.
+use Rattle.std.specs.Prelude.{◌≡◌, ◌⊎◌, Bool, true}
+use Rattle.radio_deliveries.specs.declared.faults.PlayFault.TheVariants.{Write}
+use Rattle.radio_startup.specs.declared.call.Call.{Call}
+use Rattle.radio_startup.specs.declared.call.Call.TheVariants.{Play as CallsPlay, Serve as CallsServe, Check as CallsCheck, Version as CallsVersion, Help as CallsHelp}
 use Rattle.radiod.specs.declared.fault.Fault.{Fault}
 use Rattle.radiod.specs.declared.fault.Fault.TheVariants.{Usage, File, Play, CannotBind, Serve, Warnings, OutOfMemory}
 
@@ -23,9 +27,21 @@ EndsService (Serve fault) = Unit {0}
 EndsService OutOfMemory = Unit {0}
 EndsService fault = ⊥
 
--- a check: the settings are not taken, there are warnings, or memory was refused
-abbrev pub EndsCheck : Fault → Type 0
-EndsCheck (File fault) = Unit {0}
-EndsCheck Warnings = Unit {0}
-EndsCheck OutOfMemory = Unit {0}
-EndsCheck fault = ⊥
+-- a check: the settings are not taken, there are warnings and it is strict, or memory was refused
+abbrev pub EndsCheck : Bool → Fault → Type 0
+EndsCheck is_strict (File fault) = Unit {0}
+EndsCheck is_strict Warnings = is_strict ≡ true
+EndsCheck is_strict OutOfMemory = Unit {0}
+EndsCheck is_strict fault = ⊥
+
+-- what the words ask for; of the program's name and its usage, that output takes no more
+abbrev pub EndsCall : Call → Fault → Type 0
+EndsCall (CallsPlay path) fault = EndsPlay fault
+EndsCall (CallsServe path) fault = EndsService fault
+EndsCall (CallsCheck path is_strict) fault = EndsCheck is_strict fault
+EndsCall CallsVersion fault = fault ≡ Play Write
+EndsCall CallsHelp fault = fault ≡ Play Write
+
+-- the program: by its words, or by what they ask for
+abbrev pub Ends : Fault → Type 0
+Ends fault = EndsWords fault ⊎ ((call : Call) × EndsCall call fault)

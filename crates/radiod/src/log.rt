@@ -3,14 +3,16 @@
 ghost use Rattle.std.specs.Prelude.{◌≡◌, IfErr, IfSome};
 ghost use Rattle.std.specs.String.{string_bytes};
 ghost use Rattle.radiod.specs.declared.fault.Fault.TheVariants.{OutOfMemory as NoMemory};
+ghost use Rattle.radiod.specs.Checks.{verdict_line};
 ghost use Rattle.radiod.specs.FaultLines.{IsBindReason, IsReasonOf, address_of, fault_fact, file_of, key_of, place_of};
 
 use crate::fault::{Fault, NotBound};
 use crate::output::LimitedFile;
+use radio_listening::Listening;
 use radio_log::{Fact, FaultyKey, Text};
 use radio_outlet::{LogQueue, start_log};
 use radio_review::UnknownKey;
-use radio_startup::{Dated, Notices, line_now, words_of, words_of_unknown};
+use radio_startup::{Dated, Notices, line_now, tell_start, words_of, words_of_unknown};
 use std::sync::{Arc, Wait};
 use std::thread::Threads;
 use std::time::Clock;
@@ -52,51 +54,75 @@ impl<'a, W: Clock + Threads + Wait + Copy + Drop + Send + 'static> ProgramLog<'a
         }
     }
 
-    /// Adds a line as it is: the one that names the address at which the program listens, or the last one of a check.
-    pub fn tell_line(&self, line: &[u8]) {
-        self.queue.add(self.waits, line, 0);
+    /// Adds the line that names the address at which this socket listens, and the log's first line. Returns the socket.
+    pub fn tell_address(&self, listening: Listening) -> Listening
+        ensures { result ≡ listening }
+    {
+        let alloc = self.rt.alloc();
+        if let Ok(address) = listening.address() {
+            if let Ok(line) = format!(in alloc; "listening on {address}\n") {
+                self.queue.add(self.waits, line.as_bytes(), 0);
+            }
+            if let Ok(address) = format!(in alloc; "{address}") {
+                tell_start(self, address.as_str());
+            }
+        }
+        listening
     }
 
-    /// Waits for a second at most until all is written.
-    pub fn wait_written(&self) {
+    /// Adds the last line of a check that has come to this, and returns that. It waits for a second at most until all is written.
+    pub fn tell_verdict(&self, verdict: Result<(), Fault>) -> Result<(), Fault>
+        ensures { result ≡ verdict }
+    {
+        self.queue.add(self.waits, verdict_line(&verdict), 0);
         self.queue.wait_written(self.waits, LAST_WAIT_MS);
+        verdict
     }
 
-    /// Says the fault by which the program that served ends, and adds its line. It waits for a second at most until all is
-    /// written: neither who reads the log nor who reads standard error keeps the program from its end.
-    pub fn tell_end(&self, fault: &Fault) {
-        self.say_soon(fault);
-        if let Some(why) = words_of(self.rt.alloc(), fault) {
+    /// Says the fault by which the program that served ends, adds its line, and returns the fault. It waits for a second at most
+    /// until all is written: neither who reads the log nor who reads standard error keeps the program from its end.
+    pub fn tell_end(&self, fault: Fault) -> Fault
+        ensures { result ≡ fault }
+    {
+        let fault = self.say_soon(fault);
+        if let Some(why) = words_of(self.rt.alloc(), &fault) {
             self.tell(Fact::Ended {
                 why: Text::of(why.as_bytes()),
             });
         }
         self.queue.wait_written(self.waits, LAST_WAIT_MS);
+        fault
     }
 
-    /// Says a fault on standard error, and waits for that for a second at most, if a thread can be had.
-    fn say_soon(&self, fault: &Fault) {
+    /// Says a fault on standard error, and waits for that for a second at most, if a thread can be had. Returns the fault.
+    fn say_soon(&self, fault: Fault) -> Fault
+        ensures { result ≡ fault }
+    {
         let alloc = self.rt.alloc();
         let started = start_log(self.waits, alloc, self.rt.stderr(), self.rt.stderr());
         match (started, format!(in alloc; "radiod: {fault}\n")) {
             (Some(queue), Ok(line)) => {
                 queue.add(self.waits, line.as_bytes(), 0);
                 queue.wait_written(self.waits, LAST_WAIT_MS);
+                fault
             }
             _ => say(self.rt, fault),
         }
     }
 
-    /// The program does not serve, by this fault: it is said, and then a line has what is known of it in addition to its words.
-    /// `path` is that of the settings.
-    pub fn tell_fault(&self, path: &str, fault: &Fault) {
-        say(self.rt, fault);
-        let why = words_of(self.rt.alloc(), fault);
-        let reason = reason_of(self.rt, fault);
+    /// Says a fault by which the program does not serve, and adds a line that has what is known of it in addition to its words.
+    /// Returns the fault. `path` is that of the settings.
+    pub fn tell_fault(&self, path: &str, fault: Fault) -> Fault
+        ensures { result ≡ fault }
+    {
+        let fault = say(self.rt, fault);
+        let why = words_of(self.rt.alloc(), &fault);
+        let reason = reason_of(self.rt, &fault);
         if let (Some(why), Some(reason)) = (why, reason) {
-            self.tell(fault_fact(path, fault, why.as_str(), reason.as_str()));
-            self.wait_written();
+            self.tell(fault_fact(path, &fault, why.as_str(), reason.as_str()));
+            self.queue.wait_written(self.waits, LAST_WAIT_MS);
         }
+        fault
     }
 }
 
@@ -117,9 +143,22 @@ pub fn say_unknown(rt: &HostRuntime, unknown: &[UnknownKey]) {
     }
 }
 
-/// Says a fault on standard error. Where that takes nothing, the status of the program alone tells.
-pub fn say(rt: &HostRuntime, fault: &Fault) {
+/// Says a fault on standard error, and returns it. Where that takes nothing, the status of the program alone tells.
+pub fn say(rt: &HostRuntime, fault: Fault) -> Fault
+    ensures { result ≡ fault }
+{
     let _ = eprintln!(rt; "radiod: {fault}");
+    fault
+}
+
+/// The last line of a check that has come to this; none if it has a fault, which standard error has.
+fn verdict_line(verdict: &Result<(), Fault>) -> &'static [u8]
+    ensures { result.now ≡ verdict_line verdict.now }
+{
+    match verdict {
+        Ok(()) => b"ok\n",
+        Err(_) => b"",
+    }
 }
 
 /// The file that a fault is in.

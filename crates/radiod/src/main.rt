@@ -13,7 +13,7 @@ ghost use Rattle.radio_settings_values.specs.declared.settings.Settings.{Setting
 ghost use Rattle.radio_startup.specs.Warnings.{warnings_of};
 ghost use Rattle.radiod.specs.declared.fault.Fault.TheVariants.{File};
 ghost use Rattle.radiod.specs.Checks.{verdict};
-ghost use Rattle.radiod.specs.Ends.{EndsCheck, EndsPlay, EndsService};
+ghost use Rattle.radiod.specs.Ends.{Ends, EndsCall, EndsCheck, EndsPlay, EndsService};
 
 mod fault;
 mod help;
@@ -45,18 +45,33 @@ fn main(rt: HostRuntime) -> ExitCode {
     }
 }
 
-/// Does what the words ask for. A fault was said on standard error.
+/// Does what the words of the call ask for. The fault, which was said on standard error, is one of the words or of what they ask for.
 fn run<W: Clock + Threads + Wait + Sync + Copy + Drop + Send + 'static>(
     rt: &HostRuntime,
     waits: &W,
-) -> Result<(), Fault> {
+) -> Result<(), Fault>
+    ensures { IfErr result Ends }
+{
     match read_words(rt) {
-        Ok(Call::Play(path)) => said(rt, play_script(rt, path.as_str())),
-        Ok(Call::Serve(path)) => serve_file(rt, waits, path.as_str()),
-        Ok(Call::Check { path, is_strict }) => check_file(rt, waits, path.as_str(), is_strict),
-        Ok(Call::Version) => said(rt, write_version(rt)),
-        Ok(Call::Help) => said(rt, write_help(rt)),
-        Err(fault) => said(rt, Err(fault)),
+        Ok(call) => perform(rt, waits, call),
+        Err(fault) => Err(say(rt, fault)),
+    }
+}
+
+/// Does what a call asks for. A fault was said on standard error.
+fn perform<W: Clock + Threads + Wait + Sync + Copy + Drop + Send + 'static>(
+    rt: &HostRuntime,
+    waits: &W,
+    call: Call,
+) -> Result<(), Fault>
+    ensures { IfErr result (EndsCall call) }
+{
+    match call {
+        Call::Play(path) => said(rt, play_script(rt, path.as_str())),
+        Call::Serve(path) => serve_file(rt, waits, path.as_str()),
+        Call::Check { path, is_strict } => check_file(rt, waits, path.as_str(), is_strict),
+        Call::Version => said(rt, write_version(rt)),
+        Call::Help => said(rt, write_help(rt)),
     }
 }
 
@@ -64,10 +79,10 @@ fn run<W: Clock + Threads + Wait + Sync + Copy + Drop + Send + 'static>(
 fn said(rt: &HostRuntime, done: Result<(), Fault>) -> Result<(), Fault>
     ensures { result ≡ done }
 {
-    if let Err(fault) = &done {
-        say(rt, fault);
+    match done {
+        Ok(()) => Ok(()),
+        Err(fault) => Err(say(rt, fault)),
     }
-    done
 }
 
 /// Serves connections, with the settings of this file, until a fault.
@@ -80,7 +95,7 @@ fn serve_file<W: Clock + Threads + Wait + Sync + Copy + Drop + Send + 'static>(
 {
     match ProgramLog::start(rt, waits) {
         Ok(log) => serve_logged(rt, waits, &log, path),
-        Err(fault) => said(rt, Err(fault)),
+        Err(fault) => Err(say(rt, fault)),
     }
 }
 
@@ -131,9 +146,7 @@ fn told<W: Clock + Threads + Wait + Copy + Drop + Send + 'static>(
 ) -> Fault
     ensures { result ≡ File fault }
 {
-    let fault = Fault::File(fault);
-    log.tell_fault(path, &fault);
-    fault
+    log.tell_fault(path, Fault::File(fault))
 }
 
 /// Reads what `serve` reads. What is doubtful is told as `serve` tells it, and then `ok`; warnings are a fault if the check is
@@ -144,11 +157,11 @@ fn check_file<W: Clock + Threads + Wait + Sync + Copy + Drop + Send + 'static>(
     path: &str,
     is_strict: bool,
 ) -> Result<(), Fault>
-    ensures { IfErr result EndsCheck }
+    ensures { IfErr result (EndsCheck is_strict) }
 {
     match ProgramLog::start(rt, waits) {
         Ok(log) => check_logged(rt, &log, path, is_strict),
-        Err(fault) => said(rt, Err(fault)),
+        Err(fault) => Err(say(rt, fault)),
     }
 }
 
@@ -159,16 +172,12 @@ fn check_logged<W: Clock + Threads + Wait + Copy + Drop + Send + 'static>(
     path: &str,
     is_strict: bool,
 ) -> Result<(), Fault>
-    ensures { IfErr result EndsCheck }
+    ensures { IfErr result (EndsCheck is_strict) }
 {
     match warnings_of(rt, log, path) {
         Ok(warnings) => {
             let verdict = verdict(is_strict, warnings);
-            if verdict.is_ok() {
-                log.tell_line(b"ok\n");
-            }
-            log.wait_written();
-            said(rt, verdict)
+            said(rt, log.tell_verdict(verdict))
         }
         Err(fault) => Err(told(log, path, fault)),
     }

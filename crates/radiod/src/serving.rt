@@ -8,6 +8,7 @@ ghost use Rattle.radiod.specs.declared.fault.NotBound.{NotBound as NotBoundOf};
 
 use crate::fault::{Fault, NotBound};
 use crate::log::{ProgramLog, say_unknown};
+use radio_addr::AddressList;
 use radio_book::{House, PASSES, Unkept};
 use radio_hall_lock::Hall;
 use radio_listening::{BindFault, Listening, ServeFault, Service, SystemNet, WebAnswers};
@@ -15,7 +16,8 @@ use radio_outlet::LogQueue;
 use radio_review::UnknownKey;
 use radio_settings::AnswerSettings;
 use radio_settings_values::Settings;
-use radio_startup::{Station, tell_start, warn};
+use radio_startup::{Station, warn};
+use std::alloc::Global;
 use std::marker::Brand;
 use std::sync::ledger::Blank;
 use std::sync::{Arc, Wait};
@@ -39,7 +41,7 @@ pub fn serve_station<W: Clock + Threads + Wait + Sync + Copy + Drop + Send + 'st
     match bind(rt, log, &station.settings, unknown) {
         Ok((listening, queue)) => {
             let _warnings = warn(rt, log, &station.settings, unknown);
-            let fault = Fault::Serve(serve_in::<W, Brand>(
+            log.tell_end(Fault::Serve(serve_in::<W, Brand>(
                 rt,
                 waits,
                 station,
@@ -47,14 +49,11 @@ pub fn serve_station<W: Clock + Threads + Wait + Sync + Copy + Drop + Send + 'st
                 listening,
                 queue,
                 Blank::new(PASSES),
-            ));
-            log.tell_end(&fault);
-            fault
+            )))
         }
         Err(fault) => {
             drop(station);
-            log.tell_fault(path, &fault);
-            fault
+            log.tell_fault(path, fault)
         }
     }
 }
@@ -70,14 +69,7 @@ fn bind<W: Clock + Threads + Wait + Copy + Drop + Send + 'static>(
 {
     let listening = bind_socket(rt, settings)?;
     say_unknown(rt, unknown);
-    if let Ok(address) = listening.address() {
-        if let Ok(line) = format!(in rt.alloc(); "listening on {address}\n") {
-            log.tell_line(line.as_bytes());
-        }
-        if let Ok(address) = format!(in rt.alloc(); "{address}") {
-            tell_start(log, address.as_str());
-        }
-    }
+    let listening = log.tell_address(listening);
     match log.queue() {
         Ok(queue) => Ok((listening, queue)),
         Err(fault) => Err(fault),
@@ -132,18 +124,33 @@ fn serve_in<W: Clock + Threads + Wait + Sync, H: House + Send + Sync>(
     requires opening { H.opening ≡ opening station.settings station.lists }
     requires ledger { (blank.name ≡ H.name) × (blank.parts ≡ H.parts) × (blank.parts ≡ 2 ^ 32) }
 {
+    let (hall, answers, proxies) = open_hall::<H>(rt.alloc(), station, blank);
+    let listening = listening.behind(proxies);
+    let service = service_of(again, answers);
+    let fault = serve_through(rt, waits, &hall, again, service, listening, log);
+    drop(hall);
+    fault
+}
+
+/// Returns a house of the station's settings and lists, what they say of answers, and whose connections name their clients.
+fn open_hall<H: House>(
+    alloc: Global,
+    station: Station,
+    blank: Blank,
+) -> (Hall<Unkept, H>, AnswerSettings, Option<AddressList>)
+    requires opening { H.opening ≡ opening station.settings station.lists }
+    requires ledger { (blank.name ≡ H.name) × (blank.parts ≡ H.parts) × (blank.parts ≡ 2 ^ 32) }
+    ensures answers { result.1 ≡ station.answers }
+    ensures proxies { result.2 ≡ station.proxies }
+{
     let Station {
         settings,
         answers,
         lists,
         proxies,
     } = station;
-    let listening = listening.behind(proxies);
-    let hall: Hall<Unkept, H> = Hall::new(rt.alloc(), settings, lists, blank);
-    let service = service_of(again, answers);
-    let fault = serve_through(rt, waits, &hall, again, service, listening, log);
-    drop(hall);
-    fault
+    let hall = Hall::new(alloc, settings, lists, blank);
+    (hall, answers, proxies)
 }
 
 /// Serves connections in this hall, with this queue of the log.

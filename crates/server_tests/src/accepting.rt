@@ -2,7 +2,7 @@
 
 ghost use Rattle.std.specs.Prelude.{⊤};
 
-use radio_lines::{Accepted, Accepts, Entrance, accept_next};
+use radio_intake::{Accepted, Accepts, Entrance, accept_next};
 
 /// A listener that fails so many times, and then gives one connection after another. It counts how
 /// often it was asked.

@@ -12,12 +12,9 @@ use bytes::Bytes;
 use radio_admin::{CommandKind, read_path};
 use radio_creds::{Pair, basic};
 use radio_events::{Asked, Boxed, CommandRequest, Event, ListenRequest, SourceRequest};
-use radio_heads::Head;
+use radio_heads::{DEFAULT_CONTENT_TYPE, Head};
 use radio_values::Shown;
 use std::alloc::Global;
-
-/// What a session shows whose source names no content type (Icecast 2.4 documentation).
-const DEFAULT_CONTENT_TYPE: &[u8] = b"audio/mpeg";
 
 /// The path of what Icecast answers of the mounts that everybody may see.
 const ICECAST_STATUS: &[u8] = b"/status-json.xsl";

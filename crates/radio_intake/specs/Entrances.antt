@@ -1,10 +1,10 @@
 -- What comes of a try to accept a connection.
 use Rattle.std.specs.Prelude.{◌≡◌, ℕ, Bool, true, false, nat_lt, Option, None, Some, Result, Ok, Err, if◌then◌else◌}
-use Rattle.radio_lines.specs.declared.accepts.Tried.TheVariants.{Accepted as IsAccepted, Failed as HasFailed, NoDescriptor as LacksDescriptor}
-use Rattle.radio_lines.specs.declared.entrance.AcceptFault.{AcceptFault}
-use Rattle.radio_lines.specs.declared.entrance.Accepted.{Accepted}
-use Rattle.radio_lines.specs.declared.entrance.Accepted.TheVariants.{One, Nothing, Failed, NoDescriptor}
-use Rattle.radio_lines.specs.Accepting.{Accepting, most_failed, tried_at}
+use Rattle.radio_intake.specs.declared.accepts.Tried.TheVariants.{Accepted as IsAccepted, Failed as HasFailed, NoDescriptor as LacksDescriptor}
+use Rattle.radio_intake.specs.declared.entrance.AcceptFault.{AcceptFault}
+use Rattle.radio_intake.specs.declared.entrance.Accepted.{Accepted}
+use Rattle.radio_intake.specs.declared.entrance.Accepted.TheVariants.{One, Nothing, Failed, NoDescriptor}
+use Rattle.radio_intake.specs.Accepting.{Accepting, most_failed, tried_at}
 
 module _ {T : Type 0} where
   -- what is noted of a try at this moment: nothing if no connection waits

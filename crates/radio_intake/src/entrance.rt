@@ -1,7 +1,7 @@
 //! Where connections come from.
 
 ghost use Rattle.std.specs.Prelude.{◌≡◌, nat_le};
-ghost use Rattle.radio_lines.specs.Entrances.{IsTried, answer_of, settled};
+ghost use Rattle.radio_intake.specs.Entrances.{IsTried, answer_of, settled};
 
 use crate::accepts::{Accepts, Tried};
 
@@ -20,7 +20,7 @@ pub enum Accepted<T: Drop> {
 
 /// Where connections come from.
 pub trait Entrance<T: Drop> {
-    ghost use Rattle.radio_lines.specs.declared.entrance.Accepted.{Accepted};
+    ghost use Rattle.radio_intake.specs.declared.entrance.Accepted.{Accepted};
 
     // a try may come to this
     ghost accepts: { Self → Accepted T → Self → Type 0 };

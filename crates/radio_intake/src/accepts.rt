@@ -1,7 +1,7 @@
 //! When connections are accepted, and how many in a row could not be.
 
 ghost use Rattle.std.specs.Prelude.{◌≡◌, nat_le, nat_lt};
-ghost use Rattle.radio_lines.specs.Accepting.{Accepting, most_failed, tried_at, closed_in};
+ghost use Rattle.radio_intake.specs.Accepting.{Accepting, most_failed, tried_at, closed_in};
 
 use std::marker::Model;
 
@@ -32,7 +32,7 @@ pub struct Accepts {
 
 impl Model for Accepts {
     ghost use Rattle.std.specs.Prelude.{◌≤◌};
-    ghost use Rattle.radio_lines.specs.Accepting.{Accepting, most_failed};
+    ghost use Rattle.radio_intake.specs.Accepting.{Accepting, most_failed};
 
     ghost Value = { Accepting };
 

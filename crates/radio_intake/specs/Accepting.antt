@@ -1,7 +1,7 @@
 -- When connections are accepted, and how many in a row could not be.
 use Rattle.std.specs.Prelude.{ℕ, ◌+◌, ◌^◌, ◌-◌, min, Bool, true, false}
-use Rattle.radio_lines.specs.declared.accepts.Tried.{Tried}
-use Rattle.radio_lines.specs.declared.accepts.Tried.TheVariants.{Accepted, Failed, NoDescriptor}
+use Rattle.radio_intake.specs.declared.accepts.Tried.{Tried}
+use Rattle.radio_intake.specs.declared.accepts.Tried.TheVariants.{Accepted, Failed, NoDescriptor}
 
 -- with so many failures in a row a server ends
 abbrev pub most_failed : ℕ

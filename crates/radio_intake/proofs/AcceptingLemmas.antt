@@ -1,8 +1,8 @@
 -- How many tries have failed in a row.
-use Rattle.std.proofs.Common.{◌≡◌, ◌+◌, ℕ, min, List, [], ◌∷◌, refl, arith}
-use Rattle.radio_lines.specs.declared.accepts.Tried.{Tried}
-use Rattle.radio_lines.specs.declared.accepts.Tried.TheVariants.{Accepted, Failed, NoDescriptor}
-use Rattle.radio_lines.specs.Laws.{accepting_after, failed_in_a_row}
+use Rattle.std.proofs.Common.{◌≡◌, ℕ, min, List, [], ◌∷◌, refl, arith}
+use Rattle.radio_intake.specs.declared.accepts.Tried.{Tried}
+use Rattle.radio_intake.specs.declared.accepts.Tried.TheVariants.{Accepted, Failed, NoDescriptor}
+use Rattle.radio_intake.specs.Laws.{accepting_after, failed_in_a_row}
 
 -- no more than a hundred are counted
 pub counted : (tries : List (ℕ × Tried)) → (accepting_after tries).failed ≡ min 100 (failed_in_a_row tries)
