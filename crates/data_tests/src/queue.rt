@@ -127,7 +127,7 @@ fn draw_of_two_slices(rt: HostRuntime) {
 /// Whether bursts begin where they should in three blocks of four bytes, and a place is as far behind as
 /// it is.
 fn begins_bursts(alloc: Global) -> Result<bool, OutOfMemory> {
-    let queue = queue_of(alloc, 12, 12, &FOUR_EACH[..3])?;
+    let queue = queue_of(alloc, 10, 10, &FOUR_EACH[..3])?;
     Ok(
         queue.start_for(9) == Place::new(4)
             && queue.start_for(3) == Place::new(12)

@@ -24,8 +24,14 @@ pub use laws::{
     sources_are_told_by_their_data,
 };
 pub use outcome::Outcome;
+pub use radio_access::Lists;
 pub use radio_changes::Change;
-pub use radio_events::{Event, Reply};
+pub use radio_events::{
+    Asked, Boxed, Command, CommandRequest, Event, ListenRequest, Listing, OpenedBy, Reply,
+    SourceRequest, StreamHead, Text,
+};
+pub use radio_mount_part::{ListedPart, MountPart, PartAnswer};
+pub use radio_mounts::MountParts;
 pub use server::{Control, Core};
 pub use totals::clients_and_seats_add_up;
 

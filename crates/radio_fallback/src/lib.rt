@@ -1,12 +1,13 @@
 //! Where one who asks for a mount comes to sit, or which rule stops him.
 //!
 //! - [`View`]: what a walk asks of the server; [`walk_from`] goes over it, and over the table of those who sit.
-//! - [`Walk`]: what it [`Found`] at the mount from which it began, and its [`Landing`].
+//! - [`Walk`]: what it [`Found`] at the mount from which it began, and its [`Landing`]. [`asking::landing`] gives the landing alone.
 //! - [`carry`]: a [`Move`] carries listeners along, and answers how many ([`Carried`]); contracts and laws speak of the [`Turn`] of each.
 //!   It moves the [`Attachments`] of listeners along with their seats.
 //! - Laws of a carry, which run no code: `laws`.
 #![tactic(auto)]
 
+pub mod asking;
 mod attachments;
 mod carrying;
 mod laws;

@@ -22,7 +22,7 @@ mod scripts;
 pub use labelled::{Connection, Labelled};
 pub use laws::{last_words_are_told, scripts_come_to_events, the_transcript_is_one};
 pub use radio_script::{
-    Counted, CountedRead, CountedWrite, Delivery, Input, PlayFault, RunFault, Tally,
+    Counted, CountedRead, CountedWrite, Delivery, Input, PlayFault, RunFault, Tally, read_delivery,
 };
 pub use scripts::{Transcript, play, run};
 

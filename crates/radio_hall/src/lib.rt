@@ -8,10 +8,16 @@
 //! Each of these has its contracts in the crate that it comes from.
 #![tactic(auto)]
 
-pub use radio_book::{Chronicle, Entry, House, Kept, Pass, Receipt, Stamp, Unkept};
-pub use radio_connections::{Conn, Gate, Line, OpenGate};
+pub use radio_book::{Chronicle, Entry, House, Kept, PASSES, Pass, Receipt, Stamp, Unkept};
+pub use radio_connections::{
+    CallCount, Conn, Gate, History, Line, OpenGate, Received, Sent, Server, WebAnswers,
+};
+pub use radio_events::SharedServer;
 pub use radio_hall_lock::{Caller, Hall, OutOfMemory};
-pub use radio_intake::{Accepts, Intake, IntakePass};
+pub use radio_intake::{
+    AcceptFault, Accepted, Accepts, Entrance, Intake, IntakePass, ROOM, Tried, accept_next,
+};
+pub use radio_notes::Log;
 pub use radio_serving::{Turn, Watched, Worker};
-pub use radio_settling::{SettleFault, settle};
+pub use radio_settling::{SettleFault, settle, settle_book, settle_family};
 pub use radio_workers::{Call, Post, Seat, Seen, Workplace, add_seat, run_workers};

@@ -20,5 +20,5 @@ mod seats;
 
 pub use lent::{LentSeat, ListenerStanding};
 pub use listed::LentListener;
-pub use radio_seats_rows::{Listener, Seat, Seating};
+pub use radio_seats_rows::{KeptName, Listener, OutOfMemory, Seat, Seating};
 pub use seats::Seats;

@@ -27,7 +27,7 @@ mod web;
 pub use document::{read_answers, read_proxies, read_settings};
 pub use faulty::{Place, faulty_table, key_of};
 pub use radio_keys::{Key, SettingsFault};
-pub use radio_settings_values::Settings;
+pub use radio_settings_values::{RelaySetting, Settings, SlaveSetting};
 pub use radio_values::{MountName, Shown};
 pub use section::{KnownKey, SECTIONS, Section, ValueKind, home_of};
 pub use web::AnswerSettings;

@@ -25,6 +25,7 @@ use std::marker::Brand;
 use std::sync::Wait;
 use std::sync::ledger::Blank;
 use std::thread::Threads;
+use std::time::Clock;
 
 /// A caller of a hall, through a pass.
 #[derive(Drop)]
@@ -149,7 +150,7 @@ const LEFT_OUT: SettleFault = SettleFault::Count {
 };
 
 /// Does it, and adds the passes. Whether it went as it is to go.
-fn visit_with<H: House + Send + Sync, R: Threads + Wait + Sync>(
+fn visit_with<H: House + Send + Sync, R: Threads + Wait + Clock + Sync>(
     rt: &R,
     alloc: Global,
     hall: &Hall<Kept, H>,
@@ -219,7 +220,7 @@ pub fn takes_pass<H: House, R: Wait>(
 }
 
 /// The visit at a hall of these settings, of which a second copy is for the settling. Whether it went as it is to go.
-fn goes_well<H: House + Send + Sync, R: Threads + Wait + Sync>(
+fn goes_well<H: House + Send + Sync, R: Threads + Wait + Clock + Sync>(
     rt: &R,
     alloc: Global,
     settings: Settings,
@@ -236,7 +237,7 @@ fn goes_well<H: House + Send + Sync, R: Threads + Wait + Sync>(
     visit.settles(alloc, hall, passes, again) && went
 }
 
-fn went_well<R: Threads + Wait + Sync>(
+fn went_well<R: Threads + Wait + Clock + Sync>(
     rt: &R,
     alloc: Global,
     more: &str,
@@ -256,7 +257,7 @@ fn went_well<R: Threads + Wait + Sync>(
 }
 
 /// Whether at a hall with these settings more the visit goes as it is to go.
-pub fn is_well_visited<R: AllocGlobal + Threads + Wait + Sync>(
+pub fn is_well_visited<R: AllocGlobal + Threads + Wait + Clock + Sync>(
     rt: &R,
     more: &str,
     visit: Visit,

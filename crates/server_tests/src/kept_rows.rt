@@ -16,6 +16,7 @@ use radio_serving::Server;
 use std::alloc::Global;
 use std::sync::Wait;
 use std::thread::Threads;
+use std::time::Clock;
 
 /// What is played at a worker over the hall.
 #[derive(Clone, Copy)]
@@ -126,7 +127,7 @@ fn adds_pass<H: House, R: Wait>(
 }
 
 /// Whether these steps are played at a hall with these settings more, and these have left then.
-fn are_kept<R: AllocGlobal + Threads + Wait + Sync>(
+fn are_kept<R: AllocGlobal + Threads + Wait + Clock + Sync>(
     rt: &R,
     more: &str,
     steps: &'static [Step],
@@ -140,7 +141,7 @@ fn are_kept<R: AllocGlobal + Threads + Wait + Sync>(
 }
 
 /// Whether these have left wherever that line fails.
-fn have_left_at_each_call<R: AllocGlobal + Threads + Wait + Sync>(
+fn have_left_at_each_call<R: AllocGlobal + Threads + Wait + Clock + Sync>(
     rt: &R,
     beside: &'static Beside,
     failure: Failure,
@@ -159,7 +160,7 @@ fn have_left_at_each_call<R: AllocGlobal + Threads + Wait + Sync>(
 }
 
 /// Whether the passes settle where the worker was refused memory at that call.
-fn settles_refused<R: AllocGlobal + Threads + Wait + Sync>(rt: &R, call: u64) -> bool {
+fn settles_refused<R: AllocGlobal + Threads + Wait + Clock + Sync>(rt: &R, call: u64) -> bool {
     let kept = KeptRow {
         row: Row::Refused(call),
         left: None,

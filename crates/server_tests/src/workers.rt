@@ -5,47 +5,51 @@ mod seats;
 ghost use Rattle.std.specs.Prelude.{◌≡◌, All};
 ghost use Rattle.radio_intake.specs.Passes.{all_parts};
 
-use crate::halls::{Visit, is_well_visited};
+use crate::calls::{Callee, DATA, arrival, push_event, source_event};
+use crate::halls::{PassCaller, Visit, is_well_visited};
 use crate::memory_line::{Manners, MemoryLine, SILENT};
 use crate::rows::{LISTENER, SOURCE, TITLED};
 use crate::workers::seats::{MemoryPost, add_passes, seats_for};
 use radio_book::{Entry, House, Kept, Pass};
 use radio_events::{Event, Reply};
-use radio_hall_lock::Hall;
+use radio_hall_lock::{Hall, OutOfMemory};
 use radio_intake::{Intake, IntakePass, ROOM};
 use radio_serving::{Gate, WebAnswers};
 use radio_workers::{Seat, Workplace, run_workers};
 use std::alloc::Global;
 use std::sync::Wait;
 use std::sync::atomic::{AtomicBool, AtomicU64, Ordering};
-use std::thread::{Threads, yield_now};
+use std::thread;
+use std::thread::Threads;
+use std::time::{Clock, Duration};
 
-/// How often a thread gives way to others before it gives up.
-const MOST_WAITS: u64 = 50_000_000;
+/// How often a thread sleeps for a millisecond before it gives up.
+const MOST_SLEEPS: u64 = 10_000;
 
 /// A gate at which the first write is held until so many others were made.
 #[derive(Drop)]
-struct HoldsFirst {
+struct HoldsFirst<'a, R: Clock> {
+    rt: &'a R,
     others: u64,
     was_first: AtomicBool,
     made: AtomicU64,
     has_seen_others: AtomicBool,
 }
 
-impl HoldsFirst {
+impl<'a, R: Clock> HoldsFirst<'a, R> {
     /// Waits until the others were made. Whether they were.
     fn waits(&self) -> bool {
-        for _ in 0..MOST_WAITS {
+        for _ in 0..MOST_SLEEPS {
             if self.made.load(Ordering::SeqCst) >= self.others {
                 return true;
             }
-            yield_now();
+            thread::sleep(self.rt, Duration::from_millis(1));
         }
         false
     }
 }
 
-impl Gate for HoldsFirst {
+impl<'a, R: Clock> Gate for HoldsFirst<'a, R> {
     fn hold(&self, _id: u64) {
         if !self.was_first.swap(true, Ordering::SeqCst) {
             self.has_seen_others.store(self.waits(), Ordering::SeqCst);
@@ -62,6 +66,8 @@ impl Gate for HoldsFirst {
 pub struct Rush {
     /// What those do who come, one after the other.
     comers: &'static [Manners],
+    /// Whether a caller feeds a mount before they come.
+    is_fed: bool,
     /// How often they all come.
     times: u32,
     /// Whether four workers serve them, or two.
@@ -87,10 +93,11 @@ impl Rush {
         true
     }
 
-    /// Whether the history is one of all who came: each of them has arrived, and has left.
+    /// Whether the history is one of all who came: each of them has arrived, and has left. Who feeds a mount stays.
     pub fn leaves(self, history: &[Entry]) -> bool {
         let comers = self.comers.len().saturating_mul(self.times as usize);
-        count(history, Wanted::Arrival) == comers && count(history, Wanted::Leaving) == comers
+        count(history, Wanted::Arrival) == comers.saturating_add(self.is_fed as usize)
+            && count(history, Wanted::Leaving) == comers
     }
 }
 
@@ -142,14 +149,46 @@ fn count(history: &[Entry], wanted: Wanted) -> usize {
     count
 }
 
+/// The first client feeds `/a`. Whether it is let in.
+fn feed<C: Callee>(alloc: Global, callee: &mut C) -> Result<bool, OutOfMemory> {
+    let came = callee.call(arrival()) == Some(1);
+    let feeds = callee.call(source_event(alloc, 1, "/a")?).is_some();
+    let pushes = callee.call(push_event(alloc, 1, DATA)?).is_some();
+    Ok(came && feeds && pushes)
+}
+
+/// The same through a pass that is added.
+fn is_fed<H: House, R: Wait>(
+    rt: &R,
+    alloc: Global,
+    hall: &Hall<Kept, H>,
+    passes: &mut Vec<Pass<Kept, H>>,
+) -> bool {
+    let Some(mut pass) = hall.pass(rt) else {
+        return false;
+    };
+    let is_fed = feed(
+        alloc,
+        &mut PassCaller {
+            rt,
+            hall,
+            pass: &mut pass,
+        },
+    );
+    passes.push(pass).is_ok() && is_fed == Ok(true)
+}
+
 /// Whether all who come are taken and served, each worker with a pass that is added, while the first write is held.
-pub fn are_served<H: House + Send + Sync, R: Threads + Wait + Sync>(
+pub fn are_served<H: House + Send + Sync, R: Threads + Wait + Clock + Sync>(
     rt: &R,
     alloc: Global,
     hall: &Hall<Kept, H>,
     passes: &mut Vec<Pass<Kept, H>>,
     rush: Rush,
 ) -> bool {
+    if rush.is_fed && !is_fed(rt, alloc, hall, passes) {
+        return false;
+    }
     match Intake::new(alloc) {
         Ok((intake, mut pass)) => is_staffed(rt, alloc, hall, &intake, &mut pass, passes, rush),
         Err(_) => false,
@@ -157,7 +196,7 @@ pub fn are_served<H: House + Send + Sync, R: Threads + Wait + Sync>(
 }
 
 /// Whether there are seats for the workers, who serve all that come through this intake, and whose passes are added then.
-fn is_staffed<H: House + Send + Sync, R: Threads + Wait + Sync>(
+fn is_staffed<H: House + Send + Sync, R: Threads + Wait + Clock + Sync>(
     rt: &R,
     alloc: Global,
     hall: &Hall<Kept, H>,
@@ -181,7 +220,7 @@ fn is_staffed<H: House + Send + Sync, R: Threads + Wait + Sync>(
 
 /// All come, and the workers at these seats work. Whether there was room for all, the other writes were made while the first
 /// was held, and nobody is left in the intake.
-fn is_emptied<H: House + Send + Sync, R: Threads + Wait + Sync>(
+fn is_emptied<H: House + Send + Sync, R: Threads + Wait + Clock + Sync>(
     rt: &R,
     alloc: Global,
     hall: &Hall<Kept, H>,
@@ -200,7 +239,7 @@ fn is_emptied<H: House + Send + Sync, R: Threads + Wait + Sync>(
 }
 
 /// The workers work. Whether the other writes were made while the first was held.
-fn work<H: House + Send + Sync, R: Threads + Wait + Sync>(
+fn work<H: House + Send + Sync, R: Threads + Wait + Clock + Sync>(
     rt: &R,
     alloc: Global,
     hall: &Hall<Kept, H>,
@@ -211,6 +250,7 @@ fn work<H: House + Send + Sync, R: Threads + Wait + Sync>(
     requires seats { All (λ seat. seat.hand.intake ≡ intake.now) seats.old }
 {
     let gate = HoldsFirst {
+        rt,
         others: rush.others,
         was_first: AtomicBool::new(false),
         made: AtomicU64::new(0),
@@ -225,7 +265,7 @@ fn work<H: House + Send + Sync, R: Threads + Wait + Sync>(
         patience_s: 10,
         turns: rush.turns,
     };
-    run_workers::<R, Hall<Kept, H>, Manners, MemoryLine, MemoryPost, HoldsFirst>(
+    run_workers::<R, Hall<Kept, H>, Manners, MemoryLine, MemoryPost, HoldsFirst<'_, R>>(
         rt, alloc, &place, seats,
     );
     drop(place);
@@ -246,15 +286,31 @@ const FAILS: Manners = Manners {
     ..SILENT
 };
 
-/// While the answer to one is being written, another is served from his coming to his end.
+/// A mount is fed, and two listeners come.
+const TWO: Rush = Rush {
+    comers: &[LISTENER],
+    is_fed: true,
+    times: 2,
+    are_four: false,
+    turns: 100,
+    others: 1,
+};
+
+/// While the first write to one listener is held, the other is served.
 #[test]
 fn two_served_at_once(rt: HostRuntime) {
+    assert!(rt; is_well_visited(&rt, "", Visit::Rush(TWO)));
+}
+
+/// The same where the held write fails then.
+#[test]
+fn a_held_listener_that_fails_holds_nobody(rt: HostRuntime) {
     let rush = Rush {
-        comers: &[DENIED],
-        times: 2,
-        are_four: false,
-        turns: 10,
-        others: 1,
+        comers: &[Manners {
+            fails_at: 1,
+            ..LISTENER
+        }],
+        ..TWO
     };
     assert!(rt; is_well_visited(&rt, "", Visit::Rush(rush)));
 }
@@ -262,6 +318,7 @@ fn two_served_at_once(rt: HostRuntime) {
 /// Six come, and five are served while the write to the first is held.
 const SIX: Rush = Rush {
     comers: &[DENIED, DENIED],
+    is_fed: false,
     times: 3,
     are_four: false,
     turns: 20,
@@ -289,6 +346,7 @@ fn a_held_write_that_fails_holds_nobody(rt: HostRuntime) {
 fn four_workers(rt: HostRuntime) {
     let rush = Rush {
         comers: &[SOURCE, LISTENER, TITLED, DENIED],
+        is_fed: false,
         times: 8,
         are_four: true,
         turns: 50,
@@ -302,6 +360,7 @@ fn four_workers(rt: HostRuntime) {
 fn a_full_intake(rt: HostRuntime) {
     let rush = Rush {
         comers: &[DENIED],
+        is_fed: false,
         times: ROOM as u32,
         are_four: true,
         turns: 1100,

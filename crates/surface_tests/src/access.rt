@@ -1,9 +1,9 @@
 //! Lists of users and of addresses, as the server asks them.
 
-use radio_access::Lists;
 use radio_addr::{AddressList, Peer};
+use radio_core::Lists;
 use radio_creds::{Pair, Users, basic};
-use radio_values::MountName;
+use radio_settings::MountName;
 use std::alloc::{AllocGlobal, Global};
 
 /// The user `ann` with the password `abc`.

@@ -6,9 +6,8 @@ use radio_addr::Peer;
 use radio_blocks::Place;
 use radio_creds::basic;
 use radio_policy::Rule;
-use radio_seats::{ListenerStanding, Seats};
-use radio_seats_rows::{KeptName, OutOfMemory, Seat};
-use radio_values::MountName;
+use radio_seats::{KeptName, ListenerStanding, OutOfMemory, Seat, Seats};
+use radio_settings::MountName;
 use std::alloc::{AllocGlobal, Global};
 
 /// A seat at the mount, of a listener who asked for it as the user `ann`, at the place 4 of session 1.

@@ -1,10 +1,10 @@
 //! Bytes that are taken as events, and replies that are given as bytes.
 
 use radio_addr::Peer;
-use radio_events::{Ending, Event, Reply, State};
+use radio_core::{Event, Reply};
 use radio_policy::Rule;
-use radio_session::{OutOfMemory, Server, Session, WebAnswers, exchange};
-use radio_values::MountName;
+use radio_session::{Ending, OutOfMemory, Server, Session, State, WebAnswers, exchange};
+use radio_settings::MountName;
 use std::alloc::{AllocGlobal, Global};
 
 /// A request for a mount that nobody knows, in two pieces, and the answer to it.

@@ -1,7 +1,7 @@
 //! Users of a list, peers of texts, and a body without an end.
 
 use crate::access::{ANN, HER_VALUE, OTHER_VALUE, pair_of};
-use radio_addr::{Peer, read_peer};
+use radio_addr::{AddressList, Peer, read_peer};
 use radio_blocks::Block;
 use radio_creds::Users;
 use radio_source::{Body, BodyFault};
@@ -64,6 +64,19 @@ fn peers_of_texts(rt: HostRuntime) {
     }
 }
 
+/// Whether a list has the peer of a number.
+fn is_listed(alloc: Global) -> bool {
+    match AddressList::read(alloc, b"::1\n") {
+        Ok(list) => list.contains(Peer::of_v6(1)) && !list.contains(Peer::of_v6(2)),
+        Err(_) => false,
+    }
+}
+
+#[test]
+fn peers_of_a_list(rt: HostRuntime) {
+    assert!(rt; is_listed(rt.alloc()));
+}
+
 /// Whether these are one block of that data.
 fn are_one(blocks: &[Block], data: &[u8]) -> bool {
     match blocks {
@@ -87,4 +100,17 @@ fn are_fed(alloc: Global) -> Result<bool, BodyFault> {
 #[test]
 fn a_body_without_an_end(rt: HostRuntime) {
     assert!(rt; are_fed(rt.alloc()) == Ok(true));
+}
+
+/// Whether a feed brings the data `abc`, and the end of the body.
+fn is_ended(mut body: Body, data: &[u8]) -> Result<bool, BodyFault> {
+    let fed = body.feed(data)?;
+    Ok(fed.is_complete && are_one(fed.blocks.as_slice(), b"abc"))
+}
+
+#[test]
+fn bodies_with_an_end(rt: HostRuntime) {
+    assert!(rt; is_ended(Body::sized(rt.alloc(), 3), b"abc") == Ok(true));
+    let chunks = b"3\r\nabc\r\n0\r\n\r\n";
+    assert!(rt; is_ended(Body::chunked(rt.alloc()), chunks.as_slice()) == Ok(true));
 }

@@ -1,13 +1,13 @@
 //! Where a walk lands, and whom a move carries along.
 
 use crate::seats::{come, has_lost, sits_at};
+use radio_core::MountParts;
 use radio_creds::Pair;
+use radio_fallback::asking::{Who, landing};
 use radio_fallback::{Landing, Move, View, carry, walk_from};
-use radio_mounts::MountParts;
 use radio_policy::Rule;
-use radio_seats::Seats;
-use radio_seats_rows::OutOfMemory;
-use radio_values::MountName;
+use radio_seats::{OutOfMemory, Seats};
+use radio_settings::MountName;
 use std::alloc::{AllocGlobal, Global};
 
 /// A server with one live mount, where one may sit, and to which all others fall back.
@@ -74,6 +74,19 @@ fn stops_by(view: &OneLive, seats: &Seats, from: &MountName, rule: Rule) -> bool
     walk.first.is_live && walk.landing.stop() == Some(rule)
 }
 
+/// Whether the client of this number, which sends no pair, lands at the live mount.
+fn lands(view: &OneLive, seats: &Seats, id: Option<u64>) -> bool {
+    let who = Who { id, pair: None };
+    landing(view, seats, &who, &view.live).stop().is_none()
+}
+
+/// Who sits at the live mount does not stand in its own way, and in the way of others.
+fn is_left_out(alloc: Global, view: &OneLive) -> Result<bool, OutOfMemory> {
+    let mut seats = Seats::new(alloc);
+    come(alloc, &mut seats, &view.live, 3)?;
+    Ok(lands(view, &seats, Some(3)) && !lands(view, &seats, None))
+}
+
 /// A walk lands at the live mount, from there and from the other one, until somebody sits there.
 fn are_walked(alloc: Global, view: &OneLive, other: &MountName) -> Result<bool, OutOfMemory> {
     let mut seats = Seats::new(alloc);
@@ -109,5 +122,6 @@ fn walks_and_moves(rt: HostRuntime) {
     };
     let view = OneLive { live };
     assert!(rt; are_walked(rt.alloc(), &view, &other) == Ok(true));
+    assert!(rt; is_left_out(rt.alloc(), &view) == Ok(true));
     assert!(rt; are_carried(rt.alloc(), &view, &other) == Ok(true));
 }
