@@ -9,7 +9,8 @@ ghost use Rattle.radio_relay.specs.StreamList.{name_order};
 ghost use Rattle.radio_settings_values.specs.declared.settings.RelaySetting.{RelaySetting};
 ghost use Rattle.radio_tries.specs.Tries.{ended, is_known, kept_after, kept_at, no_trials, not_started, queue, tried_at};
 ghost use Rattle.radio_tries.specs.Wishes.{in_order, started_by};
-ghost use Rattle.radio_tries.specs.Pauses.{later, rest};
+ghost use Rattle.radio_connections.specs.Moments.{later};
+ghost use Rattle.radio_tries.specs.Pauses.{rest};
 ghost use Rattle.radio_pullers.specs.Running.{IsChosen, are_same, mounts_of};
 
 use crate::OutOfMemory;
