@@ -4,6 +4,6 @@ pub mod Board
 pub mod Mounts
 pub mod Rows
 pub mod Rests
-pub mod Marks
+pub mod Sent
 pub mod Users
 pub mod SameUsers

@@ -7,7 +7,7 @@ use Rattle.radio_seats_rows.specs.declared.row.RowState.{RowState}
 use Rattle.radio_seats_rows.specs.declared.row.RowState.TheVariants.{Seated, Ended}
 use Rattle.radio_seats_rows.specs.declared.row.ListenerRow.{ListenerRow}
 use Rattle.radio_seats_rows.specs.Guests.{guest_in}
-use Rattle.radio_seats_rows.specs.Marks.{mark_sent}
+use Rattle.radio_seats_rows.specs.Sent.{user_sent}
 use Rattle.radio_seats_rows.specs.Seats.{has_user}
 
 abbrev pub is_row : ℕ → ListenerRow → Bool
@@ -57,7 +57,7 @@ abbrev pub seated_row : ℕ → ℕ → Seat → ListenerRow
 seated_row id number seat =
     record {
       id = id;
-      mark = mark_sent seat.pair;
+      user = user_sent seat.pair;
       state = Seated (record { place = seat.place; mount = number; session = seat.session; guest = guest_in seat });
     }
 

@@ -1,50 +1,64 @@
 -- Which rows there are of whom: the index of the rows by the users that were sent.
-use Rattle.std.specs.Prelude.{◌≡◌, ℕ, ◌+◌, Bool, false, ◌==◌, ◌&&◌, not, List, Option, Some, None, find}
-use Rattle.std.specs.BTreeSet.{BTreeSet, contains, keys_between}
-use Rattle.std.specs.Ordering.{nat_cmp, ordering_then}
+use Rattle.std.specs.Prelude.{◌≡◌, ℕ, Bool, false, ◌==◌, ◌&&◌, not, List, [], Option, Some, None, find}
+use Rattle.std.specs.BTreeMap.{BTreeMap, get_by}
+use Rattle.std.specs.BTreeSet.{BTreeSet, contains}
+use Rattle.std.specs.Cmp.Lexicographic.{slice_cmp}
+use Rattle.std.specs.Global.{Vec}
+use Rattle.std.specs.Ordering.{nat_cmp}
 use Rattle.std.specs.declared.cmp.Ordering.{Ordering}
-use Rattle.std.specs.declared.ops.Bound.TheVariants.{Included, Excluded}
 use Rattle.radio_tables.specs.Lists.{Each}
 use Rattle.radio_seats_rows.specs.declared.row.RowState.{RowState}
 use Rattle.radio_seats_rows.specs.declared.row.RowState.TheVariants.{Seated, Ended}
 use Rattle.radio_seats_rows.specs.declared.row.ListenerRow.{ListenerRow}
 use Rattle.radio_seats_rows.specs.Rows.{is_row, user_state}
-use Rattle.radio_seats_rows.specs.Marks.{mark_sent, is_mark}
+use Rattle.radio_seats_rows.specs.Sent.{user_sent, is_user}
 
--- a user's mark and a listener's number stand in the order of the marks, and those of one mark in the order of the numbers
-abbrev pub by_mark : ℕ × ℕ → ℕ × ℕ → Ordering
-by_mark a b = ordering_then (nat_cmp a.0 b.0) (nat_cmp a.1 b.1)
+-- for each user the numbers of the listeners who sent it
+abbrev pub UserTree : Type 0
+UserTree = BTreeMap (Vec ℕ) (BTreeSet ℕ)
 
--- the listener of this number is kept under this mark
-abbrev pub is_kept : BTreeSet (ℕ × ℕ) → ℕ → ℕ → Bool
-is_kept seats mark id = contains by_mark seats (mark, id)
+-- where a user stands among those of the tree, which are in the order of their bytes
+abbrev pub by_bytes : List ℕ → Vec ℕ → Ordering
+by_bytes user key = slice_cmp nat_cmp user key.items
 
--- those who are kept under this mark
-abbrev pub of_mark : ℕ → BTreeSet (ℕ × ℕ) → List (ℕ × ℕ)
-of_mark mark seats = keys_between by_mark (Included (mark, 0)) (Excluded (mark + 1, 0)) seats
+-- the numbers that are kept under this user, if there is an entry
+abbrev pub entry_of : UserTree → List ℕ → Option (BTreeSet ℕ)
+entry_of seats user = get_by (by_bytes user) seats
 
--- the mark of the row that was found
-abbrev pub mark_in : Option ListenerRow → Option ℕ
-mark_in None = None
-mark_in (Some row) = row.mark
+abbrev pub has_number : Option (BTreeSet ℕ) → ℕ → Bool
+has_number None id = false
+has_number (Some ids) id = contains nat_cmp ids id
 
-abbrev pub IsMarkOf : Option ℕ → RowState → Type 0
-IsMarkOf mark (Seated seat) = mark ≡ mark_sent seat.guest.pair
-IsMarkOf mark (Ended rule mount) = Unit {0}
+abbrev pub numbers_in : Option (BTreeSet ℕ) → List ℕ
+numbers_in None = []
+numbers_in (Some ids) = ids.keys
 
--- whoever sits there has the mark of the user that he sent
-abbrev pub IsMarked : ListenerRow → Type 0
-IsMarked row = IsMarkOf row.mark row.state
+-- the listener of this number is kept under this user
+abbrev pub is_kept : UserTree → List ℕ → ℕ → Bool
+is_kept seats user id = has_number (entry_of seats user) id
+
+-- the user of the row that was found
+abbrev pub user_in : Option ListenerRow → Option (List ℕ)
+user_in None = None
+user_in (Some row) = row.user
+
+abbrev pub IsUserOf : Option (List ℕ) → RowState → Type 0
+IsUserOf user (Seated seat) = user ≡ user_sent seat.guest.pair
+IsUserOf user (Ended rule mount) = Unit {0}
+
+-- the row of whoever sits there has the user that was sent
+abbrev pub HasItsUser : ListenerRow → Type 0
+HasItsUser row = IsUserOf row.user row.state
 
 -- the row's listener is of the same user later, or has lost his seat
 pub record IsSameUser (row later : ListenerRow) : Type 0 where
-  pub mark : later.mark ≡ row.mark
-  pub marked : IsMarked row → IsMarked later
+  pub user : later.user ≡ row.user
+  pub own : HasItsUser row → HasItsUser later
 
--- the index keeps under each mark the numbers of the rows that have it, and no other
-pub record AreKept (seats : BTreeSet (ℕ × ℕ)) (rows : List ListenerRow) : Type 0 where
-  pub marked : Each IsMarked rows
-  pub kept : (mark id : ℕ) → is_kept seats mark id ≡ is_mark mark (mark_in (find (is_row id) rows))
+-- the index keeps under each user the numbers of the rows that have it, and no other
+pub record AreKept (seats : UserTree) (rows : List ListenerRow) : Type 0 where
+  pub own : Each HasItsUser rows
+  pub kept : (user : List ℕ) (id : ℕ) → is_kept seats user id ≡ is_user user (user_in (find (is_row id) rows))
 
 -- it is the one who is left out
 abbrev pub is_own : Option ℕ → ℕ → Bool

@@ -12,12 +12,13 @@
 //!   whom it is asked for.
 //! - [`Mounts`]: the prepared mounts, each with its number, its name and the counts of those who sit
 //!   there, or sat there last.
-//! - [`KeptName`]: a name apart from what holds it.
+//! - [`KeptName`], [`KeptUser`]: a name, or a user, apart from what holds it.
 //! - What is found after each change, for proofs: `proofs/SeatLaws.antt`, `proofs/EndLaws.antt` and `proofs/CountLaws.antt`.
 #![tactic(auto)]
 
 mod changes;
 mod kept_name;
+mod kept_user;
 mod mounts;
 mod row;
 mod rows;
@@ -26,6 +27,7 @@ mod users;
 
 pub use changes::{Ends, FinishesAt, GuestMoment, Hears, KeepsUser, Moves, SeatTest};
 pub use kept_name::KeptName;
+pub use kept_user::KeptUser;
 pub use mounts::{Mount, Mounts};
 pub use row::{ListenerRow, NumberedSeat, RowState};
 pub use rows::Rows;

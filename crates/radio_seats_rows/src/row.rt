@@ -3,7 +3,7 @@
 ghost use Rattle.std.specs.Prelude.{◌≡◌};
 ghost use Rattle.radio_seats_rows.specs.Rows.{number_of, last_number, holds_in, holds_at, user_state, state_moment};
 
-use crate::{Guest, GuestMoment, SeatTest};
+use crate::{Guest, GuestMoment, KeptUser, SeatTest};
 use radio_blocks::Place;
 use radio_policy::Rule;
 use radio_tables::Row;
@@ -103,8 +103,8 @@ impl RowState {
 pub struct ListenerRow {
     /// His number.
     pub id: u64,
-    /// The mark of the user that he sent when he sat down, if he did.
-    pub mark: Option<u64>,
+    /// The user that he sent when he sat down, if he did.
+    pub user: Option<KeptUser>,
     /// Whether he sits.
     pub state: RowState,
 }

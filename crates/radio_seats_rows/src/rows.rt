@@ -1,6 +1,6 @@
 //! The rows of the table, and the index of them by user.
 
-ghost use Rattle.std.specs.Prelude.{◌≡◌, true, [], not, filter, find, map, length, OnOk, OnErr};
+ghost use Rattle.std.specs.Prelude.{◌≡◌, true, [], not, filter, find, map, length, IfOk, OnOk, OnErr};
 ghost use Rattle.std.specs.Option.{option_copied};
 ghost use Rattle.std.specs.List.{list_any};
 ghost use Rattle.std.specs.List.Sorted.{IsStrictlySortedBy};
@@ -10,12 +10,14 @@ ghost use Rattle.radio_tables.specs.Lists.{update_first, placed};
 ghost use Rattle.radio_tables.specs.Past.{is_past};
 ghost use Rattle.radio_seats_rows.specs.declared.row.ListenerRow.{ListenerRow as RowOf};
 ghost use Rattle.radio_seats_rows.specs.Rows.{is_row, seated_row};
-ghost use Rattle.radio_seats_rows.specs.Users.{is_other, mark_in};
+ghost use Rattle.radio_seats_rows.specs.Sent.{user_sent};
+ghost use Rattle.radio_seats_rows.specs.Users.{is_other, user_in};
 
 use crate::changes::KeepsUser;
 use crate::row::{ListenerRow, NumberedSeat, RowState};
-use crate::users::{UserAt, Users, mark_of, mark_sent};
-use crate::{Guest, OutOfMemory, Seat};
+use crate::users::{UserAt, Users};
+use crate::{Guest, KeptUser, OutOfMemory, Seat};
+use radio_creds::Pair;
 use radio_tables::Table;
 use std::alloc::Global;
 use std::collections::btree_map::Values;
@@ -25,13 +27,18 @@ use std::marker::Model;
 /// sent which user, so that a question about a user looks at his rows alone. Contracts see the list
 /// of the rows.
 pub struct Rows {
+    alloc: Global,
     rows: Table<ListenerRow>,
     users: Users,
 }
 
 impl Drop for Rows {
     fn drop(self) {
-        let Rows { rows, users } = self;
+        let Rows {
+            alloc: _,
+            rows,
+            users,
+        } = self;
         drop(rows);
         drop(users);
     }
@@ -55,6 +62,7 @@ impl Rows {
         ensures { result ≡ [] }
     {
         Rows {
+            alloc,
             rows: Table::new(alloc),
             users: Users::new(alloc),
         }
@@ -111,17 +119,17 @@ impl Rows {
         ensures ok { OnOk result (self.new ≡ placed (λ (a b : RowOf). nat_cmp a.id b.id) (seated_row id number seat) self.old) }
         ensures err { OnErr result (self.new ≡ self.old) }
     {
-        let before = mark_in(self.rows.get(&id));
-        let row = numbered(id, number, seat);
-        let mark = row.mark;
-        self.users.add(mark, id)?;
+        let before = copied(user_of(self.rows.get(&id)))?;
+        let row = numbered(self.alloc, id, number, seat)?;
+        let user = copied(row.user.as_ref())?;
+        self.users.add(self.alloc, user.as_ref(), id)?;
         match self.rows.insert(row) {
             Ok(()) => {
-                self.users.remove(before, id, mark);
+                self.users.remove(before.as_ref(), id, user.as_ref());
                 Ok(())
             }
             Err(refused) => {
-                self.users.remove(mark, id, before);
+                self.users.remove(user.as_ref(), id, before.as_ref());
                 Err(refused)
             }
         }
@@ -132,37 +140,56 @@ impl Rows {
         ensures removed { self.new ≡ filter (λ row. not (is_row id row)) self.old }
     {
         let gone = self.rows.remove(&id);
-        let mark = mark_in(gone.as_ref());
-        drop(gone);
-        self.users.remove(mark, id, None);
+        self.users.remove(user_of(gone.as_ref()), id, None);
     }
 
     /// Whether one of the rows is of one who is asked for. The time grows as the number of the rows
-    /// whose users have one mark with his.
+    /// of his user, and as the logarithm of the number of all.
     pub fn has_user(&self, asked: &UserAt<'_>) -> bool
         ensures { result ≡ list_any (is_other asked.now.own asked.now.number asked.now.user.now) self.now }
     {
         // no listener has two rows
         let _ = self.rows.len();
-        self.users.has(mark_of(asked.user), &self.rows, asked)
+        self.users.has(&self.rows, asked)
     }
 }
 
-/// The mark of a row's user, if there is a row, and he sent one.
-fn mark_in(row: Option<&ListenerRow>) -> Option<u64>
-    ensures { result ≡ mark_in (option_copied row.entry) }
+/// The user of a row, if there is a row, and he sent one.
+fn user_of(row: Option<&ListenerRow>) -> Option<&KeptUser>
+    ensures { option_copied result ≡ user_in (option_copied row.entry) }
 {
     match row {
-        Some(row) => row.mark,
+        Some(row) => row.user.as_ref(),
         None => None,
     }
 }
 
-/// The listener's row, where the mount of his seat has this number.
-fn numbered(id: u64, number: u64, seat: Seat) -> ListenerRow
-    ensures { result ≡ seated_row id number seat }
+/// The same user, if there is one. `OutOfMemory` where memory was refused.
+fn copied(user: Option<&KeptUser>) -> Result<Option<KeptUser>, OutOfMemory>
+    ensures { IfOk result (λ copy. copy ≡ option_copied user.entry) }
 {
-    let mark = mark_sent(seat.pair.as_ref());
+    match user {
+        Some(user) => Ok(Some(user.clone()?)),
+        None => Ok(None),
+    }
+}
+
+/// The user that was sent, if one was. `OutOfMemory` where memory was refused.
+fn kept(alloc: Global, pair: Option<&Pair>) -> Result<Option<KeptUser>, OutOfMemory>
+    ensures { IfOk result (λ user. user ≡ user_sent (option_copied pair.entry)) }
+{
+    match pair {
+        Some(pair) => Ok(Some(KeptUser::new(alloc, pair.user())?)),
+        None => Ok(None),
+    }
+}
+
+/// The listener's row, where the mount of his seat has this number. `OutOfMemory` where memory was
+/// refused.
+fn numbered(alloc: Global, id: u64, number: u64, seat: Seat) -> Result<ListenerRow, OutOfMemory>
+    ensures { IfOk result (λ row. row ≡ seated_row id number seat) }
+{
+    let user = kept(alloc, seat.pair.as_ref())?;
     let guest = Guest {
         home: seat.home,
         peer: seat.peer,
@@ -176,9 +203,9 @@ fn numbered(id: u64, number: u64, seat: Seat) -> ListenerRow
         session: seat.session,
         guest,
     };
-    ListenerRow {
+    Ok(ListenerRow {
         id,
-        mark,
+        user,
         state: RowState::Seated(seat),
-    }
+    })
 }

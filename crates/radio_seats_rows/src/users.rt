@@ -1,19 +1,20 @@
 //! The index of the rows by user: under which numbers somebody sits who sent a user.
 
-ghost use Rattle.std.specs.Prelude.{◌≡◌, ◌<◌, ◌^◌, ◌&&◌, ◌||◌, not, ◌==◌, [], find, OnOk, OnErr};
+ghost use Rattle.std.specs.Prelude.{◌≡◌, ◌&&◌, ◌||◌, not, ◌==◌, None, [], find, OnOk, OnErr, IfOk};
+ghost use Rattle.std.specs.BTreeSet.{contains};
 ghost use Rattle.std.specs.List.{list_any};
 ghost use Rattle.std.specs.Option.{option_copied};
-ghost use Rattle.radio_seats_rows.specs.Marks.{user_mark, mark_sent, is_mark};
+ghost use Rattle.std.specs.Ordering.{nat_cmp};
+ghost use Rattle.std.specs.Str.{bytes_eq};
 ghost use Rattle.radio_seats_rows.specs.Rows.{is_row};
-ghost use Rattle.radio_seats_rows.specs.Users.{is_kept, of_mark, is_own, is_other, is_other_in};
+ghost use Rattle.radio_seats_rows.specs.Sent.{is_user};
+ghost use Rattle.radio_seats_rows.specs.Users.{entry_of, is_kept, numbers_in, is_own, is_other, is_other_in};
 
-use crate::OutOfMemory;
 use crate::row::ListenerRow;
-use radio_creds::Pair;
+use crate::{KeptUser, OutOfMemory};
 use radio_tables::Table;
 use std::alloc::{AllocError, Global};
-use std::collections::BTreeSet;
-use std::hash::{DefaultHasher, Hasher};
+use std::collections::{BTreeMap, BTreeSet};
 
 /// Who is asked for.
 #[derive(Clone, Copy)]
@@ -55,9 +56,9 @@ fn is_own(own: Option<u64>, id: u64) -> bool
     }
 }
 
-/// Users, each known by a mark, and the numbers of the listeners who sent them.
+/// Users in the order of their bytes, each with the numbers of the listeners who sent it.
 pub(crate) struct Users {
-    pub(crate) seats: BTreeSet<(u64, u64)>,
+    pub(crate) seats: BTreeMap<Vec<u8>, BTreeSet<u64>>,
 }
 
 impl Drop for Users {
@@ -70,82 +71,114 @@ impl Drop for Users {
 impl Users {
     /// No users. It takes no memory.
     pub(crate) fn new(alloc: Global) -> Users
-        ensures { result.seats.keys ≡ [] }
+        ensures { result.seats.entries ≡ [] }
     {
         Users {
-            seats: BTreeSet::new(alloc),
+            seats: BTreeMap::new(alloc),
         }
     }
 
-    /// The listener is kept under this mark from now on, if it is one. `OutOfMemory` where memory
+    /// The listener is kept under this user from now on, if it is one. `OutOfMemory` where memory
     /// was refused; nothing has changed then.
-    pub(crate) fn add(&mut self, mark: Option<u64>, id: u64) -> Result<(), OutOfMemory>
-        ensures ok { OnOk result ((other k : _) → is_kept self.new.seats other k ≡ (is_kept self.old.seats other k || ((id == k) && is_mark other mark))) }
+    pub(crate) fn add(
+        &mut self,
+        alloc: Global,
+        user: Option<&KeptUser>,
+        id: u64,
+    ) -> Result<(), OutOfMemory>
+        ensures ok { OnOk result ((other k : _) → is_kept self.new.seats other k
+            ≡ (is_kept self.old.seats other k || ((id == k) && is_user other (option_copied user.entry)))) }
         ensures err { OnErr result ((other k : _) → is_kept self.new.seats other k ≡ is_kept self.old.seats other k) }
     {
-        let Some(mark) = mark else {
+        let Some(user) = user else {
             return Ok(());
         };
-        match self.seats.insert((mark, id)) {
-            Ok(_) => Ok(()),
-            Err(_) => Err(AllocError),
+        self.keep(alloc, user.as_bytes(), id)
+    }
+
+    /// The listener is kept under this user from now on. `OutOfMemory` where memory was refused;
+    /// nothing has changed then.
+    fn keep(&mut self, alloc: Global, user: &[u8], id: u64) -> Result<(), OutOfMemory>
+        ensures ok { OnOk result ((other k : _) → is_kept self.new.seats other k
+            ≡ (is_kept self.old.seats other k || ((id == k) && bytes_eq user.now other))) }
+        ensures err { OnErr result ((other k : _) → is_kept self.new.seats other k ≡ is_kept self.old.seats other k) }
+    {
+        match self.seats.get_mut(user) {
+            Some(ids) => match ids.insert(id) {
+                Ok(_) => Ok(()),
+                Err(_) => Err(AllocError),
+            },
+            None => self.keep_new(alloc, user, id),
         }
     }
 
-    /// The listener is not kept under the mark any more, if it is one, and not the one under which
-    /// he stays. It takes no memory.
-    pub(crate) fn remove(&mut self, mark: Option<u64>, id: u64, stays: Option<u64>)
-        ensures { (other k : _) → is_kept self.new.seats other k
-            ≡ (is_kept self.old.seats other k && not ((id == k) && is_mark other mark && not (is_mark other stays))) }
+    /// The same for a user who has no entry.
+    fn keep_new(&mut self, alloc: Global, user: &[u8], id: u64) -> Result<(), OutOfMemory>
+        requires { entry_of self.now.seats user.now ≡ None }
+        ensures ok { OnOk result ((other k : _) → is_kept self.new.seats other k
+            ≡ (is_kept self.old.seats other k || ((id == k) && bytes_eq user.now other))) }
+        ensures err { OnErr result ((other k : _) → is_kept self.new.seats other k ≡ is_kept self.old.seats other k) }
     {
-        let Some(mark) = mark else {
+        let key = Vec::from_slice(alloc, user)?;
+        self.seats.insert(key, alone(alloc, id)?)?;
+        Ok(())
+    }
+
+    /// The listener is not kept under the user any more, if it is one, and not the one under which
+    /// he stays. It takes no memory.
+    pub(crate) fn remove(&mut self, user: Option<&KeptUser>, id: u64, stays: Option<&KeptUser>)
+        ensures { (other k : _) → is_kept self.new.seats other k
+            ≡ (is_kept self.old.seats other k && not ((id == k) && is_user other (option_copied user.entry) && not (is_user other (option_copied stays.entry)))) }
+    {
+        let Some(user) = user else {
             return;
         };
-        if !is_mark(mark, stays) {
-            self.seats.remove(&(mark, id));
+        if !is_user(user.as_bytes(), stays) {
+            self.take(user.as_bytes(), id);
         }
     }
 
-    /// Whether a listener who is kept under this mark is one who is asked for.
-    pub(crate) fn has(&self, mark: u64, rows: &Table<ListenerRow>, asked: &UserAt<'_>) -> bool
-        requires { mark < 2 ^ 63 }
-        ensures { result ≡ list_any (λ seat. is_other_in asked.now.own asked.now.number asked.now.user.now (find (is_row seat.1) rows.now))
-            (of_mark mark self.now.seats) }
+    /// The listener is not kept under the user any more. It takes no memory.
+    fn take(&mut self, user: &[u8], id: u64)
+        ensures { (other k : _) → is_kept self.new.seats other k
+            ≡ (is_kept self.old.seats other k && not ((id == k) && bytes_eq user.now other)) }
     {
-        self.seats
-            .range((mark, 0)..(mark + 1, 0))
-            .any(|seat| asked.has(rows, seat.1))
+        let Some(ids) = self.seats.get_mut(user) else {
+            return;
+        };
+        ids.remove(&id);
+        if ids.is_empty() {
+            self.seats.remove(user);
+        }
+    }
+
+    /// Whether a listener who is kept under the user is one who is asked for.
+    pub(crate) fn has(&self, rows: &Table<ListenerRow>, asked: &UserAt<'_>) -> bool
+        ensures { result ≡ list_any (λ id. is_other_in asked.now.own asked.now.number asked.now.user.now (find (is_row id) rows.now))
+            (numbers_in (entry_of self.now.seats asked.now.user.now)) }
+    {
+        match self.seats.get(asked.user) {
+            Some(ids) => ids.iter().any(|id| asked.has(rows, *id)),
+            None => false,
+        }
     }
 }
 
-/// Whether it is that mark.
-fn is_mark(mark: u64, his: Option<u64>) -> bool
-    ensures { result ≡ is_mark mark his }
+/// This number alone. `OutOfMemory` where memory was refused.
+fn alone(alloc: Global, id: u64) -> Result<BTreeSet<u64>, OutOfMemory>
+    ensures { IfOk result (λ ids. (k : _) → contains nat_cmp ids k ≡ (id == k)) }
+{
+    let mut ids = BTreeSet::new(alloc);
+    ids.insert(id)?;
+    Ok(ids)
+}
+
+/// Whether it is that user.
+fn is_user(user: &[u8], his: Option<&KeptUser>) -> bool
+    ensures { result ≡ is_user user.now (option_copied his.entry) }
 {
     match his {
-        Some(his) => his == mark,
+        Some(his) => his.as_bytes() == user,
         None => false,
-    }
-}
-
-/// The mark of a user.
-#[tactic(auto, unfolding(crate::specs::Marks::user_mark))]
-pub(crate) fn mark_of(user: &[u8]) -> u64
-    ensures mark { result ≡ user_mark user.now }
-    // there is a mark above it
-    ensures room { result < 2 ^ 63 }
-{
-    let mut hasher = DefaultHasher::new();
-    hasher.write(user);
-    hasher.finish() / 2
-}
-
-/// The mark of the user that was sent, if one was.
-pub(crate) fn mark_sent(pair: Option<&Pair>) -> Option<u64>
-    ensures { result ≡ mark_sent (option_copied pair.entry) }
-{
-    match pair {
-        Some(pair) => Some(mark_of(pair.user())),
-        None => None,
     }
 }

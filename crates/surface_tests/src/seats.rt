@@ -10,8 +10,14 @@ use radio_seats::{KeptName, ListenerStanding, OutOfMemory, Seat, Seats};
 use radio_settings::MountName;
 use std::alloc::{AllocGlobal, Global};
 
-/// A seat at the mount, of a listener who asked for it as the user `ann`, at the place 4 of session 1.
-fn seat_at(alloc: Global, mount: &MountName) -> Result<Seat, OutOfMemory>
+/// What the user `ann` sends.
+const ANN: &[u8] = b"Basic YW5uOmFiYw==";
+
+/// What the user `anna` sends, whose name begins with the other's.
+const ANNA: &[u8] = b"Basic YW5uYTphYmM=";
+
+/// A seat at the mount, of a listener who asked for it and sent this, at the place 4 of session 1.
+fn seat_at(alloc: Global, mount: &MountName, sent: &[u8]) -> Result<Seat, OutOfMemory>
     ensures { IfOk result (λ seat. seat.mount ≡ mount.now) }
 {
     Ok(Seat {
@@ -20,20 +26,31 @@ fn seat_at(alloc: Global, mount: &MountName) -> Result<Seat, OutOfMemory>
         session: 1,
         home: KeptName::new(alloc, *mount)?,
         peer: Peer::of_v4(0x0a00_0001),
-        pair: basic(alloc, b"Basic YW5uOmFiYw==")?,
+        pair: basic(alloc, sent)?,
         interval: None,
         since: 0,
     })
 }
 
-/// The client of this number sits at the mount from now on. Nothing changes if memory is refused.
+/// The client of this number sits at the mount from now on, as the user `ann`. Nothing changes if memory is refused.
 pub fn come(
     alloc: Global,
     seats: &mut Seats,
     mount: &MountName,
     id: u64,
 ) -> Result<(), OutOfMemory> {
-    let seat = seat_at(alloc, mount)?;
+    come_as(alloc, seats, mount, id, ANN)
+}
+
+/// The client of this number, who sent this, sits at the mount from now on. Nothing changes if memory is refused.
+fn come_as(
+    alloc: Global,
+    seats: &mut Seats,
+    mount: &MountName,
+    id: u64,
+    sent: &[u8],
+) -> Result<(), OutOfMemory> {
+    let seat = seat_at(alloc, mount, sent)?;
     match seats.prepare(mount) {
         Ok(()) => seats.add(id, seat),
         Err(refused) => {
@@ -89,6 +106,33 @@ fn are_seated(alloc: Global, one: &MountName, other: &MountName) -> Result<bool,
     Ok(are_there && has_moved && loses_seat(&mut seats, one))
 }
 
+/// Whether these two users sit at the mount, the one whose name is the beginning of the other's first. Who has a name before
+/// or between theirs does not.
+fn are_users(seats: &Seats, mount: &MountName, has_ann: bool, has_anna: bool) -> bool {
+    let has_others = seats.user_at(mount, b"")
+        || seats.user_at(mount, b"an")
+        || seats.user_at(mount, b"ann:");
+    seats.user_at(mount, b"ann") == has_ann
+        && seats.user_at(mount, b"anna") == has_anna
+        && !has_others
+}
+
+/// One user sits at two mounts, and another at the second. The first loses the seat there, and leaves the other mount. Whether
+/// each user is found at each mount as long as somebody sits there who sent it.
+fn are_told_apart(alloc: Global, one: &MountName, other: &MountName) -> Result<bool, OutOfMemory> {
+    let mut seats = Seats::new(alloc);
+    come_as(alloc, &mut seats, one, 3, ANN)?;
+    come_as(alloc, &mut seats, other, 4, ANNA)?;
+    let are_apart = are_users(&seats, one, true, false) && are_users(&seats, other, false, true);
+    come_as(alloc, &mut seats, other, 5, ANN)?;
+    let are_both = are_users(&seats, one, true, false) && are_users(&seats, other, true, true);
+    seats.end(5, Rule::Killed);
+    let has_lost = are_users(&seats, one, true, false) && are_users(&seats, other, false, true);
+    seats.remove(3);
+    let has_left = are_users(&seats, one, false, false) && are_users(&seats, other, false, true);
+    Ok(are_apart && are_both && has_lost && has_left)
+}
+
 /// Who sits at the mount, by its numbers.
 fn are_listed(alloc: Global, mount: &MountName) -> Result<bool, OutOfMemory> {
     let mut seats = Seats::new(alloc);
@@ -108,5 +152,6 @@ fn seats_of_mounts(rt: HostRuntime) {
         return;
     };
     assert!(rt; are_seated(rt.alloc(), &one, &other) == Ok(true));
+    assert!(rt; are_told_apart(rt.alloc(), &one, &other) == Ok(true));
     assert!(rt; are_listed(rt.alloc(), &one) == Ok(true));
 }
