@@ -2,3 +2,5 @@ pub mod Telling
 pub mod Newcomers
 pub mod TotalLemmas
 pub mod Threads
+pub mod OwnLemmas
+pub mod MountBookLemmas

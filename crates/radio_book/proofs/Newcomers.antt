@@ -6,9 +6,10 @@ use Rattle.std.proofs.lemmas.Bool.{false≢true}
 use Rattle.std.proofs.lemmas.Grind.{common_steps}
 use Rattle.std.proofs.lemmas.List.Quantifiers.{position-Some}
 use Rattle.radio_events.specs.declared.event.Event.{Event}
-use Rattle.radio_events.specs.declared.event.Event.TheVariants.{Arrive, RelayUp}
+use Rattle.radio_events.specs.declared.event.Event.TheVariants.{Arrive, RelayUp, Push, Title, Draw}
 use Rattle.radio_events.specs.declared.reply.Reply.{Reply}
 use Rattle.radio_events.specs.declared.reply.Reply.TheVariants.{Arrived}
+use Rattle.radio_book.specs.OwnSteps.{is_own}
 use Rattle.radio_book.specs.Receipts.{ReceiptOf}
 use Rattle.radio_book.specs.declared.newcomer.Newcomer.{Newcomer}
 use Rattle.radio_book.specs.declared.newcomer.Newcomer.TheVariants.{Client, Relay}
@@ -45,6 +46,18 @@ pub enough : (leaver : Option Newcomer) (event : Event) (reply : Reply) (ids : L
     → length (present_by leaver (newcomer_by event reply) ids) + 1 ≤ length ids + room_by leaver (is_arrival event) ids
 enough None event reply ids = enough_for_newcomer event reply ids
 enough (Some gone) event reply ids = enough_for_leaver gone (is_arrival event) ids (place_of gone ids) refl
+
+stays_by_own : (ids : List Newcomer) (event : Event) (reply : Reply) → is_own event ≡ true → present_after ids event reply ≡ ids
+stays_by_own ids (Push id block) reply own = refl
+stays_by_own ids (Title id text) reply own = refl
+stays_by_own ids (Draw id room) reply own = refl
+stays_by_own ids event reply own = absurd (false≢true own)
+
+-- nobody comes or goes by a block, a title or a draw
+pub own_noted : (stamps stamps' : List ReceiptOf) (s : ReceiptOf) (ids : List Newcomer) → ids ≡ present_of stamps → stamps' ≡ stamps ++ s ∷ []
+    → is_own s.event ≡ true → ids ≡ present_of stamps'
+own_noted stamps stamps' s ids here more own =
+    here ∙ sym (ap present_of more ∙ present_of_more stamps s ∙ stays_by_own (present_of stamps) s.event s.reply own)
 
 -- who is there after a call whose receipt is added
 pub noted : (stamps stamps' : List ReceiptOf) (s : ReceiptOf) (ids ids' : List Newcomer) (leaver newcomer : Option Newcomer)

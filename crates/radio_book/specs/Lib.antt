@@ -5,3 +5,5 @@ pub mod Books
 pub mod Totals
 pub mod Wanted
 pub mod LastMounts
+pub mod OwnSteps
+pub mod MountBooks

@@ -8,16 +8,15 @@ ghost use Rattle.radio_chronicle.specs.Stamps.{stamp};
 ghost use Rattle.radio_book.specs.History.{entry_of};
 ghost use Rattle.radio_book.specs.Newcomers.{is_arrival, room_for};
 
+use crate::copies::{Copies, thrice};
 use crate::debt::Debt;
 use crate::holdings::Holdings;
+use crate::receipt::NOWHERE;
 use crate::{Chronicle, House, OutOfMemory, Receipt, Stamp};
 use radio_chronicle::Story;
 use radio_events::Event;
 use std::alloc::{AllocError, Global};
 use std::sync::ledger::Share;
-
-/// The place of an entry that is not stored.
-const NOWHERE: Stamp = Stamp { list: 0, serial: 0 };
 
 /// What happened, and what is owed: there is room for each entry that is owed. What no caller has of
 /// the ledger yet is cut into as many parts as there are passes left.
@@ -30,14 +29,6 @@ pub(crate) struct Accounts<C: Chronicle, H: House> {
     ghost room: { debt.owed ≤ story.entries.room },
     ghost left: { spare.parts ≡ passes_left },
     ghost none: { spare.amount ≡ 0 },
-}
-
-/// An event three times: for the history, for the pass and for the caller.
-#[derive(Drop)]
-struct Copies {
-    noted: Event,
-    held: Event,
-    told: Event,
 }
 
 impl<C: Chronicle, H: House> Accounts<C, H> {
@@ -245,36 +236,6 @@ impl<C: Chronicle, H: House> Accounts<C, H> {
                 drop(told);
                 Err(refused)
             }
-        }
-    }
-}
-
-/// An event three times. `OutOfMemory` where memory was refused.
-fn thrice(event: &Event) -> Result<Copies, OutOfMemory>
-    ensures value { IfOk result (λ copies. (copies.noted ≡ event.now) × (copies.held ≡ event.now) × (copies.told ≡ event.now)) }
-    ensures frees { TakesNoMemory event.now → IsOk result }
-{
-    let noted = event.again()?;
-    match twice(event) {
-        Ok((held, told)) => Ok(Copies { noted, held, told }),
-        Err(refused) => {
-            drop(noted);
-            Err(refused)
-        }
-    }
-}
-
-/// An event twice. `OutOfMemory` where memory was refused.
-fn twice(event: &Event) -> Result<(Event, Event), OutOfMemory>
-    ensures value { IfOk result (λ copies. (copies.0 ≡ event.now) × (copies.1 ≡ event.now)) }
-    ensures frees { TakesNoMemory event.now → IsOk result }
-{
-    let first = event.again()?;
-    match event.again() {
-        Ok(second) => Ok((first, second)),
-        Err(refused) => {
-            drop(first);
-            Err(refused)
         }
     }
 }

@@ -78,7 +78,7 @@ impl<C: Chronicle, H: House> Book<C, H> {
         ensures same { self.new ≡ self.old }
     {
         let holdings = self.accounts.holdings(self.alloc)?;
-        Some(Pass::new(holdings))
+        Some(Pass::new(self.alloc, holdings))
     }
 
     /// One event, noted with its reply where entries are stored; its receipt.

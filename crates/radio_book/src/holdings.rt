@@ -1,6 +1,7 @@
 //! What a caller holds.
 
 ghost use Rattle.std.specs.Prelude.{◌≡◌, ◌+◌, ◌≤◌, ◌<◌, ◌^◌, ◌∷◌, [], ◌++◌, ℕ, true, false, IsOk, IsSome, OnOk, vec_len, vec_capacity};
+ghost use Rattle.radio_book.specs.OwnSteps.{is_own};
 ghost use Rattle.radio_book.specs.Newcomers.{present_by, present_of, is_arrival, leaver_of, newcomer_by, place_of, room_by, room_for};
 
 use crate::debt::Debt;
@@ -69,6 +70,15 @@ impl<L: Ledger> Holdings<L> {
         ensures same { (self.new.receipts ≡ self.old.receipts) × (self.new.present ≡ self.old.present) }
     {
         debt.audit(&mut self.share);
+    }
+
+    /// Takes the receipt of a block, a title or a draw, for which there is room.
+    pub(crate) fn note_own(&mut self, receipt: Receipt)
+        requires own { is_own receipt.event ≡ true }
+        requires room { vec_len self.old.receipts + vec_len self.old.present < vec_capacity self.old.receipts }
+        ensures { self.new.receipts.items ≡ self.old.receipts.items ++ receipt ∷ [] }
+    {
+        self.receipts.push_reserved(receipt);
     }
 
     /// Takes the receipt of a call, for which there is room.

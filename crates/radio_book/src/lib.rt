@@ -10,18 +10,26 @@
 
 mod accounts;
 mod book;
+mod control_accounts;
+mod control_book;
+mod copies;
 mod debt;
 mod holdings;
 mod laws;
+mod lending;
+mod mount_book;
 mod newcomer;
+mod own_steps;
 mod pass;
 mod receipt;
 
 pub use book::{Book, PASSES};
+pub use control_book::ControlBook;
 pub use laws::histories_add_up;
+pub use mount_book::{MountBook, Own};
 pub use newcomer::Newcomer;
 pub use pass::Pass;
-pub use radio_chronicle::{Chronicle, House, Kept, Stamp, Unkept};
+pub use radio_chronicle::{Chronicle, ControlLine, House, Kept, Stamp, Unkept};
 pub use radio_events::Entry;
 pub use receipt::Receipt;
 

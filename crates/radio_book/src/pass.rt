@@ -4,19 +4,28 @@ ghost use Rattle.std.specs.Prelude.{◌≡◌, []};
 
 use crate::holdings::Holdings;
 use crate::{Chronicle, House, Receipt};
+use std::alloc::Global;
+use std::collections::BTreeMap;
 use std::marker::{Model, PhantomData};
 
 /// What a caller of a house has: the receipts of his calls, in their order, if the house stores
 /// entries; and for each client and each relay that he has let in the right to see it off.
 pub struct Pass<C: Chronicle, H: House> {
     pub(crate) holdings: Holdings<H>,
+    /// Of a client or a relay by its number: the list of the mount where it was attached last. It may be somewhere else by now.
+    whereabouts: BTreeMap<u64, u64>,
     of: PhantomData<C>,
 }
 
 impl<C: Chronicle, H: House> Drop for Pass<C, H> {
     fn drop(self) {
-        let Pass { holdings, of: _ } = self;
+        let Pass {
+            holdings,
+            whereabouts,
+            of: _,
+        } = self;
         drop(holdings);
+        drop(whereabouts);
     }
 }
 
@@ -30,11 +39,12 @@ impl<C: Chronicle, H: House> Model for Pass<C, H> {
 }
 
 impl<C: Chronicle, H: House> Pass<C, H> {
-    pub(crate) fn new(holdings: Holdings<H>) -> Pass<C, H>
+    pub(crate) fn new(alloc: Global, holdings: Holdings<H>) -> Pass<C, H>
         ensures { result ≡ holdings.receipts.items }
     {
         Pass {
             holdings,
+            whereabouts: BTreeMap::new(alloc),
             of: PhantomData,
         }
     }
@@ -44,5 +54,24 @@ impl<C: Chronicle, H: House> Pass<C, H> {
         ensures { result.now ≡ self.now }
     {
         self.holdings.receipts.as_slice()
+    }
+
+    /// Returns the number of the list of the mount where the client or relay was attached last, if that is known.
+    pub fn list_of(&self, id: u64) -> Option<u64> {
+        self.whereabouts.get(&id).copied()
+    }
+
+    /// Remembers where the client or relay is attached. If memory is refused, it is not remembered.
+    pub fn remember(&mut self, id: u64, list: u64)
+        ensures { self.new ≡ self.old }
+    {
+        let _ = self.whereabouts.insert(id, list);
+    }
+
+    /// Forgets where the client or relay was.
+    pub fn forget(&mut self, id: u64)
+        ensures { self.new ≡ self.old }
+    {
+        self.whereabouts.remove(&id);
     }
 }

@@ -4,6 +4,9 @@ use crate::Stamp;
 use radio_events::{Event, Reply};
 use std::marker::Model;
 
+/// The place of an entry that is not stored.
+pub(crate) const NOWHERE: Stamp = Stamp { list: 0, serial: 0 };
+
 /// The receipt of a call of a book: this entry is at this place of a list of the server.
 ///
 /// [`Book::apply`](crate::Book::apply) alone makes one.

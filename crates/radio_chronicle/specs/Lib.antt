@@ -1,3 +1,4 @@
 pub mod History
 pub mod Notes
 pub mod Stamps
+pub mod Lines

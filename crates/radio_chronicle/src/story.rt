@@ -84,7 +84,7 @@ impl<C: Chronicle, H: House> Story<C, H> {
 }
 
 /// Three replies, each by itself.
-fn apart(replies: [Reply; 3]) -> (Reply, Reply, Reply)
+pub fn apart(replies: [Reply; 3]) -> (Reply, Reply, Reply)
     ensures { replies ≡ result.0 ∷ result.1 ∷ result.2 ∷ [] }
 {
     let [first, second, third] = replies;

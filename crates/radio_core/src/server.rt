@@ -7,12 +7,10 @@ ghost use Rattle.std.specs.Option.{option_copied};
 ghost use Rattle.radio_seats_rows.specs.Seats.{last_mount_of};
 ghost use Rattle.radio_facts.specs.Wanted.{wanted};
 ghost use Rattle.radio_house.specs.World.{World, opening};
-ghost use Rattle.radio_events.specs.Replies.{HoldsNoText};
 ghost use Rattle.radio_core.specs.Step.{Step, Represents, StandsForSome};
 ghost use Rattle.radio_events.specs.Events.{TakesNoMemory};
 
 use crate::OutOfMemory;
-use crate::outcome::Outcome;
 pub use control::Control;
 use radio_access::Lists;
 use radio_events::{Event, Reply, Server};
@@ -32,6 +30,7 @@ mod listen;
 mod pages;
 mod push;
 mod relay;
+mod replies;
 mod source;
 mod source_end;
 mod telling;
@@ -132,14 +131,7 @@ impl Core {
         ensures frees { TakesNoMemory event → IsOk result }
         ensures err { OnErr result (self.new ≡ self.old) }
     {
-        let Outcome { reply, change } = self.control.outcome(event)?;
-        match thrice(reply) {
-            Ok(replies) => self.control.commit_for_each(change, replies),
-            Err(refused) => {
-                drop(change);
-                Err(refused)
-            }
-        }
+        self.control.step3(event)
     }
 }
 
@@ -158,34 +150,5 @@ impl Server for Core {
 
     fn last_mount(&self, id: u64) -> Option<MountName> {
         Core::last_mount(self, id).copied()
-    }
-}
-
-/// A reply three times. `OutOfMemory` where memory was refused.
-fn thrice(reply: Reply) -> Result<[Reply; 3], OutOfMemory>
-    ensures value { IfOk result (λ replies. replies ≡ reply ∷ reply ∷ reply ∷ []) }
-    ensures frees { HoldsNoText reply → IsOk result }
-{
-    match again_twice(&reply) {
-        Ok((second, third)) => Ok([reply, second, third]),
-        Err(refused) => {
-            drop(reply);
-            Err(refused)
-        }
-    }
-}
-
-/// Two equal replies. `OutOfMemory` where memory was refused.
-fn again_twice(reply: &Reply) -> Result<(Reply, Reply), OutOfMemory>
-    ensures value { IfOk result (λ replies. (replies.0 ≡ reply.now) × (replies.1 ≡ reply.now)) }
-    ensures frees { HoldsNoText reply.now → IsOk result }
-{
-    let second = reply.again()?;
-    match reply.again() {
-        Ok(third) => Ok((second, third)),
-        Err(refused) => {
-            drop(second);
-            Err(refused)
-        }
     }
 }

@@ -6,7 +6,7 @@ use Rattle.radio_events.specs.declared.reply.Reply.{Reply}
 use Rattle.radio_events.specs.declared.entry.Entry.{Entry}
 use Rattle.radio_house.specs.World.{World}
 use Rattle.radio_core.specs.Step.{Step, reply_to, world_after, Represents}
-use Rattle.radio_merge.specs.declared.family.ControlLine.{ControlLine}
+use Rattle.radio_chronicle.specs.declared.line.ControlLine.{ControlLine}
 use Rattle.radio_mount_part.specs.declared.item.MountItem.{MountItem}
 use Rattle.radio_chronicle.specs.declared.stamp.Stamp.{Stamp}
 use Rattle.radio_chronicle.specs.History.{world_of, IsRun}

@@ -1,8 +1,8 @@
 -- What control entries make in the lists of mounts.
 use Rattle.std.specs.Prelude.{◌≡◌, ℕ, ◌+◌, ◌≤◌, ◌<◌, false, List, None, Some, slice_get}
 use Rattle.radio_events.specs.declared.entry.Entry.{Entry}
-use Rattle.radio_merge.specs.declared.family.ControlLine.{ControlLine}
-use Rattle.radio_merge.specs.declared.family.ControlLine.TheVariants.{Cut}
+use Rattle.radio_chronicle.specs.declared.line.ControlLine.{ControlLine}
+use Rattle.radio_chronicle.specs.declared.line.ControlLine.TheVariants.{Cut}
 use Rattle.radio_mount_part.specs.declared.item.MountItem.{MountItem}
 use Rattle.radio_chronicle.specs.declared.stamp.Stamp.{Stamp}
 use Rattle.radio_mount_part.specs.Items.{is_left_out, own_entry}

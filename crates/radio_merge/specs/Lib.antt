@@ -1,4 +1,3 @@
-pub mod Family
 pub mod Merged
 pub mod Replays
 pub mod Covered

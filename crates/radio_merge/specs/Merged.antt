@@ -1,8 +1,8 @@
 -- What a merge of lists is.
 use Rattle.std.specs.Prelude.{◌≡◌, ◌⊎◌, ℕ, ◌+◌, ◌-◌, ◌<◌, true, List, [], ◌∷◌, ◌++◌, Some, length, map, replicate, slice_get, slice_set}
 use Rattle.radio_events.specs.declared.entry.Entry.{Entry}
-use Rattle.radio_merge.specs.declared.family.ControlLine.{ControlLine}
-use Rattle.radio_merge.specs.declared.family.ControlLine.TheVariants.{Cut, Made}
+use Rattle.radio_chronicle.specs.declared.line.ControlLine.{ControlLine}
+use Rattle.radio_chronicle.specs.declared.line.ControlLine.TheVariants.{Cut, Made}
 use Rattle.radio_mount_part.specs.declared.item.MountItem.{MountItem}
 use Rattle.radio_chronicle.specs.declared.stamp.Stamp.{Stamp}
 use Rattle.radio_mount_part.specs.Items.{is_left_out, own_entry}

@@ -3,7 +3,7 @@ use Rattle.std.specs.Prelude.{List}
 use Rattle.radio_house.specs.World.{World}
 use Rattle.radio_core.specs.Step.{Represents}
 use Rattle.radio_events.specs.declared.entry.Entry.{Entry}
-use Rattle.radio_merge.specs.declared.family.ControlLine.{ControlLine}
+use Rattle.radio_chronicle.specs.declared.line.ControlLine.{ControlLine}
 use Rattle.radio_mount_part.specs.declared.item.MountItem.{MountItem}
 use Rattle.radio_chronicle.specs.declared.stamp.Stamp.{Stamp}
 use Rattle.radio_chronicle.specs.History.{IsRun, world_of}

@@ -5,7 +5,7 @@
 ghost use Rattle.std.specs.Prelude.{◌≡◌, length, slice_get};
 ghost use Rattle.std.specs.Option.{option_copied};
 
-use radio_events::Entry;
+use radio_chronicle::ControlLine;
 use radio_mount_part::MountItem;
 use std::marker::Model;
 
@@ -51,36 +51,6 @@ impl MountList {
         ensures { option_copied result ≡ slice_get self.now at }
     {
         self.items.get(at)
-    }
-}
-
-/// A line of the control's list. Before each entry there is a cut for each mount that the entry was lent.
-#[derive(Drop)]
-pub enum ControlLine {
-    /// The next control entry comes after the first `from` items of this list, and made those from `from` to `to`.
-    Cut {
-        /// The list of the mount, counted from 1.
-        list: u64,
-        /// How many items the list had before the entry.
-        from: u64,
-        /// How many items the list had after the entry.
-        to: u64,
-    },
-    /// The event of the entry and its reply.
-    Made(Entry),
-}
-
-impl ControlLine {
-    ghost use Rattle.radio_merge.specs.Family.{line_entry};
-
-    /// Returns the entry, if it is no cut.
-    pub fn entry(&self) -> Option<&Entry>
-        ensures { option_copied result ≡ line_entry self.now }
-    {
-        match self {
-            ControlLine::Made(entry) => Some(entry),
-            ControlLine::Cut { .. } => None,
-        }
     }
 }
 

@@ -20,11 +20,11 @@ mod replaying;
 mod same;
 mod searching;
 
-pub use family::{ControlLine, Family, MountList};
+pub use family::{Family, MountList};
 pub use fault::MergeFault;
 pub use laws::the_control_makes_the_rest;
 pub use merging::merge;
-pub use radio_chronicle::Stamp;
+pub use radio_chronicle::{ControlLine, Stamp};
 pub use radio_events::Entry;
 pub use radio_mount_part::{Attaching, MountItem};
 pub use same::{is_same_event, is_same_reply};

@@ -174,6 +174,14 @@ impl PartList {
         self.kept = None;
     }
 
+    /// Returns how many items are kept; 0 if none are.
+    pub(crate) fn item_count(&self) -> u64 {
+        match &self.kept {
+            Some(kept) => kept.items.len() as u64,
+            None => 0,
+        }
+    }
+
     /// Returns how many grants there are.
     pub(crate) fn grant_count(&self) -> usize {
         match &self.kept {

@@ -99,6 +99,11 @@ impl ListedPart {
         self.list.is_kept()
     }
 
+    /// Returns how many items the list has; 0 if none is kept.
+    pub fn item_count(&self) -> u64 {
+        self.list.item_count()
+    }
+
     /// Returns the mount's session, if it is live.
     pub fn session(&self) -> Option<&Session>
         ensures { option_copied result ≡ self.now.session }

@@ -4,8 +4,8 @@ use Rattle.std.proofs.Math.Logic.{∥∥₁_map}
 use Rattle.radio_house.specs.World.{World}
 use Rattle.radio_events.specs.declared.entry.Entry.{Entry}
 use Rattle.radio_chronicle.specs.History.{IsRun, IsTold}
-use Rattle.radio_merge.specs.declared.family.ControlLine.{ControlLine}
-use Rattle.radio_merge.specs.declared.family.ControlLine.TheVariants.{Made}
+use Rattle.radio_chronicle.specs.declared.line.ControlLine.{ControlLine}
+use Rattle.radio_chronicle.specs.declared.line.ControlLine.TheVariants.{Made}
 use Rattle.radio_mount_part.specs.declared.item.MountItem.{MountItem}
 use Rattle.radio_book.specs.Receipts.{ReceiptOf}
 use Rattle.radio_settling.specs.declared.fault.SettleFault.{SettleFault}

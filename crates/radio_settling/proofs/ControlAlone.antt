@@ -3,8 +3,8 @@ use Rattle.std.proofs.Common.{◌≡◌, ℕ, List, [], ◌∷◌, ◌++◌, Som
 use Rattle.std.specs.Prelude.{slice_get}
 use Rattle.radio_events.specs.declared.entry.Entry.{Entry}
 use Rattle.radio_chronicle.specs.declared.stamp.Stamp.{Stamp}
-use Rattle.radio_merge.specs.declared.family.ControlLine.{ControlLine}
-use Rattle.radio_merge.specs.declared.family.ControlLine.TheVariants.{Made}
+use Rattle.radio_chronicle.specs.declared.line.ControlLine.{ControlLine}
+use Rattle.radio_chronicle.specs.declared.line.ControlLine.TheVariants.{Made}
 use Rattle.radio_mount_part.specs.declared.item.MountItem.{MountItem}
 use Rattle.radio_merge.specs.Merged.{Positions, PastCuts, Merged, Begins, LeavesOut, TakesOwn, TakesControl, IsMerge}
 

@@ -14,7 +14,7 @@ use Rattle.radio_chronicle.specs.Stamps.{stamp}
 use Rattle.radio_book.specs.Receipts.{ReceiptOf}
 use Rattle.radio_mount_part.specs.declared.item.MountItem.{MountItem}
 use Rattle.radio_merge.specs.Merged.{IsSubsequence}
-use Rattle.radio_merge.specs.declared.family.ControlLine.{ControlLine}
+use Rattle.radio_chronicle.specs.declared.line.ControlLine.{ControlLine}
 use Rattle.radio_settling.specs.declared.fault.SettleFault.{SettleFault}
 use Rattle.radio_settling.specs.Settling.{AllRise, AllStand, AreMerged, IsCounted, IsEachOnce, Shows, all_places, all_stamps, is_same_place, stamps, times}
 

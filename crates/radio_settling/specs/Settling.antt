@@ -11,11 +11,11 @@ use Rattle.radio_house.specs.World.{World}
 use Rattle.radio_chronicle.specs.History.{IsRun}
 use Rattle.radio_chronicle.specs.declared.stamp.Stamp.{Stamp}
 use Rattle.radio_chronicle.specs.Stamps.{stamp}
-use Rattle.radio_merge.specs.declared.family.ControlLine.{ControlLine}
+use Rattle.radio_chronicle.specs.declared.line.ControlLine.{ControlLine}
 use Rattle.radio_mount_part.specs.declared.item.MountItem.{MountItem}
 use Rattle.radio_merge.specs.declared.fault.MergeFault.{MergeFault}
 use Rattle.radio_merge.specs.declared.fault.MergeFault.TheVariants.{OutOfOrder as MergesOutOfOrder, Unlike as MergesUnlike, OutOfMemory as MergesOutOfMemory}
-use Rattle.radio_merge.specs.Family.{line_entry}
+use Rattle.radio_chronicle.specs.Lines.{line_entry}
 use Rattle.radio_mount_part.specs.Items.{own_entry}
 use Rattle.radio_merge.specs.Merged.{IsMerge, IsSubsequence}
 use Rattle.radio_book.specs.History.{entry_of}

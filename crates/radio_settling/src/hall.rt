@@ -4,7 +4,7 @@ ghost use Rattle.std.specs.Prelude.{◌≡◌, [], length, map, IfOk, IfErr, Lis
 ghost use Rattle.radio_events.specs.declared.entry.Entry.{Entry as EntryOf};
 ghost use Rattle.radio_house.specs.World.{opening};
 ghost use Rattle.radio_chronicle.specs.History.{IsRun};
-ghost use Rattle.radio_merge.specs.declared.family.ControlLine.TheVariants.{Made};
+ghost use Rattle.radio_chronicle.specs.declared.line.ControlLine.TheVariants.{Made};
 ghost use Rattle.radio_settling.specs.Settling.{IsSettled, Shows};
 
 use crate::SettleFault;

@@ -1,6 +1,7 @@
 //! All passes held against the one legal history, when nobody calls any more.
 //!
 //! - [`settle`]: those of a hall, once the threads have been joined; [`settle_book`]: those of a book.
+//! - [`settle_books`]: those of a server whose mounts' parts stand apart from its control.
 //! - [`settle_family`]: those of a server that keeps a list for each mount and one for its control. Read it first.
 //! - [`SettleFault`]: what is wrong with them.
 //!
@@ -8,12 +9,14 @@
 //! wants to see the history.
 #![tactic(auto)]
 
+mod family;
 mod fault;
 mod hall;
 mod passes;
 mod places;
 mod settling;
 
+pub use family::settle_books;
 pub use fault::SettleFault;
 pub use hall::settle;
 pub use settling::{settle_book, settle_family};

@@ -3,7 +3,7 @@
 ghost use Rattle.std.specs.Prelude.{◌≡◌, ◌+◌, length, map, IfOk, IfErr, OnErr, OnOk, IsTrue, List, IsPermutation, sum_by, []};
 ghost use Rattle.radio_house.specs.World.{World, opening};
 ghost use Rattle.radio_chronicle.specs.History.{IsRun};
-ghost use Rattle.radio_merge.specs.declared.family.ControlLine.TheVariants.{Made};
+ghost use Rattle.radio_chronicle.specs.declared.line.ControlLine.TheVariants.{Made};
 ghost use Rattle.radio_merge.specs.declared.fault.MergeFault.{MergeFault as MergeFaultOf};
 ghost use Rattle.radio_settling.specs.Settling.{AllRise, AllStand, IsCounted, IsEachOnce, IsSettled, MergesPasses, Shows, all_places, all_stamps, of_merge};
 

@@ -9,6 +9,7 @@
 //! - `listeners`: who sits where and has heard how far, through the calls of `radio_attached`.
 //! - `mounts`: sessions in the parts of the mounts, through the calls of `radio_mounts`.
 //! - `own_steps`: draws, blocks and titles by a mount's part alone.
+//! - `mount_books`: two mounts' parts that stand apart, each with its book, and settled.
 //! - `lent_parts`: a part that stands apart, and is lent to the control, beside a core.
 //!
 //! Of the book and the hall:
@@ -61,6 +62,8 @@ mod memory_line;
 mod merged;
 #[cfg(test)]
 mod moments;
+#[cfg(test)]
+mod mount_books;
 #[cfg(test)]
 mod mounts;
 #[cfg(test)]

@@ -14,7 +14,7 @@ use radio_values::MountName;
 use std::alloc::{AllocGlobal, Global};
 
 /// How long a queue is, in bytes.
-const SHORT_QUEUE: &str = "[limits]\nqueue-size = 10\n";
+pub const SHORT_QUEUE: &str = "[limits]\nqueue-size = 10\n";
 
 /// How many entries are in all lists.
 const ENTRIES: usize = 20;
@@ -127,7 +127,8 @@ fn ended(rule: Option<Rule>) -> MountItem {
     }
 }
 
-fn moving() -> Asked {
+/// The command that moves the listeners of `/a` to `/b`.
+pub fn moving() -> Asked {
     match (MountName::read(b"/a"), MountName::read(b"/b")) {
         (Some(mount), Some(destination)) => {
             Asked::Command(Command::MoveClients { mount, destination })
@@ -136,7 +137,8 @@ fn moving() -> Asked {
     }
 }
 
-fn draw(id: u64) -> Event {
+/// The listener of this number draws.
+pub fn draw(id: u64) -> Event {
     Event::Draw { id, room: 100 }
 }
 

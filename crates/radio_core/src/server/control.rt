@@ -11,10 +11,12 @@ ghost use Rattle.radio_changes.specs.KeptChanges.{kept_changed};
 ghost use Rattle.radio_core.specs.Draw.{draws, moves_to};
 ghost use Rattle.radio_core.specs.Planned.{planned, with_counts};
 ghost use Rattle.radio_core.specs.CanStep.{CanDraw, CanStep};
+ghost use Rattle.radio_core.specs.ControlSteps.{control_after, control_reply, three_of};
 ghost use Rattle.radio_events.specs.declared.reply.Reply.{Reply as ReplyOf};
 ghost use Rattle.radio_events.specs.Events.{TakesNoMemory};
 
 use super::draw::Drawing;
+use super::replies::thrice;
 use super::telling::{all_with_counts, with_counts};
 use crate::OutOfMemory;
 use crate::outcome::Outcome;
@@ -84,10 +86,17 @@ impl Control {
     }
 
     /// The settings.
-    pub(super) fn settings(&self) -> &Settings
+    pub fn settings(&self) -> &Settings
         ensures { result.now ≡ self.now.house.settings }
     {
         self.house().settings()
+    }
+
+    /// The time that was told last, in milliseconds.
+    pub fn time(&self) -> u64
+        ensures { result ≡ self.now.house.time }
+    {
+        self.house().time()
     }
 
     /// What comes of an event, before its change is made. `OutOfMemory` where memory was refused.
@@ -123,14 +132,33 @@ impl Control {
     /// refused; nothing has changed then.
     pub fn step(&mut self, event: Event) -> Result<Reply, OutOfMemory>
         // of one who draws the client is known as a listener, and what follows its place is not forgotten
-        ensures ok { CanStep self.old event → OnOk result (self.new ≡ kept_changed self.old (planned self.old event).change) }
-        ensures told { CanStep self.old event → IfOk result (λ reply. reply ≡ with_counts (planned self.old event).reply (counted self.old (planned self.old event).change)) }
+        ensures ok { CanStep self.old event → OnOk result (self.new ≡ control_after self.old event) }
+        ensures told { CanStep self.old event → IfOk result (λ reply. reply ≡ control_reply self.old event) }
         ensures err { OnErr result (self.new ≡ self.old) }
         ensures frees { TakesNoMemory event → IsOk result }
     {
         match event {
             Event::Draw { id, room } => self.step_drawing(id, room),
             event => self.step_by_outcome(event),
+        }
+    }
+
+    /// One event, as by `step`, with its reply three times, as a record of it, its client and its caller keep it.
+    /// `OutOfMemory` if memory was refused; nothing has changed then.
+    pub fn step3(&mut self, event: Event) -> Result<[Reply; 3], OutOfMemory>
+        ensures ok { CanStep self.old event → OnOk result (self.new ≡ control_after self.old event) }
+        ensures told { CanStep self.old event → IfOk result (λ replies. replies ≡ three_of (control_reply self.old event)) }
+        ensures alike { IfOk result (λ replies. (reply : ReplyOf) × (replies ≡ three_of reply)) }
+        ensures err { OnErr result (self.new ≡ self.old) }
+        ensures frees { TakesNoMemory event → IsOk result }
+    {
+        let Outcome { reply, change } = self.outcome(event)?;
+        match thrice(reply) {
+            Ok(replies) => self.commit_for_each(change, replies),
+            Err(refused) => {
+                drop(change);
+                Err(refused)
+            }
         }
     }
 

@@ -1,5 +1,5 @@
 use Rattle.std.proofs.Common.{◌≡◌, ◌++◌, drop}
-use Rattle.radio_merge.specs.Family.{line_entry}
+use Rattle.radio_chronicle.specs.Lines.{line_entry}
 use Rattle.radio_settling.specs.Settling.{places_of}
 use Rattle.radio_settling.proofs.places.add_lines.Given as goal
 

@@ -1,0 +1,159 @@
+-- A mount's part that stands apart from the control, and is lent to it.
+use Rattle.std.specs.Prelude.{◌≡◌, ◌⊎◌, ℕ, ◌+◌, ◌-◌, List, [], ◌∷◌, ◌++◌, Option, None, Some, Result, Ok, Err}
+use Rattle.std.specs.declared.alloc.AllocError.{AllocError}
+use Rattle.radio_changes.specs.Lent.{IsLentTo}
+use Rattle.radio_chronicle.specs.Stamps.{stamp}
+use Rattle.radio_chronicle.specs.declared.line.ControlLine.{ControlLine}
+use Rattle.radio_chronicle.specs.declared.line.ControlLine.TheVariants.{Cut, Made}
+use Rattle.radio_chronicle.specs.declared.stamp.Stamp.{Stamp}
+use Rattle.radio_core.specs.CanStep.{CanStep}
+use Rattle.radio_core.specs.ControlSteps.{control_after, control_reply}
+use Rattle.radio_core.specs.Lending.{IsTakenOut}
+use Rattle.radio_events.specs.declared.event.Event.{Event}
+use Rattle.radio_events.specs.declared.reply.Reply.{Reply}
+use Rattle.radio_house.specs.World.{World}
+use Rattle.radio_mount_part.specs.declared.part.MountPart.{MountPart}
+use Rattle.radio_mount_part.specs.declared.step.PartAnswer.{PartAnswer}
+use Rattle.radio_mount_part.specs.declared.step.PartAnswer.TheVariants.{Replied, Elsewhere as GivenBack}
+use Rattle.radio_book.specs.History.{entry_of}
+use Rattle.radio_book.specs.OwnSteps.{answered_here, once, part_here, CanDrawHere}
+use Rattle.radio_book.specs.Receipts.{ReceiptOf, receipt_of}
+use Rattle.radio_book.specs.declared.own_steps.Twice.{Twice}
+use Rattle.radio_book.specs.declared.mount_book.Own.{Own}
+use Rattle.radio_book.specs.declared.mount_book.Own.TheVariants.{Made as DoneHere, Elsewhere}
+
+-- the book of a mount
+pub record BookOfMount : Type 0 where
+  pub mount : List ℕ
+  -- the number of its list
+  pub list : ℕ
+  -- its part, if that is not with the control
+  pub part : Option MountPart
+  -- the time that the control was told last
+  pub moment : ℕ
+  -- of the mount's stream at least so many bytes are kept
+  pub queue : ℕ
+
+-- what follows the place of one who draws is not forgotten
+abbrev pub CanOwn : BookOfMount → Event → Type 0
+CanOwn book event = CanDrawHere book.part event
+
+-- the part replies so by itself, and is as it says then
+pub record IsOwnStep (before : BookOfMount) (event : Event) (reply : Reply) (after : BookOfMount) : Type 0 where
+  pub replied : answered_here before.part event ≡ Replied reply
+  pub becomes : after ≡ record before { part = part_here before.queue before.moment before.part event }
+
+abbrev pub with_part : Option MountPart → BookOfMount → BookOfMount
+with_part part book = record book { part = part }
+
+abbrev pub at_moment : ℕ → BookOfMount → BookOfMount
+at_moment moment book = record book { moment = moment }
+
+-- the book's part is in the place of the one that was there; or the book has it still, since it has none or that does not fit
+abbrev pub IsLent : BookOfMount → BookOfMount → World → World → Type 0
+IsLent book lent before after = ((lent ≡ book) × (after ≡ before)) ⊎
+    ((part : MountPart) × (there : MountPart) × (book.part ≡ Some part) × (lent ≡ with_part None book) × IsLentTo part there before after)
+
+-- one book after the other
+abbrev pub AreLent : List BookOfMount → List BookOfMount → World → World → Type 0
+AreLent [] [] before after = after ≡ before
+AreLent (book ∷ books) (one ∷ lent) before after = (between : World) × IsLent book one before between × AreLent books lent between after
+AreLent books lent before after = ⊥
+
+-- the mount's part is taken out again; or the book has it, or the mount has none, or memory is refused. The book has the control's time.
+abbrev pub IsBack : BookOfMount → BookOfMount → World → World → Type 0
+IsBack lent back before after = ((back ≡ at_moment before.house.time lent) × (after ≡ before)) ⊎
+    ((part : MountPart) × (back ≡ with_part (Some part) (at_moment before.house.time lent)) × IsTakenOut lent.mount part before after)
+
+abbrev pub AreBack : List BookOfMount → List BookOfMount → World → World → Type 0
+AreBack [] [] before after = after ≡ before
+AreBack (one ∷ lent) (book ∷ back) before after = (between : World) × IsBack one book before between × AreBack lent back between after
+AreBack lent back before after = ⊥
+
+-- the control's book, as its callers see it
+pub record ControlState : Type 0 where
+  pub control : World
+  -- the lines that are stored
+  pub lines : List ControlLine
+
+-- the control has replied so to the event, over the parts that it was lent
+pub record IsControlStep (books : List BookOfMount) (before : World) (event : Event) (reply : Reply) (back : List BookOfMount) (after : World) : Type 0 where
+  -- while the parts are lent
+  pub lent : List BookOfMount
+  pub whole : World
+  pub later : World
+  pub lends : AreLent books lent before whole
+  pub replied : CanStep whole event → reply ≡ control_reply whole event
+  pub changed : CanStep whole event → later ≡ control_after whole event
+  pub takes_back : AreBack lent back later after
+
+-- nothing has happened, but that the parts may have been lent and taken back
+pub record IsControlAsBefore (books : List BookOfMount) (before : World) (back : List BookOfMount) (after : World) : Type 0 where
+  pub lent : List BookOfMount
+  pub whole : World
+  pub lends : AreLent books lent before whole
+  pub takes_back : AreBack lent back whole after
+
+-- the parts were lent and taken back, or not even that
+abbrev pub IsRefused : List BookOfMount → World → List BookOfMount → World → Type 0
+IsRefused books before back after = ((back ≡ books) × (after ≡ before)) ⊎ IsControlAsBefore books before back after
+
+abbrev pub mount_and_list : BookOfMount → List ℕ × ℕ
+mount_and_list book = (book.mount, book.list)
+
+-- a cut of this list
+abbrev pub IsCut : ℕ → ControlLine → Type 0
+IsCut list (Cut other from to) = other ≡ list
+IsCut list (Made entry) = ⊥
+
+-- a cut of the list of each of these books, in their order
+abbrev pub AreCuts : List BookOfMount → List ControlLine → Type 0
+AreCuts [] [] = Unit {0}
+AreCuts (book ∷ books) (line ∷ lines) = IsCut book.list line × AreCuts books lines
+AreCuts books lines = ⊥
+
+-- the lines with a cut for each of these books, and the entry of the receipt behind them
+abbrev pub AreNoted : List ControlLine → List BookOfMount → ReceiptOf → List ControlLine → Type 0
+AreNoted lines lent receipt lines' = (cuts : List ControlLine) × AreCuts lent cuts × (lines' ≡ (lines ++ cuts) ++ Made (entry_of receipt) ∷ [])
+
+-- it is the event
+abbrev pub IsOf : Event → Own → Type 0
+IsOf event (DoneHere receipt) = receipt.event ≡ event
+IsOf event (Elsewhere same) = same ≡ event
+
+-- the part has replied so, or it does not know the client, and nothing has changed
+abbrev pub IsDone : BookOfMount → Event → Own → BookOfMount → Type 0
+IsDone before event (DoneHere receipt) after = IsOwnStep before event receipt.reply after
+IsDone before event (Elsewhere same) after = after ≡ before
+
+-- what becomes of a part's answer to the event: the receipt has this place
+abbrev pub own_by : Stamp → Event → PartAnswer → Own
+own_by place event (Replied reply) = DoneHere (receipt_of place event reply)
+own_by place event (GivenBack other) = Elsewhere event
+
+abbrev pub own_in : Stamp → Event → Result PartAnswer AllocError → Result Own AllocError
+own_in place event (Ok answer) = Ok (own_by place event answer)
+own_in place event (Err refused) = Err refused
+
+abbrev pub once_in : Result Twice AllocError → Result PartAnswer AllocError
+once_in (Ok twice) = Ok (once twice)
+once_in (Err refused) = Err refused
+
+-- the receipts, with that of the event
+abbrev pub noted_own : Own → List ReceiptOf → List ReceiptOf
+noted_own (DoneHere receipt) receipts = receipts ++ receipt ∷ []
+noted_own (Elsewhere same) receipts = receipts
+
+-- the receipt's place is in this list
+abbrev pub IsInList : ℕ → Own → Type 0
+IsInList list (DoneHere receipt) = receipt.stamp.list ≡ list
+IsInList list (Elsewhere same) = Unit {0}
+
+-- the receipt has no place
+abbrev pub IsNowhere : Own → Type 0
+IsNowhere (DoneHere receipt) = receipt.stamp ≡ stamp 0 0
+IsNowhere (Elsewhere same) = Unit {0}
+
+-- for how many lines there has to be room before an entry that is lent so many parts, where so many ends are owed and so many more may be
+abbrev pub lines_for : ℕ → ℕ → ℕ → ℕ
+lines_for owed more lent = (owed + more) + (owed + more) + (lent - 1)

@@ -1,0 +1,303 @@
+//! The control, its list, and what is owed.
+
+ghost use Rattle.std.specs.Prelude.{◌≡◌, ◌+◌, ◌-◌, ◌≤◌, ◌<◌, ◌^◌, ◌∷◌, [], ◌++◌, ℕ, length, true, false, IsOk, IsSome, IfOk, IfSome, OnOk, OnErr, vec_len, vec_capacity};
+ghost use Rattle.radio_core.specs.ControlSteps.{three_of};
+ghost use Rattle.radio_events.specs.Events.{TakesNoMemory};
+ghost use Rattle.radio_events.specs.declared.reply.Reply.{Reply as ReplyOf};
+ghost use Rattle.radio_chronicle.specs.Stamps.{stamp};
+ghost use Rattle.radio_book.specs.MountBooks.{lines_for, AreNoted, IsControlAsBefore, IsControlStep, IsRefused};
+ghost use Rattle.radio_book.specs.Newcomers.{is_arrival, room_for};
+
+use crate::copies::{Copies, thrice};
+use crate::debt::Debt;
+use crate::holdings::Holdings;
+use crate::lending::{lend_each, note_cuts, take_back_each};
+use crate::receipt::NOWHERE;
+use crate::{Chronicle, Entry, House, MountBook, OutOfMemory, Receipt, Stamp};
+use radio_chronicle::{ControlLine, Notes, apart};
+use radio_core::{Control, ListedPart};
+use radio_events::{Event, Reply};
+use std::alloc::{AllocError, Global};
+use std::marker::PhantomData;
+use std::sync::ledger::Share;
+
+/// The control and its list, and what is owed: there is room for two lines for each end that is owed, a cut and an entry.
+/// What no caller has of the ledger yet is cut into as many parts as there are passes left.
+#[derive(Drop)]
+pub(crate) struct ControlAccounts<C: Chronicle, H: House> {
+    pub(crate) control: Control,
+    pub(crate) lines: Notes<ControlLine>,
+    debt: Debt<H>,
+    spare: Share<H>,
+    passes_left: u64,
+    of: PhantomData<C>,
+    ghost keeps: { lines.keeps ≡ C.KEEPS },
+    ghost room: { debt.owed + debt.owed ≤ lines.room },
+    ghost fits: { debt.owed + debt.owed < 2 ^ 64 },
+    ghost left: { spare.parts ≡ passes_left },
+    ghost none: { spare.amount ≡ 0 },
+}
+
+impl<C: Chronicle, H: House> ControlAccounts<C, H> {
+    pub(crate) fn new(
+        alloc: Global,
+        control: Control,
+        debt: Debt<H>,
+        spare: Share<H>,
+        passes_left: u64,
+    ) -> ControlAccounts<C, H>
+        requires none { debt.owed ≡ 0 }
+        requires spare { (spare.parts ≡ passes_left) × (spare.amount ≡ 0) }
+        ensures control { result.control ≡ control }
+        ensures lines { result.lines.items ≡ [] }
+    {
+        ControlAccounts {
+            control,
+            lines: Notes::new(alloc, C::KEEPS),
+            debt,
+            spare,
+            passes_left,
+            of: PhantomData,
+        }
+    }
+
+    /// Empty holdings. `None` if all were taken.
+    pub(crate) fn holdings(&mut self, alloc: Global) -> Option<Holdings<H>>
+        ensures empty { IfSome result (λ holdings. holdings.receipts.items ≡ []) }
+        ensures same { (self.new.control ≡ self.old.control) × (self.new.lines ≡ self.old.lines) }
+    {
+        if self.passes_left == 0 {
+            return None;
+        }
+        let share = self.spare.split_off(1, 0);
+        self.passes_left -= 1;
+        Some(Holdings::new(alloc, share))
+    }
+
+    /// Returns the mount's part, wherever it is; `None` if the mount has none. `OutOfMemory` if memory was refused.
+    pub(crate) fn part_of(&mut self, book: MountBook<C>) -> Result<Option<ListedPart>, OutOfMemory>
+        ensures { self.new.lines ≡ self.old.lines }
+    {
+        let (mount, part) = book.into_part();
+        match part {
+            Some(part) => Ok(Some(part)),
+            None => self.control.take_out(&mount),
+        }
+    }
+
+    /// Its lines.
+    pub(crate) fn into_lines(self) -> Vec<ControlLine>
+        ensures { result.items ≡ self.lines.items }
+    {
+        let ControlAccounts {
+            control,
+            lines,
+            debt,
+            spare,
+            ..
+        } = self;
+        drop(control);
+        drop(debt);
+        drop(spare);
+        lines.into_items()
+    }
+
+    /// One event over the parts that are lent, if nothing is stored. `OutOfMemory` if memory was refused; nothing has changed
+    /// then.
+    pub(crate) fn answer(
+        &mut self,
+        lent: &mut [MountBook<C>],
+        event: Event,
+    ) -> Result<Receipt, OutOfMemory>
+        ensures event { IfOk result (λ receipt. (receipt.event ≡ event) × (receipt.stamp ≡ stamp 0 0)) }
+        ensures step { IfOk result (λ receipt. IsControlStep lent.old self.old.control event receipt.reply lent.new self.new.control) }
+        ensures lines { self.new.lines.items ≡ self.old.lines.items }
+        ensures err { OnErr result (IsRefused lent.old self.old.control lent.new self.new.control) }
+        ensures frees { TakesNoMemory event → IsOk result }
+    {
+        match event.again() {
+            Ok(told) => match self.step_lent(lent, event) {
+                Ok(reply) => Ok(Receipt::new(NOWHERE, told, reply)),
+                Err(refused) => {
+                    drop(told);
+                    Err(refused)
+                }
+            },
+            Err(refused) => {
+                drop(event);
+                Err(refused)
+            }
+        }
+    }
+
+    /// The control's step over the parts that are lent.
+    fn step_lent(&mut self, lent: &mut [MountBook<C>], event: Event) -> Result<Reply, OutOfMemory>
+        ensures step { IfOk result (λ reply. IsControlStep lent.old self.old.control event reply lent.new self.new.control) }
+        ensures lines { self.new.lines ≡ self.old.lines }
+        ensures debt { self.new.debt ≡ self.old.debt }
+        ensures err { OnErr result (IsControlAsBefore lent.old self.old.control lent.new self.new.control) }
+        ensures frees { TakesNoMemory event → IsOk result }
+    {
+        lend_each(&mut self.control, lent);
+        let stepped = self.control.step(event);
+        take_back_each(&mut self.control, lent);
+        stepped
+    }
+
+    /// The control's step over the parts that are lent, with its reply three times.
+    fn step3_lent(
+        &mut self,
+        lent: &mut [MountBook<C>],
+        event: Event,
+    ) -> Result<[Reply; 3], OutOfMemory>
+        ensures step { IfOk result (λ replies. (reply : ReplyOf) × (replies ≡ three_of reply)
+            × IsControlStep lent.old self.old.control event reply lent.new self.new.control) }
+        ensures lines { self.new.lines ≡ self.old.lines }
+        ensures debt { self.new.debt ≡ self.old.debt }
+        ensures err { OnErr result (IsControlAsBefore lent.old self.old.control lent.new self.new.control) }
+        ensures frees { TakesNoMemory event → IsOk result }
+    {
+        lend_each(&mut self.control, lent);
+        let stepped = self.control.step3(event);
+        take_back_each(&mut self.control, lent);
+        stepped
+    }
+
+    /// One event over the parts that are lent, which is stored. `OutOfMemory` if memory was refused; nothing has changed then.
+    pub(crate) fn note(
+        &mut self,
+        holdings: &mut Holdings<H>,
+        lent: &mut [MountBook<C>],
+        event: Event,
+    ) -> Result<Receipt, OutOfMemory>
+        requires { C.KEEPS ≡ true }
+        ensures event { IfOk result (λ receipt. receipt.event ≡ event) }
+        ensures step { IfOk result (λ receipt. IsControlStep lent.old self.old.control event receipt.reply lent.new self.new.control) }
+        ensures place { IfOk result (λ receipt. receipt.stamp ≡ stamp 0 (length self.new.lines.items)) }
+        ensures lines { IfOk result (λ receipt. AreNoted self.old.lines.items lent.new receipt self.new.lines.items) }
+        ensures receipts { IfOk result (λ receipt. holdings.new.receipts.items ≡ holdings.old.receipts.items ++ receipt ∷ []) }
+        ensures err { OnErr result (IsRefused lent.old self.old.control lent.new self.new.control) }
+        ensures err_lines { OnErr result ((self.new.lines.items ≡ self.old.lines.items) × (holdings.new.receipts.items ≡ holdings.old.receipts.items)) }
+        ensures frees { TakesNoMemory event → room_for holdings.old.present.items event ≡ 0 → length lent.old ≤ 1 → IsOk result }
+    {
+        match self.prepare(holdings, lent.len(), &event) {
+            Ok(copies) => self.note_in_room(holdings, lent, event, copies),
+            Err(refused) => {
+                drop(event);
+                Err(refused)
+            }
+        }
+    }
+
+    /// Makes room for an event that is lent so many parts, and for the ends that are owed then, and copies of the event.
+    /// `OutOfMemory` if memory was refused.
+    fn prepare(
+        &mut self,
+        holdings: &mut Holdings<H>,
+        lent: usize,
+        event: &Event,
+    ) -> Result<Copies, OutOfMemory>
+        ensures copies { IfOk result (λ copies. (copies.noted ≡ event.now) × (copies.held ≡ event.now) × (copies.told ≡ event.now)) }
+        ensures some { OnOk result (0 < self.new.debt.owed + room_for holdings.new.present.items event.now) }
+        ensures lines { OnOk result (lines_for self.new.debt.owed (room_for holdings.new.present.items event.now) lent ≤ self.new.lines.room) }
+        ensures most { OnOk result (self.new.lines.room < 2 ^ 64) }
+        ensures receipts { OnOk result
+            (vec_len holdings.new.receipts + vec_len holdings.new.present + room_for holdings.new.present.items event.now
+            ≤ vec_capacity holdings.new.receipts) }
+        ensures present { OnOk result (is_arrival event.now ≡ true → vec_len holdings.new.present < vec_capacity holdings.new.present) }
+        ensures frees { TakesNoMemory event.now → room_for holdings.old.present.items event.now ≡ 0 → lent ≤ 1 → IsOk result }
+        ensures same { (self.new.control ≡ self.old.control) × (self.new.lines.items ≡ self.old.lines.items) }
+        ensures held { (holdings.new.receipts.items ≡ holdings.old.receipts.items) × (holdings.new.present.items ≡ holdings.old.present.items) }
+    {
+        self.make_room(holdings, lent, event)?;
+        thrice(event)
+    }
+
+    /// Makes room for an event that is lent so many parts, and for the ends that are owed then. `OutOfMemory` if memory was
+    /// refused.
+    fn make_room(
+        &mut self,
+        holdings: &mut Holdings<H>,
+        lent: usize,
+        event: &Event,
+    ) -> Result<(), OutOfMemory>
+        ensures some { OnOk result (0 < self.new.debt.owed + room_for holdings.new.present.items event.now) }
+        ensures lines { OnOk result (lines_for self.new.debt.owed (room_for holdings.new.present.items event.now) lent ≤ self.new.lines.room) }
+        ensures most { OnOk result (self.new.lines.room < 2 ^ 64) }
+        ensures receipts { OnOk result
+            (vec_len holdings.new.receipts + vec_len holdings.new.present + room_for holdings.new.present.items event.now
+            ≤ vec_capacity holdings.new.receipts) }
+        ensures present { OnOk result (is_arrival event.now ≡ true → vec_len holdings.new.present < vec_capacity holdings.new.present) }
+        ensures frees { room_for holdings.old.present.items event.now ≡ 0 → lent ≤ 1 → IsOk result }
+        ensures same { (self.new.control ≡ self.old.control) × (self.new.lines.items ≡ self.old.lines.items) }
+        ensures held { (holdings.new.receipts.items ≡ holdings.old.receipts.items) × (holdings.new.present.items ≡ holdings.old.present.items) }
+    {
+        let more = holdings.room_for(event);
+        holdings.audit(&mut self.debt);
+        let Some(lines) = lines_for(self.debt.owed, more, lent) else {
+            return Err(AllocError);
+        };
+        self.lines.reserve(lines)?;
+        holdings.reserve(more)
+    }
+
+    /// One event over the parts that are lent, which is stored, and for which there is room.
+    fn note_in_room(
+        &mut self,
+        holdings: &mut Holdings<H>,
+        lent: &mut [MountBook<C>],
+        event: Event,
+        copies: Copies,
+    ) -> Result<Receipt, OutOfMemory>
+        requires keeps { C.KEEPS ≡ true }
+        requires copies { (copies.noted ≡ event) × (copies.held ≡ event) × (copies.told ≡ event) }
+        requires some { 0 < self.old.debt.owed + room_for holdings.old.present.items event }
+        requires lines { lines_for self.old.debt.owed (room_for holdings.old.present.items event) (length lent.old) ≤ self.old.lines.room }
+        requires most { self.old.lines.room < 2 ^ 64 }
+        requires receipts { vec_len holdings.old.receipts + vec_len holdings.old.present + room_for holdings.old.present.items event
+            ≤ vec_capacity holdings.old.receipts }
+        requires present { is_arrival event ≡ true → vec_len holdings.old.present < vec_capacity holdings.old.present }
+        ensures event { IfOk result (λ receipt. receipt.event ≡ event) }
+        ensures step { IfOk result (λ receipt. IsControlStep lent.old self.old.control event receipt.reply lent.new self.new.control) }
+        ensures place { IfOk result (λ receipt. receipt.stamp ≡ stamp 0 (length self.new.lines.items)) }
+        ensures lines { IfOk result (λ receipt. AreNoted self.old.lines.items lent.new receipt self.new.lines.items) }
+        ensures receipts { IfOk result (λ receipt. holdings.new.receipts.items ≡ holdings.old.receipts.items ++ receipt ∷ []) }
+        ensures err { OnErr result (IsControlAsBefore lent.old self.old.control lent.new self.new.control) }
+        ensures err_lines { OnErr result ((self.new.lines.items ≡ self.old.lines.items) × (holdings.new.receipts.items ≡ holdings.old.receipts.items)) }
+        ensures frees { TakesNoMemory event → IsOk result }
+    {
+        let Copies { noted, held, told } = copies;
+        match self.step3_lent(lent, event) {
+            Ok(replies) => {
+                let (first, second, third) = apart(replies);
+                note_cuts(&mut self.lines, lent);
+                self.lines.note(ControlLine::Made(Entry {
+                    event: noted,
+                    reply: first,
+                }));
+                let stamp = Stamp {
+                    list: 0,
+                    serial: self.lines.len() as u64,
+                };
+                holdings.note(&mut self.debt, Receipt::new(stamp, held, second));
+                Ok(Receipt::new(stamp, told, third))
+            }
+            Err(refused) => {
+                drop(noted);
+                drop(held);
+                drop(told);
+                Err(refused)
+            }
+        }
+    }
+}
+
+/// Returns for how many lines there has to be room before an entry that is lent so many parts: for it and its cuts, and then for
+/// two lines for each end that is owed, of which so many more may be owed.
+fn lines_for(owed: usize, more: usize, lent: usize) -> Option<usize>
+    ensures value { IfSome result (λ lines. lines ≡ lines_for owed more lent) }
+    ensures some { more ≡ 0 → lent ≤ 1 → owed + owed < 2 ^ 64 → IsSome result }
+{
+    let ends = owed.checked_add(more)?;
+    ends.checked_add(ends)?.checked_add(lent.saturating_sub(1))
+}

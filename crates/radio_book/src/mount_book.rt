@@ -1,0 +1,329 @@
+//! The book of a mount: its part, and what that does by itself.
+
+ghost use Rattle.std.specs.Prelude.{◌≡◌, ◌+◌, ◌≤◌, ◌<◌, true, false, None, IfOk, IsTrue, OnErr, vec_len, vec_capacity};
+ghost use Rattle.radio_book.specs.MountBooks.{noted_own, once_in, own_in, CanOwn, IsBack, IsCut, IsDone, IsInList, IsLent, IsNowhere, IsOf};
+ghost use Rattle.radio_chronicle.specs.Stamps.{stamp};
+ghost use Rattle.radio_book.specs.OwnSteps.{is_own, IsAlike};
+
+use crate::copies::twice;
+use crate::holdings::Holdings;
+use crate::own_steps::{Twice, is_own, items_here, step_here, step_twice_here};
+use crate::receipt::NOWHERE;
+use crate::{Chronicle, House, OutOfMemory, Pass, Receipt, Stamp};
+use radio_chronicle::ControlLine;
+use radio_core::{Control, ListedPart, PartAnswer};
+use radio_events::Event;
+use radio_values::MountName;
+use std::alloc::Global;
+use std::marker::{Model, PhantomData};
+
+/// What a mount's book does with an event.
+#[derive(Drop)]
+pub enum Own {
+    /// The mount's part has replied.
+    Made(Receipt),
+    /// The client is not attached to the mount, or the control has the part; nothing has changed.
+    Elsewhere(Event),
+}
+
+/// A mount's part, with the number of its list. Contracts see the part, unless the control has it.
+pub struct MountBook<C: Chronicle> {
+    alloc: Global,
+    mount: MountName,
+    list: u64,
+    part: Option<ListedPart>,
+    moment: u64,
+    queue: u64,
+    /// How many items its list had when the part was lent last.
+    items: u64,
+    of: PhantomData<C>,
+}
+
+impl<C: Chronicle> Drop for MountBook<C> {
+    fn drop(self) {
+        let MountBook {
+            alloc: _,
+            mount: _,
+            list: _,
+            part,
+            moment: _,
+            queue: _,
+            items: _,
+            of: _,
+        } = self;
+        drop(part);
+    }
+}
+
+impl<C: Chronicle> Model for MountBook<C> {
+    ghost use Rattle.radio_book.specs.MountBooks.{BookOfMount};
+
+    ghost Value = { BookOfMount };
+
+    ghost view = { λ b. record { mount = b.mount; list = b.list; part = b.part; moment = b.moment; queue = b.queue } };
+}
+
+impl<C: Chronicle> MountBook<C> {
+    /// Returns the book of a mount whose part the control has. Its list has this number; at least so many bytes of the
+    /// mount's stream are kept. It takes no memory.
+    pub fn new(alloc: Global, mount: MountName, list: u64, queue: u64) -> MountBook<C>
+        ensures { result ≡ record { mount = mount; list = list; part = None; moment = 0; queue = queue } }
+    {
+        MountBook {
+            alloc,
+            mount,
+            list,
+            part: None,
+            moment: 0,
+            queue,
+            items: 0,
+            of: PhantomData,
+        }
+    }
+
+    /// Returns the mount.
+    pub fn mount(&self) -> &MountName
+        ensures { result.now ≡ self.now.mount }
+    {
+        &self.mount
+    }
+
+    /// Returns the number of its list, counted from 1.
+    pub fn list(&self) -> u64
+        ensures { result ≡ self.now.list }
+    {
+        self.list
+    }
+
+    /// Makes it the book of this mount, if nothing has happened at its mount. Returns whether it is.
+    pub fn reuse(&mut self, mount: MountName) -> bool
+        ensures some { IsTrue result → (self.old.part ≡ None) × (self.new ≡ record self.old { mount = mount }) }
+        ensures none { result ≡ false → self.new ≡ self.old }
+    {
+        if self.part.is_some() || self.items > 0 {
+            return false;
+        }
+        self.mount = mount;
+        true
+    }
+
+    /// Does what the event does if the mount's part can by itself: a draw of a listener that is attached to it, a block or a
+    /// title of the source that feeds it. `OutOfMemory` if memory was refused; nothing has changed then.
+    pub fn apply<H: House>(
+        &mut self,
+        pass: &mut Pass<C, H>,
+        event: Event,
+    ) -> Result<Own, OutOfMemory>
+        // the receipt is of this event, and whom the part does not know gets it back
+        ensures event { IfOk result (λ own. IsOf event own) }
+        // the reply is the part's own, and the part is as it says then
+        ensures done { CanOwn self.old event → IfOk result (λ own. IsDone self.old event own self.new) }
+        // if entries are stored, the receipt's place is in the mount's list, and the pass gains the receipt
+        ensures list { C.KEEPS ≡ true → IfOk result (λ own. IsInList self.old.list own) }
+        ensures pass { C.KEEPS ≡ true → IfOk result (λ own. pass.new ≡ noted_own own pass.old) }
+        // if they are not, nothing is noted
+        ensures unkept { C.KEEPS ≡ false → (pass.new ≡ pass.old) × IfOk result (λ own. IsNowhere own) }
+        ensures err { CanOwn self.old event → OnErr result (self.new ≡ self.old) }
+        ensures err_pass { OnErr result (pass.new ≡ pass.old) }
+    {
+        if C::KEEPS {
+            self.note(&mut pass.holdings, event)
+        } else {
+            self.answer(event)
+        }
+    }
+
+    /// Puts the part, if it is here, in the place of that which the control has. It takes no memory.
+    pub(crate) fn lend(&mut self, control: &mut Control)
+        ensures { IsLent self.old self.new control.old control.new }
+    {
+        let Some(part) = self.part.take() else {
+            return;
+        };
+        self.items = part.item_count();
+        match control.exchange(part) {
+            Ok(there) => drop(there),
+            Err(part) => self.part = Some(part),
+        }
+    }
+
+    /// Takes the part out of the control. If memory is refused the control keeps it, until it is lent again.
+    pub(crate) fn take_back(&mut self, control: &mut Control)
+        ensures { IsBack self.old self.new control.old control.new }
+    {
+        self.moment = control.time();
+        if self.part.is_some() {
+            return;
+        }
+        if let Ok(Some(part)) = control.take_out(&self.mount) {
+            self.part = Some(part);
+        }
+    }
+
+    /// Returns the line of what a control entry has made in the list.
+    pub(crate) fn cut(&self) -> ControlLine
+        ensures { IsCut self.now.list result }
+    {
+        let to = match &self.part {
+            Some(part) => part.item_count(),
+            None => self.items,
+        };
+        ControlLine::Cut {
+            list: self.list,
+            from: self.items,
+            to,
+        }
+    }
+
+    /// Returns the mount and its part, if that is here.
+    pub(crate) fn into_part(self) -> (MountName, Option<ListedPart>)
+        ensures { (result.0 ≡ self.mount) × (result.1 ≡ self.part) }
+    {
+        let MountBook {
+            alloc: _,
+            mount,
+            list: _,
+            part,
+            moment: _,
+            queue: _,
+            items: _,
+            of: _,
+        } = self;
+        (mount, part)
+    }
+
+    /// Does what the event does, if nothing is stored.
+    fn answer(&mut self, event: Event) -> Result<Own, OutOfMemory>
+        ensures event { IfOk result (λ own. IsOf event own) }
+        ensures done { CanOwn self.old event → IfOk result (λ own. IsDone self.old event own self.new) }
+        ensures place { IfOk result (λ own. IsNowhere own) }
+        ensures err { OnErr result (self.new ≡ self.old) }
+    {
+        match event.again() {
+            Ok(told) => self.answer_copied(event, told),
+            Err(refused) => {
+                drop(event);
+                Err(refused)
+            }
+        }
+    }
+
+    /// Does what the event does, of which this is a copy, if nothing is stored.
+    fn answer_copied(&mut self, event: Event, told: Event) -> Result<Own, OutOfMemory>
+        requires { told ≡ event }
+        ensures event { IfOk result (λ own. IsOf event own) }
+        ensures done { CanOwn self.old event → IfOk result (λ own. IsDone self.old event own self.new) }
+        ensures place { IfOk result (λ own. IsNowhere own) }
+        ensures err { OnErr result (self.new ≡ self.old) }
+    {
+        let answered = step_here(self.alloc, &mut self.part, self.moment, self.queue, event);
+        own_of(answered, told)
+    }
+
+    /// Does what the event does, which is stored.
+    fn note<H: House>(
+        &mut self,
+        holdings: &mut Holdings<H>,
+        event: Event,
+    ) -> Result<Own, OutOfMemory>
+        ensures event { IfOk result (λ own. IsOf event own) }
+        ensures done { CanOwn self.old event → IfOk result (λ own. IsDone self.old event own self.new) }
+        ensures list { IfOk result (λ own. IsInList self.old.list own) }
+        ensures receipts { IfOk result (λ own. holdings.new.receipts.items ≡ noted_own own holdings.old.receipts.items) }
+        ensures err { CanOwn self.old event → OnErr result (self.new ≡ self.old) }
+        ensures err_receipts { OnErr result (holdings.new.receipts.items ≡ holdings.old.receipts.items) }
+    {
+        if !is_own(&event) {
+            return Ok(Own::Elsewhere(event));
+        }
+        if let Err(refused) = holdings.reserve(1) {
+            drop(event);
+            return Err(refused);
+        }
+        match twice(&event) {
+            Ok((held, told)) => self.note_copied(holdings, event, held, told),
+            Err(refused) => {
+                drop(event);
+                Err(refused)
+            }
+        }
+    }
+
+    /// Does what the event does, of which these are copies, and which is stored; the pass has room for its receipt.
+    fn note_copied<H: House>(
+        &mut self,
+        holdings: &mut Holdings<H>,
+        event: Event,
+        held: Event,
+        told: Event,
+    ) -> Result<Own, OutOfMemory>
+        requires own { is_own event ≡ true }
+        requires copies { (held ≡ event) × (told ≡ event) }
+        requires room { vec_len holdings.old.receipts + vec_len holdings.old.present < vec_capacity holdings.old.receipts }
+        ensures event { IfOk result (λ own. IsOf event own) }
+        ensures done { CanOwn self.old event → IfOk result (λ own. IsDone self.old event own self.new) }
+        ensures list { IfOk result (λ own. IsInList self.old.list own) }
+        ensures receipts { IfOk result (λ own. holdings.new.receipts.items ≡ noted_own own holdings.old.receipts.items) }
+        ensures err { CanOwn self.old event → OnErr result (self.new ≡ self.old) }
+        ensures err_receipts { OnErr result (holdings.new.receipts.items ≡ holdings.old.receipts.items) }
+    {
+        let stamp = Stamp {
+            list: self.list,
+            serial: items_here(&self.part).saturating_add(1),
+        };
+        let stepped = step_twice_here(self.alloc, &mut self.part, self.moment, self.queue, event);
+        note_own(holdings, stamp, held, told, stepped)
+    }
+}
+
+/// Returns what becomes of a part's answer to the event, if nothing is stored.
+fn own_of(answered: Result<PartAnswer, OutOfMemory>, told: Event) -> Result<Own, OutOfMemory>
+    ensures { result ≡ own_in (stamp 0 0) told answered }
+{
+    match answered {
+        Ok(PartAnswer::Replied(reply)) => Ok(Own::Made(Receipt::new(NOWHERE, told, reply))),
+        Ok(PartAnswer::Elsewhere(event)) => {
+            drop(event);
+            Ok(Own::Elsewhere(told))
+        }
+        Err(refused) => {
+            drop(told);
+            Err(refused)
+        }
+    }
+}
+
+/// Returns what becomes of a part's answer to the event, which is there twice, if it is stored: the pass takes its receipt, for
+/// which there is room.
+fn note_own<H: House>(
+    holdings: &mut Holdings<H>,
+    stamp: Stamp,
+    held: Event,
+    told: Event,
+    stepped: Result<Twice, OutOfMemory>,
+) -> Result<Own, OutOfMemory>
+    requires own { is_own held ≡ true }
+    requires same { held ≡ told }
+    requires alike { IfOk stepped (λ twice. IsAlike twice) }
+    requires room { vec_len holdings.old.receipts + vec_len holdings.old.present < vec_capacity holdings.old.receipts }
+    ensures value { result ≡ own_in stamp told (once_in stepped) }
+    ensures receipts { IfOk result (λ own. holdings.new.receipts.items ≡ noted_own own holdings.old.receipts.items) }
+    ensures err { OnErr result (holdings.new.receipts.items ≡ holdings.old.receipts.items) }
+{
+    match stepped {
+        Ok(Twice::Replied(again, reply)) => {
+            holdings.note_own(Receipt::new(stamp, held, again));
+            Ok(Own::Made(Receipt::new(stamp, told, reply)))
+        }
+        Ok(Twice::Elsewhere(event)) => {
+            drop(event);
+            drop(held);
+            Ok(Own::Elsewhere(told))
+        }
+        Err(refused) => {
+            drop(held);
+            drop(told);
+            Err(refused)
+        }
+    }
+}
