@@ -10,6 +10,7 @@
 //! - `mounts`: sessions in the parts of the mounts, through the calls of `radio_mounts`.
 //! - `own_steps`: draws, blocks and titles by a mount's part alone.
 //! - `mount_books`: two mounts' parts that stand apart, each with its book, and settled.
+//! - `locked`: the same under a lock for each mount.
 //! - `lent_parts`: a part that stands apart, and is lent to the control, beside a core.
 //!
 //! Of the book and the hall:
@@ -54,6 +55,8 @@ mod kept_rows;
 mod lent_parts;
 #[cfg(test)]
 mod listeners;
+#[cfg(test)]
+mod locked;
 #[cfg(test)]
 mod masters;
 #[cfg(test)]
