@@ -39,6 +39,7 @@ mod ServiceLemmas
 mod SightLemmas
 mod SliceLemmas
 mod StayingOn
+mod StopLemmas
 mod StretchLemmas
 mod TableSteps
 mod TickEnds

@@ -109,7 +109,7 @@ seat_there mount user (HasSeat seat) e =
     (seat, refl, (bytes_eq-Decides seat.mount mount).0 is.0, sent_by user seat.pair is.1)
 seat_there mount user (HasLostIt rule last) e = cc
 
-there_already : (w : World) (mount : List ℕ) (pair : Option Credentials) (allows : Bool) → allows_duplicates_at w mount ≡ allows
+pub there_already : (w : World) (mount : List ℕ) (pair : Option Credentials) (allows : Bool) → allows_duplicates_at w mount ≡ allows
     → (not allows && sits_already w.seats mount pair) ≡ true → HasUserAt w mount pair
 there_already w mount pair true once is = cc
 there_already w mount None false once is = cc

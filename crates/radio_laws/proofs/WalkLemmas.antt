@@ -28,7 +28,7 @@ pub full_at : (w : World) (mount : List ℕ) (limit : Option ℕ) → most_at w 
 full_at w mount None limited full = cc
 full_at w mount (Some most) limited full = record { most = most; limited = limited; reached = grind (arith, nat_tests) }
 
-none_there : (found : Option Session) → is_some found ≡ false → found ≡ None
+pub none_there : (found : Option Session) → is_some found ≡ false → found ≡ None
 none_there None e = refl
 none_there (Some session) e = cc
 

@@ -7,6 +7,7 @@ pub mod Walks
 pub mod OnDemand
 pub mod Commanded
 pub mod LimitDenials
+pub mod WalkDenials
 pub mod Open
 pub mod Access
 pub mod Admission

@@ -11,6 +11,7 @@ ghost use Rattle.radio_core.specs.Run.{run_after};
 ghost use Rattle.radio_events.specs.Events.{client_in};
 ghost use Rattle.radio_laws.specs.Denials.{DenialsAreThePolicys, ThePolicyDenies, AddressesAreDenied, OnlySourcesFeed, KnownMountsAreKnown};
 ghost use Rattle.radio_laws.specs.FinishesTold.{FinishedAreTold};
+ghost use Rattle.radio_laws.specs.WalkDenials.{WalksAreStoppedInOrder};
 ghost use Rattle.radio_laws.specs.Access.{AccessIsKept};
 ghost use Rattle.radio_laws.specs.LastMounts.{IsLastWhereHeSits, FinishedWhereHeSat, EndedByClockWhereTheySat, FinishedRowsStay};
 ghost use Rattle.radio_laws.specs.Limits.{IsWithinLimits, AdmitsByLimits};
@@ -54,6 +55,11 @@ pub fn denials_are_the_policys()
     // a mount of the settings, one that a relay feeds and one that is live are never denied as unknown
     ensures known { (settings : Settings) (lists : Lists) (events : List Event) (asked : ListenRequest)
         → KnownMountsAreKnown (run_after settings lists events) asked }
+    // a listener is denied by the mount that it asked for, if that does not let it in or has its user; else by the first that
+    // holds of `not-live`, `mount-full`, `listener-password` and `user-twice` at a mount of its walk, or since ten have handed
+    // the walk on
+    ensures stops { (settings : Settings) (lists : Lists) (events : List Event) (asked : ListenRequest)
+        → WalksAreStoppedInOrder (run_after settings lists events) asked }
 {
     denials_name_the_first_rule();
 }

@@ -1,6 +1,7 @@
 use Rattle.radio_core.specs.Run.{run_after}
 use Rattle.radio_laws.proofs.DeniedLemmas.{policy_denies}
 use Rattle.radio_laws.proofs.DenialLemmas.{denials_hold, addresses_hold, only_sources_feed, known_mounts}
+use Rattle.radio_laws.proofs.StopLemmas.{stopped_in_order}
 use Rattle.radio_laws.proofs.laws.denials_are_the_policys.Goals as goal
 
 pub returns-clause-denied : goal.returns-clause-denied
@@ -17,3 +18,6 @@ returns-clause-sources c settings lists events event = only_sources_feed (run_af
 
 pub returns-clause-known : goal.returns-clause-known
 returns-clause-known c settings lists events asked = known_mounts (run_after settings lists events) asked
+
+pub returns-clause-stops : goal.returns-clause-stops
+returns-clause-stops c settings lists events asked = stopped_in_order (run_after settings lists events) asked
