@@ -16,6 +16,7 @@ use std::cell::Cell;
 /// is answered.
 ///
 /// What is noted and told is decided by [`Visit`], [`heard_by`] and [`Notice`]; this only keeps it.
+#[derive(Drop)]
 pub struct Account {
     alloc: Global,
     visit: Cell<Visit>,
@@ -24,24 +25,6 @@ pub struct Account {
     last_mount: Cell<Vec<u8>>,
     is_source_told: Cell<bool>,
     is_told: Cell<bool>,
-}
-
-impl Drop for Account {
-    fn drop(self) {
-        let Account {
-            alloc: _,
-            visit,
-            heard,
-            last_mount,
-            is_source_told,
-            is_told,
-        } = self;
-        drop(visit);
-        drop(heard);
-        drop(last_mount);
-        drop(is_source_told);
-        drop(is_told);
-    }
 }
 
 impl Account {
