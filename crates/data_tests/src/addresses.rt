@@ -20,6 +20,7 @@ fn is_written(alloc: Global, number: u128, text: &str) -> bool {
     }
 }
 
+// rule: Peer
 #[test]
 fn made_and_written(rt: HostRuntime) {
     for (number, text) in WRITTEN {

@@ -36,6 +36,7 @@ fn memory_of_copied(alloc: Global, bytes: &[u8]) -> Result<usize, OutOfMemory> {
 const MADE: &[(&[u8], usize, usize)] = &[(b"a", 4096, 1), (b"abcd", 8, 8), (b"abcd", 9, 4)];
 
 // no contract of std or of `bytes` says how much memory bytes keep
+// rule: Cut into blocks
 #[test]
 fn blocks_keep_little_room(rt: HostRuntime) {
     for (bytes, room, memory) in MADE {

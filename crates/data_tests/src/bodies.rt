@@ -121,6 +121,7 @@ fn all_answer(alloc: Global, kind: Kind, feeds: Feeds) -> bool {
     true
 }
 
+// rule: Place of a fault; Feed
 #[test]
 fn feeds(rt: HostRuntime) {
     for (kind, feeds) in FED {

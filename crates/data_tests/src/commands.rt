@@ -120,6 +120,7 @@ const TITLES: &[(&[u8], Option<&[u8]>)] = &[
     (b"mode=other&mode=updinfo&mount=/a&song=x", None),
 ];
 
+// rule: No command; Missing argument; First argument
 #[test]
 fn commands_are_read(rt: HostRuntime) {
     for (path, query, want) in ROWS {
@@ -127,6 +128,7 @@ fn commands_are_read(rt: HostRuntime) {
     }
 }
 
+// rule: First argument
 #[test]
 fn titles_are_read(rt: HostRuntime) {
     for (query, want) in TITLES {
@@ -134,6 +136,7 @@ fn titles_are_read(rt: HostRuntime) {
     }
 }
 
+// rule: Percent decoding
 #[test]
 fn paths_are_read(rt: HostRuntime) {
     assert!(rt; is_path_read(rt.alloc()));

@@ -22,6 +22,7 @@ fn is_no_pair(alloc: Global, value: &[u8]) -> bool {
     }
 }
 
+// rule: Authorization
 #[test]
 fn values_without_a_pair(rt: HostRuntime) {
     for value in NO_PAIRS {
@@ -67,6 +68,7 @@ fn are_users_read(alloc: Global) -> bool {
     }
 }
 
+// rule: Authorization
 #[test]
 fn no_secret_is_shown(rt: HostRuntime) {
     assert!(rt; is_pair_read(rt.alloc()));
@@ -127,6 +129,8 @@ fn is_time_alike<C: Clock>(clock: &C, alloc: Global) -> bool {
     0 < listed && listed < other.saturating_mul(2) && other < listed.saturating_mul(2)
 }
 
+// rule: User list
+// only tested: User list: how long it takes
 #[test]
 fn unknown_users_take_as_long(rt: HostRuntime) {
     assert!(rt; is_time_alike(&rt, rt.alloc()));

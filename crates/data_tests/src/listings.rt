@@ -63,6 +63,7 @@ const STATS: &[u8] =
 
 const MOUNTS: &[u8] = br#"{"mounts":[{"fallback":"","hidden":true,"listeners":1,"mount":"/h"}]}"#;
 
+// rule: List of mounts
 #[test]
 fn admin_listings_are_written(rt: HostRuntime) {
     let rows = [mount(b"/h", b"", true)];
@@ -144,6 +145,7 @@ fn is_reached(alloc: Global, host: &[u8], address: &[u8], want: &[u8]) -> bool {
     }
 }
 
+// rule: Address of a stream
 #[test]
 fn servers_are_reached(rt: HostRuntime) {
     for (host, address, want) in REACHED {

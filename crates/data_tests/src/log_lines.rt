@@ -31,6 +31,7 @@ fn is_told_at(alloc: Global, seconds: u64, moment: &str) -> bool {
     }
 }
 
+// rule: Line of the log
 #[test]
 fn moments_are_told(rt: HostRuntime) {
     for (seconds, moment) in MOMENTS {
@@ -76,6 +77,7 @@ fn clients_are_told(rt: HostRuntime) {
     assert!(rt; is_told(rt.alloc(), client(b"", b"VLC/3.0.20 LibVLC/3.0.20"), told));
 }
 
+// rule: Line of the log
 #[test]
 fn forged_lines_are_not(rt: HostRuntime) {
     let told =

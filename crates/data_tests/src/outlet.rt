@@ -97,11 +97,14 @@ fn is_bounded(alloc: Global) -> bool {
     added == 4096 && waiting.take_lost() == 904 && waiting.take().len() == 65_536
 }
 
+// rule: Log failures
+// only tested: Log failures: that the thread does so
 #[test]
 fn a_torn_line(rt: HostRuntime) {
     assert!(rt; is_torn_and_told(&rt, rt.alloc()));
 }
 
+// rule: Log queue
 #[test]
 fn lines_that_wait(rt: HostRuntime) {
     assert!(rt; is_bounded(rt.alloc()));

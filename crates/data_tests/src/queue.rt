@@ -93,6 +93,7 @@ fn a_stream_of_more_than_a_gigabyte(rt: HostRuntime) {
     assert!(rt; end_of_many(rt.alloc(), 300_000) == Ok(1_228_800_000));
 }
 
+// rule: Kept stream
 #[test]
 fn kept_tail(rt: HostRuntime) {
     for (first, other, blocks, offset) in OFFSETS {

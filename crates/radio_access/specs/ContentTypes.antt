@@ -22,5 +22,6 @@ abbrev pub is_same_type : List ℕ → List ℕ → Bool
 is_same_type a b = bytes_eq (map to_ascii_lowercase a) (map to_ascii_lowercase b)
 
 -- it is one of the refused types, in any ASCII case
+-- rule: Content type
 abbrev pub is_refused_type : List ℕ → Bool
 is_refused_type text = list_any (λ refused. is_same_type refused (media_type text)) refused_types

@@ -27,14 +27,17 @@ abbrev pub no_lists : Lists
 no_lists = record { denied = None; allowed = None; users = [] }
 
 -- a deny list is given, and lists the address
+-- rule: Address denied; Address not allowed
 abbrev pub is_denied : Lists → Address → Bool
 is_denied lists peer = option_map_or (λ ranges. is_listed ranges peer) lists.denied false
 
 -- no allow list is given, or it lists the address
+-- rule: Address denied; Address not allowed
 abbrev pub is_allowed : Lists → Address → Bool
 is_allowed lists peer = option_map_or (λ ranges. is_listed ranges peer) lists.allowed true
 
 -- the address passes both lists
+-- rule: Address denied; Address not allowed
 abbrev pub passes : Lists → Address → Bool
 passes lists peer = not (is_denied lists peer) && is_allowed lists peer
 
@@ -81,10 +84,12 @@ abbrev pub is_digest_of : List ℕ → Option (List ℕ) → Bool
 is_digest_of password listed = option_map_or (λ digest. bytes_eq digest (md5 password)) listed false
 
 -- the users accept what was sent: a pair whose user they list, with the digest of its password
+-- rule: Listener password
 abbrev pub accepts : UserList → Option Credentials → Bool
 accepts users None = false
 accepts users (Some pair) = is_digest_of pair.password (map.get users pair.user)
 
 -- the mount is open to one who sends this: it has no users, or they accept it
+-- rule: Listener password
 abbrev pub lets_in : Lists → List ℕ → Option Credentials → Bool
 lets_in lists mount pair = option_map_or (λ listed. accepts listed.users pair) (users_at lists mount) true

@@ -14,6 +14,7 @@ abbrev pub is_login : Login → Credentials → Bool
 is_login login pair = is_user_with login.username login.password pair
 
 -- a pair was sent, and it is the user and the password of the mount's source
+-- rule: Source password; Authorization
 abbrev pub is_source_pair : Settings → List ℕ → Option Credentials → Bool
 is_source_pair settings mount None = false
 is_source_pair settings mount (Some pair) = is_login (options_for settings mount).source pair

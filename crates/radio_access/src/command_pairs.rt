@@ -12,6 +12,7 @@ use radio_values::MountName;
 /// Whether a pair, or none, is the one of the station's admin: `admin-user` and `admin-password`.
 ///
 /// All bytes of the password are compared, wherever two of one length differ.
+// rule: Admin password; Who may command
 pub fn is_admin_pair(settings: &Settings, pair: Option<&Pair>) -> bool
     ensures { result ≡ is_admin_pair settings.now (option_copied pair.entry) }
 {
@@ -25,6 +26,7 @@ pub fn is_admin_pair(settings: &Settings, pair: Option<&Pair>) -> bool
 /// such password is set, none is.
 ///
 /// All bytes of the password are compared, wherever two of one length differ.
+// rule: Relay password; List of streams
 pub fn is_relay_pair(settings: &Settings, pair: Option<&Pair>) -> bool
     ensures { result ≡ is_relay_pair settings.now (option_copied pair.entry) }
 {
@@ -36,6 +38,7 @@ pub fn is_relay_pair(settings: &Settings, pair: Option<&Pair>) -> bool
 
 /// Whether a pair, or none, is the one that the source of the mount sends that was named; where none
 /// was, the one of a mount without settings: `source` and the station's source password.
+// rule: Who may command
 pub fn is_named_source_pair(
     settings: &Settings,
     mount: Option<&MountName>,

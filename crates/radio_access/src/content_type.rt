@@ -22,6 +22,7 @@ const REFUSED_TYPES: &[&[u8]] = &[
 
 /// Whether a content type is refused: what stands before its first `;`, without blanks at its ends, is one of the
 /// refused types in any ASCII case (RFC 9110, section 8.3.1).
+// rule: Content type
 pub fn is_refused_type(content_type: &[u8]) -> bool
     ensures { result ≡ is_refused_type content_type.now }
 {
@@ -53,6 +54,7 @@ fn is_same_type(a: &[u8], b: &[u8]) -> bool
 }
 
 /// Which content types are refused, by name.
+// rule: Content type
 pub fn refused_types_are_named()
     // Ogg, WebM and Matroska, in any ASCII case, with or without parameters and blanks
     ensures refused { Each (λ type. is_refused_type type ≡ true) refused_examples }

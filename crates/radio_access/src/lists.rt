@@ -169,6 +169,7 @@ impl Lists {
 
     /// Lets the user in with this password, and no more as it was before; where the mount has no users, nothing changes.
     /// `OutOfMemory` where memory was refused; nothing has changed then.
+    // rule: Change of users
     pub fn set_user(
         &mut self,
         alloc: Global,
@@ -190,6 +191,7 @@ impl Lists {
     }
 
     /// Lets the user in no more; where the mount has no users, or not this one, nothing changes. It takes no memory.
+    // rule: Change of users
     pub fn remove_user(&mut self, mount: &MountName, user: &[u8])
         ensures { self.new ≡ without_user_at self.old mount.now user.now }
     {
@@ -197,6 +199,7 @@ impl Lists {
     }
 
     /// Whether the deny list has the peer. Without a deny list nobody is denied.
+    // rule: Address denied; Address not allowed
     pub fn is_denied(&self, peer: Peer) -> bool
         ensures { result ≡ is_denied self.now peer }
     {
@@ -207,6 +210,7 @@ impl Lists {
     }
 
     /// Whether the allow list has the peer. Without an allow list everybody is allowed.
+    // rule: Address denied; Address not allowed
     pub fn is_allowed(&self, peer: Peer) -> bool
         ensures { result ≡ is_allowed self.now peer }
     {
@@ -219,6 +223,7 @@ impl Lists {
     /// Whether the mount is open to one who sends this pair, or none: it has no user list, or the list accepts his pair.
     ///
     /// One digest is made if the mount has users and a pair was sent, whether its user is listed or not.
+    // rule: Listener password
     pub fn lets_in(&self, mount: &MountName, pair: Option<&Pair>) -> bool
         ensures { result ≡ lets_in self.now mount.now (option_copied pair.entry) }
     {

@@ -12,6 +12,7 @@ use radio_values::{MountName, Text};
 /// else `source` and the station's source password (Icecast 2.4 documentation, mount settings).
 ///
 /// All bytes of the password are compared, wherever two of one length differ.
+// rule: Source password
 pub fn is_source_pair(settings: &Settings, mount: &MountName, pair: Option<&Pair>) -> bool
     ensures { result ≡ is_source_pair settings.now mount.now (option_copied pair.entry) }
 {

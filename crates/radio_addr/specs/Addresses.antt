@@ -75,10 +75,12 @@ is_mapped (V4 n) = false
 is_mapped (V6 n) = n / 2 ^ 32 == 0xffff
 
 -- the address of a peer: such an address is the IPv4 address
+-- rule: Peer
 abbrev pub unmapped : Address → Address
 unmapped (V4 n) = V4 n
 unmapped (V6 n) = if n / 2 ^ 32 == 0xffff then V4 (n % 2 ^ 32) else V6 n
 
 -- the peer of a text
+-- rule: Peer
 abbrev pub peer_of : List ℕ → Option Address
 peer_of text = option_map unmapped (address_of text)

@@ -13,6 +13,7 @@ abbrev pub slash : ℕ
 slash = 47
 
 -- a text lists one address, or the addresses that share the first bits of one: a slash and their number in decimal
+-- rule: Address list
 pub data ListsRange (text : List ℕ) : AddressRange → Type 0 where
   Whole : (address : Address) → ¬ Contains text slash → address_of text ≡ Some address → ListsRange text (whole_range address)
   Part : (front digits : List ℕ) (address : Address) (bits : ℕ) → text ≡ front ++ slash ∷ digits → ¬ Contains front slash
@@ -27,6 +28,7 @@ is_bad line = says_nothing (line_of line)
     says_nothing Bad = true
 
 -- the n-th line, counted from 1, is bad, and none before it
+-- rule: Address list
 pub record IsFirstBad (lines : List (List ℕ)) (n : ℕ) : Type 0 where
   pub before : List (List ℕ)
   pub line : List ℕ
@@ -46,6 +48,7 @@ range_on line = range_said (line_of line)
     range_said Bad = None
 
 -- what the lines list, in their order, where none is bad
+-- rule: Address list
 pub record AreRanges (lines : List (List ℕ)) (ranges : List AddressRange) : Type 0 where
   pub none_bad : list_any is_bad lines ≡ false
   pub listed : ranges ≡ filter_map range_on lines

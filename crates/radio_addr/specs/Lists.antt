@@ -54,6 +54,7 @@ listed (Some range) = Listed range
 abbrev pub text_line : List ℕ → Line
 text_line text = if is_passed text then Passed else listed (range_of text)
 
+-- rule: Address list
 unfoldable pub line_of : List ℕ → Line
 line_of line = text_line (without_blanks (without_return line))
 
@@ -70,6 +71,7 @@ lines_after before [] = Ok []
 lines_after before (line ∷ lines) = with_line before (line_of line) (lines_after (before + 1) lines)
 
 -- what an address list lists, or its first bad line
+-- rule: Address list
 abbrev pub list_of : List ℕ → Result (List AddressRange) ℕ
 list_of bytes = lines_after 0 (fields_at 10 bytes)
 
@@ -84,6 +86,7 @@ is_in range peer = agrees range.bits range.address peer
     agrees bits (V6 a) (V4 n) = false
 
 -- whether some range lists the peer
+-- rule: Address list
 abbrev pub is_listed : List AddressRange → Address → Bool
 is_listed ranges peer = list_any (λ range. is_in range peer) ranges
 

@@ -17,6 +17,7 @@ abbrev pub four_groups : ℕ → ℕ → ℕ → ℕ → List ℕ
 four_groups a b c d = hexadecimal a ++ (58 ∷ (hexadecimal b ++ (58 ∷ (hexadecimal c ++ (58 ∷ hexadecimal d)))))
 
 -- a dotted quad, or eight groups with colons between them
+-- rule: Peer
 abbrev pub written : Address → List ℕ
 written (V4 n) =
     decimal (n / 2 ^ 24) ++ (46 ∷ (decimal (n / 2 ^ 16 % 256) ++ (46 ∷ (decimal (n / 2 ^ 8 % 256) ++ (46 ∷ decimal (n % 256))))))
@@ -25,6 +26,7 @@ written (V6 n) =
     ++ (58 ∷ four_groups (group_at n 4) (group_at n 5) (group_at n 6) (group_at n 7))
 
 -- a peer as one is read: its number fits, and it is no IPv4-mapped IPv6 address
+-- rule: Peer
 abbrev pub IsPeer : Address → Type 0
 IsPeer (V4 n) = n < 2 ^ 32
 IsPeer (V6 n) = (n < 2 ^ 128) × (n / 2 ^ 32 ≢ 0xffff)

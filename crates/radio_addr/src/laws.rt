@@ -12,6 +12,7 @@ ghost use Rattle.radio_addr.specs.declared.address.Address.TheVariants.{V4, V6};
 use radio_texts::laws::cuts;
 
 /// A line with `/0` lists its whole family.
+// rule: Address list
 pub fn whole_families()
     ensures v4 { (a n : ℕ) → a < 2 ^ 32 → n < 2 ^ 32 → is_in (range_from (V4 a) 0) (V4 n) ≡ true }
     ensures v6 { (a n : ℕ)
@@ -19,6 +20,7 @@ pub fn whole_families()
 {}
 
 /// A line that is neither empty nor a comment lists an address, or the addresses that share its first bits.
+// rule: Address list
 pub fn lines_list_ranges()
     ensures { (text : List ℕ) (range : AddressRange) → (range_of text ≡ Some range) ↔ ListsRange text range }
 {
@@ -26,6 +28,7 @@ pub fn lines_list_ranges()
 }
 
 /// A list that can't be read is told by its first bad line, and one that can be read has no bad line.
+// rule: Address list
 pub fn first_bad_lines()
     ensures fault { (text : List ℕ) (n : ℕ) → (list_of text ≡ Err n) ↔ IsFirstBad (fields_at 10 text) n }
     ensures list { (text : List ℕ) (ranges : List AddressRange)

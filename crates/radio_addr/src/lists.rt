@@ -65,6 +65,7 @@ impl AddressList {
     /// One carriage return at a line's end is dropped, and then spaces and tabs at both ends. Lines that are empty then,
     /// or begin with `#`, are passed over. Any other line is a `LineFault`, and the first such line is told. An IPv6
     /// address stays one, whatever it is.
+    // rule: Address list
     pub fn read(alloc: Global, bytes: &[u8]) -> Result<AddressList, ListFault>
         ensures ok { IfOk result (λ list. list_of bytes.now ≡ Ok list) }
         ensures fault { IfErr result (λ fault. Explains (list_of bytes.now) fault) }
@@ -82,6 +83,7 @@ impl AddressList {
     }
 
     /// Whether some line lists the peer: one of its family that agrees with it in the bits that count.
+    // rule: Address list
     pub fn contains(&self, peer: Peer) -> bool
         ensures { result ≡ is_listed self.now peer }
     {

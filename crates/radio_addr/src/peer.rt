@@ -42,6 +42,7 @@ impl Model for Peer {
 
 impl Peer {
     /// The peer at an IPv4 address.
+    // rule: Peer
     pub fn of_v4(n: u32) -> Peer
         ensures { result ≡ Address.V4 n }
     {
@@ -51,6 +52,7 @@ impl Peer {
     }
 
     /// The peer at an IPv6 address, which is an IPv4 peer in `::ffff:0:0/96`.
+    // rule: Peer
     pub fn of_v6(n: u128) -> Peer
         ensures { result ≡ unmapped (Address.V6 n) }
     {
@@ -63,6 +65,7 @@ impl Peer {
     }
 
     /// The peer's address.
+    // rule: Peer
     pub fn address(self) -> Address
         ensures value { result ≡ self }
         ensures peer { IsPeer result }
@@ -76,6 +79,7 @@ impl Peer {
 /// An IPv4 address is four decimal numbers to 255 with no needless zeros in front. An IPv6 address is eight groups of
 /// one to four hexadecimal digits; one `::` may stand for one zero group or more, and the last two groups may be written
 /// as a dotted quad. A peer in `::ffff:0:0/96` is an IPv4 peer.
+// rule: Peer
 pub fn read_peer(text: &[u8]) -> Option<Peer>
     ensures { result ≡ peer_of text.now }
 {
@@ -103,6 +107,7 @@ impl fmt::Display for Peer {
 /// A law: what is written of a peer is read back as the same peer.
 ///
 /// The function does nothing; a caller that needs the law in a proof calls it, and cites its clause.
+// rule: Peer
 pub fn written_peers()
     ensures { (p : AddressOf) → IsPeer p → peer_of (written p) ≡ Some p }
 {

@@ -17,6 +17,7 @@ abbrev pub is_named : List ℕ → List ℕ × List ℕ → Bool
 is_named name pair = bytes_eq (text_of pair.0) name
 
 -- the first argument of a name
+-- rule: Missing argument; First argument
 unfoldable pub argument : List ℕ → List ℕ → Option (List ℕ)
 argument name query = option_map (λ pair. text_of pair.1) (find (is_named name) (raw_pairs query))
 
@@ -47,6 +48,7 @@ abbrev pub number_in : List ℕ → List ℕ → Option ℕ
 number_in name query = option_and_then as_number (argument name query)
 
 -- the fallback that an argument names
+-- rule: Fallbacks
 abbrev pub fallback_in : List ℕ → List ℕ → Option (Option (List ℕ))
 fallback_in name query = option_and_then as_fallback (argument name query)
 
@@ -58,6 +60,7 @@ song_title None None (Some title) = Some title
 song_title None artist None = None
 
 -- the title that a query sets, where its `mode` is `updinfo`
+-- rule: Metadata
 abbrev pub title_in : List ℕ → Option (List ℕ)
 title_in query =
     option_and_then

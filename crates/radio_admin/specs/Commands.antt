@@ -26,6 +26,7 @@ users_command action mount query =
     None
 
 -- the command of a kind, with its arguments, of which `mount` has been read
+-- rule: No command
 abbrev pub command_of : CommandKind → Option (List ℕ) → List ℕ → Option Command
 command_of kind.Status mount query = Some asks.Status
 command_of kind.Stats mount query = Some asks.Stats
@@ -51,6 +52,7 @@ command_at None mount query = Err NoCommand
 command_at (Some k) mount query = ok_or (command_of k mount query) (MissingArgument k mount)
 
 -- the command that a path and a query ask for, or why there is none
+-- rule: No command
 unfoldable pub command_in : List ℕ → List ℕ → Result Command AdminFault
 command_in path query = command_at (kind_of path) (mount_in (codes "mount") query) query
 

@@ -7,6 +7,7 @@ use Rattle.radio_admin.specs.declared.kind.CommandKind.TheVariants.{Status, Stat
 use Rattle.radio_admin.specs.declared.kind.CommandKind.TheVariants.{KillSource, Metadata, Fallbacks, StreamList, Users}
 
 -- the path of each command
+-- rule: Public status
 abbrev pub path_of : CommandKind → List ℕ
 path_of Status = codes "/status.json"
 path_of Stats = codes "/admin/stats"

@@ -20,6 +20,7 @@ pub fn paths_name_commands()
 /// What comes, comes exactly where it holds: a command where the path is its kind's and the arguments are there,
 /// `NoCommand` where the path is no command's, and `MissingArgument` where the path is its kind's and an argument is
 /// missing, with the mount that was named.
+// rule: No command
 pub fn commands_are_exact()
     ensures command { (path query : List ℕ) (command : CommandOf) → (command_in path query ≡ Ok command) ↔ AsksFor path query (kind_in command) command }
     ensures no_command { (path query : List ℕ) → (command_in path query ≡ Err NoCommand) ↔ NamesNoCommand path }
@@ -28,6 +29,7 @@ pub fn commands_are_exact()
 {}
 
 /// Of the pairs that a client writes into a form, whatever their bytes, the first of a name is its argument.
+// rule: First argument
 pub fn first_arguments_count()
     ensures { (pairs : List (List ℕ × List ℕ)) (name : List ℕ) → All AreBytes pairs
         → argument name (extend_pairs [] pairs) ≡ first_value name pairs }

@@ -17,6 +17,7 @@ use std::alloc::Global;
 
 /// The path that the path of a target stands for: each `%` with two hexadecimal digits is the byte that they write
 /// (RFC 3986, section 2.1). Any other `%` stays, and so does `+`. The bytes need not be UTF-8.
+// rule: Percent decoding
 pub fn read_path(alloc: Global, path: &[u8]) -> Result<Vec<u8>, OutOfMemory>
     ensures { IfOk result (λ bytes. bytes.items ≡ decoded_path path.now) }
 {
@@ -32,6 +33,7 @@ pub fn read_path(alloc: Global, path: &[u8]) -> Result<Vec<u8>, OutOfMemory>
 ///
 /// `NoCommand` comes exactly where the path names no command, and `MissingArgument` exactly where an argument of its
 /// command is missing.
+// rule: No command; Missing argument; Metadata
 #[tactic(auto, unfolding(crate::specs::Commands::command_in))]
 pub fn read_command(alloc: Global, path: &[u8], query: &[u8]) -> Result<Command, AdminFault>
     ensures { (result ≡ Err AdminFault.OutOfMemory) ⊎ (result ≡ command_in path.now query.now) }

@@ -23,12 +23,14 @@ abbrev pub denial : WebAnswers → Rule → List ℕ
 denial web rule = denial_with web (status_of rule) rule
 
 -- after how many bytes of data a block is sent, if any is; an interval of none has no blocks
+-- rule: Metadata interval
 abbrev pub interval_told : Option ℕ → Option ℕ
 interval_told None = None
 interval_told (Some zero) = None
 interval_told (Some (suc n)) = Some (suc n)
 
 -- the head of a stream, with metadata blocks at this interval
+-- rule: Allow origin
 abbrev pub head_text : WebAnswers → Option ℕ → StreamHead → List ℕ
 head_text web interval head = stream_by web head.shown.content_type (stream_text head.allow_origin (record {
   content_type = head.shown.content_type;
@@ -51,5 +53,6 @@ bare_answer (Streams bytes) = sized_text 200 (content_type Plain) bytes
 bare_answer (Public bytes origin) = shared_text origin (content_type InJson) bytes
 bare_answer (Page origin) = page_answer origin
 
+-- rule: One moment; Allow origin
 abbrev pub text_answer : WebAnswers → CommandText → List ℕ
 text_answer web text = answered_by web (bare_answer text)

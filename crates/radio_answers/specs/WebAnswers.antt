@@ -10,6 +10,7 @@ abbrev pub no_web : WebAnswers
 no_web = record { browser_commands = false; cache_control = false; sandbox = false }
 
 -- an answer as the settings say: that no cache keeps it, or nothing
+-- rule: Cache control
 abbrev pub answered_by : WebAnswers → List ℕ → List ℕ
 answered_by web text = with_additions (record { forbids_caching = web.cache_control; is_sandboxed = false }) text
 
@@ -22,9 +23,11 @@ abbrev pub has_media_name : List ℕ → Bool
 has_media_name type = starts_with nat_eq type (codes "audio/") || starts_with nat_eq type (codes "video/") || bytes_eq type (codes "application/octet-stream")
 
 -- a browser runs nothing of it
+-- rule: Sandboxed streams
 abbrev pub is_media : List ℕ → Bool
 is_media type = has_media_name type && not (list_any parts_types type)
 
 -- the head of a stream of this type as the settings say: a browser runs nothing of it, unless it is media
+-- rule: Sandboxed streams
 abbrev pub stream_by : WebAnswers → List ℕ → List ℕ → List ℕ
 stream_by web type text = with_additions (record { forbids_caching = web.cache_control; is_sandboxed = web.sandbox && not (is_media type) }) text

@@ -147,6 +147,7 @@ impl AttachmentTest for Lags {
 
     ghost passes = { λ test row. lags test.end test.queue row };
 
+    // rule: Lagged
     fn passes(&self, row: &Attachment) -> bool {
         self.end.saturating_sub(row.place) > self.queue
     }

@@ -8,5 +8,6 @@ cut_into (suc pieces) [] = []
 cut_into (suc pieces) (b ∷ bytes) = take 4096 (b ∷ bytes) ∷ cut_into pieces (drop 4096 (b ∷ bytes))
 
 -- the blocks of some data: cut every 4096 bytes, the last may be shorter (there are no more blocks than bytes)
+-- rule: Cut into blocks
 unfoldable pub blocks_of : List ℕ → List (List ℕ)
 blocks_of bytes = cut_into (length bytes) bytes

@@ -21,6 +21,7 @@ abbrev pub kept_lag : KeptTail → ℕ → ℕ
 kept_lag tail place = kept_end tail - place
 
 -- the fewest last blocks that have so many bytes together, or all blocks where these have fewer
+-- rule: Kept stream
 abbrev pub shortest_tail : ℕ → List (List ℕ) → List (List ℕ)
 shortest_tail limit [] = []
 shortest_tail limit (block ∷ blocks) = if nat_le limit (length (concat blocks)) then shortest_tail limit blocks else block ∷ blocks
@@ -33,6 +34,7 @@ trimmed tail = record tail {
 }
 
 -- a block comes at the end
+-- rule: Kept stream
 abbrev pub with_pushed : KeptTail → List ℕ → KeptTail
 with_pushed tail block = trimmed (record tail { blocks = tail.blocks ++ block ∷ [] })
 

@@ -33,6 +33,7 @@ impl Model for Block {
 impl Block {
     /// The block of these bytes; `None` where they are none, or more than 4096. They are kept as they are: a slice keeps
     /// all the memory that it was cut from, and whoever has one of a larger piece calls [`Block::copied`].
+    // rule: Cut into blocks
     pub fn new(bytes: Bytes) -> Option<Block>
         // there is a block of exactly 1 to 4096 bytes
         ensures valid { IsSome result ↔ IsBlock bytes }

@@ -10,6 +10,7 @@ ghost use Rattle.radio_blocks.specs.Queue.{kept_end};
 ghost use Rattle.radio_blocks.specs.QueueLaws.{tail_after, IsShortestTail};
 
 /// The blocks of some data are these data, cut after every 4096 bytes.
+// rule: Cut into blocks
 pub fn blocks_are_the_data()
     ensures joined { (bytes : List ℕ) → concat (blocks_of bytes) ≡ bytes }
     ensures valid { (bytes : List ℕ) → All IsBlock (blocks_of bytes) }

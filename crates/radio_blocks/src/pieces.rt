@@ -135,6 +135,7 @@ fn is_last_block(chunks: &VecDeque<Chunk>, index: usize) -> bool
 }
 
 /// As much of the last chunk, which is a single block. `OutOfMemory` where memory was refused.
+// rule: Draws
 fn last_part(
     chunks: &VecDeque<Chunk>,
     index: usize,

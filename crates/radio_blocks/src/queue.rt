@@ -108,6 +108,7 @@ impl BlockQueue {
 
     /// Appends a block, and drops the blocks at the front that are not needed for `limit` bytes. The stream must not come to
     /// 2^64 bytes by it. `Err` has the block if memory was refused; the queue is unchanged then.
+    // rule: Kept stream
     pub fn push(&mut self, block: Block) -> Result<(), AllocFailed<Block>>
         requires grows { kept_end self.old + length block < 2 ^ 64 }
         ensures ok { OnOk result (self.new ≡ with_pushed self.old block) }
@@ -132,6 +133,7 @@ impl BlockQueue {
     }
 
     /// Drops the first block where the others have enough bytes, and says whether it did.
+    // rule: Kept stream
     fn drop_first(&mut self) -> bool
         ensures same { trimmed self.new ≡ trimmed self.old }
         ensures dropped { IsTrue result → length self.new.blocks < length self.old.blocks }
@@ -151,6 +153,7 @@ impl BlockQueue {
     /// Appends to the pieces what stands at the place, at most `room` bytes, as slices that are shared with the queue,
     /// and answers the place behind it. `Trimmed` where the place lies before the kept blocks, `OutOfMemory` where
     /// memory was refused; the pieces are unchanged then.
+    // rule: Kept stream
     pub fn draw(&self, place: Place, room: u32, pieces: &mut Pieces) -> Result<Place, DrawFault>
         // what is drawn is what is kept at the place
         ensures kept { OnOk result (pieces.new ≡ pieces.old ++ kept_data self.now place room) }

@@ -31,18 +31,22 @@ abbrev pub as_moment : ℕ → ℕ
 as_moment us = min (2 ^ 64 - 1) us
 
 -- when the pause ends
+-- rule: News waits
 abbrev pub pause_end : Rounds → ℕ
 pause_end rounds = as_moment (rounds.began + as_moment (shortest rounds.took * spacing))
 
 -- for how long news that came at that moment waits still at this one: not at all if much has come
+-- rule: News waits
 abbrev pub wait_left : ℕ → ℕ → Bool → Rounds → ℕ
 wait_left now came is_much rounds = if is_much then 0 else min (pause_end rounds - now) (as_moment (came + most_wait) - now)
 
 -- a round begins at this moment, for news that came at that one
+-- rule: News waits
 abbrev pub begun : ℕ → ℕ → Rounds → Rounds
 begun now came rounds = record rounds { began = now; was_early = nat_lt came (pause_end rounds) }
 
 -- it ends at this moment
+-- rule: News waits
 abbrev pub ended : ℕ → Rounds → Rounds
 ended now rounds = record rounds { took = (now - rounds.began) ∷ take 7 rounds.took }
 

@@ -12,6 +12,7 @@ use Rattle.radio_board.specs.States.{has_drawn, has_news, waits, after, number_o
 use Rattle.radio_board.specs.Sums.{drawn_after, first_come, least_of, most_of, load_of, left_to_draw}
 
 -- a worker holds up the end of a source as long as its listeners have not drawn all news, and it is served
+-- rule: Closing of a source
 abbrev pub holds_up : ℕ → Report → Bool
 holds_up latest report = not (has_drawn report.state) && is_served report.turn_ms latest
 
@@ -26,15 +27,18 @@ most_behind most received latest report =
     most_of most (is_served report.turn_ms latest) (left_to_draw received report.drawn report.has_listeners)
 
 -- up to which moment this worker has read its sockets too, if it has begun
+-- rule: Server time
 abbrev pub least_read : ℕ → Report → ℕ
 least_read least report = least_of least report.works report.read_ms
 
 -- how many connections it has, if it takes newcomers: it has begun, and is served
+-- rule: Newcomers
 abbrev pub load_taken : ℕ → Report → Option ℕ
 load_taken latest report =
     if report.works && is_served report.turn_ms latest then Some (load_of report.connections report.comings) else None
 
 -- whether its newcomers go to others: there are some, and it is not served
+-- rule: Newcomers
 abbrev pub loses_newcomers : ℕ → Report → Bool
 loses_newcomers latest report = nat_lt 0 report.comings && not (is_served report.turn_ms latest)
 

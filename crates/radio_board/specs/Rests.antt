@@ -11,6 +11,7 @@ most_rest = 100
 
 -- how it waits: its lines let it wait for so many milliseconds, news waits for so many microseconds more, and is there or expected
 -- it makes a turn as soon as a line wants one, and no news wakes it that would have to wait
+-- rule: News wakes once
 abbrev pub rest_of : ℕ → ℕ → Bool → Rest
 rest_of lines left expected =
     if nat_lt lines most_rest then Turn lines

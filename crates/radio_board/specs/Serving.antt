@@ -7,6 +7,7 @@ abbrev pub most_step : ℕ
 most_step = 500
 
 -- a worker that makes no turn for longer than so many milliseconds is not served
+-- rule: Newcomers; Sources wait
 abbrev pub most_still : ℕ
 most_still = 2000
 
@@ -21,10 +22,12 @@ grown clock s = min (2 ^ 64 - 1) (s.served + min most_step (clock - s.clock))
 
 -- the system's clock tells this moment, and all workers have read up to that one: what has passed since the clock told the last
 -- counts, but no more than a step, and only up to a step beyond what all have read
+-- rule: Server time
 abbrev pub served_by : ℕ → ℕ → Served → Served
 served_by clock told s = record { clock = clock; served = max s.served (min (grown clock s) (min (2 ^ 64 - 1) (told + most_step))) }
 
 -- up to which moment all may be told: it is as long ago as a worker waits at most
+-- rule: Server time
 abbrev pub settled : Served → ℕ
 settled s = s.served - most_rest
 

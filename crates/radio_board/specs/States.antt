@@ -20,6 +20,7 @@ waits Asleep = true
 waits (Paused news) = true
 
 -- whether its listeners have drawn all the news that it was told of
+-- rule: Closing of a source
 abbrev pub has_drawn : State → Bool
 has_drawn (Awake true) = false
 has_drawn (Awake false) = true
@@ -29,6 +30,7 @@ has_drawn (Paused true) = false
 has_drawn (Paused false) = true
 
 -- its state after a step
+-- rule: News wakes once
 abbrev pub after : Step → State → State
 after News (Awake news) = Awake true
 after News (Drawing news) = Drawing true

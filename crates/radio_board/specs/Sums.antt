@@ -16,6 +16,7 @@ load_of connections comings = min (2 ^ 64 - 1) (connections + comings)
 
 -- how many of so many of a worker's connections may linger, if so many of all do, and so many of all may: those that are too
 -- many are its own
+-- rule: Most that linger
 abbrev pub may_linger : ℕ → ℕ → ℕ → ℕ
 may_linger count all most = count - (all - most)
 

@@ -139,6 +139,7 @@ impl Board {
     }
 
     /// Tells this moment, unless a later one was told. Returns the one that is told then.
+    // rule: Server time
     fn raise(&self, ms: u64) -> u64
         ensures { ms ≤ result }
     {
@@ -227,6 +228,7 @@ impl Board {
     }
 
     /// Returns how many of this worker's connections may linger, if `count` wish to, and notes them at its desk.
+    // rule: Most that linger
     pub fn most_lingering(&self, desk: &Desk, count: usize) -> usize
         ensures few { result ≤ count }
         // those of all workers that are too many are its own
@@ -242,6 +244,7 @@ impl Board {
 
     /// Returns the worker that takes the next connection: of those that have begun and are served the one with the fewest
     /// connections, the first of these from the number `from` on. `None` if there is none.
+    // rule: Newcomers
     pub fn next_desk(&self, from: usize) -> Option<usize>
         ensures { IfSome result (λ number. number < length self.now.desks) }
     {

@@ -13,6 +13,7 @@ pub struct Chosen {
 }
 
 /// Returns which of two takes the newcomer: the one that was chosen so far, unless the other has fewer connections.
+// rule: Newcomers
 pub fn least_loaded(so_far: Option<Chosen>, other: Chosen) -> Chosen
     ensures { result ≡ better so_far other }
 {

@@ -170,6 +170,7 @@ impl Desk {
 
     /// Takes from the count of those that were put for the worker, `most` of them at most: it has taken them itself, or others have.
     /// Returns how many.
+    // rule: Newcomers
     pub fn take_comings(&self, most: usize) -> usize
         ensures { result ≤ most }
     {

@@ -5,6 +5,7 @@ ghost use Rattle.radio_board.specs.ReportLaws.{BegunAreWaitedFor, DrawnHoldUpNob
 ghost use Rattle.radio_board.specs.StateLaws.{NewsIsThere, NewsStays, NewsIsTaken, RoundsDraw, NewsKeepsAwake, NewsWakes};
 
 /// No news is lost, whatever a worker does when it comes.
+// rule: News wakes once
 pub fn no_news_is_lost()
     // what it is told of is there
     ensures there { NewsIsThere }
@@ -20,6 +21,7 @@ pub fn no_news_is_lost()
 {}
 
 /// Rounds are as far apart as they cost, and news waits for no longer than a quarter of a second.
+// rule: News waits
 pub fn rounds_are_spaced()
     // news that came so long ago waits no more
     ensures ends { WaitsEnd }
@@ -28,6 +30,7 @@ pub fn rounds_are_spaced()
 {}
 
 /// The end of a source waits for the listeners of workers that make turns, and for no others.
+// rule: Closing of a source
 pub fn ends_wait_for_listeners()
     // not for those who have drawn all news
     ensures drawn { DrawnHoldUpNobody }
@@ -38,6 +41,7 @@ pub fn ends_wait_for_listeners()
 {}
 
 /// Only workers that have begun are waited for, and only those that make turns take newcomers.
+// rule: Newcomers
 pub fn newcomers_are_served()
     ensures begun { BegunAreWaitedFor }
     ensures served { NewcomersAreServed }

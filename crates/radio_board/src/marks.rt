@@ -35,6 +35,7 @@ pub struct Marks {
 
 impl Marks {
     /// Returns whether the acceptor has something to do: all are to stop, or it waits for a connection to be closed, and one was.
+    // rule: Failed accepts
     pub(crate) fn calls_acceptor(self) -> bool
         ensures { result ≡ calls_acceptor self }
     {

@@ -95,6 +95,7 @@ impl NewsPause {
 
     /// Returns for how long news that came at `came_us` waits still at `now_us`, in microseconds. It does not wait if much has
     /// come.
+    // rule: News waits
     pub fn left_us(&self, now_us: u64, came_us: u64, is_much: bool) -> u64
         ensures { result ≡ wait_left now_us came_us is_much self.now }
     {
@@ -114,6 +115,7 @@ impl NewsPause {
     }
 
     /// Notes that a round begins at `now_us`, for news that came at `came_us`.
+    // rule: News waits
     pub fn begin(&mut self, now_us: u64, came_us: u64)
         ensures { self.new ≡ begun now_us came_us self.old }
     {
@@ -122,6 +124,7 @@ impl NewsPause {
     }
 
     /// Notes that the round ends at `now_us`.
+    // rule: News waits
     pub fn end(&mut self, now_us: u64)
         ensures { self.new ≡ ended now_us self.old }
     {

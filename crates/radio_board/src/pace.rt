@@ -10,6 +10,7 @@ use radio_lines::Pace;
 const MOST_BEHIND: u64 = 131_072;
 
 /// From where on sources are read slowly: a quarter of what is kept of a stream, if that is less.
+// rule: Sources wait
 pub(crate) fn slow_from(queue_size: u64) -> u64
     ensures { result ≡ slow_at queue_size }
 {
@@ -21,6 +22,7 @@ pub(crate) fn slow_from(queue_size: u64) -> u64
 const LEAST_QUEUE: u64 = 65_536;
 
 /// From where on listeners are told of news at once: a quarter of that, so that it is told long before.
+// rule: News waits
 pub(crate) fn much_from(queue_size: u64) -> u64
     ensures { result ≡ much_at queue_size }
 {
@@ -33,6 +35,7 @@ pub(crate) fn much_from(queue_size: u64) -> u64
 
 /// The pace where the listeners of a worker are so many bytes behind, and sources are read slowly from so many on. They
 /// stand still from twice as many on.
+// rule: Sources wait
 pub(crate) fn pace_of(behind: u64, slow_from: u64) -> Pace
     ensures { result ≡ pace_at behind slow_from }
 {

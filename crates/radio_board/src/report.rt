@@ -58,6 +58,7 @@ impl Report {
     }
 
     /// Returns up to which of `drawn` times that workers were told of news this worker's listeners have drawn too.
+    // rule: Closing of a source
     pub(crate) fn drawn_with(&self, drawn: u64, latest_ms: u64) -> u64
         ensures { result ≡ drawn_with drawn latest_ms self.now }
     {
@@ -74,6 +75,7 @@ impl Report {
     }
 
     /// Returns the smaller of `least` and the moment up to which the worker has read its sockets, if it has begun.
+    // rule: Server time
     pub(crate) fn least_read(&self, least: u64) -> u64
         ensures { result ≡ least_read least self.now }
     {

@@ -52,6 +52,7 @@ impl Rest {
 
 /// Returns how a worker waits whose lines let it wait for `lines_ms`. News waits for `left_us` more; it `is_expected` if it is
 /// there, or came within the last pause too.
+// rule: News wakes once
 pub fn rest_for(lines_ms: u64, left_us: u64, is_expected: bool) -> Rest
     ensures { result ≡ rest_of lines_ms left_us is_expected }
 {

@@ -42,6 +42,7 @@ impl ServedTime {
 
     /// Notes that the system's clock is at `clock_ms`, when the sockets were asked again, and that all workers have read up
     /// to `told_ms`. Returns the served time when they were asked before: all that had come by then has been read since.
+    // rule: Server time
     pub fn advance(&mut self, clock_ms: u64, told_ms: u64) -> u64
         ensures read { result ≡ self.old.served }
         ensures served { self.new ≡ served_by clock_ms told_ms self.old }
@@ -68,6 +69,7 @@ impl ServedTime {
 
     /// Returns the latest moment that this worker lets all be told. The others have read up to then, unless one stands still. So
     /// each moment is told as late as every other, however long workers wait.
+    // rule: Server time
     pub fn settled_ms(&self) -> u64
         ensures { result ≡ settled self.now }
     {
@@ -77,6 +79,7 @@ impl ServedTime {
 
 /// Returns whether a worker that began its last turn at `turn_ms` makes turns, when another has begun one at `latest_ms`, by
 /// the system's clock in milliseconds.
+// rule: Newcomers; Sources wait
 pub fn is_served(turn_ms: u64, latest_ms: u64) -> bool
     ensures { result ≡ is_served turn_ms latest_ms }
 {

@@ -82,6 +82,7 @@ impl Step {
 
 impl State {
     /// Returns the state after a step.
+    // rule: News wakes once
     pub fn after(self, step: Step) -> State
         ensures { result ≡ after step self }
     {
@@ -187,6 +188,7 @@ impl State {
     }
 
     /// Returns whether its listeners have drawn all the news that it was told of.
+    // rule: Closing of a source
     pub fn has_drawn(self) -> bool
         ensures { result ≡ has_drawn self }
     {

@@ -28,6 +28,7 @@ pub(crate) fn load_of(connections: usize, comings: usize) -> usize
 
 /// Returns how many of the `count` connections of a worker that wish to linger may, if `all` do, of all workers together, and
 /// `most` of these may.
+// rule: Most that linger
 pub(crate) fn may_linger(count: usize, all: usize, most: usize) -> usize
     ensures { result ≡ may_linger count all most }
 {
@@ -60,6 +61,7 @@ pub(crate) fn left_to_draw(received: u64, drawn: u64, has_listeners: bool) -> u6
 }
 
 /// Returns the number so many steps behind `from`, of `count` numbers that follow one another in a ring.
+// rule: Newcomers
 pub(crate) fn place_on(from: usize, step: usize, count: usize) -> usize
     requires { (0 < count) × (step < count) }
     ensures place { result ≡ place_on from step count }
@@ -93,6 +95,7 @@ pub(crate) fn comings_left(comings: usize, most: usize) -> Option<usize>
 
 /// Returns which worker is told of a newcomer that was put for the worker of the number `own`: the one that takes newcomers next, or
 /// that worker again if none does.
+// rule: Newcomers
 pub(crate) fn taker_of(next: Option<usize>, own: usize) -> usize
     ensures { result ≡ taker_of next own }
 {

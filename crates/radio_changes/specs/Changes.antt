@@ -33,6 +33,7 @@ abbrev pub session_over : World → List ℕ → World
 session_over w mount = record w { house = record w.house { live = without_session w.house.live mount } }
 
 -- the mount's session has ended; each of its listeners has gone where his walk lands, or has finished by the rule that stops it
+-- rule: End of a session
 abbrev pub session_ended : World → List ℕ → World
 session_ended w mount = carried_along (session_over w mount) (HasEnded mount)
 
@@ -45,6 +46,7 @@ abbrev pub session_raised : World → ℕ → List ℕ → Shown → World
 session_raised w id mount shown = record { house = raised w.house id mount shown; seats = with_session_at w.seats mount id }
 
 -- a source, or a relay, has come up on the mount: where its settings say so, those have come home who had asked for it
+-- rule: Called home; Relay feeds
 abbrev pub called_home : World → List ℕ → World
 called_home w mount = (if (options_for w.house.settings mount).listeners.fallback_override then carried_along w (Up mount) else w)
 
@@ -69,6 +71,7 @@ abbrev pub with_part : World → Part → World
 with_part w p = record { house = record w.house { live = with_its_session w.house.live p }; seats = p.listeners }
 
 -- the block has come to the mount
+-- rule: The clock
 abbrev pub taken_in : World → List ℕ → List ℕ → World
 taken_in w mount block = with_part w (part_received w.house.settings.limits.queue_size w.house.time block (part_at w mount))
 
@@ -85,6 +88,7 @@ abbrev pub before_silence : World → ℕ → World
 before_silence w ms = durations_over (record w { house = timed_out_by w.house ms })
 
 -- the sessions whose sources have sent nothing in their time, in the order of their mounts
+-- rule: Source silent
 abbrev pub silent_in : World → List Session
 silent_in w = filter (is_silent w.house.settings.limits.source_timeout w.house.time) w.house.live
 
@@ -92,19 +96,23 @@ silent_in w = filter (is_silent w.house.settings.limits.source_timeout w.house.t
 abbrev pub session_ended_by : Rule → World → Session → World
 session_ended_by rule w session = let after = session_ended w session.mount in record after { house = finished_in after.house session.number rule }
 
+-- rule: Source silent
 abbrev pub session_silenced : World → Session → World
 session_silenced w session = session_ended_by SourceSilent w session
 
 -- it is this moment, and what has had its time ends: clients and listeners, and then sessions, one after another
+-- rule: The clock
 abbrev pub ticked : World → ℕ → World
 ticked w ms = let later = before_silence w ms in fold session_silenced later (silent_in later)
 
 -- the session, if there is one, is ended by a command
+-- rule: Source killed
 abbrev pub session_killed : World → Option Session → World
 session_killed w None = w
 session_killed w (Some session) = session_ended_by SourceKilled w session
 
 -- those have lost their seats at the mount whom its users do not let in
+-- rule: Users shut out
 abbrev pub outsiders_ended : World → List ℕ → World
 outsiders_ended w mount = record w { seats = with_ended w.seats (is_shut_out w.house.lists mount) ListenerPassword }
 
@@ -117,6 +125,7 @@ abbrev pub user_deleted : World → List ℕ → List ℕ → World
 user_deleted w mount user = record w { house = without_user w.house mount user }
 
 -- what a command does
+-- rule: Move clients; Metadata
 abbrev pub done : World → Command → World
 done w (MoveClients mount destination) = carried_along w (To mount destination)
 done w (KillClient mount listener) = record w { seats = with_end w.seats listener Killed }

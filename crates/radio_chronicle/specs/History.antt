@@ -10,11 +10,13 @@ abbrev pub world_of : World → List Entry → World
 world_of w history = world_after_all w (map (λ e. e.event) history)
 
 -- each reply is that of a step from the state after the entries before it
+-- rule: Legal history
 abbrev pub IsRun : World → List Entry → Type 0
 IsRun w [] = Unit {0}
 IsRun w (e ∷ history) = (e.reply ≡ reply_to w e.event) × IsRun (world_after w e.event) history
 
 -- the core stands for the state after a history that is a run from the opening state; where entries are stored, they are that history
+-- rule: Legal history
 pub record IsTold (keeps : Bool) (opening : World) (stored : List Entry) (core : World) : Type 0 where
   pub history : List Entry
   pub run : IsRun opening history

@@ -54,6 +54,7 @@ impl<E: Drop> Notes<E> {
     }
 
     /// Notes an item, for which there is room.
+    // rule: Receipts
     pub fn note(&mut self, item: E)
         requires { 0 < self.old.room }
         ensures kept { self.old.keeps ≡ true → self.new.items ≡ self.old.items ++ item ∷ [] }
@@ -69,6 +70,7 @@ impl<E: Drop> Notes<E> {
     }
 
     /// Returns how many items are stored.
+    // rule: Receipts
     pub fn len(&self) -> usize
         ensures { result ≡ length self.now.items }
     {

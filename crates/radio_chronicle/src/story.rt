@@ -41,6 +41,7 @@ impl<C: Chronicle, H: House> Story<C, H> {
 
     /// One event, where nothing is stored. `OutOfMemory` where memory was refused; nothing has
     /// changed then.
+    // rule: Legal history
     pub fn answer(&mut self, event: Event) -> Result<Reply, OutOfMemory>
         requires { C.KEEPS ≡ false }
         ensures step { (w : World) → Represents self.old.core w
@@ -54,6 +55,7 @@ impl<C: Chronicle, H: House> Story<C, H> {
 
     /// One event, whose copy is noted with its reply, and the reply twice more. `OutOfMemory` where
     /// memory was refused; nothing has changed then.
+    // rule: Legal history
     pub fn record(&mut self, event: Event, copy: Event) -> Result<(Reply, Reply), OutOfMemory>
         requires keeps { C.KEEPS ≡ true }
         requires copy { copy ≡ event }

@@ -10,6 +10,7 @@ use Rattle.radio_connections.specs.Serving.{Stands}
 
 -- By this reply to his arrival, his connection stands as it must, if its line has given and taken nothing yet: a client with his arrival,
 -- one who was denied with no entry.
+-- rule: Newcomers
 abbrev pub IsTakenIn : Peer → Reply → List ℕ → List ℕ → Connection → Type 0
 IsTakenIn peer (Arrived id) given taken c = given ≡ [] → taken ≡ [] → Stands c (entry (Arrive peer) (Arrived id) ∷ [])
 IsTakenIn peer (Deny rule) given taken c = given ≡ [] → taken ≡ [] → Stands c []

@@ -18,6 +18,7 @@ is_open Open = true
 is_open fate = false
 
 -- how many of a connection's events were refused for want of memory, and how many of these were the leaving of a client
+-- rule: Pending bytes first
 pub record Refused : Type 0 where
   pub events : ℕ
   pub leavings : ℕ
@@ -71,6 +72,7 @@ abbrev pub stays : Connection → Bool
 stays c = stays_with c.status.fate c.status.has_left
 
 -- nothing more is written on it, its client has left or was none, and it is kept only until its peer has closed
+-- rule: Most that linger
 abbrev pub lingers : Connection → Bool
 lingers c = c.status.is_finished && c.status.has_left
 
@@ -79,6 +81,7 @@ without_at None cs = cs
 without_at (Some i) cs = remove cs i
 
 -- without the first of those who linger
+-- rule: Most that linger
 abbrev pub without_first : List Connection → List Connection
 without_first cs = without_at (position lingers cs) cs
 

@@ -88,6 +88,7 @@ pending_by Running events = events
 pending_by (Shut ending) events = []
 
 -- an event of the connection is applied, and it is told of the reply
+-- rule: Reading
 abbrev pub answered : Standing → Event → List Event → Reply → Standing
 answered s event later reply = let told = said s.session.says reply in record s {
   entries = s.entries ++ entry event reply ∷ [];
@@ -109,6 +110,7 @@ abbrev pub IsQuiet : Standing → Type 0
 IsQuiet s = (s.fate ≡ Open) × (s.pending ≡ [])
 
 -- What can have happened on the connection of this client, up to now.
+-- rule: Reading
 pub data Course (id : ℕ) : Standing → Type 0 where
   -- it comes, and is taken in, or not
   arrives : (web : WebAnswers) (peer : Peer) → Course id (newcomer web peer id)

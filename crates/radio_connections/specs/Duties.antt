@@ -42,14 +42,17 @@ pub record IsReadOnce (c c' : Connection) : Type 0 where
   pub room : c'.calls.room ≡ c.calls.room + 16384
 
 -- One that is open, and to which nothing is owed, is asked for bytes, once.
+-- rule: Reading; Unwanted bytes
 abbrev pub IsAsked : Connection → Connection → Type 0
 IsAsked c c' = c.status.fate ≡ Open → c.owed ≡ [] → IsReadOnce c c'
 
 -- No connection is asked more often than once in a turn.
+-- rule: Reading
 abbrev pub IsAskedOnce : Connection → Connection → Type 0
 IsAskedOnce c c' = IsUnread c c' ⊎ IsReadOnce c c'
 
 -- One to which something is owed is written to.
+-- rule: Pending bytes first
 abbrev pub IsGiven : Connection → Connection → Type 0
 IsGiven c c' = IsWritten c.status.fate → IsOwed c → c.calls.writes < c'.calls.writes
 
@@ -62,14 +65,17 @@ abbrev pub IsAtMostLeaving : ℕ → List Entry → Type 0
 IsAtMostLeaving id entries = (entries ≡ []) ⊎ ((reply : Reply) × (entries ≡ entry (Leave id) reply ∷ []))
 
 -- Unless its line has taken all that it was owed, it is not read from, and nothing is applied for it but that its client leaves.
+-- rule: Pending bytes first
 abbrev pub HasWaited : Connection → List Entry → Connection → Type 0
 HasWaited c entries c' = HasTakenAll c c' ⊎ (IsUnread c c' × IsAtMostLeaving c.id entries)
 
 -- at this moment, nothing of what it is owed has moved for so long
+-- rule: Cut off
 abbrev pub HasStalled : ℕ → ℕ → Connection → Type 0
 HasStalled ms patience c = patience ≤ ms - c.status.moved_ms
 
 -- Who is still served has taken all that he was owed, or something of it has moved within this time: who has stalled is cut off.
+-- rule: Cut off
 abbrev pub IsInTime : ℕ → ℕ → Connection → Connection → Type 0
 IsInTime ms patience c c' = IsWritten c'.status.fate → HasTakenAll c c' ⊎ (ms - c'.status.moved_ms < patience)
 
@@ -87,23 +93,28 @@ IsFinishedNow c c' = (c.status.is_finished ≡ false) × (c'.status.is_finished 
 
 -- That counts from the last turn in which its line took something, or nothing was owed to it when its turn came, or its peer was told that
 -- nothing more is written: then the moment is that of the turn,
+-- rule: Cut off
 abbrev pub HasMoved : ℕ → Connection → Connection → Type 0
 HasMoved ms c c' = HasTakenSome c c' ⊎ (IsIdle c ⊎ IsFinishedNow c c') → c'.status.moved_ms ≡ ms
 
 -- and else it is as it was.
+-- rule: Cut off
 abbrev pub HasNotMoved : Connection → Connection → Type 0
 HasNotMoved c c' = c'.taken ≡ c.taken → (IsIdle c → ⊥) → (IsFinishedNow c c' → ⊥) → c'.status.moved_ms ≡ c.status.moved_ms
 
 -- It is noted that its line has taken something where it has, and only there.
+-- rule: Cut off
 pub record NotesTaking (c c' : Connection) : Type 0 where
   pub some : HasTakenSome c c' → c'.status.has_taken ≡ true
   pub none : c'.taken ≡ c.taken → c'.status.has_taken ≡ c.status.has_taken
 
 -- memory was refused for what was to be done for it: its session has failed, or one of its events was refused
+-- rule: Cut off
 abbrev pub LacksMemory : Connection → Connection → Type 0
 LacksMemory c c' = (c'.session.has_failed ≡ true) ⊎ (c.refused.events < c'.refused.events)
 
 -- why a connection may be cut off in a turn
+-- rule: Cut off
 pub data Cause (ms patience : ℕ) (c c' : Connection) : Type 0 where
   -- it was cut off before
   WasCut : c.status.fate ≡ Cut → Cause ms patience c c'
@@ -115,6 +126,7 @@ pub data Cause (ms patience : ℕ) (c c' : Connection) : Type 0 where
   WasRefused : c.status.fate ≡ Open → LacksMemory c c' → Cause ms patience c c'
 
 -- It is cut off only for such a cause.
+-- rule: Cut off
 abbrev pub IsCutFor : ℕ → ℕ → Connection → Connection → Type 0
 IsCutFor ms patience c c' = c'.status.fate ≡ Cut → Cause ms patience c c'
 
@@ -129,6 +141,7 @@ pub record HasLingered (ms : ℕ) (c : Connection) : Type 0 where
   pub long : 1000 ≤ ms - c.status.moved_ms
 
 -- why a connection may be closed in a turn
+-- rule: Lingering; Closed by the peer
 pub data WhyClosed (ms : ℕ) (c c' : Connection) : Type 0 where
   -- it was closed before
   WasClosed : c.status.fate ≡ Closed → WhyClosed ms c c'
@@ -140,11 +153,13 @@ pub data WhyClosed (ms : ℕ) (c c' : Connection) : Type 0 where
   LingeredOn : HasLingered ms c → WhyClosed ms c c'
 
 -- It is closed only for such a cause.
+-- rule: Lingering
 abbrev pub IsClosedFor : ℕ → Connection → Connection → Type 0
 IsClosedFor ms c c' = c'.status.fate ≡ Closed → WhyClosed ms c c'
 
 -- It lingers: something was written to it, its peer was told that nothing more is, its line was read from and told no end, and less than a
 -- second has passed since then.
+-- rule: Lingering
 pub record Lingers (ms : ℕ) (c c' : Connection) : Type 0 where
   pub written : c'.status.has_taken ≡ true
   pub told : c'.status.is_finished ≡ true
@@ -153,14 +168,17 @@ pub record Lingers (ms : ℕ) (c c' : Connection) : Type 0 where
   pub in_time : ms - c'.status.moved_ms < 1000
 
 -- Who had ended and is owed nothing lingers, or is closed.
+-- rule: Lingering
 abbrev pub IsLetGo : ℕ → Connection → Connection → Type 0
 IsLetGo ms c c' = c.status.fate ≡ Ended → c'.status.fate ≡ Ended → c'.owed ≡ [] → Lingers ms c c'
 
 -- Nobody is told that nothing more is written but who has ended, and whose line has taken all.
+-- rule: Lingering
 abbrev pub IsFinishedFor : Connection → Connection → Type 0
 IsFinishedFor c c' = IsFinishedNow c c' → (c.status.fate ≡ Ended) × HasTakenAll c c'
 
 -- Who is over has left, or his leaving was refused for want of memory.
+-- rule: Lingering
 abbrev pub HasLeft : Connection → Connection → Type 0
 HasLeft c c' = (c'.status.fate ≡ Open → ⊥) → (c'.status.has_left ≡ true) ⊎ (c.refused.leavings < c'.refused.leavings)
 
@@ -194,6 +212,7 @@ abbrev pub IsAtMostDraw : ℕ → ℕ → List Entry → Type 0
 IsAtMostDraw id room entries = (entries ≡ []) ⊎ ((reply : Reply) × (entries ≡ entry (Draw id room) reply ∷ []))
 
 -- What is applied for it in a turn: the events that its bytes mean, behind them at most one draw, and behind that at most his leaving.
+-- rule: Reading; Client without a seat
 pub record IsOneTurn (c : Connection) (entries : List Entry) (c' : Connection) : Type 0 where
   pub heard : List Entry
   pub drawn : List Entry
@@ -208,10 +227,12 @@ abbrev pub IsUnasked : ℕ → Connection → Type 0
 IsUnasked ms c = 500 ≤ ms - c.status.asked_ms
 
 -- For one that goes on, to which nothing was owed and for which nothing was asked for so long, something is asked.
+-- rule: Finishes are silent; Drawing; Client without a seat
 abbrev pub IsAskedFor : ℕ → Connection → List Entry → Connection → Type 0
 IsAskedFor ms c entries c' = c.owed ≡ [] → c'.status.fate ≡ Open → IsUnasked ms c → entries ≡ [] → ⊥
 
 -- When something was last asked for it is noted, as long as it goes on.
+-- rule: Drawing
 pub record NotesAsking (ms : ℕ) (c : Connection) (entries : List Entry) (c' : Connection) : Type 0 where
   pub some : c'.status.fate ≡ Open → (entries ≡ [] → ⊥) → c'.status.asked_ms ≡ ms
   pub none : c'.status.fate ≡ Open → entries ≡ [] → c'.status.asked_ms ≡ c.status.asked_ms

@@ -7,6 +7,7 @@ use Rattle.radio_connections.specs.declared.line.Sent.TheVariants.{Took, Nothing
 
 -- how often a line was read from, for how many bytes there was room in all these reads, how often it was written to, how often it has failed,
 -- and how often it has told that its peer has closed
+-- rule: Pending bytes first
 pub record Calls : Type 0 where
   pub reads : ℕ
   pub room : ℕ
@@ -22,6 +23,7 @@ abbrev pub read_once : ℕ → Calls → Calls
 read_once room calls = record calls { reads = suc calls.reads; room = calls.room + room }
 
 -- a read into so much room is counted, by its answer
+-- rule: Pending bytes first
 abbrev pub after_read : Received → ℕ → Calls → Calls
 after_read (Bytes n) room calls = read_once room calls
 after_read Nothing room calls = read_once room calls
@@ -33,12 +35,14 @@ abbrev pub written_once : Calls → Calls
 written_once calls = record calls { writes = suc calls.writes }
 
 -- a write is counted, by its answer
+-- rule: Pending bytes first
 abbrev pub after_write : Sent → Calls → Calls
 after_write (Took n) calls = written_once calls
 after_write TookNothing calls = written_once calls
 after_write HasFailed calls = record (written_once calls) { faults = suc calls.faults }
 
 -- by this answer, with these bytes in the buffer, all that the line gave before has become what it gave by now
+-- rule: Pending bytes first
 abbrev pub HasGiven : Received → List ℕ → List ℕ → List ℕ → Type 0
 HasGiven (Bytes n) buffer before now = (n ≤ length buffer) × (now ≡ before ++ take n buffer)
 HasGiven Nothing buffer before now = now ≡ before
@@ -46,6 +50,7 @@ HasGiven Closed buffer before now = now ≡ before
 HasGiven Fault buffer before now = now ≡ before
 
 -- by this answer to these bytes, all that the line took before has become what it took by now
+-- rule: Pending bytes first
 abbrev pub HasTaken : Sent → List ℕ → List ℕ → List ℕ → Type 0
 HasTaken (Took n) bytes before now = (0 < n) × (n ≤ length bytes) × (now ≡ before ++ take n bytes)
 HasTaken TookNothing bytes before now = now ≡ before

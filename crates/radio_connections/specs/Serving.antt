@@ -15,6 +15,7 @@ use Rattle.radio_connections.specs.Duties.{IsLetGo, IsFinishedFor, HasLeft, IsOn
 use Rattle.radio_connections.specs.Rooms.{draw_room}
 
 -- What the line took, followed by what is owed to it, is what was told. Once it is closed, it took all; where it was cut off, the front.
+-- rule: Reading
 abbrev pub IsHanded : Fate → List ℕ → List ℕ → List ℕ → Type 0
 IsHanded Cut text taken owed = (lost : List ℕ) × (text ≡ taken ++ lost)
 IsHanded Closed text taken owed = text ≡ taken
@@ -35,10 +36,12 @@ pub record StandsBefore (pending : List Event) (c : Connection) (entries : List 
   pub handed : IsHanded c.status.fate standing.text c.taken c.owed
 
 -- and nothing is still to be applied
+-- rule: Reading
 abbrev pub Stands : Connection → List Entry → Type 0
 Stands c entries = StandsBefore [] c entries
 
 -- These entries were made for the connection: whatever was made for it before, it stands with both.
+-- rule: Reading
 pub record IsServed (c : Connection) (entries : List Entry) (c' : Connection) : Type 0 where
   pub same : c'.id ≡ c.id
   pub stands : (past : List Entry) → Stands c past → Stands c' (past ++ entries)
@@ -53,6 +56,7 @@ abbrev pub EndsWithDraw : ℕ → List Entry → Type 0
 EndsWithDraw id entries = (others : List Entry) × (reply : Reply) × (entries ≡ others ++ entry (Draw id draw_room) reply ∷ [])
 
 -- Where there is news, one who has a seat and goes on has drawn, last of all, if nothing was owed to him when his turn came.
+-- rule: Drawing
 abbrev pub HasDrawn : Bool → Connection → List Entry → Connection → Type 0
 HasDrawn news c entries c' = news ≡ true → c.owed ≡ [] → c'.status.fate ≡ Open → c'.status.sits ≡ true → EndsWithDraw c.id entries
 

@@ -7,6 +7,7 @@ ghost use Rattle.radio_connections.specs.Connections.{lingers, without_first};
 use crate::{Conn, Line};
 
 /// How many linger.
+// rule: Most that linger
 pub fn count_lingering<L: Line>(conns: &[Conn<L>]) -> usize
     ensures { result ≡ length (filter lingers conns.now) }
 {
@@ -14,6 +15,7 @@ pub fn count_lingering<L: Line>(conns: &[Conn<L>]) -> usize
 }
 
 /// Closes the first of those who linger, which has come before the others; nothing where nobody does.
+// rule: Most that linger
 pub fn close_first_lingering<L: Line>(conns: &mut Vec<Conn<L>>)
     ensures { conns.new.items ≡ without_first conns.old.items }
 {

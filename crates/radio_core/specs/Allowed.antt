@@ -15,6 +15,7 @@ use Rattle.radio_house.specs.declared.standing.Standing.TheVariants.{Undecided}
 use Rattle.radio_house.specs.World.{World, standing_of}
 
 -- by this event one who has asked for nothing yet gives this command, and the policy allows it
+-- rule: Commands are done
 pub record IsCommanded (w : World) (event : Event) (command : TheCommand) : Type 0 where
   pub asked : CommandRequest
   pub is_event : event ≡ Command asked
@@ -24,6 +25,7 @@ pub record IsCommanded (w : World) (event : Event) (command : TheCommand) : Type
   pub allowed : verdict_in (rows_to_command w asked) ≡ Allow
 
 -- by this event one who has asked for nothing yet asks for this listing, and the policy allows it
+-- rule: Who may see
 pub record IsListed (w : World) (event : Event) (listing : Listing) : Type 0 where
   pub asked : CommandRequest
   pub is_event : event ≡ Command asked

@@ -13,5 +13,6 @@ abbrev pub admits_client : World → Peer → Outcome
 admits_client w peer = says (Arrived (w.house.last_id + 1)) (Admit (w.house.last_id + 1) peer)
 
 -- a connection arrives
+-- rule: Client numbers
 abbrev pub arrives : World → Peer → Outcome
 arrives w peer = on_verdict (verdict_in (rows_to_arrive w.house peer)) Nothing (admits_client w peer)

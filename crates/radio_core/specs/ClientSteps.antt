@@ -57,10 +57,12 @@ pub data ClientStep (w : World) (Cause : Rule → Type 0) (event : Event) (id : 
   -- he is finished by a rule
   IsFinished : (standing : Standing) (rule : Rule) → Cause rule → ClientStep w Cause event id standing (Finished rule)
 
+-- rule: Client states; Relay ended before
 abbrev pub ClientsStep : World → Event → Type 0
 ClientsStep w event = (id : ℕ) → ClientStep w (Finishes w event id) event id (standing_of w id) (standing_of (world_after w event) id)
 
 -- who is there before an event and after it came from the same address, at the same moment
+-- rule: Client states
 abbrev pub ArrivalsStay : World → Event → Type 0
 ArrivalsStay w event = (id : ℕ) (client later : Client) → client_of w.house.clients id ≡ Some client
     → client_of (world_after w event).house.clients id ≡ Some later → (later.peer ≡ client.peer) × (later.arrived ≡ client.arrived)

@@ -6,5 +6,6 @@ use Rattle.radio_house.specs.World.{World}
 use Rattle.radio_core.specs.Outcomes.{says}
 
 -- it is this moment; one that has passed changes nothing
+-- rule: The clock
 abbrev pub hears_clock : World → ℕ → Outcome
 hears_clock w ms = says Noted (if nat_lt ms w.house.time then Nothing else Tick ms)

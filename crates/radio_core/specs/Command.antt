@@ -19,6 +19,7 @@ use Rattle.radio_house.specs.World.{World, standing_of}
 use Rattle.radio_core.specs.Outcomes.{says, on_verdict, if_undecided}
 
 -- what is said of a command that was done: how many it has moved, how many have finished since it changed the users of their mount, or that it was done
+-- rule: Move clients
 abbrev pub said_of : TheCommand → Carried → Text
 said_of (MoveClients mount destination) counts = Moved counts.moved
 said_of (AddUser mount user password) counts = Ended counts.ended
@@ -40,6 +41,7 @@ does_asked w id (Asks command) = obeys w id command
 does_asked w id asked = says Stray Nothing
 
 -- a client gives a command
+-- rule: Move clients
 abbrev pub gives_command : World → CommandRequest → Outcome
 gives_command w asked = if_undecided (standing_of w asked.id) (λ _.
     on_verdict (verdict_in (rows_to_command w asked)) (Answer asked.id) (does_asked w asked.id asked.asked))

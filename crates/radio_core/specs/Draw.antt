@@ -28,6 +28,7 @@ abbrev pub as_heard : House → Part → Part
 as_heard house p = record p { session = option_or p.session (silence_of house p.mount) }
 
 -- one of the part's listeners has room for so many bytes
+-- rule: Reach of a listener; Draws
 abbrev pub part_draws : Part → ℕ → ℕ → Outcome
 part_draws p id room = option_map_or (λ seat. hands_out id seat room p.session) (seat_of p.listeners id) (says Stray Nothing)
 
@@ -45,5 +46,6 @@ abbrev pub comes_to : ℕ → Drawing → Outcome
 comes_to id drawing = says drawing.reply (moves_to id drawing.place)
 
 -- a listener has room for so many bytes
+-- rule: Draws
 abbrev pub draws : World → ℕ → ℕ → Outcome
 draws w id room = if_sitting (standing_of w id) (option_map_or (draws_from w id room) (seat_of w.seats id) (says Stray Nothing))

@@ -19,6 +19,7 @@ use Rattle.radio_core.specs.Step.{world_after}
 use Rattle.radio_house.specs.World.{World, standing_of}
 
 -- what there is about the event by which it finishes the client by the rule, where the state was w and is `later`
+-- rule: Killed; Source killed
 pub data Cause (w later : World) (event : Event) (id : ℕ) : Rule → Type 0 where
   -- the session of the mount where he sits ends, and the rule stops his walk from there at his turn
   SessionIsOver : (rule : Rule) (seat : Seat) → seat_of w.seats id ≡ Some seat → LeavesOut w event id rule → Cause w later event id rule
@@ -45,6 +46,7 @@ pub data Cause (w later : World) (event : Event) (id : ℕ) : Rule → Type 0 wh
       → IsCommanded w event (KillSource session.mount) → Cause w later event id SourceKilled
 
 -- the event finishes the client by the rule: there is a cause, and he stands so, without a seat
+-- rule: Killed
 pub record Finishes (w : World) (event : Event) (id : ℕ) (rule : Rule) : Type 0 where
   pub cause : Cause w (world_after w event) event id rule
   pub has_finished : standing_of (world_after w event) id ≡ HasFinished rule

@@ -32,6 +32,7 @@ abbrev pub handed_at : World → Event → ℕ → List ℕ
 handed_at w event id = of_client event id (data_in (reply_to w event))
 
 -- all that the events hand to him, joined in their order
+-- rule: Without gap or repeat
 abbrev pub handed : World → List Event → ℕ → List ℕ
 handed w [] id = []
 handed w (event ∷ events) id = handed_at w event id ++ handed (world_after w event) events id
@@ -41,6 +42,7 @@ abbrev pub delivered_at : World → Event → ℕ → List ℕ
 delivered_at w event id = of_client event id (block_in (outcome w event).change)
 
 -- all that the source of this number delivers through the events, joined in their order
+-- rule: Without gap or repeat
 abbrev pub delivered : World → List Event → ℕ → List ℕ
 delivered w [] id = []
 delivered w (event ∷ events) id = delivered_at w event id ++ delivered (world_after w event) events id

@@ -3,5 +3,6 @@ use Rattle.radio_parts.specs.Kept.{kept_live}
 use Rattle.radio_house.specs.World.{World}
 
 -- the state, with what is kept of each session's stream
+-- rule: Kept stream
 abbrev pub kept_of : World → World
 kept_of w = record w { house = record w.house { live = kept_live w.house.settings.limits.queue_size w.house.live } }

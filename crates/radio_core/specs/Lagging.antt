@@ -12,5 +12,6 @@ EachSeat P w = (id : ℕ) (seat : Seat) (session : Session) → seat_of w.seats 
     → P session.stream seat.place
 
 -- no seat is further behind the end of its session's stream than a queue is long
+-- rule: Lagged
 abbrev pub NobodyLags : World → Type 0
 NobodyLags w = EachSeat (λ stream place. end_of stream - place ≤ w.house.settings.limits.queue_size) w

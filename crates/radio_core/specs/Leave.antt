@@ -14,5 +14,6 @@ leaves_from id (Feeds mount) = says Noted (EndAndLeave id mount)
 leaves_from id standing = says Noted (Forget id)
 
 -- a client's connection is closed
+-- rule: Leaving
 abbrev pub leaves : World → ℕ → Outcome
 leaves w id = unless_relayed (has_relay w id) (leaves_from id (standing_of w id))

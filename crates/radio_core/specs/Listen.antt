@@ -18,6 +18,7 @@ use Rattle.radio_core.specs.Outcomes.{says, on_verdict, if_undecided}
 use Rattle.radio_house.specs.Waiting.{heard_at}
 
 -- the seat of a new listener where his walk landed, at a mount with this session, or one that waits for one: the mount that he asked for is his home, and he begins at the start of a block
+-- rule: Start of the burst
 abbrev pub first_seat : House → ListenRequest → Peer → Session → Seat
 first_seat house asked peer session = record {
   home = asked.mount;
@@ -37,11 +38,13 @@ takes_seat house asked peer (Some session) =
     says (Seated (interval_for house asked.mount asked.wants_metadata) (head_of house session.shown)) (TakeSeat asked.id (first_seat house asked peer session))
 
 -- he sits down where his walk lands; where it is stopped, which the policy denies, nothing happens
+-- rule: Seat of a newcomer
 abbrev pub sits_where : House → ListenRequest → Peer → Landing → Outcome
 sits_where house asked peer (Stops rule) = says Stray Nothing
 sits_where house asked peer (Lands mount) = takes_seat house asked peer (heard_at house mount)
 
 -- a client wants to hear the mount of this path
+-- rule: Start of the burst
 abbrev pub asks_to_hear : World → ListenRequest → Outcome
 asks_to_hear w asked = if_undecided (standing_of w asked.id) (λ peer.
     on_verdict (verdict_in (rows_to_listen w asked)) (Answer asked.id) (sits_where w.house asked peer (walks_to w.house w.seats asked.mount asked.pair)))

@@ -27,6 +27,7 @@ use Rattle.radio_parts.specs.Stream.{end_of}
 use Rattle.radio_house.specs.World.{World, standing_of, has_relay}
 
 -- what the move has in store for the listener at his turn, where the state before the first turn is w: those of lower numbers have had theirs
+-- rule: Turns of a move
 abbrev pub his_turn : World → Move → ℕ → Turn
 his_turn w move id = turn_of (sight_of w.house) move (at_his_turn (sight_of w.house) move w.seats id) id
 
@@ -35,6 +36,7 @@ abbrev pub moved_into : Session → Seat → Seat
 moved_into session seat = record seat { mount = session.mount; session = session.number; place = end_of session.stream }
 
 -- the event brings the move, and this is the state before the first listener has his turn
+-- rule: End of a session
 pub data Brings (w : World) : Event → Move → World → Type 0 where
   -- a source's data come to their end
   ByItsEnd : (him : ℕ) (mount : List ℕ) → standing_of w him ≡ Feeds mount → has_relay w him ≡ false → Brings w (SourceEnd him) (Ended mount) (session_over w mount)
@@ -58,9 +60,11 @@ pub data Brings (w : World) : Event → Move → World → Type 0 where
   ByMoving : (event : Event) (mount destination : List ℕ) → IsCommanded w event (MoveClients mount destination) → Brings w event (To mount destination) w
 
 -- a move that the event brings takes him to the mount at his turn
+-- rule: End of a session
 abbrev pub TakesTo : World → Event → ℕ → List ℕ → Type 0
 TakesTo w event id mount = (move : Move) × (during : World) × Brings w event move during × (his_turn during move id ≡ GoesTo mount)
 
 -- a move that the event brings leaves him nowhere to sit: the rule stops his walk at his turn
+-- rule: End of a session
 abbrev pub LeavesOut : World → Event → ℕ → Rule → Type 0
 LeavesOut w event id rule = (move : Move) × (during : World) × Brings w event move during × (his_turn during move id ≡ IsOut rule)

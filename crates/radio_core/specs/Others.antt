@@ -25,6 +25,7 @@ StandsOn w event id = (standing_of (world_after w event) id ≡ standing_of w id
     ((rule : Rule) × Finishes w event id rule) ⊎
     (reply_to w event ≡ Arrived id)
 
+-- rule: Other clients
 abbrev pub OthersStandOn : World → Event → Type 0
 OthersStandOn w event = (id : ℕ) → (client_in event ≡ Some id → ⊥) → StandsOn w event id
 
@@ -34,6 +35,7 @@ pub data HasCome (w : World) (id : ℕ) : Event → Type 0 where
   AsRelay : (mount : List ℕ) (shown : Shown) → standing_of (world_after w (RelayUp mount shown)) id ≡ Feeds mount → HasCome w id (RelayUp mount shown)
 
 -- each reply is told to one whom it fits, and he stands as it says
+-- rule: Other clients
 pub record RepliesFit (w : World) (event : Event) : Type 0 where
   pub arrived : (id : ℕ) → reply_to w event ≡ Arrived id → HasCome w id event × (w.house.last_id < id) × (standing_of w id ≡ Unknown)
   pub feeding : reply_to w event ≡ Feeding → (asked : SourceRequest) × (event ≡ Source asked) × IsUndecided w asked.id
@@ -43,6 +45,7 @@ pub record RepliesFit (w : World) (event : Event) : Type 0 where
   pub finished : (rule : Rule) → reply_to w event ≡ Finished rule → (id : ℕ) × (client_in event ≡ Some id) × (standing_of w id ≡ HasFinished rule)
 
 -- whoever has lost his seat by an event has left by it, or is finished by it
+-- rule: Losing a seat
 abbrev pub LosesNoSeatElse : World → Event → Type 0
 LosesNoSeatElse w event = (id : ℕ) (seat : Seat) → seat_of w.seats id ≡ Some seat → seat_of (world_after w event).seats id ≡ None
     → (event ≡ Leave id) ⊎ ((rule : Rule) × Finishes w event id rule)

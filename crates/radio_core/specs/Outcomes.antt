@@ -20,26 +20,31 @@ on_verdict Allow denied allowed = allowed
 on_verdict (Denied rule) denied allowed = says (Deny rule) denied
 
 -- an event that does not fit how its client stands: he is told if he has finished, and nothing changes
+-- rule: Out of place
 abbrev pub out_of_place : Standing → Outcome
 out_of_place (HasFinished rule) = says (Finished rule) Nothing
 out_of_place standing = says Stray Nothing
 
 -- only a client who has asked for nothing yet may do it
+-- rule: Out of place
 abbrev pub if_undecided : Standing → (Peer → Outcome) → Outcome
 if_undecided (Undecided peer) go = go peer
 if_undecided standing go = out_of_place standing
 
 -- only a source may do it
+-- rule: Out of place
 abbrev pub if_feeding : Standing → (List ℕ → Outcome) → Outcome
 if_feeding (Feeds mount) go = go mount
 if_feeding standing go = out_of_place standing
 
 -- no relay may do it
+-- rule: Out of place
 abbrev pub unless_relayed : Bool → Outcome → Outcome
 unless_relayed true go = says Stray Nothing
 unless_relayed false go = go
 
 -- only a listener who has a seat may do it
+-- rule: Out of place
 abbrev pub if_sitting : Standing → Outcome → Outcome
 if_sitting Sits go = go
 if_sitting standing go = out_of_place standing

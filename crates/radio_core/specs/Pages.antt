@@ -26,10 +26,12 @@ abbrev pub asks_by : World → ListenRequest → Option WebPath → Outcome
 asks_by w asked None = asks_to_hear w asked
 asks_by w asked (Some path) = if_undecided (standing_of w asked.id) (λ _. shows_page w asked path)
 
+-- rule: Icecast status
 abbrev pub asks_by_path : World → ListenRequest → Outcome
 asks_by_path w asked = asks_by w asked (web_path w.house.settings.web asked.mount)
 
 -- the event asks to be shown something of the station, and this is it: a listing that the policy allows, or what is at a path of the web site
+-- rule: Icecast status
 pub data IsShownBy (w : World) (event : Event) : Text → Type 0 where
   IsListing : (listing : Listing) → IsListed w event listing → IsShownBy w event (shown w listing)
   IsAtPath : (asked : ListenRequest) (path : WebPath) → event ≡ Listen asked → web_path w.house.settings.web asked.mount ≡ Some path

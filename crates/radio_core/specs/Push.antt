@@ -12,6 +12,7 @@ abbrev pub takes_in : List ℕ → List ℕ → Outcome
 takes_in mount block = says Noted (Receive mount block)
 
 -- a source delivers a block
+-- rule: Blocks of a source
 abbrev pub delivers : World → ℕ → List ℕ → Outcome
 delivers w id block = if_feeding (standing_of w id) (λ mount.
     on_verdict (verdict_in (rows_to_push w.house mount block)) Nothing (takes_in mount block))

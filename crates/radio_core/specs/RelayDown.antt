@@ -14,5 +14,6 @@ goes_down_from id (Finished rule) = says Noted (Forget id)
 goes_down_from id standing = says Stray Nothing
 
 -- a relay's connection to its master is closed
+-- rule: Relay goes down
 abbrev pub goes_down : World → ℕ → Outcome
 goes_down w id = (if has_relay w id then goes_down_from id (standing_of w id) else says Stray Nothing)

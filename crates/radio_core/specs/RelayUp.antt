@@ -15,5 +15,6 @@ abbrev pub raises : House → List ℕ → Shown → Outcome
 raises house mount shown = says (Arrived (house.last_id + 1)) (Raise (house.last_id + 1) mount (shown_for house mount shown))
 
 -- a relay wants to feed the mount of this name
+-- rule: Relay comes up
 abbrev pub comes_up : World → List ℕ → Shown → Outcome
 comes_up w mount shown = on_verdict (verdict_in (rows_to_raise w.house mount shown)) Nothing (raises w.house mount shown)

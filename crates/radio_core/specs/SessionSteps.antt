@@ -56,9 +56,11 @@ pub data SessionStep (w : World) (event : Event) (mount : List ℕ) : Option Ses
   -- a command ends it
   IsKilled : (session : Session) → IsCommanded w event (KillSource mount) → SessionStep w event mount (Some session) None
 
+-- rule: Session; Relay feeds
 abbrev pub SessionsStep : World → Event → Type 0
 SessionsStep w event = (mount : List ℕ) → SessionStep w event mount (session_of w.house.live mount) (session_of (world_after w event).house.live mount)
 
 -- no event changes the settings
+-- rule: Settings stay
 abbrev pub KeepsSettings : World → Event → Type 0
 KeepsSettings w event = (world_after w event).house.settings ≡ w.house.settings

@@ -14,6 +14,7 @@ abbrev pub begins : House → SourceRequest → Outcome
 begins house asked = says Feeding (Begin asked.id asked.mount (shown_for house asked.mount asked.shown))
 
 -- a client wants to feed the mount of this path
+-- rule: Session
 abbrev pub asks_to_feed : World → SourceRequest → Outcome
 asks_to_feed w asked = if_undecided (standing_of w asked.id) (λ _.
     on_verdict (verdict_in (rows_to_feed w.house asked)) (Answer asked.id) (begins w.house asked))

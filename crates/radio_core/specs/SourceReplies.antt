@@ -54,6 +54,7 @@ pub record IsToldByData (w : World) (id : ℕ) (block : List ℕ) : Type 0 where
   pub end_stays : IsQuiet (reply_to w (Push id block)) → to_end w id ≡ to_end (world_after w (Push id block)) id
   pub rule_stays : (rest : List ℕ) → EndsByRule (reply_to w (Push id block)) → to_data w id (block ++ rest) ≡ reply_to w (Push id block)
 
+-- rule: Cuts do not matter
 abbrev pub SourcesAreToldByTheirData : Type 0
 SourcesAreToldByTheirData = (w : World) (id : ℕ) (block : List ℕ) → IsBlock block → IsToldByData w id block
 

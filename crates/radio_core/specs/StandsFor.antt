@@ -9,10 +9,12 @@ use Rattle.radio_core.specs.Sound.{IsSound}
 use Rattle.radio_house.specs.World.{World}
 
 -- no seat's place is forgotten
+-- rule: Kept stream
 abbrev pub SeatsAreKept : World → Type 0
 SeatsAreKept w = EachSeat (λ stream place. kept_from w.house.settings.limits.queue_size stream ≤ place) w
 
 -- the core has all of the state, but of each stream only what a queue keeps; and that is all from each listener's place on
+-- rule: Kept stream
 pub record StandsFor (core w : World) : Type 0 where
   pub shows : core ≡ kept_of w
   pub rise : Each HasRisingStarts w.house.live

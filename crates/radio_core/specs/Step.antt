@@ -49,6 +49,7 @@ abbrev pub Step : World → Event → Reply → World → Type 0
 Step w event reply w' = (reply ≡ reply_to w event) × (w' ≡ world_after w event)
 
 -- a core stands for a state: it has all of it, but of each stream only what a queue keeps
+-- rule: Refused memory; Kept stream
 unfoldable pub Represents : World → World → Type 0
 Represents core w = StandsFor core w
 

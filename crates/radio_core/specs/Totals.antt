@@ -16,21 +16,25 @@ numbers_given (Arrived id) = 1
 numbers_given reply = 0
 
 -- to a client
+-- rule: History adds up
 abbrev pub arrivals : Reply → Event → ℕ
 arrivals (Arrived id) (Arrive peer) = 1
 arrivals reply event = 0
 
 -- or to a relay
+-- rule: History adds up
 abbrev pub relays_up : Reply → Event → ℕ
 relays_up (Arrived id) (RelayUp mount shown) = 1
 relays_up reply event = 0
 
 -- a relay has gone down; where none of that number was there, the reply is another
+-- rule: History adds up
 abbrev pub relays_down : Reply → Event → ℕ
 relays_down Noted (RelayDown id) = 1
 relays_down reply event = 0
 
 -- a client has left; where none of that number was there, the reply is another
+-- rule: History adds up
 abbrev pub departures : Reply → Event → ℕ
 departures Noted (Leave id) = 1
 departures reply event = 0

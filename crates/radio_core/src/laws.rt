@@ -16,6 +16,7 @@ ghost use Rattle.radio_core.specs.SourceReplies.{SourcesAreToldByTheirData, Ends
 ghost use Rattle.radio_core.specs.CoreReplies.{CoresGoByTheirStates};
 
 /// The law of sessions.
+// rule: Mount in use; Source silent; Session; Shown fields; Blocks of a source; Settings stay; Relay feeds
 pub fn sessions_are_their_sources()
     // whatever has happened, the session of a mount stays as it is but where its source delivers a
     // block, sets a title or ends it, or a command sets its title or ends it; it begins for a source
@@ -34,6 +35,7 @@ pub fn lists_are_their_commands()
 {}
 
 /// The law of seats.
+// rule: Losing a seat; Seat of a newcomer; Called home
 pub fn seats_are_their_listeners()
     // whatever has happened, a seat stays as it is, is handed what stands at its place where its listener draws, is given to
     // one who asks for a live mount and whom the policy allows it, goes where a move takes it, or is lost by leaving or by a
@@ -42,6 +44,7 @@ pub fn seats_are_their_listeners()
 {}
 
 /// The law of clients.
+// rule: Client states; Relay ended before
 pub fn clients_stand_by_their_events()
     // whatever has happened, a client stands as before but where he arrives, is denied what he asks for, begins to feed or to
     // hear or gives a command as the policy allows, comes to the end of his data, leaves, or is finished by a rule that holds then
@@ -51,12 +54,14 @@ pub fn clients_stand_by_their_events()
 {}
 
 /// The law of lag.
+// rule: Lagged
 pub fn nobody_lags()
     // whatever has happened, no listener who has a seat is further behind the end of his mount's stream than a queue is long
     ensures near { (settings : Settings) (lists : Lists) (events : List Event) → NobodyLags (run_after settings lists events) }
 {}
 
 /// What an event does to its own client, and to others.
+// rule: Other clients; Losing a seat
 pub fn events_are_of_their_clients()
     // whatever has happened, who is told that he has arrived, feeds or is seated asked for it, and stands so then; and who
     // is told that he was finished was
@@ -68,6 +73,7 @@ pub fn events_are_of_their_clients()
 {}
 
 /// What a source is replied goes by its data, and not by how they are cut into blocks.
+// rule: Cuts do not matter
 pub fn sources_are_told_by_their_data()
     // in each state a block is replied to as its data are; while the source goes on, more data are
     // replied to as if all had come at once; and what a rule has ended stays ended by it
@@ -77,6 +83,7 @@ pub fn sources_are_told_by_their_data()
 {}
 
 /// Cores go by the states that they stand for.
+// rule: Kept stream
 pub fn cores_go_by_their_states()
     // two cores that stand for one state are the same, and a core replies to a source's data, and to their end, as each state that it stands for
     ensures { CoresGoByTheirStates }

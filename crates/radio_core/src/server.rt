@@ -77,6 +77,7 @@ impl Core {
     }
 
     /// There is a state for which it stands, whatever has happened.
+    // rule: Kept stream
     pub fn stands(&self)
         ensures { StandsForSome self.now }
     {
@@ -93,6 +94,7 @@ impl Core {
 
     /// The mounts where somebody sits, which relays feed on demand, in the order of their bytes.
     /// `OutOfMemory` where memory was refused.
+    // rule: Pulls on demand
     pub fn wanted(&self) -> Result<Vec<MountName>, OutOfMemory>
         // they are those of whatever state it stands for
         ensures { (w : World) → Represents self.now w → IfOk result (λ mounts. mounts.items ≡ wanted w) }
@@ -102,6 +104,7 @@ impl Core {
 
     /// The mount where the listener of this number sits, or sat last if he has finished; none where
     /// there is no such listener.
+    // rule: Last mount
     pub fn last_mount(&self, id: u64) -> Option<&MountName>
         // it is that of whatever state it stands for
         ensures { (w : World) → Represents self.now w → option_copied result ≡ last_mount_of w.seats id }
@@ -110,6 +113,8 @@ impl Core {
     }
 
     /// One event. `OutOfMemory` where memory was refused; nothing has changed then.
+    // rule: Client numbers; Out of place; Leaving; Refused memory; Lagged; The clock; One moment; Blocks of a source
+    // rule: Draws; Kept stream; Relay comes up; Relay goes down
     pub fn step(&mut self, event: Event) -> Result<Reply, OutOfMemory>
         // whatever state the core stands for, the reply is that of a step from it, and the core stands for the state after it
         ensures step { (w : World) → Represents self.old w → IfOk result (λ reply. (w' : World) × Step w event reply w' × Represents self.new w') }

@@ -8,6 +8,7 @@ ghost use Rattle.radio_core.specs.Run.{run_after};
 ghost use Rattle.radio_core.specs.Totals.{AddsUp};
 
 /// The law of totals.
+// rule: Client numbers; History adds up; Relay is no client
 pub fn clients_and_seats_add_up()
     // whatever has happened, clients and listeners are there after an event who were there before
     // it or came by it, and did not leave by it, as many as they are

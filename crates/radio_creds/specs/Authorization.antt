@@ -13,6 +13,7 @@ space = 32
 
 -- the value is the scheme `Basic` in any ASCII case, one or more spaces, and the padded base64 of `user:password`
 -- (RFC 4648, section 4), in which the user has no colon
+-- rule: Authorization
 pub record IsBasicPair (value : List ℕ) (pair : Credentials) : Type 0 where
   pub scheme : List ℕ
   pub more_spaces : ℕ

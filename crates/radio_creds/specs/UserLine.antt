@@ -12,6 +12,7 @@ hash = 35
 
 -- the line is `user:digits`, cut at its first colon; it does not begin with `#`; and the digits are the 32 hexadecimal
 -- digits, in either case, of the 16 bytes of the digest
+-- rule: User list
 pub record IsUserLine (line user digest : List ℕ) : Type 0 where
   pub digits : List ℕ
   pub is_line : line ≡ user ++ colon ∷ digits

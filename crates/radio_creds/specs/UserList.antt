@@ -41,18 +41,22 @@ with_line users (Some line) =
     if map.contains_key users line.0 then users else map.insert users line.0 line.1
 
 -- the users of a text, each with the digest of the first of its well-formed lines
+-- rule: User list
 abbrev pub users_of : List ℕ → UserList
 users_of text = map.from_entries (user_lines text)
 
 -- the user is listed with the digest of this password, and no more as he was
+-- rule: Change of users
 abbrev pub with_user : UserList → List ℕ → List ℕ → UserList
 with_user users user password = map.insert users user (md5 password)
 
 -- the user is not listed any more
+-- rule: Change of users
 abbrev pub without_user : UserList → List ℕ → UserList
 without_user users user = map.remove users user
 
 -- the pair's user is listed with the MD5 digest of the pair's password
+-- rule: User list
 abbrev pub Accepts : UserList → Credentials → Type 0
 Accepts users pair = map.get users pair.user ≡ Some (md5 pair.password)
 
@@ -65,6 +69,7 @@ abbrev pub has_line_of : List ℕ → List (List ℕ × List ℕ) → Bool
 has_line_of user lines = list_any (λ line. bytes_eq user line.0) lines
 
 -- the first of the lines that have the user has the digest
+-- rule: User list
 pub record IsFirstOf (lines : List (List ℕ × List ℕ)) (user digest : List ℕ) : Type 0 where
   pub before : List (List ℕ × List ℕ)
   pub after : List (List ℕ × List ℕ)

@@ -23,6 +23,7 @@ const SCHEME: &[u8] = b"Basic";
 /// left over, or no colon.
 ///
 /// `Err` where there is no memory for the decoded bytes.
+// rule: Authorization
 pub fn basic(alloc: Global, value: &[u8]) -> Result<Option<Pair>, OutOfMemory>
     // A pair is found exactly where the value is one by the standard, and it is that pair.
     ensures exact { IfOk result (λ found.

@@ -18,6 +18,7 @@ pub(crate) fn read_digest(digits: &[u8]) -> Option<PasswordDigest>
 /// Whether two secrets, as passwords or digests, are the same.
 ///
 /// All bytes are compared, so the number of steps is the same wherever two secrets of one length differ.
+// rule: Authorization
 pub fn is_same_secret(a: &[u8], b: &[u8]) -> bool
     ensures { IsTrue result ↔ (a.now ≡ b.now) }
 {

@@ -10,6 +10,7 @@ ghost use Rattle.radio_creds.specs.UserList.{IsFirstOf, has_line_of, has_user, u
 use radio_texts::laws::cuts;
 
 /// A line has a user and a digest exactly where it is `user:digest` by the format.
+// rule: User list
 pub fn lines_of_users()
     ensures { (line user digest : List ℕ)
         → (user_line line ≡ Some (user, digest)) ↔ IsUserLine line user digest }
@@ -18,6 +19,7 @@ pub fn lines_of_users()
 }
 
 /// A user list has the digest of the first well-formed line of a user, and the users of all its well-formed lines.
+// rule: User list
 pub fn first_lines_count()
     ensures digest { (text user digest : List ℕ)
         → (finite.get (users_of text) user ≡ Some digest) ↔ IsFirstOf (user_lines text) user digest }

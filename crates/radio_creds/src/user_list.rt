@@ -52,6 +52,7 @@ impl Users {
     /// of another form are passed over. Where a user has several lines, the first one counts.
     ///
     /// `Err` where there is no memory for the list.
+    // rule: User list
     pub fn read(alloc: Global, bytes: &[u8]) -> Result<Users, OutOfMemory>
         ensures { IfOk result (λ users. users ≡ users_of bytes.now) }
     {
@@ -72,6 +73,7 @@ impl Users {
     ///
     /// It takes no memory. One digest is made whether the user is listed or not, and two digests are compared in the same
     /// number of steps wherever they differ: so the time of the answer does not tell who is listed.
+    // rule: User list
     pub fn accepts(&self, pair: &Pair) -> bool
         ensures { IsTrue result ↔ Accepts self.now pair.now }
     {
@@ -83,6 +85,7 @@ impl Users {
     }
 
     /// Whether some well-formed line has the user.
+    // rule: User list
     pub fn has(&self, user: &[u8]) -> bool
         ensures { result ≡ has_user self.now user.now }
     {
@@ -91,6 +94,7 @@ impl Users {
 
     /// Lists the user with this password, whatever was listed of him before. `OutOfMemory` where memory was refused;
     /// nothing has changed then.
+    // rule: Change of users
     pub fn set(&mut self, alloc: Global, user: &[u8], password: &[u8]) -> Result<(), OutOfMemory>
         ensures ok { OnOk result (self.new ≡ with_user self.old user.now password.now) }
         ensures err { OnErr result (self.new ≡ self.old) }
@@ -101,6 +105,7 @@ impl Users {
     }
 
     /// Lists the user no more. Whether he was listed. It takes no memory.
+    // rule: Change of users
     pub fn remove(&mut self, user: &[u8]) -> bool
         ensures was_listed { result ≡ has_user self.old user.now }
         ensures without { self.new ≡ without_user self.old user.now }

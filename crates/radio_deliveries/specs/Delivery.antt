@@ -92,6 +92,7 @@ fields_of word fields =
     (if bytes_eq word (codes "room") then room_of fields else other_fields_of word fields))
 
 -- the delivery that a line stands for, if it is one
+-- rule: Line of a script
 unfoldable pub delivery_of : List ℕ → Option Delivery
 delivery_of line = do
   parts ← cut 32 line

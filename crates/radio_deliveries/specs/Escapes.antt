@@ -22,6 +22,7 @@ escape_of b =
     92 ∷ 120 ∷ digit_char (b / 16) ∷ digit_char (b % 16) ∷ [])))
 
 -- the text that writes the bytes
+-- rule: Escapes
 unfoldable pub escaped : List ℕ → List ℕ
 escaped bytes = flat_map escape_of bytes
 
@@ -57,5 +58,6 @@ unescaped_from place (b ∷ text) = do
 
 -- the bytes that a text stands for, if each backslash in it begins an escape and each other byte
 -- stands for itself
+-- rule: Escapes
 unfoldable pub unescaped : List ℕ → Option (List ℕ)
 unescaped text = unescaped_from Between text

@@ -23,5 +23,6 @@ shut_lines label (Some word) = shut_line label word
 
 -- What a delivery to connection C comes to: at most one `out` line, and then at most one `shut`
 -- line.
+-- rule: Line of a script
 unfoldable pub answer_lines : ℕ → List ℕ → Option (List ℕ) → List ℕ
 answer_lines label bytes word = out_lines label bytes ++ shut_lines label word

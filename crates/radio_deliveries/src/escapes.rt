@@ -26,6 +26,7 @@ pub enum Place {
 
 /// The bytes that a text stands for; `None` where a backslash begins no escape, or where a byte
 /// that is neither a backslash nor of 0x20 to 0x7E stands in it.
+// rule: Escapes
 pub fn unescape(alloc: Global, text: &[u8]) -> Result<Option<Bytes>, OutOfMemory>
     ensures { IfOk result (λ bytes. bytes ≡ unescaped text.now) }
 {
@@ -122,6 +123,7 @@ fn hex_value(b: u8) -> Option<u8>
 }
 
 /// Adds the text that writes the bytes. After an `Err` a part of it may stand at the end.
+// rule: Escapes
 pub fn push_escaped(text: &mut Vec<u8>, bytes: &[u8]) -> Result<(), OutOfMemory>
     ensures ok { OnOk result (text.new.items ≡ text.old.items ++ escaped bytes.now) }
     ensures front { StartsWith text.new.items text.old.items }

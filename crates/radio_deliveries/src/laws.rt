@@ -7,6 +7,7 @@ ghost use Rattle.radio_deliveries.specs.Spelling.{SpellsAll};
 ghost use Rattle.radio_deliveries.specs.Given.{AreLines, TranscriptLine, written};
 
 /// What a transcript writes of some bytes is read back as these bytes.
+// rule: Escapes
 #[tactic(auto, using(crate::proofs::EscapeLemmas::unescaped_escaped))]
 pub fn escapes_read_back()
     ensures { (bytes : List ℕ) → AllByRecursion (λ b. b < 256) bytes

@@ -22,6 +22,7 @@ client_in (RelayDown id) = Some id
 client_in (Clock ms) = None
 
 -- the end of a session, of a connection and of a relay, and the clock, are never refused for want of memory
+-- rule: Leaving; Refused memory; Relay goes down
 abbrev pub TakesNoMemory : Event → Type 0
 TakesNoMemory (SourceEnd id) = Unit {0}
 TakesNoMemory (Leave id) = Unit {0}

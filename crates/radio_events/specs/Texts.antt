@@ -4,10 +4,12 @@ use Rattle.radio_events.specs.declared.text.Text.{Text}
 use Rattle.radio_events.specs.declared.text.Text.TheVariants.{Done, Moved, Ended, Json, Streams, Public, Page}
 
 -- a line that a command was done
+-- rule: Commands are done
 abbrev pub done_line : List ℕ
 done_line = codes "done\n"
 
 -- a line that tells how many listeners went to another mount
+-- rule: Move clients
 abbrev pub moved_line : ℕ → List ℕ
 moved_line count = codes "moved: " ++ decimal count ++ codes "\n"
 

@@ -29,6 +29,7 @@ pub enum Ending {
 
 impl Ending {
     /// The word for it in a transcript.
+    // rule: Last word
     pub fn word(self) -> &'static str
         ensures { result.now ≡ ending_word self }
     {

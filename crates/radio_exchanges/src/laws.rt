@@ -11,6 +11,7 @@ pub fn cores_exchange_as_their_states()
 {}
 
 /// A core goes by a source's data, and not by how they are cut into blocks.
+// rule: Cuts do not matter
 pub fn cores_go_by_data()
     ensures { CoresGoByData }
 {

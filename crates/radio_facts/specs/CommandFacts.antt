@@ -49,6 +49,7 @@ opens_as_source settings Admin pair = false
 opens_as_source settings (Source mount) pair = is_named_source_pair settings mount pair
 
 -- the pair opens it; that of the admin opens all
+-- rule: Who may command
 abbrev pub opens : Settings → OpenedBy → Option Credentials → Bool
 opens settings by pair = is_admin_pair settings pair || opens_as_source settings by pair
 
@@ -60,6 +61,7 @@ abbrev pub sits_at : List Listener → List ℕ → ℕ → Bool
 sits_at seats mount id = option_map_or (λ seat. bytes_eq seat.mount mount) (seat_of seats id) false
 
 -- what it needs, and whether it is there
+-- rule: No mount; No destination; Same mount; No client; No users; No user; Waiting is not live
 abbrev pub needs_of : World → TheCommand → CommandNeeds
 needs_of w (MoveClients mount destination) = Destination (record {
   mount_is_live = is_live w.house mount;
@@ -77,12 +79,14 @@ abbrev pub facts_for : World → OpenedBy → CommandNeeds → Option Credential
 facts_for w by needs pair = record { access = Pair (opener_in by) (opens w.house.settings by pair); needs = needs }
 
 -- everybody may see the status; the pair of relays opens the list of streams too, and all else is the admin's alone
+-- rule: Who may see
 abbrev pub access_to : Settings → Listing → Option Credentials → CommandAccess
 access_to settings Status pair = Everybody
 access_to settings Streams pair = Pair Relays (is_admin_pair settings pair || is_relay_pair settings pair)
 access_to settings listing pair = Pair AdminAlone (is_admin_pair settings pair)
 
 -- to list the listeners of a mount, it must be live
+-- rule: Who may see
 abbrev pub needs_to_list : World → Listing → CommandNeeds
 needs_to_list w (Clients mount) = Mount (is_live w.house mount)
 needs_to_list w listing = Nothing
@@ -91,6 +95,7 @@ abbrev pub facts_to_list : World → Listing → Option Credentials → CommandF
 facts_to_list w listing pair = record { access = access_to w.house.settings listing pair; needs = needs_to_list w listing }
 
 -- what is looked up for what his path and its arguments ask; nothing is where the path names no command
+-- rule: Order for a command
 abbrev pub facts_asked : World → Asked → Option Credentials → Option CommandFacts
 facts_asked w NoCommand pair = None
 facts_asked w (MissingArgument by) pair = Some (facts_for w by Argument pair)
@@ -98,5 +103,6 @@ facts_asked w (AsksFor listing) pair = Some (facts_to_list w listing pair)
 facts_asked w (Asks command) pair = Some (facts_for w (opened_by command) (needs_of w command) pair)
 
 -- the policy's rows for it, as things stand
+-- rule: Order for a command
 abbrev pub rows_to_command : World → CommandRequest → List Row
 rows_to_command w asked = command_rows (facts_asked w asked.asked asked.pair)

@@ -6,10 +6,12 @@ use Rattle.radio_events.specs.declared.reply.StreamHead.{StreamHead}
 use Rattle.radio_house.specs.House.{House}
 
 -- what the head of a stream says that shows this
+-- rule: Allow origin
 abbrev pub head_of : House → Shown → StreamHead
 head_of house shown = record { shown = shown; allow_origin = house.settings.web.allow_origin }
 
 -- how many bytes a new listener of the mount may be sent at once
+-- rule: Start of the burst
 abbrev pub burst_of : House → List ℕ → ℕ
 burst_of house mount = min (options_for house.settings mount).stream.burst_size house.settings.limits.queue_size
 

@@ -9,6 +9,7 @@ use Rattle.radio_seats_rows.specs.Seats.{count_at}
 use Rattle.radio_house.specs.World.{World}
 
 -- the relay is on demand, and somebody sits at the mount that it feeds
+-- rule: Pulls on demand
 abbrev pub is_wanted : List Listener → RelaySetting → Bool
 is_wanted seats relay = relay.on_demand && nat_lt 0 (count_at seats relay.local_mount)
 
@@ -17,5 +18,6 @@ abbrev pub with_wanted : List Listener → List (List ℕ) → RelaySetting → 
 with_wanted seats names relay = (if is_wanted seats relay then insert_key (slice_cmp nat_cmp) names relay.local_mount else names)
 
 -- the mounts where somebody sits, which relays feed on demand, in the order of their bytes
+-- rule: Pulls on demand
 abbrev pub wanted : World → List (List ℕ)
 wanted w = fold (with_wanted w.seats) [] w.house.settings.relays

@@ -17,6 +17,7 @@ use radio_values::MountName;
 
 /// What is looked up for one who sends this pair, or none, and whose path and arguments ask for
 /// this, beside the listeners; `None` where the path names no command.
+// rule: Order for a command; No destination; Same mount; No client; No users; No user
 pub fn command_facts(
     house: &House<'_>,
     seats: &Listeners,

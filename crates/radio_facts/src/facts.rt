@@ -17,6 +17,7 @@ use radio_settings_values::Settings;
 use radio_values::{MountName, Shown};
 
 /// The mount that a path names; `None` where it names none, or is one of the web site's.
+// rule: Bad mount
 pub fn mount_named(house: &House<'_>, path: &[u8]) -> Option<MountName>
     ensures { MatchOption result (names_mount house.now.settings path.now ≡ false)
         (λ mount. (names_mount house.now.settings path.now ≡ true) × (mount ≡ path.now)) }
@@ -29,6 +30,7 @@ pub fn mount_named(house: &House<'_>, path: &[u8]) -> Option<MountName>
 }
 
 /// What is looked up for a connection that arrives from this address.
+// rule: Order for a connection
 pub fn arrive_facts(house: &House<'_>, peer: Peer) -> ArriveFacts
     ensures { result ≡ arrive_facts house.now peer }
 {
@@ -42,6 +44,7 @@ pub fn arrive_facts(house: &House<'_>, peer: Peer) -> ArriveFacts
 }
 
 /// What is looked up for a source that wants to feed the mount.
+// rule: Order for a source; Mount in use
 pub fn source_facts(house: &House<'_>, mount: &MountName, asked: &SourceRequest) -> SourceFacts
     ensures { result ≡ source_facts_at house.now mount.now asked.now }
 {
@@ -54,6 +57,7 @@ pub fn source_facts(house: &House<'_>, mount: &MountName, asked: &SourceRequest)
 }
 
 /// What is looked up for a relay that wants to feed the mount, and shows this.
+// rule: Order for a relay
 pub fn relay_facts(house: &House<'_>, mount: &MountName, shown: &Shown) -> RelayFacts
     ensures { result ≡ relay_facts_at house.now mount.now shown.now }
 {
@@ -77,6 +81,7 @@ pub fn push_facts(house: &House<'_>, mount: &MountName, block: &Block) -> PushFa
 /// What is looked up for a listener who sends this pair, or none, and wants to hear the mount,
 /// and where his walk from there ends. A digest is made for each mount with users at which the
 /// walk looks for a seat: two at the most.
+// rule: Order for a listener; Fallback of a mount
 pub fn listen_facts(
     house: &House<'_>,
     seats: &Listeners,

@@ -11,6 +11,7 @@ use radio_values::{Field, MountName, Shown};
 
 /// What a stream on the mount shows, which itself shows this. `OutOfMemory` where memory was
 /// refused.
+// rule: Shown fields
 pub fn shown_for(house: &House<'_>, mount: &MountName, shown: &Shown) -> Result<Shown, OutOfMemory>
     ensures { IfOk result (λ set. set ≡ shown_for house.now mount.now shown.now) }
 {

@@ -18,6 +18,7 @@ use Rattle.radio_fallback.specs.Walk.{Sight, landing, landing_here}
 
 -- whom a move concerns, by where he sits and his home: those who sit at the mount, and where the mount came up, those whose home it is
 -- and who sit elsewhere
+-- rule: Called home
 abbrev pub concerns : Move → List ℕ → List ℕ → Bool
 concerns (Ended mount) at home = bytes_eq at mount
 concerns (Up mount) at home = bytes_eq home mount && not (bytes_eq at mount)
@@ -44,6 +45,7 @@ turn_in sight others move None = Stays
 turn_in sight others move (Some seat) = (if concerns move seat.mount seat.home then turn_by sight others seat.pair move else Stays)
 
 -- his turn, as things stand; his own seat does not count against him
+-- rule: Move clients
 abbrev pub turn_of : Sight → Move → List Listener → ℕ → Turn
 turn_of sight move seats id = turn_in sight (without_listener seats id) move (seat_of seats id)
 
@@ -53,6 +55,7 @@ pub record Carry : Type 0 where
   pub counts : Carried
 
 -- what his turn changes: he goes on at the end of that mount's stream, or loses his seat
+-- rule: Turns of a move
 abbrev pub after_turn : Sight → ℕ → Carry → Turn → Carry
 after_turn sight id carry Stays = carry
 after_turn sight id carry (GoesTo mount) = record {
@@ -65,6 +68,7 @@ after_turn sight id carry (IsOut rule) = record {
 }
 
 -- one turn after the other
+-- rule: Turns of a move
 abbrev pub turns : Sight → Move → List ℕ → Carry → Carry
 turns sight move [] carry = carry
 turns sight move (id ∷ ids) carry = turns sight move ids (after_turn sight id carry (turn_of sight move carry.seats id))
@@ -77,10 +81,12 @@ abbrev pub at_first : List Listener → Carry
 at_first seats = record { seats = seats; counts = record { moved = 0; ended = 0 } }
 
 -- everybody has had his turn
+-- rule: Turns of a move
 abbrev pub carried : Sight → Move → List Listener → Carry
 carried sight move seats = turns sight move (numbers_of seats) (at_first seats)
 
 -- those before him have had their turns
+-- rule: Turns of a move
 abbrev pub at_his_turn : Sight → Move → List Listener → ℕ → List Listener
 at_his_turn sight move seats id = (turns sight move (filter (λ other. nat_lt other id) (numbers_of seats)) (at_first seats)).seats
 

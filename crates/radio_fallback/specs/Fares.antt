@@ -8,10 +8,12 @@ use Rattle.radio_fallback.specs.declared.moves.Turn.TheVariants.{Stays, GoesTo, 
 use Rattle.radio_fallback.specs.Walk.{Sight}
 
 -- no more sit at the mount than may
+-- rule: Closed to moves
 abbrev pub IsWithinLimit : Sight → List Listener → List ℕ → Type 0
 IsWithinLimit sight seats mount = (most : ℕ) → sight.limit mount ≡ Some most → count_at seats mount ≤ most
 
 -- where each user may sit once, nobody sits there twice
+-- rule: User twice
 abbrev pub SitOnce : Sight → List Listener → List ℕ → Type 0
 SitOnce sight seats mount = sight.allows_duplicates mount ≡ false → (user : List ℕ) (id other : ℕ) → SitsAs seats id mount user → SitsAs seats other mount user
     → id ≡ other
@@ -27,6 +29,7 @@ pub record IsCarriedTo (sight : Sight) (old seat : Seat) (mount : List ℕ) : Ty
   pub at_its_end : seat ≡ seat_at_end sight mount old
 
 -- who has this seat had one before: this one, or one from which he was carried here
+-- rule: Moved to the end
 abbrev pub HadASeat : Sight → List Listener → ℕ → Seat → Type 0
 HadASeat sight seats id seat = (old : Seat) × (seat_of seats id ≡ Some old) × ((seat ≡ old) ⊎ ((mount : List ℕ) × IsCarriedTo sight old seat mount))
 

@@ -49,6 +49,7 @@ sits_already seats mount pair = option_map_or (λ sent. sits_there seats mount s
 -- in all that follows, `others` are the listeners but for the one who walks
 
 -- a mount is full for a listener: as many others sit there as may
+-- rule: Mount full
 abbrev pub is_full_for : Sight → List Listener → List ℕ → Bool
 is_full_for sight others mount = is_full (count_at others mount) (sight.limit mount)
 
@@ -57,10 +58,12 @@ abbrev pub is_twice_for : Sight → List Listener → Option Credentials → Lis
 is_twice_for sight others pair mount = not (sight.allows_duplicates mount) && sits_already others mount pair
 
 -- a mount is open to a listener: it lets him in, and he does not sit there already
+-- rule: Listener password; Closed to moves
 abbrev pub is_open_to : Sight → List Listener → Option Credentials → List ℕ → Bool
 is_open_to sight others pair mount = sight.lets_in mount pair && not (is_twice_for sight others pair mount)
 
 -- what one who sends this finds at the mount
+-- rule: Not live; End of a walk
 abbrev pub found_at : Sight → List Listener → List ℕ → Option Credentials → Found
 found_at sight others mount pair = record {
   is_live = sight.is_live mount;
@@ -70,6 +73,7 @@ found_at sight others mount pair = record {
 }
 
 -- the rule that stops a walk where it finds this; where none does, he may sit there
+-- rule: Not live; End of a walk
 abbrev pub stop_of : Found → Option Rule
 stop_of found =
     if not found.is_live then Some NotLive else
@@ -88,6 +92,7 @@ abbrev pub landing_here : Sight → List Listener → Option Credentials → Lis
 landing_here sight others pair mount = landing_at mount (stop_of (found_at sight others mount pair))
 
 -- a mount hands a walk on where it is not live, and where it is full and its settings say so
+-- rule: Passing a walk on
 abbrev pub hands_on : Sight → List Listener → List ℕ → Bool
 hands_on sight others mount = not (sight.is_live mount) || is_full_for sight others mount && sight.hands_on_when_full mount
 
@@ -101,6 +106,7 @@ onward rest here None = here
 onward rest here (Some next) = rest next
 
 -- where a walk ends that may look at so many mounts
+-- rule: Fallback depth
 abbrev pub walk : ℕ → Sight → List Listener → Option Credentials → List ℕ → Landing
 walk zero sight others pair mount = Stops FallbackDepth
 walk (suc left) sight others pair mount = onward (walk left sight others pair) (landing_here sight others pair mount) (next_mount sight others mount)
@@ -110,6 +116,7 @@ abbrev pub most_mounts : ℕ
 most_mounts = 10
 
 -- where a walk from the mount ends
+-- rule: Fallback depth
 unfoldable pub landing : Sight → List Listener → Option Credentials → List ℕ → Landing
 landing sight others pair mount = walk most_mounts sight others pair mount
 
@@ -119,6 +126,7 @@ stop_in (Lands mount) = None
 stop_in (Stops rule) = Some rule
 
 -- he may sit at the mount: it is live, not full for him, and open to him
+-- rule: End of a walk
 pub record MaySit (sight : Sight) (others : List Listener) (pair : Option Credentials) (mount : List ℕ) : Type 0 where
   pub is_live : sight.is_live mount ≡ true
   pub has_room : is_full_for sight others mount ≡ false

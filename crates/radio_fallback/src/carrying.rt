@@ -19,6 +19,7 @@ use radio_values::MountName;
 /// numbers: each by what stands at his turn, as the earlier ones left things, and his own seat does
 /// not count against him. Who goes to a mount goes on at the end of its stream. It takes no memory.
 /// It looks at each listener of the house once.
+// rule: Refused memory; End of a session; Turns of a move; Move clients
 pub fn carry<V: View, A: Attachments>(
     view: &V,
     attached: &mut A,
@@ -92,6 +93,7 @@ fn take_turn<V: View, A: Attachments>(
 }
 
 /// What the listener's turn comes to, as things stand.
+// rule: Turns of a move
 fn turn_of<V: View>(view: &V, seats: &Seats, moving: &Move, id: u64) -> Turn
     ensures { result ≡ turn_of (V.sight view.now) moving.now seats.now.seats id }
 {

@@ -70,6 +70,7 @@ impl<V: View> Walker<'_, '_, V> {
     }
 
     /// The rule that stops him at the mount. What is dear to find out is looked up last.
+    // rule: Closed to moves; End of a walk
     fn stop_at(&self, mount: &MountName, pair: Option<&Pair>) -> Option<Rule>
         ensures { result ≡ stop_of (found_at (V.sight self.now.view.now) (others_of self.now.seats.now.seats self.now.own) mount.now (option_copied pair.entry)) }
     {

@@ -77,6 +77,7 @@ pub struct Walk {
 /// there, and where it ends. From a mount that is not live it goes on to that mount's fallback, and
 /// so it does from a full one whose settings say so; it looks at ten mounts at the most. The time
 /// grows as the number of those who sent this user, where a user may sit at a mount once alone.
+// rule: Not live; Mount full; Fallback depth; Passing a walk on; End of a walk
 pub fn walk_from<V: View>(view: &V, seats: &Seats, mount: &MountName, pair: Option<&Pair>) -> Walk
     ensures first { result.first ≡ found_at (V.sight view.now) seats.now.seats mount.now (option_copied pair.entry) }
     ensures landing { result.landing ≡ landing (V.sight view.now) seats.now.seats (option_copied pair.entry) mount.now }

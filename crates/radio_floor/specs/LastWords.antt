@@ -26,6 +26,7 @@ ShutsWith state label conversation event bytes word =
     (events : List Event) → (exchanges state label conversation (event ∷ events)).lines ≡ Some (answer_lines label bytes (Some word))
 
 -- what was asked is denied by a rule: the lines show the answer that names it, and its word
+-- rule: Answer to a denial
 abbrev pub DenialsAreTold : Type 0
 DenialsAreTold = (state : ScriptState) (label : ℕ) (conversation : Conversation) (event : Event) (rule : Rule) (status : Status)
     → IsAsking conversation.says → reply_to state.world event ≡ Deny rule → status_of rule ≡ Some status
@@ -33,16 +34,19 @@ DenialsAreTold = (state : ScriptState) (label : ℕ) (conversation : Conversatio
     (answered_by conversation.says.web (denial_text status (word_of rule))) (word_of rule)
 
 -- a command was done: the lines show the answer that says so, and that the connection is done
+-- rule: Answer to a command
 abbrev pub CommandsAreTold : Type 0
 CommandsAreTold = (state : ScriptState) (label : ℕ) (conversation : Conversation) (event : Event) (text : CommandText)
     → IsAsking conversation.says → reply_to state.world event ≡ Text text → ShutsWith state label conversation event (text_answer conversation.says.web text) (codes "done")
 
 -- the client was finished by a rule: the line shows its word
+-- rule: Finishes are silent
 abbrev pub FinishesAreTold : Type 0
 FinishesAreTold = (state : ScriptState) (label : ℕ) (conversation : Conversation) (event : Event) (rule : Rule)
     → reply_to state.world event ≡ Finished rule → ShutsWith state label conversation event [] (word_of rule)
 
 -- the peer has closed: the line shows that the connection is done
+-- rule: Last word
 abbrev pub ClosedOnesAreDone : Type 0
 ClosedOnesAreDone = (state : ScriptState) (label : ℕ) (conversation : Conversation)
     → (closes state label conversation).lines ≡ Some (answer_lines label [] (Some (codes "done")))

@@ -123,6 +123,7 @@ relay_named w mount =
     if is_mount_name mount then find (λ relay. bytes_eq relay.local_mount mount) w.house.settings.relays else None
 
 -- the relay connects to its master under a new label: its request goes out; with no such relay the label is at fault
+-- rule: End of a pull
 abbrev pub connects : ScriptState → ℕ → Option RelaySetting → Performed
 connects state label None = at_fault state
 connects state label (Some relay) = record {
@@ -178,6 +179,7 @@ AsksOn state label pulling event done =
     × (pulled_on state label (record pulling { number = after.number }) after.state w ≡ done)
 
 -- what comes to a relay's connection comes to that
+-- rule: End of a pull
 abbrev pub ComesToRelay : ScriptState → ℕ → Pulling → Input → Performed → Type 0
 ComesToRelay state label pulling (Data bytes) done =
     (now : Pulling) × (ends : State) × (w : World) × Takes Step pulling bytes state.world now ends w × (pulled_on state label now ends w ≡ done)
@@ -211,6 +213,7 @@ for_new_label state performed None = performed
 for_new_label state performed (Some connection) = at_fault state
 
 -- from this state the delivery comes to that
+-- rule: Line of a script; Labels
 abbrev pub IsPerformed : WebAnswers → ScriptState → Delivery → Performed → Type 0
 IsPerformed web state (Open label peer) performed =
     performed ≡ for_new_label state (opens web state label peer) (connection_of state.connections label)

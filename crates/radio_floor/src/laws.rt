@@ -11,6 +11,7 @@ use radio_session::{hearing_is_one, last_words_name_the_rule};
 
 /// The server does one thing at each delivery. So a script has one transcript, and what the whole
 /// lines at its front come to is a front of it, whatever lines are behind them.
+// rule: Line of a script
 pub fn the_transcript_is_one()
     ensures determined { (web : WebAnswers) → IsDetermined (conduct web) }
     ensures one { (web : WebAnswers) → HasOneTranscript (conduct web) }
@@ -24,6 +25,7 @@ pub fn the_transcript_is_one()
 /// `done` where its peer has closed it, its command was done or its body is whole. A denial of its arrival or of
 /// what it asked, and the connection's own refusal, show the answer that names the rule, if the rule has a status;
 /// a command that was done shows the answer that says so.
+// rule: Finishes are silent; Answer to a denial; Answer to a command; Last word; Greeting of a source
 pub fn last_words_are_told()
     ensures arrivals { DeniedArrivalsAreTold }
     ensures denied { DenialsAreTold }

@@ -123,6 +123,7 @@ courses web old delivery lines new =
     × (happenings : List Happening) × Happens old.state delivery happenings × (new.past ≡ old.past ++ happenings)
 
 -- the deliveries come to this text, and to this course
+-- rule: Line of a script
 abbrev pub ComesTo : WebAnswers → Settings → Lists → List Delivery → List ℕ → Option ℕ → List Happening → Type 0
 ComesTo web settings lists deliveries text stop course = (last : ScriptState)
     × Runs (courses web) (record { state = opening_script settings lists; past = [] }) 1 deliveries text stop (record { state = last; past = course })

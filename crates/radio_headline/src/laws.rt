@@ -66,6 +66,7 @@ pub fn events_are_lawful()
 /// The same for a history that is a run from an opening state, as `settle` of `radio_settling` gives one
 /// where it ends well: at each of its entries the laws of every run hold, and what was noted of a
 /// listener's draws is, joined, slices of what his sources delivered.
+// rule: Without gap or repeat
 pub fn histories_are_lawful()
     ensures { HistoriesAreLawful }
 {
@@ -78,6 +79,7 @@ pub fn histories_are_lawful()
 /// the connections of the sources in whose sessions he sat, in the order in which he sat, with a
 /// metadata block after each interval if he asked, and nothing of the time in which he waited for a
 /// session; and whoever is denied reads the first rule that denied him.
+// rule: Without gap or repeat
 pub fn listeners_hear_slices()
     ensures { ListenersHearSlices }
 {
@@ -106,6 +108,7 @@ pub fn listeners_hear_slices()
 }
 
 /// The same of a script that is played: what [`play`](radio_floor::play) writes where it ends well.
+// rule: Line of a script
 pub fn played_scripts_hear_slices()
     ensures { PlayedScriptsHearSlices }
 {

@@ -23,5 +23,6 @@ behind_first_line lines [] = lines
 behind_first_line lines (byte ∷ text) = if byte == 10 then byte ∷ lines ++ text else byte ∷ behind_first_line lines text
 
 -- an answer with these headers, behind its status line
+-- rule: Cache control
 abbrev pub with_additions : Additions → List ℕ → List ℕ
 with_additions additions text = behind_first_line (added_lines additions) text

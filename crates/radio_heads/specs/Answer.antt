@@ -93,6 +93,7 @@ abbrev pub denial_text : Status → List ℕ → List ℕ
 denial_text status rule = sized_text (status_number status) (content_type Plain) (denial_body rule)
 
 -- the text of an answer
+-- rule: Answers are read back
 abbrev pub answer_text : AnyAnswer → List ℕ
 answer_text (Listener welcome) = listener_text welcome
 answer_text Source = source_text

@@ -16,6 +16,7 @@ abbrev pub is_question_mark : ℕ → Bool
 is_question_mark b = b == 63
 
 -- what stands before the first question mark of the target, or all of it
+-- rule: Percent decoding
 abbrev pub path_of : List ℕ → List ℕ
 path_of target = before_first is_question_mark target
 
@@ -33,6 +34,7 @@ request_parts h = record {
 }
 
 -- the whole front is a request head of at most 64 headers, and these are its parts
+-- rule: Grammar of heads
 abbrev pub ShowsRequest : List ℕ → RequestParts → Type 0
 ShowsRequest front parts =
     (h : RequestHead) × ReadsRequest front h [] × (length h.fields ≤ 64) × (parts ≡ request_parts h)

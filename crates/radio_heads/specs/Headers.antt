@@ -7,6 +7,7 @@ abbrev pub is_same_name : List ℕ → List ℕ → Bool
 is_same_name a b = bytes_eq (map to_ascii_lowercase a) (map to_ascii_lowercase b)
 
 -- the value of the first header of that name
+-- rule: Grammar of heads; Two lengths
 abbrev pub value_of : List ℕ → List (List ℕ × List ℕ) → Option (List ℕ)
 value_of name headers = option_map (λ h. h.1) (find (λ h. is_same_name h.0 name) headers)
 

@@ -91,6 +91,7 @@ pub record IsCleanWelcome (w : Welcome) : Type 0 where
   pub genre : IsFieldText w.genre
 
 -- the values from outside in an answer's headers are such: only a listener's has any
+-- rule: Answers are read back
 abbrev pub HasFieldTexts : Answer → Type 0
 HasFieldTexts (Listener w) = IsCleanWelcome w
 HasFieldTexts Source = Unit {0}

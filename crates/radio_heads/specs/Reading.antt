@@ -13,6 +13,7 @@ pub record IsFront (bytes : List ℕ) (n : ℕ) : Type 0 where
   pub short : n ≤ 8192
 
 -- the first n bytes are a head, and it shows these parts
+-- rule: Grammar of heads
 pub record IsHead {P : Type 0} (Shows : List ℕ → P → Type 0) (bytes : List ℕ) (parts : P) (n : ℕ) : Type 0 where
   pub front : IsFront bytes n
   pub shows : Shows (take n bytes) parts
@@ -24,6 +25,7 @@ pub record IsNoHead {P : Type 0} (Shows : List ℕ → P → Type 0) (bytes : Li
   pub no_parts : (parts : P) → ¬ (Shows (take length bytes) parts)
 
 -- fewer than 8192 bytes have come, and none of them ends a head
+-- rule: Longest head
 pub record IsUnfinished (bytes : List ℕ) : Type 0 where
   pub open_end : HasNoEnd bytes
   pub room : length bytes < 8192
@@ -34,6 +36,7 @@ pub record IsTooLong (bytes : List ℕ) : Type 0 where
   pub full : 8192 ≤ length bytes
 
 -- what each answer of a reading says of the bytes
+-- rule: Longest head
 abbrev pub IsReading : {P : Type 0} → (List ℕ → P → Type 0) → List ℕ → Result (Progress P) HeadFault → Type 0
 IsReading Shows bytes (Ok (Whole parts n)) = IsHead Shows bytes parts n
 IsReading Shows bytes (Ok More) = IsUnfinished bytes

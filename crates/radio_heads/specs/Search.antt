@@ -27,6 +27,7 @@ abbrev pub HasNoEnd : List ℕ → Type 0
 HasNoEnd bytes = (place end : ℕ) → ¬ (EndsAt bytes place end)
 
 -- the first place that ends a head ends it at end
+-- rule: Longest head
 pub record IsHeadEnd (bytes : List ℕ) (end : ℕ) : Type 0 where
   pub place : ℕ
   pub ends : EndsAt bytes place end

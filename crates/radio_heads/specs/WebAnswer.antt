@@ -21,6 +21,7 @@ stream_start w =
     ++ shown_line (codes "icy-genre") w.genre
     ++ interval_line w.interval
 
+-- rule: Allow origin
 abbrev pub stream_text : Option (List ℕ) → Welcome → List ℕ
 stream_text origin w =
     stream_start w
@@ -42,6 +43,7 @@ shared_head origin type size =
     ++ header_line (codes "Connection") (codes "close")
     ++ line []
 
+-- rule: Allow origin
 abbrev pub shared_text : Option (List ℕ) → List ℕ → List ℕ → List ℕ
 shared_text origin type body = shared_head origin type (length body) ++ body
 
@@ -60,10 +62,12 @@ page_head origin policy size =
     ++ header_line (codes "Connection") (codes "close")
     ++ line []
 
+-- rule: Allow origin
 abbrev pub page_text : Option (List ℕ) → List ℕ → List ℕ → List ℕ
 page_text origin policy body = page_head origin policy (length body) ++ body
 
 -- the text of an answer
+-- rule: Answers are read back
 abbrev pub web_answer_text : Option (List ℕ) → AnyWebAnswer → List ℕ
 web_answer_text origin (Stream welcome) = stream_text origin welcome
 web_answer_text origin (Text kind body) = shared_text origin (content_type kind) body.now
@@ -74,6 +78,7 @@ abbrev pub IsCleanOrigin : Option (List ℕ) → Type 0
 IsCleanOrigin origin = IfSome origin IsFieldText
 
 -- the values from outside in an answer's headers end no line
+-- rule: Answers are read back
 abbrev pub HasWebFieldTexts : AnyWebAnswer → Type 0
 HasWebFieldTexts (Stream w) = IsCleanWelcome w
 HasWebFieldTexts (Text kind body) = Unit {0}

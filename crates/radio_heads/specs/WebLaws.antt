@@ -11,6 +11,7 @@ use Rattle.radio_heads.specs.Response.{ResponseParts, ShowsResponse}
 use Rattle.radio_heads.specs.WebAnswer.{IsCleanOrigin, html, page_head, page_text, shared_head, shared_text, stream_text}
 
 -- where nothing is said of origins, a stream and a text are those of other answers
+-- rule: Answers are read back
 pub record IsUnchanged : Type 0 where
   pub stream : (w : Welcome) → stream_text None w ≡ listener_text w
   pub text : (kind : TextKind) (body : List ℕ) → shared_text None (content_type kind) body ≡ sized_text 200 (content_type kind) body
@@ -54,6 +55,7 @@ abbrev pub IsShortOrigin : Option (List ℕ) → Type 0
 IsShortOrigin origin = IfSome origin (λ o. length o ≤ 255)
 
 -- each is read back with its headers, whatever follows it; values without the white space at their ends
+-- rule: Answers are read back
 pub record WebAnswersAreReadBack : Type 0 where
   pub stream : (origin : Option (List ℕ)) (w : Welcome) (more : List ℕ)
       → IsCleanOrigin origin → IsShortOrigin origin → IsCleanWelcome w → IsShortWelcome w → IfSome w.interval (λ n. n < 2 ^ 32)

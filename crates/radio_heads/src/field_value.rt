@@ -35,6 +35,7 @@ impl<'a> FieldValue<'a> {
     }
 
     /// The value of these bytes; `None` where a header may not have them.
+    // rule: Answers are read back
     pub fn read(bytes: &'a [u8]) -> Option<FieldValue<'a>>
         ensures may { IsSome result ↔ IsFieldText bytes.now }
         ensures value { IfSome result (λ value. value ≡ bytes.now) }

@@ -45,6 +45,7 @@ impl<'b> Head<'b> {
     }
 
     /// The request's target up to its first question mark.
+    // rule: Percent decoding
     pub fn path(&self) -> &'b [u8]
         ensures { result.now ≡ self.now.path }
     {
@@ -60,6 +61,7 @@ impl<'b> Head<'b> {
 
     /// The value of the first header of that name, ASCII case disregarded, without the white
     /// space around it; `None` where there is no such header.
+    // rule: Grammar of heads; Two lengths
     pub fn value(&self, name: &str) -> Option<&'b [u8]>
         ensures { option_copied result ≡ value_of name.now self.now.headers }
     {

@@ -8,12 +8,14 @@ ghost use Rattle.radio_heads.specs.WebLaws.{IsUnchanged, WebAnswersAreReadBack};
 ghost use Rattle.radio_heads.specs.Laws.{ListenerIsReadBack, ShortListenerIsReadBack, DenialIsReadBack, TextIsReadBack};
 
 /// Two readings of the same bytes are equal, or both are faults.
+// rule: Grammar of heads
 pub fn readings_agree()
     ensures requests { ReadingsAgree ShowsRequest }
     ensures responses { ReadingsAgree ShowsResponse }
 {}
 
 /// Once a reading is not `More`, more bytes change nothing.
+// rule: Longest head
 pub fn settled()
     ensures requests { IsSettled ShowsRequest }
     ensures responses { IsSettled ShowsResponse }
@@ -32,6 +34,7 @@ pub fn heads_lie_within()
 
 /// The rule for ends loses no head of the grammar: one that stands at the front, of at most 64
 /// headers and 8192 bytes, is a head to a reading, whatever follows it.
+// rule: Grammar of heads
 pub fn heads_are_found()
     ensures requests { RequestsAreFound }
     ensures responses { ResponsesAreFound }
@@ -41,6 +44,7 @@ pub fn heads_are_found()
 /// read back with that status and those headers; of a listener's where the values have no control
 /// bytes but tabs, without the white space at their ends, and where the head has at most 8192 bytes
 /// or no value has more than 255.
+// rule: Answers are read back
 pub fn answers_read_back()
     ensures listener { ListenerIsReadBack }
     ensures short { ShortListenerIsReadBack }
@@ -49,18 +53,21 @@ pub fn answers_read_back()
 {}
 
 /// Where nothing is said of origins, `write_web_answer` writes a stream and a text as `write_answer` does.
+// rule: Answers are read back
 pub fn unsaid_origins_change_nothing()
     ensures { IsUnchanged }
 {}
 
 /// What `write_web_answer` writes is read back with its headers, whatever bytes follow it, where the policy has at most 4096
 /// bytes and no other value more than 255; values come back without the white space at their ends.
+// rule: Answers are read back
 pub fn web_answers_read_back()
     ensures { WebAnswersAreReadBack }
 {}
 
 /// What `add_headers` makes of an answer is read back with the headers that were added, and its own behind them, whatever
 /// bytes follow it, with the same bounds.
+// rule: Cache control; Sandboxed streams
 pub fn additions_read_back()
     ensures { (additions : Additions) → AdditionsAreReadBack additions }
 {}

@@ -26,6 +26,7 @@ use crate::search::{MAX_HEAD, head_end};
 /// - `BadHead`, `TooManyHeaders`: the front is no such head.
 ///
 /// It allocates nothing, and costs time linear in the bytes up to the end of the head.
+// rule: Longest head
 pub fn read_request<'b>(bytes: &'b [u8]) -> Result<Progress<Head<'b>>, HeadFault>
     ensures reading { IsReading ShowsRequest bytes.now result }
     ensures within { IfOk result (IsWithin bytes.now) }
@@ -40,6 +41,7 @@ pub fn read_request<'b>(bytes: &'b [u8]) -> Result<Progress<Head<'b>>, HeadFault
 /// two before `seen` on; the grammar reads the head once, when its end has come. So a caller that
 /// reads after each byte pays for each byte once, and at each reading for leading empty lines, which
 /// no real client sends. With `read_request` he would pay at each reading for all that has come.
+// rule: Longest head
 pub fn read_request_from<'b>(bytes: &'b [u8], seen: usize) -> Result<Progress<Head<'b>>, HeadFault>
     requires in_range { seen ≤ length bytes.now }
     requires searched { HasNoEnd (take seen bytes.now) }

@@ -38,6 +38,7 @@ pub enum WebAnswer<'a> {
 /// is given; without one a stream and a text are those of [`write_answer`](crate::write_answer).
 ///
 /// The only error is `OutOfMemory`.
+// rule: Allow origin; Answers are read back
 pub fn write_web_answer(
     alloc: Global,
     answer: &WebAnswer,

@@ -15,6 +15,7 @@ use std::alloc::Global;
 /// The text of an answer, byte for byte, with its body where it has one.
 ///
 /// The only error is `OutOfMemory`.
+// rule: Answers are read back
 #[tactic(auto, using(crate::proofs::WebLemmas::stream_unsaid))]
 pub fn write_answer(alloc: Global, answer: &Answer) -> Result<Vec<u8>, OutOfMemory>
     ensures text { IfOk result (λ text. text.items ≡ answer_text answer.now) }

@@ -40,6 +40,7 @@ abbrev pub is_full : ℕ → ℕ → Bool
 is_full count limit = not (nat_lt count limit)
 
 -- the path names a mount: it has the form of a name, and is none of the web site's
+-- rule: Bad mount; Paths of the web site
 abbrev pub names_mount : Settings → List ℕ → Bool
 names_mount settings path = is_mount_name path && not (is_web_path settings.web path)
 
@@ -61,11 +62,13 @@ abbrev pub live_number : House → List ℕ → ℕ
 live_number house mount = option_map_or (λ session. session.number) (session_of house.live mount) 0
 
 -- to which mount the listeners of this one fall back, if to any: what a command has set, else what the settings say
+-- rule: Fallback of a mount
 abbrev pub fallback_of : House → List ℕ → Option (List ℕ)
 fallback_of house mount =
     option_map_or (λ set. set.fallback) (set_for house.fallbacks mount) (options_for house.settings mount).listeners.fallback_mount
 
 -- what a walk sees of the house
+-- rule: End of a walk; Seats are accepted
 abbrev pub sight_of : House → Sight
 sight_of house = record {
   -- at a mount that waits for a session one may sit, as at a live one
@@ -79,10 +82,12 @@ sight_of house = record {
 }
 
 -- where a walk from the mount ends, of one who does not sit yet
+-- rule: End of a walk
 abbrev pub walks_to : House → List Listener → List ℕ → Option Credentials → Landing
 walks_to house seats mount pair = landing (sight_of house) seats pair mount
 
 -- the rule that stops it, if one does
+-- rule: End of a session
 abbrev pub walk_stops : House → List Listener → List ℕ → Option Credentials → Option Rule
 walk_stops house seats mount pair = stop_in (walks_to house seats mount pair)
 
@@ -114,6 +119,7 @@ relay_facts_at house mount shown = record {
   number_is_spent = house.last_id == largest_number;
 }
 
+-- rule: Order for a relay
 abbrev pub relay_facts : House → List ℕ → Shown → Option RelayFacts
 relay_facts house mount shown = (if names_mount house.settings mount then Some (relay_facts_at house mount shown) else None)
 
@@ -132,17 +138,22 @@ abbrev pub listen_facts : House → List Listener → ListenRequest → Option L
 listen_facts house seats asked = (if names_mount house.settings asked.mount then Some (listen_facts_at house seats asked.mount asked.pair) else None)
 
 -- the policy's rows for each action, as things stand
+-- rule: Order for a connection
 abbrev pub rows_to_arrive : House → Peer → List Row
 rows_to_arrive house peer = arrive_rows (arrive_facts house peer)
 
+-- rule: Order for a source
 abbrev pub rows_to_feed : House → SourceRequest → List Row
 rows_to_feed house asked = source_rows (source_facts house asked)
 
+-- rule: Order for a relay
 abbrev pub rows_to_raise : House → List ℕ → Shown → List Row
 rows_to_raise house mount shown = relay_rows (relay_facts house mount shown)
 
+-- rule: Numbers spent
 abbrev pub rows_to_push : House → List ℕ → List ℕ → List Row
 rows_to_push house mount block = push_rows (push_facts house mount block)
 
+-- rule: Order for a listener
 abbrev pub rows_to_listen : World → ListenRequest → List Row
 rows_to_listen w asked = listen_rows (listen_facts w.house w.seats asked)

@@ -15,6 +15,7 @@ abbrev pub is_set_for : List ℕ → Fallback → Bool
 is_set_for mount set = bytes_eq set.mount mount
 
 -- what was set for the mount last, if anything was
+-- rule: Fallback of a mount
 abbrev pub set_for : List Fallback → List ℕ → Option Fallback
 set_for fallbacks mount = find (is_set_for mount) fallbacks
 
@@ -23,5 +24,6 @@ abbrev pub by_name : Fallback → Fallback → Ordering
 by_name a b = slice_cmp nat_cmp a.mount b.mount
 
 -- it is set for the mount from now on, in place of what was set before
+-- rule: Fallbacks
 abbrev pub with_fallback : List Fallback → List ℕ → Option (List ℕ) → List Fallback
 with_fallback fallbacks mount fallback = placed by_name (record { mount = mount; fallback = fallback }) fallbacks

@@ -31,6 +31,7 @@ begun house id mount shown = record house {
 }
 
 -- a relay has come up with this number, and a session has begun on the mount, which it feeds
+-- rule: Relay comes up
 abbrev pub raised : House → ℕ → List ℕ → Shown → House
 raised house id mount shown = record house {
   live = with_session house.live (opened mount id shown house.time);
@@ -39,6 +40,7 @@ raised house id mount shown = record house {
 }
 
 -- the rule has finished the client, or the relay, of this number
+-- rule: Relay ended before
 abbrev pub finished_in : House → ℕ → Rule → House
 finished_in house id rule = record (now_in_state house id (Ended rule)) { relays = with_relay_ended house.relays id rule }
 

@@ -5,5 +5,6 @@ use Rattle.radio_access.specs.Lists.{Lists, lets_in}
 use Rattle.radio_seats_rows.specs.declared.seat.Seat.{Seat}
 
 -- it is a seat at the mount, of one whom its users do not let in
+-- rule: Users shut out
 abbrev pub is_shut_out : Lists → List ℕ → Seat → Bool
 is_shut_out lists mount seat = bytes_eq seat.mount mount && not (lets_in lists mount seat.pair)

@@ -8,12 +8,14 @@ use Rattle.radio_house.specs.declared.relays.RelayState.TheVariants.{Feeds, Ende
 use Rattle.radio_tables.specs.Lists.{update_first, placed}
 
 -- a relay that has come up and has not gone down
+-- rule: Relay is no client
 pub record Relay : Type 0 where
   pub id : ℕ
   -- what it does
   pub state : RelayState
 
 -- a relay that has come up on the mount now
+-- rule: Relay is no client
 abbrev pub risen : ℕ → List ℕ → Relay
 risen id mount = record { id = id; state = Feeds mount }
 
@@ -39,10 +41,12 @@ abbrev pub ended : Rule → Relay → Relay
 ended rule relay = doing (Ended rule) relay
 
 -- the rule has finished the relay of this number
+-- rule: Relay goes down
 abbrev pub with_relay_ended : List Relay → ℕ → Rule → List Relay
 with_relay_ended relays id rule = update_first (is_relay id) (ended rule) relays
 
 -- the relay of this number is gone
+-- rule: Relay goes down
 abbrev pub without_relay : List Relay → ℕ → List Relay
 without_relay relays id = filter (λ relay. not (is_relay id relay)) relays
 

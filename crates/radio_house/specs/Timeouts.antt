@@ -15,6 +15,7 @@ abbrev pub asks_nothing : ℕ → ℕ → ℕ → ClientState → Bool
 asks_nothing seconds now arrived Undecided = lies_back seconds arrived now
 asks_nothing seconds now arrived state = false
 
+-- rule: Header timeout
 abbrev pub asks_too_late : ℕ → ℕ → Client → Bool
 asks_too_late seconds now client = asks_nothing seconds now client.arrived client.state
 
@@ -23,6 +24,7 @@ abbrev pub timed_out : ℕ → ℕ → Client → Client
 timed_out seconds now client = with_state (if asks_too_late seconds now client then Ended HeaderTimeout else client.state) client
 
 -- these tests in numbers: more bytes behind than a queue has, and so many seconds or more
+-- rule: The clock
 pub record TestsAreInNumbers : Type 0 where
   pub lags : (mount : List ℕ) (end queue : ℕ) (seat : Seat)
       → (lags_behind mount end queue seat ≡ true) ↔ ((seat.mount ≡ mount) × (queue < end - seat.place))

@@ -15,6 +15,7 @@ abbrev pub feeds_on_demand : List RelaySetting → List ℕ → Bool
 feeds_on_demand relays mount = option_map_or (λ relay. relay.on_demand) (find (λ relay. bytes_eq relay.local_mount mount) relays) false
 
 -- a relay of the settings feeds the mount on demand
+-- rule: Waiting mount
 abbrev pub is_on_demand : Settings → List ℕ → Bool
 is_on_demand settings mount = feeds_on_demand settings.relays mount
 
@@ -23,6 +24,7 @@ abbrev pub shown_by_nobody : Shown
 shown_by_nobody = shown_of (codes "audio/mpeg") [] []
 
 -- what is heard at a mount that waits: nothing, as of a session of number 0, which nobody has; it has the name and the genre that the settings give it
+-- rule: Waiting mount
 abbrev pub silence_at : House → List ℕ → Session
 silence_at house mount = opened mount 0 (shown_for house mount shown_by_nobody) 0
 
@@ -30,5 +32,6 @@ abbrev pub silence_of : House → List ℕ → Option Session
 silence_of house mount = (if is_on_demand house.settings mount then Some (silence_at house mount) else None)
 
 -- what listeners hear at the mount: its session, and where it has none, but waits for one, nothing yet
+-- rule: Waiting mount
 abbrev pub heard_at : House → List ℕ → Option Session
 heard_at house mount = option_or (session_of house.live mount) (silence_of house mount)

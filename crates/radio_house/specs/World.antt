@@ -19,6 +19,7 @@ use Rattle.radio_house.specs.Relays.{Relay, relay_of}
 use Rattle.radio_seats_rows.specs.Seats.{listener_of}
 
 -- the house, and the table of those who listen in it
+-- rule: Client states
 pub record World : Type 0 where
   -- the moment, the settings and their lists, the live sessions, the fallbacks that were set, the clients, the relays, and the number that was given last
   pub house : House
@@ -67,9 +68,11 @@ standing_in relay listener None = standing_of_relay relay
 standing_in relay listener (Some client) = standing_by listener client.peer client.state
 
 -- how the client, or the relay, of this number stands
+-- rule: Client states
 abbrev pub standing_of : World → ℕ → Standing
 standing_of w id = standing_in (relay_of w.house.relays id) (listener_of w.seats id) (client_of w.house.clients id)
 
 -- there is a relay of this number
+-- rule: Relay is no client
 abbrev pub has_relay : World → ℕ → Bool
 has_relay w id = is_some (relay_of w.house.relays id)

@@ -53,6 +53,7 @@ impl Registry {
 
     /// Begins a session on the mount, which the client feeds. `OutOfMemory` if memory was refused;
     /// nothing has changed then.
+    // rule: Session
     pub fn begin(
         &mut self,
         seats: &mut Listeners,
@@ -114,6 +115,7 @@ impl Registry {
 
     /// The users of the mount let this one in with this password from now on, and no more as they did before; where it has
     /// no users, nothing changes. `OutOfMemory` where memory was refused; nothing has changed then.
+    // rule: Change of users
     pub fn add_user(
         &mut self,
         alloc: Global,
@@ -128,6 +130,7 @@ impl Registry {
     }
 
     /// The users of the mount let this one in no more. It takes no memory.
+    // rule: Change of users
     pub fn delete_user(&mut self, mount: &MountName, user: &[u8])
         ensures { self.new ≡ record self.old { lists = without_user_at self.old.lists mount.now user.now } }
     {

@@ -34,6 +34,7 @@ impl SeatTest for IsShutOut<'_> {
 impl Registry {
     /// Those lose their seats at the mount whom its users do not let in; how many they are. It takes
     /// no memory.
+    // rule: Users shut out
     pub fn end_outsiders(&self, seats: &mut Listeners, mount: &MountName) -> u64
         ensures seats { seats.new ≡ record seats.old { seats = with_ended seats.old.seats (is_shut_out self.now.lists mount.now) RuleOf.ListenerPassword } }
         ensures count { result ≡ how_many (is_shut_out self.now.lists mount.now) seats.old.seats }

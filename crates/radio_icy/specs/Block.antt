@@ -16,11 +16,13 @@ abbrev pub padded : List ℕ → List ℕ
 padded text = text ++ replicate (16 * units_of (length text) - length text) 0
 
 -- the block of a title, or the block that carries none: one zero byte
+-- rule: Metadata block
 unfoldable pub metadata_block : Option (List ℕ) → List ℕ
 metadata_block None = 0 ∷ []
 metadata_block (Some title) = let text = title_text title in units_of (length text) ∷ padded text
 
 -- the title that the next block carries: the present title, unless it is the last one sent
+-- rule: Metadata block
 abbrev pub news_of : Option (List ℕ) → Option (List ℕ) → Option (List ℕ)
 news_of None sent = None
 news_of (Some title) None = Some title

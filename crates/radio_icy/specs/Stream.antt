@@ -44,6 +44,7 @@ abbrev pub rest_of : ℕ → List Call → List ℕ
 rest_of n calls = drop (n * parts_of n calls) (sound_of_calls calls)
 
 -- `out` is what is to come of these calls in a stream with the interval n
+-- rule: Metadata count
 abbrev pub IsWoven : ℕ → List Call → List ℕ → Type 0
 IsWoven n calls out = out ≡ woven_parts n calls (parts_of n calls) ++ rest_of n calls
 

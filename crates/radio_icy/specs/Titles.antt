@@ -16,6 +16,7 @@ before_title_end (b ∷ text) =
     if ends_title (b ∷ text) then Some [] else option_map (λ title. b ∷ title) (before_title_end text)
 
 -- the title of a text that begins with `StreamTitle='`
+-- rule: Title of a block
 unfoldable pub title_of : List ℕ → Option (List ℕ)
 title_of text =
     if starts_with nat_eq text (codes "StreamTitle='") then before_title_end (drop 13 text) else None
@@ -25,6 +26,7 @@ abbrev pub HasNoUrlInside : List ℕ → Type 0
 HasNoUrlInside title = (before after : List ℕ) → title ≡ before ++ (codes "';StreamUrl=" ++ after) → ⊥
 
 -- The title stands in the text between `StreamTitle='` and a place where a title ends, and no title ends before it.
+-- rule: Title of a block
 pub record IsTitleIn (text title : List ℕ) : Type 0 where
   pub rest : List ℕ
   pub parts : text ≡ codes "StreamTitle='" ++ (title ++ rest)

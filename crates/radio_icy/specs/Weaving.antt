@@ -29,11 +29,13 @@ after_byte w title =
     else record w { place = 0; sent = sent_with (news_of title w.sent) w.sent }
 
 -- what comes of a piece of sound while a stream has this title
+-- rule: Metadata count
 abbrev pub woven : Weaving → Option (List ℕ) → List ℕ → List ℕ
 woven w title [] = []
 woven w title (b ∷ sound) = b ∷ (block_after_byte w title ++ woven (after_byte w title) title sound)
 
 -- the weaver after a piece of sound
+-- rule: Metadata count
 abbrev pub after_weaving : Weaving → Option (List ℕ) → List ℕ → Weaving
 after_weaving w title [] = w
 after_weaving w title (b ∷ sound) = after_weaving (after_byte w title) title sound

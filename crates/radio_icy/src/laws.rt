@@ -14,6 +14,7 @@ ghost use Rattle.radio_icy.specs.Titles.{title_of, HasNoUrlInside, IsTitleIn};
 
 /// What a weaver writes over a list of calls, from the start of a stream, is woven: the sound of all calls, cut after
 /// each multiple of the interval, with the block of each part. Without any title each block is one zero byte.
+// rule: Metadata count
 pub fn woven_streams()
     ensures woven { (n : ℕ) (calls : List Call)
         → 0 < n → IsWoven n calls (woven_by_calls (new_weaving n) calls) }
@@ -23,6 +24,7 @@ pub fn woven_streams()
 
 /// However sound is cut into calls under one title, the same is written, and calls after other calls go on where those
 /// ended: from any state of a weaver.
+// rule: Metadata count
 pub fn joined_weaving()
     ensures sound { (w : Weaving) (title : Option (List ℕ)) (a : List ℕ) (b : List ℕ)
         → woven w title (a ++ b) ≡ woven w title a ++ woven (after_weaving w title a) title b }
@@ -44,6 +46,7 @@ pub fn bare_streams()
 
 /// The bare sound of what was woven is the sound that went in, and the texts of its blocks are those of the titles
 /// that were sent.
+// rule: Metadata taken out
 pub fn bare_of_woven()
     ensures sound { (n : ℕ) (calls : List Call) (out : List ℕ)
         → 0 < n → IsWoven n calls out → bare n out ≡ sound_of_calls calls }
@@ -52,6 +55,7 @@ pub fn bare_of_woven()
 {}
 
 /// However a stream is cut into pieces, the same is heard, and the reader stands at the same place after it.
+// rule: Metadata taken out
 pub fn cut_streams()
     ensures heard { (u : Unweaving) (pieces : List (List ℕ))
         → heard_by_pieces u pieces ≡ heard u (concat pieces) }
@@ -60,6 +64,7 @@ pub fn cut_streams()
 {}
 
 /// What is heard in a stream from its start is its bare sound and the texts of its blocks.
+// rule: Metadata taken out
 pub fn unwoven_streams()
     ensures sound { (n : ℕ) (out : List ℕ) → sound_in (heard (new_unweaving n) out) ≡ bare n out }
     ensures texts { (n : ℕ) (out : List ℕ) → texts_in (heard (new_unweaving n) out) ≡ block_texts n out }
@@ -67,6 +72,7 @@ pub fn unwoven_streams()
 
 /// The title of the text that was made of a title is that title, unless `';StreamUrl=` stands in it; also with a URL
 /// behind it.
+// rule: Title of a block
 pub fn titles_of_texts()
     ensures alone { (title : List ℕ) → HasNoUrlInside title → title_of (title_text title) ≡ Some title }
     ensures with_url { (title : List ℕ) (url : List ℕ)
@@ -74,6 +80,7 @@ pub fn titles_of_texts()
 {}
 
 /// A text has a title exactly where it stands between `StreamTitle='` and the first place where a title ends.
+// rule: Title of a block
 pub fn titles_in_texts()
     ensures { (text : List ℕ) (title : List ℕ) → (title_of text ≡ Some title) ↔ IsTitleIn text title }
 {}

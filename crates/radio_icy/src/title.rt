@@ -11,6 +11,7 @@ const BEFORE_URL: &[u8] = b"StreamUrl=";
 ///
 /// A title may itself have `';` in it: it ends at the first `';` that the text's end or `StreamUrl=` follows.
 /// `None` where the text does not begin with `StreamTitle='`, or has no such end.
+// rule: Title of a block
 pub fn title_of(text: &[u8]) -> Option<&[u8]>
     ensures { option_copied result ≡ title_of text.now }
 {

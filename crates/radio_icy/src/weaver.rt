@@ -69,6 +69,7 @@ impl Weaver {
     /// title now, of at most [`MAX_TITLE`] bytes, or `None` where it has none.
     ///
     /// An `Err` means that memory ran out: the weaver and the bytes of `out` are then as they were.
+    // rule: Metadata block
     pub fn weave(
         &mut self,
         sound: &[u8],
@@ -94,6 +95,7 @@ impl Weaver {
     }
 
     // The same, where a block is due: only then is the title looked at. All room that is needed is asked for first.
+    // rule: Metadata count
     fn weave_blocks(
         &mut self,
         sound: &[u8],
@@ -147,6 +149,7 @@ impl Weaver {
     }
 
     // The title that the next block carries.
+    // rule: Metadata block
     fn news_of<'t>(&self, title: Option<&'t [u8]>) -> Option<&'t [u8]>
         ensures { option_copied result ≡ news_of (option_copied title.entry) self.now.sent }
     {

@@ -22,12 +22,14 @@ abbrev pub after_pause : ℕ → ℕ
 after_pause ms = min (2 ^ 64 - 1) (ms + pause)
 
 -- one was tried at this moment
+-- rule: Failed accepts
 abbrev pub tried_at : ℕ → Tried → Accepting → Accepting
 tried_at ms Accepted a = record { failed = 0; not_before = 0; is_short = false }
 tried_at ms Failed a = record { failed = min most_failed (a.failed + 1); not_before = after_pause ms; is_short = false }
 tried_at ms NoDescriptor a = record { failed = a.failed; not_before = after_pause ms; is_short = true }
 
 -- a connection has closed, and so there is a descriptor
+-- rule: Failed accepts
 abbrev pub closed_in : Accepting → Accepting
 closed_in a = freed a.is_short a where
   freed : Bool → Accepting → Accepting

@@ -22,6 +22,7 @@ module _ {T : Type 0} where
   answer_of NoDescriptor now = Ok None
 
   -- one is tried if it may be, and else nothing happens
+  -- rule: Failed accepts
   abbrev pub IsTried : {E : Type 0} → (E → Accepted T → E → Type 0) → Bool → ℕ → E → Accepting → Result (Option T) AcceptFault → E → Accepting → Type 0
   IsTried accepts true ms from a answer to a' = (accepted : Accepted T) × accepts from accepted to × (a' ≡ settled ms accepted a) × (answer ≡ answer_of accepted a')
   IsTried accepts false ms from a answer to a' = (to ≡ from) × (a' ≡ a) × (answer ≡ Ok None)

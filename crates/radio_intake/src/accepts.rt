@@ -71,6 +71,7 @@ impl Accepts {
 
     /// One was tried at this moment. Whether the server goes on: it does not from the hundredth
     /// failure in a row on. Where no descriptor is left, that is no failure.
+    // rule: Failed accepts
     pub fn note(&mut self, tried: Tried, ms: u64) -> bool
         ensures tried { self.new ≡ tried_at ms tried self.old }
         ensures goes_on { result ≡ nat_lt self.new.failed most_failed }
@@ -91,6 +92,7 @@ impl Accepts {
     }
 
     /// A connection has closed: where no descriptor was left, there is one now.
+    // rule: Failed accepts
     pub fn note_closed(&mut self)
         ensures { self.new ≡ closed_in self.old }
     {

@@ -36,6 +36,7 @@ pub struct AcceptFault;
 
 /// Returns the next connection at this moment, in milliseconds, if there is one and it may be tried: after a failure nothing
 /// is tried for a tenth of a second. The hundredth failure in a row is the fault.
+// rule: Failed accepts
 pub fn accept_next<T: Drop, E: Entrance<T>>(
     entrance: &mut E,
     accepts: &mut Accepts,

@@ -66,6 +66,7 @@ impl<L> Intake<L> {
 
     /// Puts a connection behind those that wait. `Err` hands it back: at one moment of the call there
     /// was no room, and nothing was put. It takes no memory.
+    // rule: Newcomers
     pub fn put<R: Wait>(&self, rt: &R, pass: &mut IntakePass<L>, line: L) -> Result<(), L>
         requires own { pass.old.intake ≡ self.now }
         ensures ok { OnOk result (pass.new ≡ record pass.old { put = pass.old.put ++ line ∷ [] }) }

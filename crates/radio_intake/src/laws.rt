@@ -4,6 +4,7 @@ ghost use Rattle.radio_intake.specs.Laws.{ClosingsFree, FailuresRest, HundredFai
 
 /// After a failure none is accepted for a tenth of a second, and a hundred failures in a row end a server. Want of descriptors does
 /// not, and ends with the next closing.
+// rule: Failed accepts
 pub fn accepting_rests()
     ensures end { HundredFailuresEndIt }
     ensures rest { FailuresRest }

@@ -4,6 +4,7 @@ use Rattle.radio_keys.specs.declared.fault.SettingsFault.{SettingsFault}
 use Rattle.radio_keys.specs.declared.fault.SettingsFault.TheVariants.{NotToml, Missing, WrongKind, OutOfRange, MountTwice, BadName, OutOfMemory}
 use Rattle.radio_keys.specs.Keys.{word}
 
+-- rule: Reading settings
 abbrev pub fault_text : SettingsFault → List ℕ
 fault_text NotToml = codes "not toml"
 fault_text (Missing key) = codes "missing " ++ word key

@@ -14,6 +14,7 @@ use Rattle.radio_house.specs.Waiting.{heard_at}
 
 -- these bytes are the listener's to hear, who draws: they stand at his place in what is heard at the mount where he sits, that mount is open to him, and the
 -- title is the one it has
+-- rule: Open to the listener
 pub record IsHis (w : World) (event : Event) (bytes : List ℕ) (title : Option (List ℕ)) : Type 0 where
   pub id : ℕ
   pub room : ℕ

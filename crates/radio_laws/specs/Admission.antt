@@ -23,6 +23,7 @@ abbrev pub IsBlockStart : WholeStream → ℕ → Type 0
 IsBlockStart stream place = Has place stream.starts ⊎ (place ≡ end_of stream)
 
 -- the place is the earliest block start that is at most a burst and at most a queue before the end
+-- rule: Start of the burst
 pub record IsEarliestStart (stream : WholeStream) (burst queue place : ℕ) : Type 0 where
   pub at_a_block : IsBlockStart stream place
   pub in_the_burst : end_of stream - place ≤ burst
@@ -31,6 +32,7 @@ pub record IsEarliestStart (stream : WholeStream) (burst queue place : ℕ) : Ty
 
 -- the listener has a seat in the session of a mount by which his walk came, which was live when he asked, or waited for a session, since a relay feeds it on
 -- demand, and let him in, is shown what it shows, and begins at the earliest block start that this mount's `burst-size` and the `queue-size` allow
+-- rule: Seat of a newcomer; Start of the burst; Waiting mount
 pub record IsSeated (w : World) (event : Event) (interval : Option ℕ) (head : StreamHead) : Type 0 where
   pub asked : ListenRequest
   pub listens : event ≡ Listen asked

@@ -40,6 +40,7 @@ pub record IsTheSources (w : World) (mount : List ℕ) (pair : Credentials) : Ty
   pub password : pair.password ≡ (options_for w.house.settings mount).source.password
 
 -- the admin may give every command, and the source of a mount those that set a title or a fallback there
+-- rule: Admin password; Who may command
 pub data MayGive (w : World) (pair : Credentials) : TheCommand → Type 0 where
   AsTheAdmin : (command : TheCommand) → IsTheAdmins w pair → MayGive w pair command
   ItsTitle : (mount text : List ℕ) → IsTheSources w mount pair → MayGive w pair (SetTitle mount text)
@@ -51,6 +52,7 @@ IsLive w mount = (session : Session) × (session_of w.house.live mount ≡ Some 
 
 -- what a command needs is there: a live mount; to move its listeners, another one; to finish a listener, that he sits there; to change users, a mount
 -- that has users, live or not, and to take one away, that he is one of them
+-- rule: Commands are done
 abbrev pub IsThere : World → TheCommand → Type 0
 IsThere w (MoveClients mount destination) = IsLive w mount × IsLive w destination × (mount ≡ destination → ⊥)
 IsThere w (KillClient mount listener) = IsLive w mount × (seat : Seat) × (seat_of w.seats listener ≡ Some seat) × (seat.mount ≡ mount)
@@ -61,6 +63,7 @@ IsThere w (AddUser mount user password) = has_users w.house.lists mount ≡ true
 IsThere w (DeleteUser mount user) = has_user_at w.house.lists mount user ≡ true
 
 -- one who has asked for nothing yet, and may give the command, is told that it was done where what it needs is there
+-- rule: Commands are done
 abbrev pub WhoMayIsServed : World → Type 0
 WhoMayIsServed w = (asked : CommandRequest) (peer : Peer) (command : TheCommand) (pair : Credentials) → standing_of w asked.id ≡ Undecided peer
     → asked.asked ≡ Asks command → asked.pair ≡ Some pair → MayGive w pair command → IsThere w command
@@ -78,6 +81,7 @@ pub record IsGivenByRight (w : World) (event : Event) : Type 0 where
   pub there : IsThere w command
 
 -- that a command was done is told only to one who may give it, where what it needs was there
+-- rule: Who may command
 abbrev pub OnlyWhoMayCommands : World → Event → Type 0
 OnlyWhoMayCommands w event = (text : Text) → reply_to w event ≡ SaysText text → IsShort text → IsGivenByRight w event
 
@@ -111,6 +115,7 @@ abbrev pub IsNoUser : World → List ℕ → List ℕ → Type 0
 IsNoUser w mount user = (pair : Credentials) → pair.user ≡ user → lets_in w.house.lists mount (Some pair) ≡ false
 
 -- what a command is to do is so afterwards, and what is said of it is true: as many have gone to the destination, or have finished, as the text tells
+-- rule: Killed; Commands are done
 abbrev pub HasDone : World → Event → TheCommand → Type 0
 HasDone w event (MoveClients mount destination) = (count : ℕ) × (reply_to w event ≡ SaysText (Moved count))
     × (count_at w.seats destination + count ≡ count_at (world_after w event).seats destination)
@@ -136,6 +141,7 @@ mount_of (DeleteUser mount user) = mount
 
 -- all else is as it was: other mounts' sessions, with their titles, their listeners, where these fall back, and who is let in there; the addresses that
 -- are let in; and the settings
+-- rule: Commands are done
 pub record StaysBeside (w later : World) (mount : List ℕ) : Type 0 where
   pub sessions : (other : List ℕ) → bytes_eq mount other ≡ false → session_of later.house.live other ≡ session_of w.house.live other
   pub seats : (id : ℕ) (seat : Seat) → seat_of w.seats id ≡ Some seat → bytes_eq mount seat.mount ≡ false → seat_of later.seats id ≡ Some seat
@@ -152,15 +158,18 @@ pub record IsCommandKept (w : World) (event : Event) (command : TheCommand) (id 
   pub answered : standing_of (world_after w event) id ≡ Answered
   pub beside : StaysBeside w (world_after w event) (mount_of command)
 
+-- rule: Commands are done
 abbrev pub CommandsAreKept : World → Event → Type 0
 CommandsAreKept w event = (command : TheCommand) (c : IsCommanded w event command) → IsCommandKept w event command c.asked.id
 
 -- whom a command has finished is handed nothing from then on, whatever happens
+-- rule: Killed
 abbrev pub KilledHearNothing : World → Event → Type 0
 KilledHearNothing w event = (mount : List ℕ) (id : ℕ) → IsCommanded w event (KillClient mount id) → (more : List Event)
     → handed (world_after w event) more id ≡ []
 
 -- what was set for a mount stays set, whatever happens, until a command sets another fallback for it
+-- rule: Fallbacks
 abbrev pub FallbacksStay : World → Event → Type 0
 FallbacksStay w event = (mount : List ℕ) → (set_for (world_after w event).house.fallbacks mount ≡ set_for w.house.fallbacks mount)
     ⊎ ((fallback : Option (List ℕ)) × IsCommanded w event (SetFallback mount fallback))

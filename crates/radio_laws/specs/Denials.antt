@@ -44,6 +44,7 @@ pub record IsOnlyAnswered (w later : World) (client : Option ℕ) : Type 0 where
   pub others : (id : ℕ) → (client ≡ Some id → IsUndecided w id → ⊥) → client_of later.house.clients id ≡ client_of w.house.clients id
 
 -- a reply that denies is a denial of the policy in this state, by the first rule whose condition holds, and changes nothing else
+-- rule: First rule
 abbrev pub DenialsAreThePolicys : World → Event → Type 0
 DenialsAreThePolicys w event = (rule : Rule) → reply_to w event ≡ Deny rule
     → Denies (rows_for w event) rule × IsOnlyAnswered w (world_after w event) (client_in event)
@@ -63,6 +64,7 @@ abbrev pub ThePolicyDenies : World → Event → Type 0
 ThePolicyDenies w event = AsksThePolicy w event → (rule : Rule) → Denies (rows_for w event) rule → reply_to w event ≡ Deny rule
 
 -- whoever comes from an address that the deny list has is denied for it, whatever else holds; and where an allow list does not have it, for that
+-- rule: Address denied; Address not allowed
 pub record AddressesAreDenied (w : World) : Type 0 where
   pub denied : (peer : Peer) → is_denied w.house.lists peer ≡ true → reply_to w (Arrive peer) ≡ Deny AddressDenied
   pub not_allowed : (peer : Peer) → is_denied w.house.lists peer ≡ false → is_allowed w.house.lists peer ≡ false
@@ -79,10 +81,12 @@ pub record FeedsAsItsSource (w : World) (event : Event) : Type 0 where
   pub password : pair.password ≡ (options_for w.house.settings asked.mount).source.password
   pub is_carried : is_refused_type asked.shown.content_type ≡ false
 
+-- rule: Source password
 abbrev pub OnlySourcesFeed : World → Event → Type 0
 OnlySourcesFeed w event = reply_to w event ≡ Feeding → FeedsAsItsSource w event
 
 -- a mount of the settings, one that a relay feeds, and one that is live is never denied as one that the server does not know
+-- rule: No mount
 pub record KnownMountsAreKnown (w : World) (asked : ListenRequest) : Type 0 where
   pub in_settings : (mount : MountSetting) → Has mount w.house.settings.mounts → mount.name ≡ asked.mount → reply_to w (Listen asked) ≡ Deny NoMount → ⊥
   pub relayed : (relay : RelaySetting) → Has relay w.house.settings.relays → relay.local_mount ≡ asked.mount → reply_to w (Listen asked) ≡ Deny NoMount → ⊥

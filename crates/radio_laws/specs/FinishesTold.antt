@@ -11,6 +11,7 @@ use Rattle.radio_events.specs.Events.{client_in}
 use Rattle.radio_core.specs.Finishes.{Finishes}
 
 -- one of the events of a run finished the client by the rule
+-- rule: Finishes are silent
 pub record WasFinished (settings : Settings) (lists : Lists) (events : List Event) (id : ℕ) (rule : Rule) : Type 0 where
   pub before : List Event
   pub event : Event

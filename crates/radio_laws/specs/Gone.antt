@@ -11,11 +11,13 @@ use Rattle.radio_core.specs.Step.{outcome, reply_to}
 use Rattle.radio_house.specs.World.{World, standing_of, has_relay}
 
 -- by the event a client leaves, or a relay has gone down
+-- rule: Leaving
 pub data Leaving (w : World) (id : ℕ) : Event → Type 0 where
   AsClient : has_relay w id ≡ false → Leaving w id (Leave id)
   AsRelay : reply_to w (RelayDown id) ≡ Noted → Leaving w id (RelayDown id)
 
 -- the number was given, and its client or relay is not there any more (numbers are given from 1 on)
+-- rule: Leaving
 abbrev pub HasLeft : World → ℕ → Type 0
 HasLeft w id = (id ≤ w.house.last_id) × (standing_of w id ≡ Unknown)
 
@@ -24,6 +26,7 @@ abbrev pub IsOutOfPlace : World → Event → Type 0
 IsOutOfPlace w event = outcome w event ≡ says Stray Nothing
 
 -- through these events he does not come back, is handed nothing, and brings nothing
+-- rule: Leaving
 pub record StaysGone (w : World) (events : List Event) (id : ℕ) : Type 0 where
   pub is_gone : HasLeft (world_after_all w events) id
   pub is_handed_nothing : handed w events id ≡ []

@@ -19,11 +19,13 @@ abbrev pub IsLastWhereHeSits : World → Type 0
 IsLastWhereHeSits w = (id : ℕ) (seat : Seat) → seat_of w.seats id ≡ Some seat → last_mount_of w.seats id ≡ Some seat.mount
 
 -- whoever had a seat and has finished by an event that is no clock sat last where that seat was
+-- rule: Last mount
 abbrev pub FinishedWhereHeSat : World → Event → Type 0
 FinishedWhereHeSat w event = ((ms : ℕ) → event ≡ Clock ms → ⊥) → (id : ℕ) (seat : Seat) (rule : Rule) → seat_of w.seats id ≡ Some seat
     → standing_of (world_after w event) id ≡ Finished rule → last_mount_of (world_after w event).seats id ≡ Some seat.mount
 
 -- and so did those whom a clock ends that does not go back: it does several things, one after another
+-- rule: Last mount
 pub record EndedByClockWhereTheySat (w : World) (ms : ℕ) : Type 0 where
   -- first it ends whoever has sat as long as the mount allows that he asked for
   pub sat_out : nat_lt ms w.house.time ≡ false → (id : ℕ) (seat : Seat) → seat_of w.seats id ≡ Some seat → has_sat_out w.house.settings ms seat ≡ true
@@ -34,6 +36,7 @@ pub record EndedByClockWhereTheySat (w : World) (ms : ℕ) : Type 0 where
       → last_mount_of (world_after w (Clock ms)).seats id ≡ Some seat.mount
 
 -- and whoever was finished has the same row, with the rule and the mount where he sat last, whatever happens, until he leaves
+-- rule: Last mount
 abbrev pub FinishedRowsStay : World → Event → Type 0
 FinishedRowsStay w event = (id : ℕ) (rule : Rule) → standing_of w id ≡ Finished rule → (Leaving w id event → ⊥)
     → listener_of (world_after w event).seats id ≡ listener_of w.seats id

@@ -16,6 +16,7 @@ use Rattle.radio_laws.specs.Limits.{SentUser, IsFullAt, allows_duplicates_at}
 use Rattle.radio_laws.specs.Walks.{ComesBy}
 
 -- each user may sit at the mount once, and one of those who sit there sent the very user of this pair
+-- rule: User twice
 pub record HasUserAt (w : World) (mount : List ℕ) (pair : Option Credentials) : Type 0 where
   pub once : allows_duplicates_at w mount ≡ false
   pub user : List ℕ
@@ -28,12 +29,14 @@ pub record HasUserAt (w : World) (mount : List ℕ) (pair : Option Credentials) 
   pub his_user : SentUser user seat.pair
 
 -- a listener asked, and one of the first ten mounts by which his walk comes is such
+-- rule: Mount full
 abbrev pub ByAMount : World → Event → (ListenRequest → List ℕ → Type 0) → Type 0
 ByAMount w event P = (asked : ListenRequest) × (event ≡ Listen asked) × (steps : ℕ) × (mount : List ℕ) × (steps < 10) × ComesBy w asked.mount steps mount
     × P asked mount
 
 -- clients and sources are denied as too many only where there are as many as there may be, a mount as full only where a walk comes to one that is full, a user
 -- as one who sits there only where it comes to a mount where he does, and a walk as too long only where ten mounts have handed it on
+-- rule: Too many clients; Too many sources
 pub record DeniesByLimits (w : World) (event : Event) : Type 0 where
   pub clients : reply_to w event ≡ Deny TooManyClients → w.house.settings.limits.clients ≤ length w.house.clients
   pub sources : reply_to w event ≡ Deny TooManySources → w.house.settings.limits.sources ≤ length w.house.live

@@ -32,6 +32,7 @@ pub record SitsThereAs (w : World) (id : ℕ) (mount user : List ℕ) : Type 0 w
   pub his_user : SentUser user seat.pair
 
 -- no more sit at a mount than may, and nobody sits twice where each may sit once
+-- rule: Mount full
 pub record IsWithinLimits (w : World) : Type 0 where
   pub not_too_many : (mount : List ℕ) (most : ℕ) → most_at w mount ≡ Some most → length (seats_at w.seats mount) ≤ most
   pub none_twice : (mount user : List ℕ) (id other : ℕ) → allows_duplicates_at w mount ≡ false → SitsThereAs w id mount user
@@ -44,6 +45,7 @@ pub record IsFullAt (w : World) (mount : List ℕ) : Type 0 where
   pub reached : most ≤ length (seats_at w.seats mount)
 
 -- a client arrives only where fewer are there than may be, and a source or a relay feeds only where fewer sessions are live than may be
+-- rule: Too many clients; Too many sources; Relay is no client
 pub record AdmitsByLimits (w : World) (event : Event) : Type 0 where
   pub clients : (peer : Peer) (id : ℕ) → event ≡ Arrive peer → reply_to w event ≡ Arrived id → length w.house.clients < w.house.settings.limits.clients
   pub sources : reply_to w event ≡ Feeding → length w.house.live < w.house.settings.limits.sources

@@ -35,6 +35,7 @@ pub data ListenersAgree (within : List ℕ → Bool) (a b : Listener) : Type 0 w
 
 -- The states agree within reach, and on what is no mount's own: the moment, settings and lists, the fallbacks that were set, clients and relays. Beyond
 -- it the same mounts are live, fed by the same sources; what they have sent, their titles, who sits there, and which of these have finished, may differ.
+-- rule: Reach of a start
 pub record AgreeWithin (within : List ℕ → Bool) (v w : World) : Type 0 where
   pub house : v.house ≡ record w.house { live = v.house.live }
   pub sessions : AllAgree (SessionsAgree within) v.house.live w.house.live
@@ -104,6 +105,8 @@ ReachesWithin w within (RelayDown id) = EndsWithin w within id
 ReachesWithin w within (Clock ms) = IsAll within
 
 -- what the event can reach is within reach: and if its client is a listener, the mount where that sits, or sat last
+-- rule: Reach of a start; Reach of a block; Reach of an end; Reach of a listen; Reach of a listener
+-- rule: Reach of a command; Reach of the clock
 pub record IsWithin (w : World) (within : List ℕ → Bool) (event : Event) : Type 0 where
   pub reached : ReachesWithin w within event
   pub client : (id : ℕ) → client_in event ≡ Some id → LastWithin w within id
@@ -114,10 +117,12 @@ pub record IsLeftAlone (within : List ℕ → Bool) (w later : World) : Type 0 w
   pub seats : (id : ℕ) (seat : Seat) → within seat.mount ≡ false → (seat_of later.seats id ≡ Some seat) ↔ (seat_of w.seats id ≡ Some seat)
 
 -- states that agree on all that the event can reach answer it alike, and agree on that still
+-- rule: Reach of a start
 abbrev pub AnswersAlike : (List ℕ → Bool) → World → World → Event → Type 0
 AnswersAlike within v w event = AgreeWithin within v w → IsWithin w within event
     → (reply_to v event ≡ reply_to w event) × AgreeWithin within (world_after v event) (world_after w event)
 
 -- and what it cannot reach is left alone
+-- rule: Beyond its reach
 abbrev pub LeavesAlone : (List ℕ → Bool) → World → Event → Type 0
 LeavesAlone within w event = IsWithin w within event → IsLeftAlone within w (world_after w event)

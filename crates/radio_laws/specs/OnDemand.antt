@@ -18,6 +18,7 @@ pub record IsFedOnDemand (settings : Settings) (mount : List ℕ) : Type 0 where
   pub on_demand : relay.on_demand ≡ true
 
 -- a mount without a session waits for one only where a relay feeds it on demand, and does wait where all do that feed it
+-- rule: Waiting mount
 pub record WaitsOnDemand (settings : Settings) (mount : List ℕ) : Type 0 where
   pub only : is_on_demand settings mount ≡ true → IsFedOnDemand settings mount
   pub each : IsFedOnDemand settings mount
@@ -32,6 +33,7 @@ pub record IsSatAt (seats : List Listener) (mount : List ℕ) : Type 0 where
   pub at_the_mount : seat.mount ≡ mount
 
 -- wanted are the mounts where somebody sits that a relay feeds on demand, and no others
+-- rule: Pulls on demand
 pub record WantedAreSatAt (w : World) : Type 0 where
   pub only : (mount : List ℕ) → Has mount (wanted w) → IsFedOnDemand w.house.settings mount × IsSatAt w.seats mount
   pub each : (mount : List ℕ) → IsFedOnDemand w.house.settings mount → IsSatAt w.seats mount → Has mount (wanted w)

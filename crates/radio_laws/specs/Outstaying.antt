@@ -15,6 +15,7 @@ use Rattle.radio_house.specs.Waiting.{is_on_demand}
 use Rattle.radio_house.specs.World.{World, standing_of}
 
 -- at this moment no seat has had its time, no client who has asked for nothing, and no source that has sent nothing
+-- rule: Time over
 pub record IsInTime (w : World) (ms : ℕ) : Type 0 where
   pub is_now : w.house.time ≡ ms
   pub seats : (id : ℕ) (seat : Seat) → seat_of w.seats id ≡ Some seat → has_sat_out w.house.settings ms seat ≡ false
@@ -25,6 +26,7 @@ pub record IsInTime (w : World) (ms : ℕ) : Type 0 where
 -- who is ended at this moment, by which rule: first whoever has asked for nothing in his time, then whoever has sat as long as his mount allows, also where
 -- his session ends as well, and then the sources that have sent nothing in their time, with those who are left at their mounts where these have no
 -- fallback and wait for no other session; where a relay feeds one on demand, they wait there
+-- rule: End at a waiting mount
 pub record IsEndedInOrder (w later : World) (ms : ℕ) : Type 0 where
   pub clients : (id : ℕ) (client : Client) → client_of w.house.clients id ≡ Some client
       → asks_too_late w.house.settings.limits.header_timeout ms client ≡ true → standing_of later id ≡ Finished HeaderTimeout
@@ -40,6 +42,7 @@ pub record IsEndedInOrder (w later : World) (ms : ℕ) : Type 0 where
       → is_on_demand w.house.settings seat.mount ≡ true → seat_of later.seats id ≡ Some (record seat { session = 0; place = 0 })
 
 -- a moment that has passed changes nothing, and any other is in time for all who are there then
+-- rule: Time over
 pub record NobodyOutstays (w : World) (ms : ℕ) : Type 0 where
   pub earlier : nat_lt ms w.house.time ≡ true → world_after w (Clock ms) ≡ w
   pub later : nat_lt ms w.house.time ≡ false → IsInTime (world_after w (Clock ms)) ms

@@ -39,6 +39,7 @@ abbrev pub is_mount_of : Part → List ℕ → Bool
 is_mount_of p mount = bytes_eq mount p.mount
 
 -- the part has become this one, and at each other mount all is as it was
+-- rule: Reach of a block
 pub record IsPartsStep (w later : World) (p after : Part) : Type 0 where
   pub here : IsPartOf later after
   pub there : IsLeftAlone (is_mount_of p) w later

@@ -38,6 +38,7 @@ pub record IsTakenIn (w : World) (asked : ListenRequest) : Type 0 where
 
 -- a listener was handed what stands at his place in the stream of his mount, as much of it as is there and as he has room for, and the title that it has;
 -- and his place is behind it
+-- rule: Draws
 pub record IsHanded (w : World) (id room : ℕ) : Type 0 where
   pub seat : Seat
   pub has_the_seat : seat_of w.seats id ≡ Some seat
@@ -47,6 +48,7 @@ pub record IsHanded (w : World) (id room : ℕ) : Type 0 where
   pub all_there : length (data_at session.stream seat.place room) ≡ min room (end_of session.stream - seat.place)
   pub goes_on : seat_of (world_after w (Draw id room)).seats id ≡ Some (record seat { place = seat.place + min room (end_of session.stream - seat.place) })
 
+-- rule: What is allowed happens
 pub record Serves (w : World) : Type 0 where
   -- a client arrives, and is there from now on
   pub admits : (peer : Peer) → Allows (rows_to_arrive w.house peer) → (reply_to w (Arrive peer) ≡ Arrived (w.house.last_id + 1))

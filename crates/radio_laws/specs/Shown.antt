@@ -47,6 +47,7 @@ pub record IsTheRelays (w : World) (pair : Credentials) : Type 0 where
   pub password : w.house.settings.access.relays.password ≡ Some pair.password
 
 -- everybody may see the status, a relay the list of streams, and the admin all
+-- rule: Who may see
 pub data MaySee (w : World) : Listing → Option Credentials → Type 0 where
   AsAnybody : (pair : Option Credentials) → MaySee w Status pair
   AsARelay : (pair : Credentials) → IsTheRelays w pair → MaySee w Streams (Some pair)
@@ -97,6 +98,7 @@ TellOfListeners w [] (row ∷ rows) = ⊥
 TellOfListeners w (listener ∷ them) [] = ⊥
 
 -- the text tells what is there; who asks is counted among the clients
+-- rule: Who may see; Waiting is not live
 abbrev pub Tells : World → Listing → Text → Type 0
 Tells w Status text =
     (rows : List MountRow) × TellOf w w.house.live rows × (text ≡ Public (status_text rows) w.house.settings.web.allow_origin)
@@ -119,6 +121,7 @@ pub record IsShownByRight (w : World) (event : Event) (text : Text) : Type 0 whe
   pub seats : (world_after w event).seats ≡ w.seats
 
 -- the path is one of the web site's, and the settings put it on
+-- rule: Web page
 pub data IsPath (w : World) (path : List ℕ) : WebPath → Type 0 where
   StatusIsOn : path ≡ codes "/status-json.xsl" → w.house.settings.web.icecast_status ≡ true → IsPath w path IcecastStatus
   PageIsOn : path ≡ codes "/" → w.house.settings.web.page ≡ true → IsPath w path AtPage
@@ -132,6 +135,7 @@ pub record TellsAsIcecast (w : World) (host : List ℕ) (text : Text) : Type 0 w
   pub base : server.base_url ≡ base_url host w.house.settings.listen.address w.house.settings.listen.port
   pub says : text ≡ Public (icecast_text server rows) w.house.settings.web.allow_origin
 
+-- rule: Web page
 abbrev pub TellsAt : World → WebPath → List ℕ → Text → Type 0
 TellsAt w IcecastStatus host text = TellsAsIcecast w host text
 TellsAt w AtPage host text = text ≡ Page w.house.settings.web.allow_origin
@@ -158,11 +162,13 @@ WhoMayIsShown w = (asked : CommandRequest) (peer : Peer) (listing : Listing) →
     → MaySee w listing asked.pair → IsThereToSee w listing → (text : Text) × (reply_to w (Command asked) ≡ SaysText text) × Tells w listing text
 
 -- one who has asked for nothing yet, and asks for a path of the web site, is shown what is there
+-- rule: Web page
 abbrev pub WhoVisitsIsShown : World → Type 0
 WhoVisitsIsShown w = (asked : ListenRequest) (peer : Peer) (path : WebPath) → standing_of w asked.id ≡ Undecided peer → IsPath w asked.mount path
     → (text : Text) × (reply_to w (Listen asked) ≡ SaysText text) × TellsAt w path asked.host text
 
 -- and nobody feeds a mount of that name
+-- rule: Paths of the web site
 abbrev pub NobodyFeedsAPath : World → Type 0
 NobodyFeedsAPath w = (asked : SourceRequest) (peer : Peer) (path : WebPath) → standing_of w asked.id ≡ Undecided peer → IsPath w asked.mount path
     → reply_to w (Source asked) ≡ Deny BadMount
@@ -211,6 +217,7 @@ AreVisitedAlike w v = (asked other : ListenRequest) (text said : Text) → IsPat
 
 -- two states that agree on what everybody may see of the live mounts show everybody and every relay the same bytes, whatever else they hold; and those with
 -- equal rows for a viewer show him the same
+-- rule: Hidden mounts
 pub record SightIsKept (w v : World) : Type 0 where
   pub status : seen_by_all w ≡ seen_by_all v → AreAnsweredAlike w v Status
   pub icecast : seen_by_all w ≡ seen_by_all v → AreVisitedAlike w v
@@ -220,6 +227,7 @@ pub record SightIsKept (w v : World) : Type 0 where
   pub listeners : (mount : List ℕ) → listener_rows w mount ≡ listener_rows v mount → AreAnsweredAlike w v (Clients mount)
 
 -- no hidden mount is in the status or in the list of streams: they name the live mounts that are not hidden, in their order
+-- rule: Hidden mounts
 pub record NoHiddenIsNamed (w : World) (asked : CommandRequest) (text : Text) : Type 0 where
   pub status : asked.asked ≡ AsksFor Status → (rows : List MountRow) × (text ≡ Public (status_text rows) w.house.settings.web.allow_origin)
       × (mounts_named (status_data rows) ≡ Some (map (λ (session : Session). Some (utf8_lossy session.mount)) (public_live w)))
@@ -229,6 +237,7 @@ abbrev pub HiddenAreLeftOut : World → Type 0
 HiddenAreLeftOut w = (asked : CommandRequest) (text : Text) → reply_to w (Command asked) ≡ SaysText text → NoHiddenIsNamed w asked text
 
 -- nor in Icecast's words, which tell where those mounts are heard
+-- rule: Paths of the web site
 abbrev pub HiddenAreNotToldOnTheWeb : World → Type 0
 HiddenAreNotToldOnTheWeb w = (asked : ListenRequest) (text : Text) → IsPath w asked.mount IcecastStatus → reply_to w (Listen asked) ≡ SaysText text
     → (server : Server) × (rows : List MountRow) × (text ≡ Public (icecast_text server rows) w.house.settings.web.allow_origin)

@@ -34,6 +34,7 @@ begun_sittings (Some old) (Some seat) = (if old.session == seat.session then [] 
 begun_sittings before None = []
 
 -- the listener's sittings through the events, in their order
+-- rule: Without gap or repeat
 abbrev pub sittings : World → List Event → ℕ → List Sitting
 sittings w [] id = []
 sittings w (event ∷ events) id = begun_sittings (seat_of w.seats id) (seat_of (world_after w event).seats id) ++ sittings (world_after w event) events id
@@ -67,6 +68,7 @@ cut_at_sittings brings w (event ∷ events) id =
     (cut_at_sittings brings (world_after w event) events id)
 
 -- the bytes are stretches, joined in order: one for each sitting, contiguous in the data that its source has sent, from where the sitting began
+-- rule: Without gap or repeat
 abbrev pub AreStretches : (ℕ → List ℕ) → List Sitting → List ℕ → Type 0
 AreStretches sent [] bytes = bytes ≡ []
 AreStretches sent (sitting ∷ others) bytes = (stop : ℕ) × (rest : List ℕ) × (sitting.start ≤ stop) × (stop ≤ length (sent sitting.source))
@@ -87,6 +89,7 @@ StretchesAreCut settings lists events = (id : ℕ) → let w = opening settings 
 -- one, and he hears it from its start; or a move that the event brings has taken him, at his turn, to the end of the stream of the mount where his walk
 -- landed, and all else of his seat stays: the session in which he sat is over, or he is called home; and a seat is in the session that its mount has, or
 -- waits for one
+-- rule: Moved to the end; Session after a wait
 pub record KeepsItsMount (w : World) (event : Event) (id : ℕ) (seat : Seat) : Type 0 where
   pub session : Session
   pub is_heard : heard_at (world_after w event).house seat.mount ≡ Some session

@@ -49,6 +49,7 @@ commanded_in w (Command asked) id = commanded_at w asked.asked id
 commanded_in w event id = []
 
 -- the title that an event sets for the source of this number: by a command that names the mount that it feeds, or by the source itself
+-- rule: Title of a session
 abbrev pub set_by : World → Event → Reply → ℕ → List (List ℕ)
 set_by w event reply id = if_done reply (commanded_in w event id) ++ of_client event id (if_noted reply (title_in event))
 
@@ -61,6 +62,7 @@ titles_set w [] id = []
 titles_set w (event ∷ events) id = set_at w event id ++ titles_set (world_after w event) events id
 
 -- the last title that was set for the source of this number through the events, if one was
+-- rule: Title of a session
 abbrev pub last_title : World → List Event → ℕ → Option (List ℕ)
 last_title w events id = last_or None (titles_set w events id)
 
@@ -74,6 +76,7 @@ pub record IsLastTitle (settings : Settings) (lists : Lists) (events : List Even
   pub is_last : title ≡ last_title (opening settings lists) events seat.session
 
 -- over every run, a listener who is handed data is told the last title that was set for his source
+-- rule: Title of a session
 abbrev pub TitlesAreTold : Settings → Lists → List Event → Event → Type 0
 TitlesAreTold settings lists events event = (bytes : List ℕ) (title : Option (List ℕ)) → reply_to (run_after settings lists events) event ≡ Drawn bytes title
     → IsLastTitle settings lists events event title

@@ -22,6 +22,7 @@ pub record HasRoomAt (w : World) (mount : List ℕ) : Type 0 where
   pub not_full : IsFullAt w mount → ⊥
 
 -- the rule that stops the walk of a listener that sent this pair, at this mount: of four rules the first that holds
+-- rule: End of a walk
 pub data StopsAt (w : World) (pair : Option Credentials) (mount : List ℕ) : Rule → Type 0 where
   HasNoSource : heard_at w.house mount ≡ None → StopsAt w pair mount NotLive
   IsFull : (session : Session) → heard_at w.house mount ≡ Some session → IsFullAt w mount → StopsAt w pair mount MountFull
@@ -29,6 +30,7 @@ pub data StopsAt (w : World) (pair : Option Credentials) (mount : List ℕ) : Ru
   IsTaken : HasRoomAt w mount → lets_in w.house.lists mount pair ≡ true → HasUserAt w mount pair → StopsAt w pair mount UserTwice
 
 -- the rule that denies a listener what it asks for
+-- rule: Order for a listener
 pub data IsTurnedAway (w : World) (asked : ListenRequest) : Rule → Type 0 where
   -- the path names no mount, or none that the server knows; of these the law says no more here
   ByPath : IsTurnedAway w asked BadMount

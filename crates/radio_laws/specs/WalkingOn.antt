@@ -25,6 +25,7 @@ use Rattle.radio_house.specs.Waiting.{heard_at, is_on_demand}
 -- one who had this seat before the move: he goes on at the end of the stream of the mount to which his turn takes him, or has finished where he
 -- sat, by the rule that leaves him out, or keeps his seat; and where the session of his mount has ended he does not stay as he was, but at a mount that a relay feeds on demand he goes
 -- on, to wait there for the next one
+-- rule: Turns of a move; End at a waiting mount
 pub record FaresByHisTurn (before : World) (move : Move) (id : ℕ) (seat : Seat) : Type 0 where
   pub goes : (mount : List ℕ) → his_turn before move id ≡ GoesTo mount → (session : Session) × (heard_at before.house mount ≡ Some session)
       × (seat_of (carried_along before move).seats id ≡ Some (record seat { mount = mount; session = session.number; place = end_of session.stream }))
@@ -36,11 +37,13 @@ pub record FaresByHisTurn (before : World) (move : Move) (id : ℕ) (seat : Seat
       → his_turn before move id ≡ GoesTo mount
 
 -- a move that an event brings makes of each listener what his turn has in store for him
+-- rule: Turns of a move
 abbrev pub ListenersWalkOn : World → Event → Type 0
 ListenersWalkOn w event = (move : Move) (before : World) → Brings w event move before → (id : ℕ) (seat : Seat) → seat_of before.seats id ≡ Some seat
     → FaresByHisTurn before move id seat
 
 -- and at a source's or a relay's coming, end or leaving, and at a command that moves listeners or ends a session, that is the whole of what becomes of the seats
+-- rule: Nothing else moves
 pub record MovesAreWhole (w : World) (event : Event) : Type 0 where
   pub at_its_coming : (asked : SourceRequest) (move : Move) (before : World) → event ≡ Source asked → Brings w event move before
       → (world_after w event).seats ≡ (carried_along before move).seats

@@ -7,18 +7,21 @@ use Rattle.radio_laws.specs.Limits.{IsFullAt}
 use Rattle.radio_house.specs.Waiting.{heard_at}
 
 -- the listeners of the mount fall back to the next one: `fallback-mount` names it and no command has said otherwise, or a command has said so
+-- rule: Fallback of a mount
 pub data FallsBack (w : World) (mount next : List ℕ) : Type 0 where
   ByTheSettings : (options_for w.house.settings mount).listeners.fallback_mount ≡ Some next → set_for w.house.fallbacks mount ≡ None → FallsBack w mount next
   ByACommand : (set : Fallback) → set_for w.house.fallbacks mount ≡ Some set → set.fallback ≡ Some next → FallsBack w mount next
 
 -- a walk goes on from the mount to the next one, to which its listeners fall back: the mount has no source and waits for none, or as many sit there as may and
 -- `fallback-when-full` is set
+-- rule: Passing a walk on; End at a waiting mount
 pub data GoesOn (w : World) (mount next : List ℕ) : Type 0 where
   HasNoSource : FallsBack w mount next → heard_at w.house mount ≡ None → GoesOn w mount next
   IsFull : FallsBack w mount next
       → (options_for w.house.settings mount).listeners.fallback_when_full ≡ true → IsFullAt w mount → GoesOn w mount next
 
 -- a walk from the mount comes by another one, as the first, the second and so on after it
+-- rule: Fallback depth
 pub data ComesBy (w : World) (mount : List ℕ) : ℕ → List ℕ → Type 0 where
   AtFirst : ComesBy w mount 0 mount
   Next : (steps : ℕ) (here next : List ℕ) → ComesBy w mount steps here → GoesOn w here next → ComesBy w mount (suc steps) next

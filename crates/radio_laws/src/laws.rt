@@ -41,6 +41,8 @@ ghost use Rattle.radio_laws.specs.Gone.{Leaving, HasLeft, IsOutOfPlace, StaysGon
 use radio_policy::denials_name_the_first_rule;
 
 /// The law of denials.
+// rule: First rule; Order for a listener; Address denied; Address not allowed; Source password; No mount
+// rule: End of a walk; Waiting is not live
 pub fn denials_are_the_policys()
     // whatever has happened, what is denied is what the policy denies then, by its first rule, and
     // nothing has changed but that an undecided client has had his answer
@@ -65,6 +67,7 @@ pub fn denials_are_the_policys()
 }
 
 /// The law of denials, for those who are told that they were finished.
+// rule: Killed; Source killed; Finishes are silent; End of a session
 pub fn finished_are_told()
     // whoever is told that he was finished by a rule was finished by that rule at an earlier event,
     // at which its condition held: the end of his mount's session, a block that left him too far
@@ -73,6 +76,7 @@ pub fn finished_are_told()
 {}
 
 /// The law of last mounts.
+// rule: Last mount
 pub fn last_mounts_stay()
     // whatever has happened, whoever has a seat sits last at its mount
     ensures seated { (settings : Settings) (lists : Lists) (events : List Event) → IsLastWhereHeSits (run_after settings lists events) }
@@ -88,6 +92,7 @@ pub fn last_mounts_stay()
 {}
 
 /// The law of access.
+// rule: Listener password; Closed to moves; Open to the listener
 pub fn access_is_kept()
     // whatever has happened, data is handed out to a draw alone, and it stands at the listener's
     // place in the stream of the mount where his seat is, which is open to him
@@ -95,6 +100,7 @@ pub fn access_is_kept()
 {}
 
 /// The law of limits.
+// rule: Too many clients; Too many sources; User twice; Mount full; Fallback depth; Relay is no client; Waiting mount
 pub fn limits_are_kept()
     // whatever has happened, no more sit at a mount than its settings let, and nobody sits twice where its settings let each user sit once
     ensures within { (settings : Settings) (lists : Lists) (events : List Event) → IsWithinLimits (run_after settings lists events) }
@@ -105,6 +111,7 @@ pub fn limits_are_kept()
 {}
 
 /// The law of admission.
+// rule: Fallback of a mount; Seat of a newcomer; Start of the burst; Waiting mount
 pub fn listeners_begin_at_a_block()
     // whatever has happened, only who asks to hear a mount is seated, in the session that the mount
     // has then, or waits for, and he begins at the earliest start of one of its blocks, or at its
@@ -113,6 +120,7 @@ pub fn listeners_begin_at_a_block()
 {}
 
 /// The law of waiting.
+// rule: Waiting mount; Pulls on demand
 pub fn mounts_wait_on_demand()
     // a mount without a session waits for one only where a relay of the settings feeds it on demand, and does wait where
     // all do that feed it
@@ -122,6 +130,7 @@ pub fn mounts_wait_on_demand()
 {}
 
 /// The law of service.
+// rule: Out of place; What is allowed happens; End of a session; Blocks of a source; Draws; Relay comes up
 pub fn whoever_may_is_served()
     // whatever has happened, what the policy allows happens; a title and the end of a source's data are noted; and a listener
     // who has a seat is handed what stands at his place, as much as is there and as he has room for
@@ -133,6 +142,7 @@ pub fn whoever_may_is_served()
 }
 
 /// The law of stretches.
+// rule: Moved to the end; Without gap or repeat; Session after a wait
 pub fn stretches_are_whole()
     // over every run, all that a listener is handed is stretches, one for each of his sittings:
     // each a contiguous slice, without gap or repeat, of what the source delivered in whose session
@@ -147,6 +157,7 @@ pub fn stretches_are_whole()
 {}
 
 /// The law of moves.
+// rule: End of a session; Called home; Turns of a move; Nothing else moves; Relay feeds; End at a waiting mount
 pub fn listeners_walk_on()
     // whatever has happened, a move that an event brings takes each listener, in the order of their numbers and by what stands
     // at his turn, to the end of the stream of the mount where his walk lands, or finishes him by the rule that stops it, or
@@ -159,6 +170,8 @@ pub fn listeners_walk_on()
 {}
 
 /// The law of commands.
+// rule: Admin password; Killed; Source killed; Who may command; Move clients; Metadata; Fallbacks; Change of users
+// rule: Users shut out; Commands are done
 pub fn commands_are_done()
     // whatever has happened, that a command was done is told only to one who sent the user and the
     // password of the admin, or, for a title and a fallback, those of the mount's source, and only
@@ -177,6 +190,7 @@ pub fn commands_are_done()
 {}
 
 /// The law of users.
+// rule: Change of users; Seats are accepted
 pub fn users_change_one_by_one()
     // whatever has happened, who is let in at a mount stays as it is, but for a user to whom a command gives a password,
     // and for one whom a command takes away; no mount has users that had none, and the addresses that are let in stay
@@ -186,6 +200,8 @@ pub fn users_change_one_by_one()
 {}
 
 /// The law of sight.
+// rule: Relay password; Public status; Who may see; One moment; Hidden mounts; Icecast status; Web page
+// rule: Paths of the web site; Waiting is not live
 pub fn sight_is_kept()
     // whatever has happened, what is shown of the station tells what is there, and nothing of it changes; it is shown
     // only to one who may see it: the status and the paths of the web site to everybody, the list of streams to who sent
@@ -211,6 +227,7 @@ pub fn sight_is_kept()
 }
 
 /// The law of titles.
+// rule: Metadata; Title of a session
 pub fn listeners_are_told_titles()
     // over every run, whoever is handed data is told the last title that was set for the source in
     // whose session he sits, by the source or by a command that names its mount, or none where none
@@ -219,6 +236,7 @@ pub fn listeners_are_told_titles()
 {}
 
 /// The law of time.
+// rule: Lagged; Time over; Header timeout; Source silent; The clock; End at a waiting mount
 pub fn nobody_outstays()
     // whatever has happened, a moment that has passed changes nothing; and when any other was
     // heard, no listener is there who has sat as long as his mount allows, no client who has asked
@@ -231,6 +249,7 @@ pub fn nobody_outstays()
 {}
 
 /// The law of those who have left.
+// rule: Leaving; Relay goes down
 pub fn who_left_is_gone()
     // whoever was given a number and leaves is no client then, and a relay that has gone down is none
     ensures left { (settings : Settings) (lists : Lists) (events : List Event) (id : ℕ) → id ≤ (run_after settings lists events).house.last_id
@@ -245,6 +264,8 @@ pub fn who_left_is_gone()
 
 /// An event depends on the mounts that it can reach, and changes no other. If its client is a listener,
 /// the mount where that sits, or sat last, is one of them.
+// rule: Reach of a start; Reach of a block; Reach of an end; Reach of a listen; Reach of a listener
+// rule: Reach of a command; Reach of the clock; Beyond its reach
 pub fn events_go_by_their_mounts()
     // of any two stations, after whatever has happened to each: where they agree on all that an event can reach, they
     // answer it alike, and agree on that still; what streams and listeners there are at other mounts, and which of these
@@ -257,6 +278,7 @@ pub fn events_go_by_their_mounts()
 {}
 
 /// The law of a mount's part of the state: its session, and those who sit there.
+// rule: Reach of a block; Reach of a listener
 pub fn parts_go_by_themselves()
     // whatever has happened, one who sits there is handed what the part alone says, and but for his place in it nothing changes
     ensures draws { (settings : Settings) (lists : Lists) (events : List Event) → PartsDraw (run_after settings lists events) }
@@ -269,6 +291,7 @@ pub fn parts_go_by_themselves()
 /// The law of a part's own step. A mount's part that has what a state has at its mount replies to an
 /// event by itself exactly as the server does in that state. It has afterwards what the state has
 /// there after the event, and nothing changes at any other mount.
+// rule: Reach of a block; Reach of a listener
 pub fn own_steps_are_the_servers()
     // in every state for which a core stands
     ensures steps { (core w : World) → Represents core w → OwnStepsAreTheServers w }

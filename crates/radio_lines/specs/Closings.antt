@@ -7,5 +7,6 @@ abbrev pub most_held : ℕ
 most_held = 500
 
 -- whether a closing is answered at this moment: all have drawn what had come at that many tellings of news
+-- rule: Closing of a source
 abbrev pub tells_closing : Closing → ℕ → ℕ → Bool
 tells_closing found drawn ms = nat_le found.told drawn || nat_le most_held (ms - found.ms)

@@ -51,6 +51,7 @@ after_closing ready turn course =
     if passes_closing ready course then course else record course { closing = Some (closing_found turn course) }
 
 -- whether a closing is not answered yet
+-- rule: Closing of a source
 abbrev pub holds_closing : Ready → LineTurn → Course → Bool
 holds_closing ready turn course =
     not (passes_closing ready course) && not (tells_closing (closing_found turn course) turn.news.drawn turn.ms)

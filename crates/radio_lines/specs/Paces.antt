@@ -6,6 +6,7 @@ use Rattle.radio_lines.specs.declared.pace.Pace.{Pace}
 use Rattle.radio_lines.specs.declared.pace.Pace.TheVariants.{Free, Slow, Stopped}
 
 -- whether the line of a source gives nothing at a moment, in milliseconds, that gave something at another one last
+-- rule: Sources wait
 abbrev pub holds : Pace → ℕ → ℕ → Bool
 holds Free gave ms = false
 holds Slow gave ms = gave == ms

@@ -20,10 +20,12 @@ after_told notice r = record r {
 }
 
 -- whether there is something to do then: it is over, or has room or bytes that it had not; but for bytes that are not wanted
+-- rule: Unwanted bytes
 abbrev pub brings_work : Notice → Ready → Bool
 brings_work notice r = notice.is_over || (notice.writes && not r.is_writable) || (notice.reads && not r.is_readable && not r.is_passed_over)
 
 -- a read gave bytes at this moment, and filled the buffer or not
+-- rule: Unwanted bytes
 abbrev pub after_read : Bool → ℕ → Ready → Ready
 after_read filled ms r =
     if r.is_passed_over then record r { read_from_ms = later ms 100 } else record r { is_readable = filled || r.is_over }
@@ -33,6 +35,7 @@ abbrev pub has_more : Ready → Bool
 has_more r = r.is_readable && not r.is_passed_over
 
 -- a write at this moment would have waited, or took a part: it is asked again when the system tells of room, or after a second
+-- rule: Full sockets
 abbrev pub without_room : ℕ → Ready → Ready
 without_room ms r = record r { is_writable = false; write_from_ms = later ms 1000 }
 

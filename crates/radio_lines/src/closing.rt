@@ -26,6 +26,7 @@ pub(crate) struct Closing {
 
 /// Returns whether a line answers at `ms` that its peer has closed: all have drawn what came before, or half a second has
 /// passed. Otherwise listeners would be finished with their source before they had its last bytes.
+// rule: Closing of a source
 pub(crate) fn tells_closing(found: Closing, drawn: u64, ms: u64) -> bool
     ensures { result ≡ tells_closing found drawn ms }
 {

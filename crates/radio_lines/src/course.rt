@@ -69,6 +69,7 @@ impl Course {
     }
 
     /// Returns whether a socket that is so ready is asked for bytes in this turn.
+    // rule: Unwanted bytes
     pub(crate) fn call(self, ready: Ready, turn: LineTurn) -> Call
         ensures { result ≡ call_of ready turn self }
     {
@@ -146,6 +147,7 @@ impl Course {
 
     /// Returns what the line answers in this turn whose socket was asked, has answered so, and is so ready since. The buffer
     /// has so much room, in bytes.
+    // rule: Closing of a source
     pub(crate) fn reading(
         self,
         received: Received,

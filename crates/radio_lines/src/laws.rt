@@ -3,6 +3,7 @@
 ghost use Rattle.radio_lines.specs.Laws.{EndsAreHeld, EndsAreTold, RoomIsTaken, StalledAreAskedAgain, UnwantedWait, UnwantedWakeNobody};
 
 /// The end of a source waits for listeners, for half a second at most.
+// rule: Closing of a source
 pub fn ends_are_told()
     ensures told { EndsAreTold }
     // but not before, unless listeners have drawn
@@ -10,6 +11,7 @@ pub fn ends_are_told()
 {}
 
 /// A socket of which nothing is wanted is read ten times a second at most, and one that took nothing is asked again after a second.
+// rule: Unwanted bytes; Full sockets
 pub fn sockets_are_left_alone()
     ensures unwanted { UnwantedWait }
     // what comes of it wakes nobody

@@ -95,6 +95,7 @@ impl<S: Read + Write + Shut + Drop> SocketLine<S> {
     }
 
     /// Writes to the socket, where it may be asked: what it took by that one call.
+    // rule: Full sockets
     fn send(&mut self, bytes: &[u8]) -> Sent
         requires { 0 < length bytes.now }
         ensures taken { HasTaken result bytes.now self.old.taken.items self.new.taken.items }

@@ -16,6 +16,7 @@ pub enum Pace {
 
 impl Pace {
     /// Returns whether a source's line gives nothing at `ms` that gave something at `gave_ms` last, in milliseconds.
+    // rule: Sources wait
     pub(crate) fn holds(self, gave_ms: u64, ms: u64) -> bool
         ensures { result ≡ holds self gave_ms ms }
     {
@@ -53,6 +54,7 @@ impl Pace {
 const MOST_OF_OTHERS: u64 = 16_384;
 
 /// Returns whether a line has given so many bytes as only that of a source does, and they are wanted.
+// rule: Sources wait
 pub(crate) fn is_source(gave: u64, is_passed_over: bool) -> bool
     ensures { result ≡ is_source gave is_passed_over }
 {

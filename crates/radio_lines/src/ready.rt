@@ -82,6 +82,7 @@ impl Ready {
     }
 
     /// Returns whether there is something to do at once if the system tells this. For bytes that are not wanted there is not.
+    // rule: Unwanted bytes
     pub(crate) fn brings_work(self, notice: Notice) -> bool
         ensures { result ≡ brings_work notice self }
     {
@@ -92,6 +93,7 @@ impl Ready {
 
     /// Returns the readiness once a read at this moment gave bytes, and filled the buffer or not. If what comes is wanted, there
     /// may be more if it filled the buffer, or the socket is over.
+    // rule: Unwanted bytes
     pub(crate) fn after_read(self, is_filled: bool, ms: u64) -> Ready
         ensures { result ≡ after_read is_filled ms self }
     {
@@ -115,6 +117,7 @@ impl Ready {
     }
 
     /// Returns the readiness once a write at this moment would have waited, or took a part.
+    // rule: Full sockets
     pub(crate) fn without_room(self, ms: u64) -> Ready
         ensures { result ≡ without_room ms self }
     {
@@ -154,6 +157,7 @@ impl Ready {
     }
 
     /// Returns whether the socket is worth a write at this moment: it may have room, or has had none for long enough.
+    // rule: Full sockets
     pub(crate) fn may_write(self, ms: u64) -> bool
         ensures { result ≡ may_write ms self }
     {

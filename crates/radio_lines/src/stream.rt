@@ -105,6 +105,7 @@ pub(crate) fn read_once<S: Read>(stream: &mut S, buffer: &mut [u8], ready: &mut 
 
 /// Writes once, at this moment: what the stream took by that call, from the front. Where it would
 /// have waited, that is noted.
+// rule: Full sockets
 pub(crate) fn write_once<S: Write>(stream: &mut S, bytes: &[u8], ready: &mut Ready, ms: u64) -> Sent
     ensures stream { IsTakenBy (S.contents stream.old) (S.contents stream.new) bytes.now result }
     ensures ready { IsReadyToWrite ms result ready.old ready.new }

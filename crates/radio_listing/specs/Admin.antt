@@ -31,6 +31,7 @@ stats_data clients rows = fields (
     ∷ [])
 
 -- what the server does as a whole
+-- rule: Admin stats
 unfoldable pub stats_text : ℕ → List MountRow → List ℕ
 stats_text clients rows = compact_text (stats_data clients rows)
 
@@ -47,5 +48,6 @@ abbrev pub mounts_data : List MountRow → Data
 mounts_data rows = fields ((codes "mounts", list (map mount_row rows)) ∷ [])
 
 -- the live mounts
+-- rule: List of mounts
 unfoldable pub mounts_text : List MountRow → List ℕ
 mounts_text rows = compact_text (mounts_data rows)

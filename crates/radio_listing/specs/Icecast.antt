@@ -35,5 +35,6 @@ icecast_data server rows = fields ((
 )
     ∷ [])
 
+-- rule: Icecast status
 unfoldable pub icecast_text : Server → List MountRow → List ℕ
 icecast_text server rows = compact_text (icecast_data server rows)

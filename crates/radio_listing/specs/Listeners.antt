@@ -22,5 +22,6 @@ listeners_data mount rows =
     fields ((codes "listeners", list (map (listener_data mount) rows)) ∷ (codes "mount", text mount) ∷ [])
 
 -- the listeners at a mount
+-- rule: List of clients
 unfoldable pub listeners_text : List ℕ → List ListenerRow → List ℕ
 listeners_text mount rows = compact_text (listeners_data mount rows)

@@ -33,6 +33,7 @@ abbrev pub status_data : List MountRow → Data
 status_data rows = fields ((codes "mounts", list (map public_data (rows_shown rows))) ∷ [])
 
 -- the listing for everybody
+-- rule: Public status
 unfoldable pub status_text : List MountRow → List ℕ
 status_text rows = compact_text (status_data rows)
 
@@ -41,5 +42,6 @@ abbrev pub stream_line : PublicRow → List ℕ
 stream_line row = row.mount ++ 13 ∷ 10 ∷ []
 
 -- the list for relays
+-- rule: List of streams
 unfoldable pub stream_text : List MountRow → List ℕ
 stream_text rows = flat_map stream_line (rows_shown rows)

@@ -28,5 +28,6 @@ host_or [] own = own
 host_or (b ∷ host) own = b ∷ host
 
 -- what stands before a mount's name in its URL
+-- rule: Address of a stream
 unfoldable pub base_url : List ℕ → List ℕ → ℕ → List ℕ
 base_url host address port = codes "http://" ++ host_or (host_in host) (own_host address port)

@@ -17,6 +17,7 @@ use std::alloc::Global;
 ///
 /// `clients` are all that have arrived and not left, who asks among them; the outer `listeners` is the sum over the mounts,
 /// to the largest number of 64 bits, and `sources` is their number. It is compact JSON (RFC 8259), with no line end.
+// rule: Admin stats
 #[tactic(auto, using(crate::proofs::AdminLemmas::stats_quiet, crate::proofs::AdminLemmas::stats_shallow), unfolding(crate::specs::Admin::stats_text))]
 pub fn stats(alloc: Global, clients: u64, rows: &[MountRow<'_>]) -> Result<Vec<u8>, OutOfMemory>
     ensures text { IfOk result (λ bytes. bytes.items ≡ stats_text clients rows.now) }
@@ -79,6 +80,7 @@ fn all_listeners(rows: &[MountRow<'_>]) -> u64
 
 /// The live mounts: `{"mounts":[..]}`, each as `{"fallback":..,"hidden":..,"listeners":N,"mount":..}`, where a fallback
 /// that there is not is `""`. It is compact JSON (RFC 8259), with no line end.
+// rule: List of mounts
 #[tactic(auto, using(crate::proofs::AdminLemmas::mounts_quiet, crate::proofs::AdminLemmas::mounts_shallow), unfolding(crate::specs::Admin::mounts_text))]
 pub fn list_mounts(alloc: Global, rows: &[MountRow<'_>]) -> Result<Vec<u8>, OutOfMemory>
     ensures text { IfOk result (λ bytes. bytes.items ≡ mounts_text rows.now) }

@@ -20,6 +20,7 @@ use std::alloc::Global;
 /// for one mount, a list for several, and an empty list for none. It is compact JSON (RFC 8259), with no line end.
 ///
 /// Where nothing is on air Icecast itself leaves `source` out, or writes a lone object that says nothing.
+// rule: Icecast status
 #[tactic(auto, using(crate::proofs::IcecastLemmas::icecast_quiet, crate::proofs::IcecastLemmas::icecast_shallow), unfolding(crate::specs::Icecast::icecast_text))]
 pub fn icecast_status(
     alloc: Global,

@@ -17,6 +17,7 @@ pub fn sight_is_kept()
 
 /// What is shown is what the rows that are not hidden show; and the mounts that the listing for everybody names are theirs,
 /// in their order, as are those that are told in Icecast's words.
+// rule: Hidden mounts
 pub fn hidden_mounts_are_left_out()
     ensures shown { (rows : List Mount) → rows_shown rows ≡ not_hidden rows }
     ensures status { (rows : List Mount) → mounts_named (status_data rows) ≡ shown_names rows }

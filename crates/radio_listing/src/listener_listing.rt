@@ -18,6 +18,7 @@ use std::alloc::Global;
 /// `{"home":..,"id":N,"mount":..,"peer":..,"seconds":N,"user":..}`. A peer is a dotted quad, or eight groups in lower
 /// hexadecimal with no needless zeros, never shortened; the user is `""` without a pair. No password is shown. It is
 /// compact JSON (RFC 8259), with no line end.
+// rule: List of clients
 #[tactic(auto, using(crate::proofs::ListenerLemmas::listeners_quiet, crate::proofs::ListenerLemmas::listeners_shallow), unfolding(crate::specs::Listeners::listeners_text))]
 pub fn list_clients(
     alloc: Global,

@@ -12,6 +12,7 @@ use std::alloc::Global;
 /// The listing for everybody: `{"mounts":[..]}`, each live mount that is not hidden as
 /// `{"genre":..,"listeners":N,"mount":..,"name":..,"title":..,"type":..}`. It is compact JSON (RFC 8259), with no line
 /// end behind it.
+// rule: Public status
 #[tactic(auto, using(crate::proofs::PublicLemmas::status_quiet, crate::proofs::PublicLemmas::status_shallow), unfolding(crate::specs::Public::status_text))]
 pub fn status(alloc: Global, rows: &[MountRow<'_>]) -> Result<Vec<u8>, OutOfMemory>
     ensures text { IfOk result (λ bytes. bytes.items ≡ status_text rows.now) }
@@ -60,6 +61,7 @@ fn public_value(alloc: Global, row: &PublicRow<'_>) -> Result<Value, OutOfMemory
 }
 
 /// The listing for relays: the name of each live mount that is not hidden, with CR LF behind each.
+// rule: List of streams
 #[tactic(auto, unfolding(crate::specs::Public::stream_text))]
 pub fn stream_list(alloc: Global, rows: &[MountRow<'_>]) -> Result<Vec<u8>, OutOfMemory>
     ensures { IfOk result (λ bytes. bytes.items ≡ stream_text rows.now) }

@@ -15,6 +15,7 @@ pub const MAX_HOST: usize = 255;
 /// ASCII and `-`, `.`, `:`, `[`, `]` and `_` are kept, at most 255 bytes. Where nothing is left it is the address and the port
 /// where the server was told to listen, an address of IPv6 in brackets (RFC 3986, section 3.2.2).
 /// The only error is `OutOfMemory`.
+// rule: Address of a stream
 #[tactic(auto, unfolding(crate::specs::Reached::base_url))]
 pub fn base_url(
     alloc: Global,

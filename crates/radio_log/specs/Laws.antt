@@ -52,6 +52,7 @@ abbrev pub IsNote : Note → Type 0
 IsNote note = IsMoment note.moment × IsFact note.fact
 
 -- a space, or a letter, a digit or a sign of ASCII
+-- rule: Line of the log
 abbrev pub IsPrintable : ℕ → Type 0
 IsPrintable b = (32 ≤ b) × (b ≤ 126)
 

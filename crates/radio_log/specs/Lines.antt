@@ -112,9 +112,11 @@ abbrev pub body : Note → List ℕ
 body note = moment_text note.moment ++ told note.fact
 
 -- a line: its body, and LF
+-- rule: Line of the log; Last line
 unfoldable pub line : Note → List ℕ
 line note = body note ++ codes "\n"
 
 -- so many bytes of lines wait at most in each place where lines wait
+-- rule: Log queue
 abbrev pub most_waiting : ℕ
 most_waiting = 65536

@@ -5,6 +5,7 @@ use Rattle.httpdate.specs.Text.{two_digits, four_digits}
 use Rattle.radio_log.specs.declared.moment.Moment.{Moment}
 
 -- the calendar has the day, the clock has the time, and so many seconds lie between the beginning of 1970 and it
+-- rule: Line of the log
 abbrev pub IsSecond : ℕ → Moment → Type 0
 IsSecond seconds m =
     IsCivilDate m.year m.month m.day × IsTimeOfDay m.hour m.minute m.second

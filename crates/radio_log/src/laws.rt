@@ -12,17 +12,20 @@ use radio_addr::written_peers;
 
 /// What stands in a line before its LF is printable ASCII, whatever others have said of themselves: no line end and no
 /// other control character.
+// rule: Line of the log
 pub fn lines_are_printable()
     ensures { (note : NoteOf) → IsNote note → AllByRecursion IsPrintable (body note) }
 {}
 
 /// A line is read as it was told, whatever stands behind it: it ends at the first LF, its words are parted by single spaces,
 /// and each word behind the second is a field, whose name ends at the first `=` and whose value is percent-encoded.
+// rule: Line of the log
 pub fn lines_are_read_back()
     ensures { (note : NoteOf) → IsNote note → IsReadBack note }
 {}
 
 /// A log tells one list of notes alone: nobody can forge a line, or a part of one.
+// rule: Line of the log
 pub fn logs_tell_one_story()
     ensures { (notes others : List NoteOf)
         → AllByRecursion IsNote notes → AllByRecursion IsNote others

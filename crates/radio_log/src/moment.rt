@@ -29,6 +29,7 @@ pub struct Moment {
 impl Moment {
     /// The moment so many seconds after the beginning of 1970, leap seconds not counted; [`LAST_SECOND`] where it would
     /// lie beyond the year 9999.
+    // rule: Line of the log
     pub fn at(seconds: u64) -> Moment
         ensures { IsSecond (min seconds LAST_SECOND) result }
     {

@@ -25,6 +25,7 @@ pub struct Note<'a> {
 /// The line of the log that tells a note, with its LF.
 ///
 /// The only error is `OutOfMemory`, where memory was refused; nothing was written then.
+// rule: Line of the log; Last line
 #[tactic(auto, unfolding(crate::specs::Lines::line))]
 pub fn line(alloc: Global, note: &Note<'_>) -> Result<Vec<u8>, OutOfMemory>
     ensures { IfOk result (λ bytes. bytes.items ≡ line note.now) }

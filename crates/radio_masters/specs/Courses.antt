@@ -64,6 +64,7 @@ HasFailed course why ms after line =
     × (after ≡ record course { failing = Some failed }) × (line ≡ line_of told)
 
 -- the pull has ended: a relay that was up is gone
+-- rule: Failures of relays
 abbrev pub HasEnded : RelayCourse → RelayEnd → ℕ → RelayCourse → EndLine → Type 0
 HasEnded course why ms after line =
     MatchBool course.is_up ((after ≡ record course { is_up = false }) × (line ≡ Gone)) (HasFailed course why ms after line)

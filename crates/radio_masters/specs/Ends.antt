@@ -7,11 +7,13 @@ use Rattle.radio_masters.specs.declared.relay_end.RelayEnd.{RelayEnd}
 use Rattle.radio_masters.specs.declared.relay_end.RelayEnd.TheVariants.{By, Status}
 
 -- an answer that cannot be pulled ends a relay by its status, where that is not 200; else the relay ends by how its pull was shut
+-- rule: Failures of relays
 abbrev pub end_by : Ending → Option ℕ → RelayEnd
 end_by BadPull (Some status) = if status == 200 then By BadPull else Status status
 end_by ending status = By ending
 
 -- no other relay would come up in its place
+-- rule: Keeping a place
 abbrev pub keeps_place : RelayEnd → Bool
 keeps_place (By (ByRule TooManySources)) = true
 keeps_place end = false

@@ -16,6 +16,7 @@ abbrev pub IsOneMore : ℕ → ℕ → Type 0
 IsOneMore n n' = (n + 1 < 2 ^ 64 → n' ≡ n + 1) × (n ≤ n')
 
 -- what is known of the relay when it has failed at a moment, and how often the log tells that it has
+-- rule: Failures of relays
 pub record IsNoted (before : Option Failing) (why : RelayEnd) (ms : ℕ) (after : Failing) (told : Option ℕ) : Type 0 where
   -- the first failure is told
   pub first : before ≡ None → (after ≡ told_now why ms) × (told ≡ Some 1)

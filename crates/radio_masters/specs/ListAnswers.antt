@@ -21,6 +21,7 @@ body_of_length None rest = Err TooLong
 body_of_length (Some n) rest = if nat_lt (length rest) n then Err Cut else Ok (take n rest)
 
 -- the body, by the value of the header `Content-Length`; without it, all up to where the master has closed
+-- rule: List of a slave
 abbrev pub body_by : Bool → Option (List ℕ) → List ℕ → Result (List ℕ) ListFault
 body_by has_closed (Some text) rest = body_of_length (number_of 10 max_list text) rest
 body_by has_closed None rest = if nat_lt max_list (length rest) then Err TooLong else if not has_closed then Err Cut else Ok rest
@@ -39,6 +40,7 @@ body_as has_closed bytes (Ok (Whole head length)) = body_in has_closed head (dro
 body_as has_closed bytes (Err fault) = Err BadHead
 
 -- the body of a master's answer, or its fault: all bytes of it that have come, and whether the master has closed
+-- rule: List of a slave; Failed list
 abbrev pub IsListBody : List ℕ → Bool → Result (List ℕ) ListFault → Type 0
 IsListBody bytes has_closed body =
     (reading : Result (Progress ResponseParts) HeadFault) × IsReading ShowsResponse bytes reading × (body ≡ body_as has_closed bytes reading)

@@ -78,6 +78,7 @@ IsCalled turn before now = now.reads ≡ suc before.reads
 
 module _ {S : Type 0} (steps : Steps S) where
   -- the server is asked whether the relay goes on
+  -- rule: Turn of a pull
   pub record IsProbed (relay : Pulling) (from : S) (relay' : Pulling) (state : State) (to : S) : Type 0 where
     pub after : Standing
     pub asks : AsksIf steps relay.number (probe_of relay.number) from after to
@@ -90,6 +91,7 @@ module _ {S : Type 0} (steps : Steps S) where
   Hears relay (byte ∷ bytes) from relay' state to = Takes steps relay (byte ∷ bytes) from relay' state to
 
   -- what comes of it by the turn's end: where the line is over nothing came, and where memory was refused nothing is said
+  -- rule: Turn of a pull
   abbrev pub Comes : Pulling → List ℕ → S → PullTurn → Pulling → S → Type 0
   Comes relay bytes from GoesOn relay' to = Hears relay bytes from relay' Running to
   Comes relay bytes from (IsShut ending) relay' to = Hears relay bytes from relay' (Shut ending) to
@@ -98,6 +100,7 @@ module _ {S : Type 0} (steps : Steps S) where
   Comes relay bytes from OutOfMemory relay' to = Unit {0}
 
   -- a turn: the line takes the front of what is owed and is read from once, unless it has failed by then, and what comes of what it gave
+  -- rule: Turn of a pull
   pub record IsTurn (pull : PullOver) (from : S) (turn : PullTurn) (pull' : PullOver) (to : S) : Type 0 where
     pub bytes : List ℕ
     pub written : IsWritten pull.owed pull.taken pull'.owed pull'.taken

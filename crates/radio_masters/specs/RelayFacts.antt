@@ -38,6 +38,7 @@ abbrev pub title_fact : List ℕ → List ℕ → Fact
 title_fact mount title = Title (record { mount = mount; title = title })
 
 -- a relay feeds its mount no more
+-- rule: Failures of relays
 abbrev pub gone_fact : List ℕ → List ℕ → List ℕ → PullEnd → ℕ → Fact
 gone_fact mount master why end sound =
     RelayGone (record { mount = mount; master = master; why = why; seconds = end.seconds; bytes = sound })
@@ -47,6 +48,7 @@ abbrev pub mount_gone_fact : List ℕ → PullEnd → Fact
 mount_gone_fact mount end = MountGone mount (mount_word end.why)
 
 -- a relay has failed, so often
+-- rule: Failures of relays
 abbrev pub failed_fact : List ℕ → List ℕ → List ℕ → ℕ → Fact
 failed_fact mount master why times = RelayFailed (record { mount = mount; master = master; why = why; times = times })
 

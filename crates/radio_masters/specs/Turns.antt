@@ -6,14 +6,17 @@ use Rattle.std.specs.declared.cmp.Ordering.{Ordering}
 use Rattle.radio_masters.specs.declared.turns.Waiting.{Waiting}
 
 -- a relay may be tried at this moment
+-- rule: Relay places
 abbrev pub is_due : ℕ → Waiting → Bool
 is_due ms relay = nat_le relay.due_ms ms
 
 -- the one that is due for longer comes first; of those that are due alike, the one with the lower number
+-- rule: Relay places
 abbrev pub turn_order : Waiting → Waiting → Ordering
 turn_order one other = ordering_then (nat_cmp one.due_ms other.due_ms) (nat_cmp one.number other.number)
 
 -- of those that wait these are tried: as many as there are places, of the queue of all that are due
+-- rule: Relay places
 pub record HaveTheirTurn (ms places : ℕ) (waiting chosen : List Waiting) : Type 0 where
   pub queue : List Waiting
   pub all_due : IsPermutation (filter (is_due ms) waiting) queue

@@ -23,6 +23,7 @@ pub struct Failing {
 /// and how often the log tells that it has failed; `None` if the log tells nothing.
 ///
 /// The log tells a failure if it is the first, if its reason is another than before, or if the last line is an hour old.
+// rule: Failures of relays
 pub fn note_failure(before: Option<Failing>, why: RelayEnd, ms: u64) -> (Failing, Option<u64>)
     ensures { IsNoted before why ms result.0 result.1 }
 {

@@ -56,6 +56,7 @@ impl From<OutOfMemory> for ListFault {
 ///
 /// Errors, of which the first that applies comes: `Cut` where the head has not ended, `BadHead`, `Status`, `BadHead` for
 /// a `Transfer-Encoding`, `TooLong`, `Cut`; `OutOfMemory` where memory was refused.
+// rule: List of a slave; Failed list
 pub fn read_list_answer(
     alloc: Global,
     bytes: &[u8],

@@ -59,6 +59,7 @@ impl<L: Line> ListPull<L> {
     /// Writes once what the line takes of the request, and reads once into the buffer. The list, once the master has closed;
     /// `None` until then. The faults are those of [`read_list_answer`], and `Cut` where the line has failed, `TooLong` where
     /// more has come than a list and its head.
+    // rule: List of a slave
     pub fn turn(&mut self, buffer: &mut [u8]) -> Result<Option<BTreeSet<MountName>>, ListFault>
         ensures written { IsWritten self.old.owed self.old.taken self.new.owed self.new.taken }
         ensures came { OnOk result ((bytes : List ℕ) × (self.new.given ≡ self.old.given ++ bytes) × (self.new.came ≡ self.old.came ++ bytes)) }

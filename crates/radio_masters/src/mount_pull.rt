@@ -87,6 +87,7 @@ impl<L: Line> MountPull<L> {
     }
 
     /// The status of the master's answer (RFC 9112, section 4); `None` if no whole head of one has come.
+    // rule: Failures of relays
     pub fn status(&self) -> Option<u16>
         ensures { (reading : Result (Progress ResponseParts) HeadFault) × IsReading ShowsResponse self.now.front reading × (result ≡ status_in reading) }
     {
@@ -98,6 +99,7 @@ impl<L: Line> MountPull<L> {
 
     /// Writes once what the line takes of the request, and reads once into the buffer. What came is pulled in; where
     /// nothing has come, the server is asked whether the relay goes on.
+    // rule: Turn of a pull
     pub fn turn<S: Server>(&mut self, server: &mut S, buffer: &mut [u8]) -> PullTurn
         ensures { IsTurn S.steps self.old server.old result self.new server.new }
     {

@@ -135,6 +135,7 @@ impl RelayCourse {
 
     /// Returns what is noted once the pull has ended for this reason at this moment, in milliseconds, and the line that tells
     /// it: a relay that was up is gone, and one that was not has failed. A failure that lasts is told once an hour.
+    // rule: Failures of relays
     pub(crate) fn ended(self, why: RelayEnd, ms: u64) -> (RelayCourse, EndLine)
         ensures { HasEnded self why ms result.0 result.1 }
     {

@@ -32,6 +32,7 @@ pub enum RelayEnd {
 impl RelayEnd {
     /// Why a relay has ended whose pull was shut so, and whose master has answered with this status, if a whole head of its
     /// answer has come.
+    // rule: Failures of relays
     pub fn of(ending: Ending, status: Option<u16>) -> RelayEnd
         ensures { result ≡ end_by ending status }
     {
@@ -43,6 +44,7 @@ impl RelayEnd {
 
     /// Whether a relay that did not come up keeps its place until it may be tried again: the server has no room for more
     /// sources, so no other would come up in its place.
+    // rule: Keeping a place
     pub fn keeps_place(self) -> bool
         ensures { result ≡ keeps_place self }
     {

@@ -18,6 +18,7 @@ pub struct Waiting {
 /// are due, the one that is due for the longest first.
 ///
 /// `OutOfMemory` if memory was refused.
+// rule: Relay places
 pub fn in_turn(waiting: Vec<Waiting>, places: usize, ms: u64) -> Result<Vec<Waiting>, OutOfMemory>
     ensures { IfOk result (λ chosen. HaveTheirTurn ms places waiting.items chosen.items) }
 {

@@ -242,6 +242,7 @@ impl ListedPart {
     }
 
     /// Exchanges the title of the session, if the mount is live.
+    // rule: Title of a session
     pub fn swap_title(&mut self, title: &mut Option<Title>)
         ensures part { self.new ≡ with_session_changed (with_title title.old) self.old }
         ensures title { title.new ≡ option_map_or (λ session. session.title) self.old.session title.old }

@@ -28,6 +28,7 @@ impl MountPart {
     /// title of the source that feeds the mount. Blocks come at this moment, in milliseconds; of the
     /// stream the last blocks are kept that have `queue` bytes, and listeners that are further behind
     /// lag out. `OutOfMemory` if memory was refused; nothing has changed then.
+    // rule: Reach of a block
     pub fn step(
         &mut self,
         alloc: Global,

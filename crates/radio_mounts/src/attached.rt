@@ -90,6 +90,7 @@ impl Swap<ListedPart> for TakesLagging {
 
     ghost keeps_key = { λ takes row. refl };
 
+    // rule: Lagged
     fn swap(&mut self, row: &mut ListedPart) {
         let lagging = row.take_lagging(self.end, self.queue);
         drop(mem::replace(&mut self.lagging, lagging));

@@ -215,6 +215,7 @@ impl Attachments for MountParts {
 
     ghost live = { λ parts. parts.live };
 
+    // rule: Moved to the end
     fn shift(&mut self, id: u64, from: &MountName, to: &MountName) -> Place {
         let end = self.stream_end(to);
         self.reattach(id, from, to, end);

@@ -33,6 +33,7 @@ mount_of_command (AddUser mount user password) = mount
 mount_of_command (DeleteUser mount user) = mount
 
 -- what else it says: never a password
+-- rule: Line of the log
 abbrev pub argument_of : Command → List ℕ
 argument_of (MoveClients mount destination) = destination
 argument_of (KillClient mount listener) = decimal listener
@@ -72,6 +73,7 @@ facts_of_asked peer user (Given command) = facts_of_command peer user command
 facts_of_asked peer user asked = []
 
 -- the facts of an event of a client, who has named this agent
+-- rule: Lines of changes
 abbrev pub facts_of : Peer → List ℕ → Event → List Fact
 facts_of peer agent (Source asked) = facts_of_source peer agent asked
 facts_of peer agent (Commands asked) = facts_of_asked peer (user_in asked.pair) asked.asked

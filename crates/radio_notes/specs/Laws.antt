@@ -13,6 +13,7 @@ abbrev pub visit_of : ℕ → List Happening → Visit
 visit_of ms happenings = fold after (begun ms) happenings
 
 -- the end that comes first
+-- rule: Line of a client
 abbrev pub first_end_of : List Happening → Option End
 first_end_of [] = None
 first_end_of (Replied told ∷ later) = first_end_of later
@@ -28,6 +29,7 @@ status_in (Fed count) = 0
 status_in (Ended end) = code_of_end end
 
 -- the status that comes first
+-- rule: Line of a client
 abbrev pub first_status_of : List Happening → ℕ
 first_status_of [] = 0
 first_status_of (happening ∷ later) = first_of (status_in happening) (first_status_of later)

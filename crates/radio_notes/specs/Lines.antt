@@ -30,6 +30,7 @@ IsPushed report lines count old new =
     (new ≡ record { lines = old.lines ++ (report ++ lines); lost = 0 }) ⊎ (new ≡ losing count old)
 
 -- the same with the report of what was lost before
+-- rule: Log queue
 abbrev pub IsAdded : Moment → List ℕ → ℕ → Waiting → Waiting → Type 0
 IsAdded moment lines count old new = IsPushed (report_of moment old.lost) lines count old new
 

@@ -50,6 +50,7 @@ if_taken (Block count) = Block count
 if_taken notice = Nothing
 
 -- what of a notice is told, by what is noted of the reply: nothing of what was denied
+-- rule: Lines of changes
 abbrev pub due : Told → Notice → Notice
 due Noted notice = if_taken notice
 due Feeding notice = if_answered notice

@@ -35,6 +35,7 @@ abbrev pub header : List ℕ → RequestParts → List ℕ
 header name parts = unwrap_or (value_of name parts.headers) []
 
 -- what is kept of a head: its path without the query, decoded, and the user of its pair
+-- rule: Line of the log; Line of a client
 abbrev pub kept_of_head : RequestParts → Kept
 kept_of_head parts = record {
   method = front_of parts.method;
@@ -44,6 +45,7 @@ kept_of_head parts = record {
 }
 
 -- what is kept of a listener's request, which its event says, with the agent that its head names
+-- rule: Line of a client
 abbrev pub kept_of_listener : ListenRequest → List ℕ → Kept
 kept_of_listener asked agent = record {
   method = codes "GET";

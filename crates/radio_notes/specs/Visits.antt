@@ -45,6 +45,7 @@ status_told (Denied rule) = code_of rule
 status_told told = 0
 
 -- something of the station is shown
+-- rule: Polls
 abbrev pub is_shown : Told → Bool
 is_shown Shown = true
 is_shown told = false
@@ -58,6 +59,7 @@ replied visit told = record visit {
 }
 
 -- what has happened once this has happened too
+-- rule: Line of a client
 abbrev pub after : Visit → Happening → Visit
 after visit (Replied told) = replied visit told
 after visit (Handed count) = record visit { handed = capped (visit.handed + count) }
@@ -70,6 +72,7 @@ abbrev pub seconds_between : ℕ → ℕ → ℕ
 seconds_between since ms = (ms - since) / 1000
 
 -- the mount of a client's line: where a listener was last, if that was noted, else the path that was asked for
+-- rule: Last mount
 abbrev pub mount_named : Part → List ℕ → List ℕ → List ℕ
 mount_named Neither asked last = []
 mount_named Listener asked [] = asked
@@ -77,6 +80,7 @@ mount_named Listener asked (b ∷ last) = b ∷ last
 mount_named Source asked last = asked
 
 -- what the log says of a client who is gone
+-- rule: Line of a client
 abbrev pub client_ended : Peer → ℕ → Visit → Heard → List ℕ → ClientEnded
 client_ended peer ms visit heard last = record {
   peer = peer;

@@ -36,6 +36,7 @@ pub(crate) fn source_lines(
 }
 
 /// The lines of a command: that it was given, and the title that it sets.
+// rule: Line of the log
 pub(crate) fn command_lines(
     alloc: Global,
     moment: Moment,

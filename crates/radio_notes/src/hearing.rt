@@ -12,6 +12,7 @@ use radio_heads::{Progress, read_request};
 use std::alloc::Global;
 
 /// What is heard once these bytes have come behind those of a head that are held, and mean these events.
+// rule: Line of a client
 pub(crate) fn heard_by(alloc: Global, held: Vec<u8>, bytes: &[u8], events: &[Event]) -> Heard
     ensures { IsHeardBy (held.items ++ bytes.now) events.now result }
 {

@@ -52,6 +52,7 @@ impl Lines {
     }
 
     /// Adds the line of a fact at this moment. It is lost if there is no room or no memory for it.
+    // rule: Log queue
     pub(crate) fn note(&mut self, alloc: Global, moment: Moment, fact: Fact<'_>)
         ensures { IsNoted moment fact.entry self.old self.new }
     {
@@ -62,6 +63,7 @@ impl Lines {
     }
 
     /// Adds the lines of a notice at this moment, or counts as lost those for which memory was refused.
+    // rule: Log queue
     pub(crate) fn tell(&mut self, alloc: Global, moment: Moment, notice: Notice)
         ensures { IsToldOf moment notice self.old self.new }
     {

@@ -53,6 +53,7 @@ impl Log {
     }
 
     /// The lines that wait, one behind the other: at most 65,536 bytes. None waits then.
+    // rule: Log queue
     pub fn take(&self) -> Vec<u8>
         ensures { length result.items ≤ most_waiting }
     {

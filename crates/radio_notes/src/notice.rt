@@ -29,6 +29,7 @@ pub enum Notice {
 
 impl Notice {
     /// What is to be told of this event of a client, who has named this agent: so many seconds after the beginning of 1970.
+    // rule: Lines of changes
     pub(crate) fn of(alloc: Global, seconds: u64, peer: Peer, agent: &[u8], event: &Event) -> Notice
         ensures { IsNoticeAt seconds peer agent.now event.now result }
     {
@@ -50,6 +51,7 @@ impl Notice {
 
     /// What of it is to be told, if this is noted of the server's reply: lines of what was answered as done, and the block
     /// that was taken.
+    // rule: Lines of changes
     pub(crate) fn due(self, told: Told) -> Notice
         ensures { result ≡ due told self }
     {

@@ -46,6 +46,7 @@ impl Model for Request {
 
 impl Request {
     /// What is kept of the request of this head; `None` if memory is refused.
+    // rule: Line of the log
     pub(crate) fn of(alloc: Global, head: &Head) -> Option<Request>
         ensures { IfSome result (λ kept. kept ≡ kept_of_head head.now) }
     {
@@ -71,6 +72,7 @@ impl Request {
     }
 
     /// What is kept of the request of a listener with this user agent; `None` if memory is refused.
+    // rule: Line of the log
     pub(crate) fn of_listener(alloc: Global, asked: &ListenRequest, agent: &[u8]) -> Option<Request>
         ensures { IfSome result (λ kept. kept ≡ kept_of_listener asked.now agent.now) }
     {

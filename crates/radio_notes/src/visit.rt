@@ -74,6 +74,7 @@ impl Visit {
     }
 
     /// Returns what has happened once this has happened too.
+    // rule: Polls; Line of a client
     pub fn after(self, happening: Happening) -> Visit
         ensures { result ≡ after self happening }
     {
@@ -135,6 +136,7 @@ impl Visit {
 
     /// What the log says of the client, who is gone at this moment, in milliseconds: by what was heard of it, and the mount
     /// where it was last, which is empty if it is the one that it asked for.
+    // rule: Last mount; Line of a client
     pub(crate) fn client_ended<'a>(
         self,
         peer: Peer,
@@ -159,6 +161,7 @@ impl Visit {
     }
 
     /// What the log says of its source, which is gone at this moment, in milliseconds.
+    // rule: Lines of changes
     pub(crate) fn source_gone<'a>(self, peer: Peer, ms: u64, heard: &'a Heard) -> SourceGone<'a>
         ensures { result ≡ source_gone peer ms self heard.now }
     {
@@ -172,6 +175,7 @@ impl Visit {
     }
 
     /// What the log says of the mount of its source, which is live no more.
+    // rule: Lines of changes
     pub(crate) fn mount_gone<'a>(self, heard: &'a Heard) -> Fact<'a>
         ensures { result ≡ MountGone (kept_of heard.now).path (mount_word self.end) }
     {
@@ -234,6 +238,7 @@ fn first_end(before: Option<End>, end: End) -> Option<End>
 
 /// The name of a mount where a client was last, if it is not the one that it asked for by this path. Empty if it is, or if
 /// memory is refused for it.
+// rule: Last mount
 pub(crate) fn elsewhere(alloc: Global, path: &[u8], mount: &MountName) -> Vec<u8>
     ensures { (result.items ≡ []) ⊎ ((result.items ≡ mount.now) × (mount.now ≢ path.now)) }
 {

@@ -9,6 +9,7 @@ pub record InHand : Type 0 where
   pub rest : List ℕ
 
 -- what is written next
+-- rule: Log failures
 abbrev pub next_bytes : InHand → List ℕ
 next_bytes b = next b.place b.rest where
   next : Place → List ℕ → List ℕ
@@ -27,6 +28,7 @@ some_written count LineStart rest = record { place = place_behind (slice_index r
 some_written count WithinLine rest = record { place = place_behind (slice_index rest (count - 1)); rest = drop count rest }
 
 -- so many of the next bytes were written
+-- rule: Log failures
 abbrev pub written : ℕ → InHand → InHand
 written count b = if count == 0 then b else some_written count b.place b.rest
 
@@ -42,6 +44,7 @@ behind_line bytes = behind bytes (position is_line_end bytes) where
   behind bytes (Some at) = drop (at + 1) bytes
 
 -- a write has failed: the rest of a line that was begun is lost
+-- rule: Log failures
 abbrev pub cut_off : InHand → InHand
 cut_off b = cut b.place b.rest where
   cut : Place → List ℕ → InHand

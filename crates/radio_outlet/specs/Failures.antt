@@ -16,6 +16,7 @@ abbrev pub broken_pipe : ℕ
 broken_pipe = 32
 
 -- a call that was interrupted, or would wait, is made again; a closed descriptor or pipe takes nothing ever; all else may pass
+-- rule: Log failures
 abbrev pub means : Option ℕ → Failure
 means None = Failed
 means (Some code) =

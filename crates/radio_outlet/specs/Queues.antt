@@ -16,9 +16,11 @@ abbrev pub lines_in : List ℕ → ℕ
 lines_in bytes = length (filter (λ byte. byte == 10) bytes)
 
 -- lines were added behind those that wait
+-- rule: Log queue
 abbrev pub added : List ℕ → ℕ → Queue → Queue
 added bytes seconds q = record { lines = q.lines ++ bytes; lost = q.lost; seconds = seconds }
 
 -- lines were lost
+-- rule: Log queue
 abbrev pub dropped : List ℕ → ℕ → Queue → Queue
 dropped bytes seconds q = record { lines = q.lines; lost = min most_number (q.lost + lines_in bytes); seconds = seconds }

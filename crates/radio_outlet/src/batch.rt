@@ -88,6 +88,7 @@ impl Batch {
     }
 
     /// Notes that a write has failed. The rest of a line that was begun is lost. Returns how many lines are lost by that.
+    // rule: Log failures
     pub fn note_failed(&mut self) -> u64
         ensures batch { self.new ≡ cut_off self.old }
         ensures lost { result ≡ lost_by_cut self.old.place }

@@ -24,6 +24,7 @@ pub enum Failure {
 }
 
 /// Returns what the system's code of a failed write means. An error without a code may pass.
+// rule: Log failures
 pub fn failure_of(code: Option<u32>) -> Failure
     ensures { result ≡ means code }
 {

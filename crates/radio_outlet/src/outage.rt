@@ -35,6 +35,7 @@ impl Outage {
     }
 
     /// Notes that a write has failed at this moment. Returns true if the one before it had not.
+    // rule: Log failures
     pub fn note_failed(&mut self, ms: u64) -> bool
         ensures first { result ≡ not self.old.is_failing }
         ensures pause { self.new ≡ failed_at ms }

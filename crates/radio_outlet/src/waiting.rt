@@ -47,6 +47,7 @@ impl Waiting {
 
     /// Adds lines of the moment so many seconds after the beginning of 1970 behind those that wait. Returns false if there is
     /// no room or memory for all of them: then each of them counts as lost.
+    // rule: Log queue
     pub fn add(&mut self, lines: &[u8], seconds: u64) -> bool
         ensures outcome { self.new ≡ (if result then added lines.now seconds self.old else dropped lines.now seconds self.old) }
         ensures room { most_waiting < length self.old.lines + length lines.now → result ≡ false }
@@ -61,6 +62,7 @@ impl Waiting {
     }
 
     /// Takes the lines that wait. None waits then.
+    // rule: Log queue
     pub fn take(&mut self) -> Vec<u8>
         ensures lines { result.items ≡ self.old.lines }
         ensures rest { self.new ≡ record self.old { lines = [] } }
@@ -69,6 +71,7 @@ impl Waiting {
     }
 
     /// Takes the count of lost lines, which is 0 then.
+    // rule: Log queue
     pub fn take_lost(&mut self) -> u64
         ensures lost { result ≡ self.old.lost }
         ensures rest { self.new ≡ record self.old { lost = 0 } }

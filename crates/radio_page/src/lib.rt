@@ -246,6 +246,7 @@ refresh();
 "##;
 
 /// The answer at `/`: the page, under its policy.
+// rule: Web page
 #[tactic(auto, unfolding(crate::specs::Page::page_answer))]
 pub fn page() -> WebAnswer<'static>
     ensures { (origin : Option (List ℕ)) → web_answer_text origin result ≡ page_answer origin }

@@ -13,6 +13,7 @@ first_start end [] = end
 first_start end (start ∷ starts) = start
 
 -- where the fewest last blocks start that have so many bytes together, or all blocks where these have fewer
+-- rule: Kept stream
 abbrev pub shortest_starts : ℕ → ℕ → List ℕ → List ℕ
 shortest_starts limit end [] = []
 shortest_starts limit end (start ∷ starts) = (if nat_le limit (end - first_start end starts) then shortest_starts limit end starts else start ∷ starts)
@@ -26,6 +27,7 @@ abbrev pub forgotten : ℕ → List ℕ → List ℕ
 forgotten place bytes = replicate place 0 ++ drop place bytes
 
 -- the stream as a queue keeps it that is to have so many bytes
+-- rule: Kept stream
 abbrev pub kept_stream : ℕ → WholeStream → WholeStream
 kept_stream limit stream = record {
   bytes = forgotten (kept_from limit stream) stream.bytes;

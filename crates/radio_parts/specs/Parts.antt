@@ -26,11 +26,13 @@ ends_in live mount = end_in (session_of live mount)
 
 -- a block has come at this moment: it stands at the end of the stream, and those who sit there have lost their seats who are further behind then than a
 -- queue is long
+-- rule: Reach of a block; Lagged
 abbrev pub part_received : ℕ → ℕ → List ℕ → Part → Part
 part_received queue moment block p = let session = option_map (longer block moment) p.session in
     record p { session = session; listeners = with_ended p.listeners (lags_behind p.mount (end_in session) queue) Lagged }
 
 -- this is on the air
+-- rule: Reach of a block; Title of a session
 abbrev pub part_titled : List ℕ → Part → Part
 part_titled title p = record p { session = option_map (with_title (Some title)) p.session }
 

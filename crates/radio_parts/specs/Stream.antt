@@ -19,10 +19,12 @@ abbrev pub with_block : WholeStream → List ℕ → WholeStream
 with_block stream block = record { bytes = stream.bytes ++ block; starts = stream.starts ++ end_of stream ∷ [] }
 
 -- where a new listener begins: the first block start that is at most so many bytes before the end, or the end
+-- rule: Start of the burst
 abbrev pub burst_start : WholeStream → ℕ → ℕ
 burst_start stream burst = unwrap_or (find (λ start. nat_le (end_of stream - start) burst) stream.starts) (end_of stream)
 
 -- what a listener at the place is handed who has room for so many bytes
+-- rule: Draws
 abbrev pub data_at : WholeStream → ℕ → ℕ → List ℕ
 data_at stream place room = take room (drop place stream.bytes)
 

@@ -58,6 +58,7 @@ impl Stream {
     /// Appends a block, and forgets the first blocks where those behind them have `limit` bytes.
     /// `OutOfMemory` where memory was refused, and where the stream would have 2^64 bytes; the
     /// stream is unchanged then.
+    // rule: Kept stream
     pub fn push(&mut self, block: Block, limit: u64) -> Result<(), OutOfMemory>
         ensures ok { OnOk result (self.new ≡ kept_stream limit (with_block self.old block)) }
         ensures err { OnErr result (self.new ≡ self.old) }
@@ -72,6 +73,7 @@ impl Stream {
     }
 
     /// Where a listener begins who is to be sent at most `burst` bytes at once.
+    // rule: Start of the burst
     pub fn burst_start(&self, burst: u64) -> Place
         ensures { result ≡ burst_start self.now burst }
     {

@@ -28,6 +28,7 @@ abbrev pub row : Rule → Bool → Row
 row name condition = record { rule = name; holds = condition }
 
 -- a connection arrives
+-- rule: Order for a connection; Numbers spent
 abbrev pub arrive_rows : ArriveFacts → List Row
 arrive_rows facts =
     row AddressDenied facts.address_is_denied ∷
@@ -41,6 +42,7 @@ abbrev pub bad_mount_rows : List Row
 bad_mount_rows = row BadMount true ∷ []
 
 -- a source wants to feed the mount of a path
+-- rule: Order for a source; Mount in use
 abbrev pub source_rows : Option SourceFacts → List Row
 source_rows None = bad_mount_rows
 source_rows (Some facts) =
@@ -51,6 +53,7 @@ source_rows (Some facts) =
     []
 
 -- a relay wants to feed the mount of a path; who it is nobody asks
+-- rule: Order for a relay; Numbers spent; Relay comes up
 abbrev pub relay_rows : Option RelayFacts → List Row
 relay_rows None = bad_mount_rows
 relay_rows (Some facts) =
@@ -61,6 +64,7 @@ relay_rows (Some facts) =
     []
 
 -- a source delivers a block
+-- rule: Numbers spent
 abbrev pub push_rows : PushFacts → List Row
 push_rows facts =
     row NumbersSpent facts.number_is_spent ∷
@@ -72,6 +76,7 @@ walk_rows None = []
 walk_rows (Some stops) = row stops true ∷ []
 
 -- a listener wants to hear the mount of a path
+-- rule: Order for a listener
 abbrev pub listen_rows : Option ListenFacts → List Row
 listen_rows None = bad_mount_rows
 listen_rows (Some facts) =
@@ -81,17 +86,20 @@ listen_rows (Some facts) =
     walk_rows facts.walk_stops
 
 -- the rule that denies a command to whoever sends none of the pairs that open it
+-- rule: Order for a command
 abbrev pub password_rule : Opener → Rule
 password_rule AdminAlone = AdminPassword
 password_rule ItsSource = SourcePassword
 password_rule Relays = RelayPassword
 
 -- a command that everybody may give is denied to nobody
+-- rule: Order for a command; Who may see
 abbrev pub access_rows : CommandAccess → List Row
 access_rows Everybody = []
 access_rows (Pair opener is_sent) = row (password_rule opener) (not is_sent) ∷ []
 
 -- what a command needs is not there
+-- rule: Order for a command; No destination; Same mount; No client; No users; No user
 abbrev pub needs_rows : CommandNeeds → List Row
 needs_rows Argument = row MissingArgument true ∷ []
 needs_rows Nothing = []
@@ -112,6 +120,7 @@ needs_rows (User has_users is_listed) =
     []
 
 -- a client gives the command of a path
+-- rule: Order for a command
 abbrev pub command_rows : Option CommandFacts → List Row
 command_rows None = row NoCommand true ∷ []
 command_rows (Some facts) = access_rows facts.access ++ needs_rows facts.needs

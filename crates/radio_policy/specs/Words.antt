@@ -10,6 +10,7 @@ use Rattle.radio_policy.specs.declared.rule.Status.{Status}
 use Rattle.radio_policy.specs.declared.rule.Status.TheVariants.{BadRequest, Unauthorized, Forbidden, NotFound}
 
 -- the name by which a rule is told
+-- rule: Answer to a denial
 abbrev pub word_of : Rule → List ℕ
 word_of AddressDenied = codes "address-denied"
 word_of AddressNotAllowed = codes "address-not-allowed"
@@ -45,6 +46,7 @@ word_of Killed = codes "killed"
 word_of SourceKilled = codes "source-killed"
 
 -- the status of the answer that tells a denial by the rule; a rule by which nothing is denied in an answer has none
+-- rule: Answer to a denial
 abbrev pub status_of : Rule → Option Status
 status_of AddressDenied = None
 status_of AddressNotAllowed = None

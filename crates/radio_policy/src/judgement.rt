@@ -18,6 +18,8 @@ pub enum Verdict {
 
 /// The policy's verdict: that of the first row of the action's table whose condition holds. It
 /// takes no memory.
+// rule: First rule; Order for a connection; Order for a source; Order for a relay; Order for a listener
+// rule: Order for a command; Numbers spent
 pub fn judge(action: &Action) -> Verdict
     ensures { result ≡ verdict_in (table action.now) }
 {
@@ -95,6 +97,7 @@ fn judge_push(facts: &PushFacts) -> Verdict
     }
 }
 
+// rule: What is allowed happens; First rule; Order for a listener
 fn judge_listen(facts: &Option<ListenFacts>) -> Verdict
     ensures { result ≡ verdict_in (listen_rows facts.now) }
 {

@@ -125,6 +125,7 @@ impl Rule {
     ghost use Rattle.radio_policy.specs.Words.{word_of, status_of};
 
     /// The rule's name, as it is told in an answer and in a transcript.
+    // rule: Answer to a denial
     pub fn word(self) -> &'static str
         ensures { result.now ≡ word_of self }
     {
@@ -132,6 +133,7 @@ impl Rule {
     }
 
     /// The status of the answer that tells a denial by this rule; `None` where it has no answer.
+    // rule: Answer to a denial
     pub fn status(self) -> Option<Status>
         ensures { result ≡ status_of self }
     {

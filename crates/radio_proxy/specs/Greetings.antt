@@ -8,6 +8,7 @@ use Rattle.radio_proxy.specs.declared.header.Header.TheVariants.{Whole, Bad as B
 
 -- By this answer to a stream that had these bytes left, if they are known: the header of all of them was read, and no byte more; or it is
 -- bad, and nothing was read. Of a stream that is over nothing is said.
+-- rule: Proxy header
 abbrev pub IsGreeted : Option (List ℕ) → Option (List ℕ) → Greeting → Type 0
 IsGreeted before after Waits = Keeps before after
 IsGreeted before after (Named named) = IfSome before (λ bytes. (len : ℕ) × (header_of bytes ≡ Whole len named) × Consumes before after (take len bytes))

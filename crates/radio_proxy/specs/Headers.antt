@@ -80,10 +80,12 @@ header_by count None = unended count
 header_by count (Some parts) = header_in parts.0
 
 -- the header that bytes begin with: 107 of them at most, with CR LF
+-- rule: Proxy header
 unfoldable pub header_of : List ℕ → Header
 header_of bytes = header_by (length (take 107 bytes)) (cut 10 (take 107 bytes))
 
 -- the peer of a connection by its header: the client that is named, or else the other end of the connection
+-- rule: Proxy header
 abbrev pub peer_by : Named → Address → Address
 peer_by (Client peer) own = peer
 peer_by Nobody own = own

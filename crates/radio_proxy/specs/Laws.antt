@@ -9,6 +9,7 @@ use Rattle.radio_proxy.specs.declared.header.Named.{Named}
 use Rattle.radio_proxy.specs.declared.header.Named.TheVariants.{Client, Nobody}
 
 -- the bytes begin with a line of so many bytes, with CR LF at its end and no LF before it, that names this
+-- rule: Proxy header
 pub record IsHeader (bytes : List ℕ) (len : ℕ) (named : Named) : Type 0 where
   pub line : List ℕ
   pub rest : List ℕ
@@ -41,6 +42,7 @@ pub data IsIgnored : List ℕ → Type 0 where
   Behind : (more : List ℕ) → IsIgnored (32 ∷ more)
 
 -- a line, without its LF, names somebody: `PROXY TCP4` or `PROXY TCP6` and the fields, or `PROXY UNKNOWN`; each ends with CR
+-- rule: Proxy header
 pub data Names (line : List ℕ) : Named → Type 0 where
   ByTcp : (family : Family) (fields : List ℕ) (peer : Address) → AreTcpFields family fields peer
       → line ≡ codes "PROXY " ++ (family_word family ++ 32 ∷ (fields ++ 13 ∷ [])) → Names line (Client peer)

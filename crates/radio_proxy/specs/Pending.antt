@@ -10,15 +10,18 @@ use Rattle.radio_proxy.specs.declared.pending.Outcome.{Outcome}
 use Rattle.radio_proxy.specs.declared.pending.Outcome.TheVariants.{Named, Bad, Left}
 
 -- whether a peer is one of the proxies, if there are any
+-- rule: Proxy header
 abbrev pub is_proxy : Option (List AddressRange) → Address → Bool
 is_proxy None peer = false
 is_proxy (Some proxies) peer = is_listed proxies peer
 
 -- whether a look may settle it: something may have come, it is over, or its time is
+-- rule: Missing proxy header
 abbrev pub due : Bool → Bool → ℕ → ℕ → ℕ → Bool
 due is_readable is_over since ms patience = is_readable || is_over || nat_le patience (ms - since)
 
 -- what became of it if no header came: its peer has left, or its time is over
+-- rule: Missing proxy header
 abbrev pub overdue : Bool → ℕ → ℕ → ℕ → Option Outcome
 overdue is_over since ms patience = if is_over then Some Left else if nat_le patience (ms - since) then Some Bad else None
 

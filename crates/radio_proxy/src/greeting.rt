@@ -24,6 +24,7 @@ pub enum Greeting {
 
 /// Reads the header that the stream begins with, if it has come whole, and no byte behind it. What is no header, or no whole
 /// one, is left where it is.
+// rule: Proxy header
 pub fn take_header<S: Peek>(stream: &mut S) -> Greeting
     ensures { IsGreeted (S.remaining stream.old) (S.remaining stream.new) result }
 {
@@ -37,6 +38,7 @@ pub fn take_header<S: Peek>(stream: &mut S) -> Greeting
 }
 
 /// The same of a stream that begins with these bytes.
+// rule: Proxy header
 fn greet<S: Peek>(stream: &mut S, front: &mut [u8]) -> Greeting
     requires { IfSome (S.remaining stream.old) (λ bytes. StartsWith bytes front.old) }
     ensures { IsGreeted (S.remaining stream.old) (S.remaining stream.new) result }

@@ -11,6 +11,7 @@ use radio_addr::{Peer, read_peer};
 use radio_texts::{cut, read_number};
 
 /// How many bytes a header has at most, with the CR LF at its end.
+// rule: Proxy header
 pub const MOST_BYTES: usize = 107;
 
 /// Whom a header names.
@@ -47,6 +48,7 @@ impl Named {
 
     /// Returns the peer of a connection whose header names this, and whose other end is at `own`: the client that is named, or
     /// `own` if nobody is.
+    // rule: Proxy header
     pub fn peer(self, own: Peer) -> Peer
         ensures { result ≡ peer_by self own }
     {
@@ -59,6 +61,7 @@ impl Named {
 
 /// Returns the header that these bytes begin with. They are a part of one as long as they have no LF and are fewer than
 /// [`MOST_BYTES`]; what follows a whole header is not looked at.
+// rule: Proxy header
 #[tactic(auto, using(crate::proofs::LawLemmas::within))]
 pub fn read_header(bytes: &[u8]) -> Header
     ensures value { result ≡ header_of bytes.now }
@@ -165,6 +168,7 @@ fn fields_of(family: &[u8], rest: &[u8]) -> Option<Named>
 }
 
 /// Returns whom these fields name: the address of the client, that of the server, and the port of each.
+// rule: Proxy header
 #[tactic(auto, unfolding(crate::specs::Headers::tcp_of))]
 fn tcp_of(family: Family, fields: &[u8]) -> Option<Named>
     ensures { result ≡ tcp_of family fields.now }

@@ -115,6 +115,7 @@ impl<S: Peek + Drop> Pending<S> {
     }
 
     /// Returns whether a connection from this address begins with a header.
+    // rule: Proxy header
     pub fn awaits(&self, peer: Peer) -> bool
         ensures { result ≡ is_proxy self.now.proxies peer }
     {
@@ -194,6 +195,7 @@ impl<S: Peek + Drop> Pending<S> {
     }
 
     /// Takes out a connection that is awaited no more at this moment. `None` if there is none.
+    // rule: Proxy header
     pub fn next(&mut self, ms: u64) -> Option<Settled<S>>
         ensures same { self.new.proxies ≡ self.old.proxies }
         ensures proxy { IfSome result (λ settled. is_proxy self.old.proxies settled.proxy ≡ true) }
@@ -225,6 +227,7 @@ impl<S: Peek + Drop> Pending<S> {
     }
 
     /// Returns in how many milliseconds the first of them is due; `most_ms` if none is sooner.
+    // rule: Missing proxy header
     pub fn left_ms(&self, ms: u64, most_ms: u64) -> u64
         ensures { result ≤ most_ms }
     {

@@ -30,6 +30,7 @@ event_of mount id (Sound block) = Push id block
 event_of mount id (TitleItem text) = Title id text
 
 -- a relay that is not up can but come up
+-- rule: Head of a master
 abbrev pub event_for : List ℕ → Option ℕ → PullItem → Option Event
 event_for mount (Some id) item = Some (event_of mount id item)
 event_for mount None (Up shown) = Some (RelayUp mount shown)
@@ -52,6 +53,7 @@ numbered None id = Some id
 numbered (Some number) id = Some number
 
 -- what a reply makes of it
+-- rule: Head of a master
 abbrev pub answered : Option ℕ → Reply → Standing
 answered number (Arrived id) = going_on (numbered number id)
 answered number (Deny rule) = shut_by number (By rule)

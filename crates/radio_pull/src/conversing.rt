@@ -19,6 +19,7 @@ use std::alloc::AllocError;
 ///
 /// `OutOfMemory`: memory was refused; nothing is said of the server then, and the pull is to be
 /// closed.
+// rule: Head of a master
 pub fn take<S: Server>(
     server: &mut S,
     relay: &mut RelayPull,
@@ -77,6 +78,7 @@ fn bring<S: Server>(
 ///
 /// `OutOfMemory`: memory was refused; nothing is said of the server then, and the pull is to be
 /// closed.
+// rule: End of a pull
 pub fn ask<S: Server>(
     server: &mut S,
     relay: &mut RelayPull,
@@ -113,6 +115,7 @@ fn ask_for<S: Server>(
 
 /// The connection to the master is closed: the relay goes down, if it is up. `OutOfMemory` where
 /// whoever applies it is refused memory.
+// rule: End of a pull
 pub fn close<S: Server>(server: &mut S, relay: &RelayPull) -> Result<(), OutOfMemory>
     ensures { OnOk result (GoesDown S.steps relay.now.number server.old server.new) }
 {

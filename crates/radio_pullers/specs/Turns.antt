@@ -18,5 +18,6 @@ module _ {S : Type 0} (steps : Steps S) where
   HasRested pull from end pull' to = (pull' ≡ pull) × (to ≡ from) × ((end ≡ Some Left) ⊎ (end ≡ Some NotWished))
 
   -- a turn of a pull that began at a moment, in milliseconds
+  -- rule: Turn of a pull
   abbrev pub MayTurn : ℕ → PullOver → S → Option RelayEnd → PullOver → S → Type 0
   MayTurn began pull from end pull' to = HasTurned began pull from end pull' to ⊎ HasRested pull from end pull' to

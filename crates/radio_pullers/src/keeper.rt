@@ -105,6 +105,7 @@ impl Keeper {
     /// Notes that the thread of the relay of this mount has ended so, which was to stop or not.
     ///
     /// `OutOfMemory` if memory was refused to keep its place.
+    // rule: Keeping a place
     fn note_end(
         &mut self,
         mount: &MountName,
@@ -125,6 +126,7 @@ impl Keeper {
     }
 
     /// Takes this list for the newest one, and forgets relays that nothing knows any more.
+    // rule: Failed list
     fn note_list(&mut self, settings: &Settings, names: BTreeSet<MountName>)
         ensures names { self.new.names ≡ names }
         ensures planned { self.new.is_planned ≡ false }
@@ -162,6 +164,7 @@ impl Keeper {
     }
 
     /// Stops the relays that are not wished any more, and notes those that are. `OutOfMemory` if memory was refused.
+    // rule: Relay places
     fn make_plan(&mut self, settings: &Settings) -> Result<(), OutOfMemory>
         ensures wished { OnOk result ((rest : List RelaySetting) × (map arc_value self.new.wished.items ≡
             in_order settings.now (started_by (orders settings.now self.old.names.keys (mounts_of (map arc_value self.old.roster.running.items)) self.old.wanted.items)) ++ rest)) }
@@ -187,6 +190,7 @@ impl Keeper {
 
     /// Notes which of the relays that are wished begin at `ms`, in milliseconds, in the places that are free. `OutOfMemory` if
     /// memory was refused: none begins then.
+    // rule: Relay places
     fn choose(&mut self, settings: &Settings, ms: u64) -> Result<(), OutOfMemory>
         ensures ok { OnOk result (IsChosen ms settings.now.limits.sources (length self.old.roster.running.items) (length (kept_at ms self.old.tries.kept)) (queue self.new.tries (map arc_value self.old.wished.items)) (reverse self.new.chosen.items)) }
         ensures err { OnErr result (self.new.chosen.items ≡ []) }

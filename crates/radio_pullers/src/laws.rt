@@ -3,6 +3,7 @@
 ghost use Rattle.radio_pullers.specs.Laws.{FullStationsBeginNone, RelaysFitTheSources};
 
 /// No more relays begin than there may be sources, with those that run and the places that are kept.
+// rule: Relay places
 pub fn relays_fit_the_sources()
     ensures fit { RelaysFitTheSources }
     // and none if those are as many already

@@ -70,6 +70,7 @@ fn hand_over<R: Clock + Wait, N: Reach, S>(
 }
 
 /// Returns the list of the first address of the master that answers.
+// rule: List of a slave
 fn fetch<R: Clock + Wait, N: Reach>(
     rt: &R,
     net: &N,

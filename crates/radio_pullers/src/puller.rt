@@ -235,6 +235,7 @@ impl<'a, R: Clock + Wait, N: Reach, S: Server + Drop> Puller<'a, R, N, S> {
     }
 
     /// Waits until there is something to do, and does it. Returns why the pull has ended, if it has.
+    // rule: Turn of a pull
     fn turn(
         &mut self,
         pull: &mut MountPull<SocketLine<TcpStream>>,

@@ -13,6 +13,7 @@ abbrev pub value_or : List ℕ → List ℕ → ResponseParts → List ℕ
 value_or other name head = unwrap_or (value_of name head.headers) other
 
 -- what it shows: a type, a name and a genre; where it names no type, the one that Icecast takes then
+-- rule: Head of a master
 abbrev pub shown_by : ResponseParts → Shown
 shown_by head = shown_of
     (value_or default_content_type (codes "Content-Type") head)
@@ -35,6 +36,7 @@ interval_told None = Ok None
 interval_told (Some text) = interval_of (number_of 10 max_interval text)
 
 -- the metadata interval of the stream, if it has one, or the first fault of the head
+-- rule: Bad pull
 abbrev pub interval_in : ResponseParts → Result (Option ℕ) PullFault
 interval_in head =
     if not (head.status == 200) then Err (Status head.status)

@@ -38,6 +38,7 @@ with_parts gathered [] = gathered
 with_parts gathered (part ∷ parts) = with_parts (with_part gathered part) parts
 
 -- the items of some parts
+-- rule: Pulled stream
 abbrev pub items_of : List Part → List PullItem
 items_of parts = all_items (with_parts nothing_gathered parts)
 

@@ -89,11 +89,13 @@ pulled_as bytes (Ok (Whole head length)) = answer_pulled head (drop length bytes
 pulled_as bytes (Err fault) = stops BadHead
 
 -- what a master's answer pulls in: all bytes of it that have come
+-- rule: Pulled stream; Cuts of a pull
 abbrev pub IsPulled : List ℕ → Pulled → Type 0
 IsPulled bytes pulled =
     (reading : Result (Progress ResponseParts) HeadFault) × IsReading ShowsResponse bytes reading × (pulled ≡ pulled_as bytes reading)
 
 -- what the next bytes pull in, at each stage
+-- rule: Pulled stream
 abbrev pub IsPulledAt : Stage → List ℕ → Pulled → Type 0
 IsPulledAt (Head held) bytes pulled = IsPulled (held ++ bytes) pulled
 IsPulledAt (Behind stream) bytes pulled = pulled ≡ stream_pulled [] stream bytes

@@ -51,6 +51,7 @@ request_start path master =
     ++ header_line (codes "User-Agent") (codes "radiod")
 
 -- a relay asks for its master's mount, with metadata
+-- rule: Relay request
 abbrev pub request_text : RelaySetting → List ℕ
 request_text relay =
     request_start (path_text relay.mount) relay.master

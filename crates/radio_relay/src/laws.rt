@@ -10,6 +10,7 @@ use radio_icy::laws::{bare_of_woven, cut_streams, titles_of_texts, unwoven_strea
 
 /// However a master's answer is cut into pieces, the same is pulled in: what its head shows, the same sound and titles in
 /// the same order, and the same fault, in the piece in which it stands.
+// rule: Cuts of a pull
 pub fn cuts_do_not_matter()
     ensures cuts { CutsDoNotMatter }
     ensures one { PullingIsOne }
@@ -22,6 +23,7 @@ pub fn cuts_do_not_matter()
 
 /// The sound that is pulled in is the bare sound of the stream, and the titles are those of its metadata texts, cleaned.
 /// Without an interval all is sound.
+// rule: Pulled stream
 pub fn pulls_are_bare()
     ensures plain { PlainIsSound }
     ensures woven { WovenIsBare }
@@ -31,6 +33,7 @@ pub fn pulls_are_bare()
 
 /// What this server sends to a listener with metadata, pulled in by another, is the stream's sound and the titles that
 /// were sent: for intervals to 16777216, and titles without `';StreamUrl=` inside. So a relay of a relay loses nothing.
+// rule: Pulled stream
 pub fn relays_lose_nothing()
     ensures { RelaysLoseNothing }
 {

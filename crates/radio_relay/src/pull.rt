@@ -96,6 +96,7 @@ impl Pull {
     ///
     /// `OutOfMemory` comes where memory was refused, and what the piece brings is lost. After any of these the pull
     /// keeps nothing, and each further feed answers `Failed`, also of an empty piece.
+    // rule: Bad pull; Pulled stream
     pub fn feed(&mut self, bytes: &[u8]) -> Result<Vec<PullItem>, PullFault>
         ensures brings { IfOk result (λ items. IsAnswered self.old bytes.now items.items self.new) }
         ensures fault { IfErr result (λ fault. fault ≢ NoMemory → IsRefused self.old bytes.now fault) }

@@ -26,6 +26,7 @@ const STREAM_LIST: &[u8] = b"/admin/streamlist.txt";
 /// The request of a relay for its master's mount, as a listener with metadata (ICY convention, `Icy-MetaData`).
 ///
 /// The only error is `OutOfMemory`.
+// rule: Relay request
 pub fn request_text(alloc: Global, relay: &RelaySetting) -> Result<Vec<u8>, OutOfMemory>
     ensures { IfOk result (λ text. text.items ≡ request_text relay.now) }
 {

@@ -13,6 +13,7 @@ use std::collections::BTreeSet;
 ///
 /// A line ends with LF or CR LF; the last one may lack it. Other lines are passed over. `OutOfMemory` where memory was
 /// refused.
+// rule: List of a slave
 pub fn read_stream_list(alloc: Global, text: &[u8]) -> Result<BTreeSet<MountName>, OutOfMemory>
     ensures { IfOk result (λ names. names.keys ≡ names_listed text.now) }
 {

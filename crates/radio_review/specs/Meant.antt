@@ -35,5 +35,6 @@ abbrev pub meant_with : Option Section → Option KeyOf → Meant
 meant_with (Some home) key = At home
 meant_with None key = meant_near key
 
+-- rule: Unknown keys
 abbrev pub meant_by : Section → List ℕ → Meant
 meant_by section name = meant_with (home_of name) (nearest (keys_of section) name)

@@ -24,6 +24,7 @@ pub enum Meant {
 /// replacements of characters, as Levenshtein counts them).
 ///
 /// `OutOfMemory`: memory was refused.
+// rule: Unknown keys
 pub fn meant_by(alloc: Global, section: Section, name: &str) -> Result<Meant, OutOfMemory>
     ensures { IfOk result (λ meant. meant ≡ meant_by section name.now) }
 {

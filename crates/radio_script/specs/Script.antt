@@ -9,11 +9,13 @@ use Rattle.radio_deliveries.specs.Delivery.{delivery_of}
 use Rattle.radio_texts.specs.Cuts.{onto_first}
 
 -- the lines of a script, without their line feeds; the last line may lack its line feed
+-- rule: Line of a script
 abbrev pub lines_of : List ℕ → List (List ℕ)
 lines_of [] = []
 lines_of (b ∷ script) = if b == 10 then [] ∷ lines_of script else onto_first b (lines_of script)
 
 -- what the line of that number means: a delivery, or the line's fault
+-- rule: Line of a script
 unfoldable pub meaning_of : ℕ → List ℕ → Result Delivery PlayFault
 meaning_of number line =
     if nat_lt max_lines number || nat_lt max_line (length line)

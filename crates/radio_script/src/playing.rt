@@ -27,6 +27,7 @@ struct Buffers {
 /// `Ok` has read to the reader's end. It is refused with `Read` or `Write` where that device
 /// failed, with `Line` or `TooMuch` where the script has that fault, with `OutOfMemory`, and for
 /// nothing else.
+// rule: Line of a script; Longest script
 pub fn play_with<P: Performer, R: CountedRead, W: CountedWrite>(
     alloc: Global,
     performer: &mut P,
@@ -66,6 +67,7 @@ pub fn play_with<P: Performer, R: CountedRead, W: CountedWrite>(
 
 // Reads the next line and answers it. `Ok(true)` where the line had its line feed, `Ok(false)` at
 // the reader's end.
+// rule: Line of a script
 fn play_line<P: Performer, R: CountedRead, W: CountedWrite>(
     alloc: Global,
     performer: &mut P,
@@ -146,6 +148,7 @@ fn answer_line<P: Performer, W: CountedWrite>(
 }
 
 // Performs the delivery of a line, and leaves what it comes to as the text.
+// rule: Line of a script
 #[tactic(auto, unfolding(crate::specs::Script::meaning_of))]
 fn perform_line<P: Performer>(
     alloc: Global,

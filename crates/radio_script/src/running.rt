@@ -10,6 +10,7 @@ use std::alloc::Global;
 /// The transcript of the deliveries. It is refused as `Delivery` at the first whose label was not
 /// opened or is opened twice, or that pulls for a mount which no relay feeds, and with
 /// `OutOfMemory`, and for nothing else.
+// rule: Line of a script
 pub fn run_with<P: Performer>(
     alloc: Global,
     performer: &mut P,

@@ -32,6 +32,7 @@ abbrev pub guest_at : List ℕ → Listener → Option ListedGuest
 guest_at mount listener = guest_sitting mount listener.id listener.seating
 
 -- who sits at the mount, in the order of their numbers
+-- rule: List of clients
 abbrev pub guests_at : List Listener → List ℕ → List ListedGuest
 guests_at seats mount = filter_map (guest_at mount) seats
 

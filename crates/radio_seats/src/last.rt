@@ -10,6 +10,7 @@ use radio_values::MountName;
 impl Seats {
     /// The mount where the listener of this number sits, or sat last if he has finished; none where
     /// there is no such listener.
+    // rule: Last mount
     pub fn last_mount(&self, id: u64) -> Option<&MountName>
         ensures { option_copied result ≡ last_mount_of self.now.seats id }
     {

@@ -144,6 +144,7 @@ impl Seats {
 
     /// All who sit at the mount hear this session from now on, each from the place where he is. It
     /// takes no memory.
+    // rule: Session after a wait
     pub fn give_session(&mut self, mount: &MountName, session: u64)
         ensures { self.new ≡ record self.old { seats = with_session_at self.old.seats mount.now session } }
     {

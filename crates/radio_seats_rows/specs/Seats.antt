@@ -80,10 +80,12 @@ abbrev pub in_session_at : List ℕ → ℕ → Seating → Seating
 in_session_at mount session (Sits seat) = Sits (record seat { session = (if bytes_eq seat.mount mount then session else seat.session) })
 in_session_at mount session (Finished rule last) = Finished rule last
 
+-- rule: Session after a wait
 abbrev pub hears_session : List ℕ → ℕ → Listener → Listener
 hears_session mount session listener = record listener { seating = in_session_at mount session listener.seating }
 
 -- all who sit at the mount hear this session, each from the place where he is
+-- rule: Session after a wait
 abbrev pub with_session_at : List Listener → List ℕ → ℕ → List Listener
 with_session_at seats mount session = map (hears_session mount session) seats
 
@@ -137,6 +139,7 @@ last_mount (Sits seat) = seat.mount
 last_mount (Finished rule mount) = mount
 
 -- the mount where the listener of this number sits, or sat last, if he is one
+-- rule: Last mount
 abbrev pub last_mount_of : List Listener → ℕ → Option (List ℕ)
 last_mount_of seats id = option_map (λ listener. last_mount listener.seating) (listener_of seats id)
 

@@ -111,6 +111,7 @@ impl Change<ListenerRow> for Ends {
 
     ghost keeps_key = { λ change row. refl };
 
+    // rule: Killed
     fn apply(&self, row: &mut ListenerRow) {
         if let Some(mount) = row.state.mount() {
             row.state = RowState::Ended {

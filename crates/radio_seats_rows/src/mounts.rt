@@ -233,6 +233,7 @@ impl Mounts {
     }
 
     /// So many have lost their seats at the mount of this number, and sat there last.
+    // rule: Mount full
     pub fn lose(&mut self, number: u64, count: u64)
         ensures sitting { (other : _) → sitting_in self.new.mounts other ≡ sitting_in self.old.mounts other - (if number == other then count else 0) }
         ensures naming { (other : _) → naming_in self.new.mounts other ≡ naming_in self.old.mounts other }

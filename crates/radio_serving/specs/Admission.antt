@@ -9,6 +9,7 @@ use Rattle.radio_connections.specs.Connections.{Connection}
 use Rattle.radio_connections.specs.Admission.{IsTakenIn, LetsNobodyIn}
 
 -- the arrival was applied, and the connection is added behind the others
+-- rule: Newcomers
 pub record IsAdmission {S : Type 0} (steps : Steps S) (web : WebAnswers) (peer : Peer) (given taken : List ℕ) (from : S) (conns : List Connection) (to : S)
     (conns' : List Connection) : Type 0 where
   pub reply : Reply
@@ -19,5 +20,6 @@ pub record IsAdmission {S : Type 0} (steps : Steps S) (web : WebAnswers) (peer :
   pub answers : newcomer.session.says.web ≡ web
 
 -- the arrival was not applied, or its reply let nobody in
+-- rule: Newcomers
 abbrev pub IsTurnedOff : {S : Type 0} → Steps S → Peer → S → S → Type 0
 IsTurnedOff {S} steps peer from to = (to ≡ from) ⊎ ((reply : Reply) × steps from (Arrive peer) reply to × LetsNobodyIn reply)

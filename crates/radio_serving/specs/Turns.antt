@@ -28,6 +28,7 @@ module _ {S : Type 0} (steps : Steps S) where
   HasApplied refuses false from event to = (to ≡ from) × refuses from event
 
   -- where fifty milliseconds have passed since the worker told the server the time, he tells it, unless that is refused for want of memory
+  -- rule: Server time
   abbrev pub Ticks : (S → Event → Type 0) → ℕ → WorkerOf S → WorkerOf S → Type 0
   Ticks refuses ms before after =
       ((ms < before.told_ms + 50) × (after ≡ before))
@@ -35,6 +36,7 @@ module _ {S : Type 0} (steps : Steps S) where
       ⊎ ((after ≡ before) × refuses before.server (Clock ms)))
 
   -- A turn at this moment, with news or without: the server is told the time if it is due, each connection is served, and those that are over are closed.
+  -- rule: Server time
   pub record IsTurn (refuses : S → Event
       → Type 0) (ms : ℕ) (news : Bool) (before : WorkerOf S) (conns : List Connection) (after : WorkerOf S) (conns' : List Connection) : Type 0 where
     pub mid : WorkerOf S

@@ -8,6 +8,7 @@ use radio_session::only_refused_calls_fail;
 
 /// The session of a connection that stands as it must, and is open, has not failed. So where it has
 /// failed after a turn, a call of that turn was refused memory.
+// rule: Lingering
 pub fn open_sessions_have_not_failed()
     ensures { OpenSessionsHaveNotFailed }
 {
@@ -21,6 +22,7 @@ pub fn news_is_found()
 {}
 
 /// A server is told the time each twentieth of a second, as often as a worker makes turns.
+// rule: Server time
 pub fn time_is_told<S: Server>()
     ensures { TimeIsTold S.steps S.refuses }
 {}

@@ -84,6 +84,7 @@ impl<S: Server + Drop> Worker<S> {
     ///
     /// `OutOfMemory` where memory was refused: the line is closed without a byte, the other
     /// connections are as they were, and the server has let nobody in.
+    // rule: Newcomers
     pub fn admit<L: Line>(
         &mut self,
         conns: &mut Vec<Conn<L>>,
@@ -117,6 +118,8 @@ impl<S: Server + Drop> Worker<S> {
 
     /// Serves each connection once, at the turn's moment, and closes those that are over. The server
     /// is told the time if a twentieth of a second has passed since it last was.
+    // rule: Finishes are silent; Pending bytes first; Reading; Drawing; Client without a seat; Cut off; Lingering
+    // rule: Closed by the peer; Unwanted bytes; Server time
     pub fn serve_turn<L: Line, G: Gate>(&mut self, conns: &mut Vec<Conn<L>>, gate: &G, turn: Turn)
         ensures { IsTurn S.steps S.refuses turn.ms turn.news self.old conns.old.items self.new conns.new.items }
     {
@@ -131,6 +134,7 @@ impl<S: Server + Drop> Worker<S> {
         conns.retain(|conn| conn.stays());
     }
 
+    // rule: Server time
     fn tick(&mut self, ms: u64)
         ensures { Ticks S.steps S.refuses ms self.old self.new }
     {

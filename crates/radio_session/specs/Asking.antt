@@ -21,6 +21,7 @@ use Rattle.radio_events.specs.declared.event.Event.{Event}
 use Rattle.radio_events.specs.declared.event.Event.TheVariants.{Source, Listen, Command}
 
 -- the user and the password that it sends, if its `Authorization` has them (RFC 7617)
+-- rule: Source request; Listen request
 abbrev pub pair_of : RequestParts → Option Credentials
 pair_of request = option_and_then basic_pair (value_of (codes "Authorization") request.headers)
 
@@ -29,6 +30,7 @@ abbrev pub value_or : List ℕ → List ℕ → RequestParts → List ℕ
 value_or other name request = unwrap_or (value_of name request.headers) other
 
 -- what a source tells of its stream: a type, a name and a genre; where it names no type, the one that Icecast takes then
+-- rule: Shown fields
 abbrev pub shown_by : RequestParts → Shown
 shown_by request = shown_of
     (value_or default_content_type (codes "Content-Type") request)
@@ -36,10 +38,12 @@ shown_by request = shown_of
     (value_or [] (codes "ice-genre") request)
 
 -- a listener wants metadata between the data (ICY convention)
+-- rule: Metadata interval
 abbrev pub wants_metadata : RequestParts → Bool
 wants_metadata request = is_word (codes "1") (value_of (codes "Icy-MetaData") request.headers)
 
 -- the path that the target stands for: percent decoded (RFC 3986, section 2.1), where `+` stays
+-- rule: Percent decoding
 abbrev pub path_in : RequestParts → List ℕ
 path_in request = percent_decode request.path
 
@@ -48,14 +52,17 @@ abbrev pub query_in : RequestParts → List ℕ
 query_in request = unwrap_or request.query []
 
 -- a path of commands, or of what everybody may see of the station
+-- rule: Commands by GET
 abbrev pub is_for_commands : List ℕ → Bool
 is_for_commands path = starts_with nat_eq path (codes "/admin/") || bytes_eq path (path_of Status)
 
 -- a client asks to feed the mount of his path
+-- rule: Source request
 abbrev pub asks_to_feed : ℕ → RequestParts → Event
 asks_to_feed id request = Source (record { id = id; mount = path_in request; pair = pair_of request; shown = shown_by request })
 
 -- the host by which the client calls the server, where he asks for what is told in full addresses
+-- rule: Address of a stream
 abbrev pub host_for : List ℕ → RequestParts → List ℕ
 host_for path request = if bytes_eq path (codes "/status-json.xsl") then value_or [] (codes "Host") request else []
 
@@ -65,15 +72,18 @@ asks_to_hear id request path =
     Listen (record { id = id; mount = path; pair = pair_of request; wants_metadata = wants_metadata request; host = host_for path request })
 
 -- the pair that counts for a command
+-- rule: Commands by a browser
 abbrev pub pair_for : WebAnswers → RequestParts → Asked → Option Credentials
 pair_for web request asked = if is_refused_pair web request asked then None else pair_of request
 
 -- a client gives the command of this path
+-- rule: Commands by GET
 abbrev pub gives_command : WebAnswers → ℕ → RequestParts → List ℕ → Event
 gives_command web id request path =
     let asked = asked_in path (query_in request) in Command (record { id = id; asked = asked; pair = pair_for web request asked })
 
 -- what a GET asks for: a command where its path is one of commands, and else to hear the mount of its path
+-- rule: Commands by GET; Listen request
 abbrev pub asks_by_get : WebAnswers → ℕ → RequestParts → Event
 asks_by_get web id request =
     let path = path_in request in if is_for_commands path then gives_command web id request path else asks_to_hear id request path

@@ -26,16 +26,19 @@ pub record IsFramed (request : RequestParts) (framing : Framing) : Type 0 where
   pub comes : framing_of request ≡ Some framing
 
 -- A plain body is all data.
+-- rule: Framing
 abbrev pub PlainBodiesAreHeard : Type 0
 PlainBodiesAreHeard = (conversation : Conversation) (request : RequestParts) (bytes : List ℕ) → IsFramed request Plain →
     (request_heard conversation request bytes).events ≡ feeds conversation.id request bytes
 
 -- A whole sized body is all data, and their end.
+-- rule: End of a body
 abbrev pub SizedBodiesAreHeard : Type 0
 SizedBodiesAreHeard = (conversation : Conversation) (request : RequestParts) (bytes : List ℕ) → IsFramed request (Sized (length bytes)) →
     (request_heard conversation request bytes).events ≡ feeds conversation.id request bytes ++ SourceEnd conversation.id ∷ []
 
 -- A whole body of the chunk grammar is the data of its chunks, and their end.
+-- rule: End of a body
 abbrev pub ChunkedBodiesAreHeard : Type 0
 ChunkedBodiesAreHeard = (conversation : Conversation) (request : RequestParts) (body : ChunkedBody) → IsFramed request Chunked → IsBody body →
     (request_heard conversation request (print_body body)).events ≡ feeds conversation.id request (content_of body.chunks) ++ SourceEnd conversation.id ∷ []

@@ -19,6 +19,7 @@ names_language None = false
 names_language (Some languages) = not (bytes_eq languages (codes "*"))
 
 -- a browser has sent it: for a page, whose origin it names (RFC 6454, section 7), or for its user, whose language it names
+-- rule: Commands by a browser
 abbrev pub is_from_browser : RequestParts → Bool
 is_from_browser request = is_some (value_of (codes "Origin") request.headers) || names_language (value_of (codes "Accept-Language") request.headers)
 
@@ -28,15 +29,18 @@ is_other_site from_browser None = from_browser
 is_other_site from_browser (Some site) = not (is_own_site site)
 
 -- the page of another site may have sent it
+-- rule: Commands by a browser
 abbrev pub may_be_forged : RequestParts → Bool
 may_be_forged request = is_other_site (is_from_browser request) (value_of (codes "Sec-Fetch-Site") request.headers)
 
 -- it changes something other than a title
+-- rule: Commands by a browser
 abbrev pub is_change : Asked → Bool
 is_change (Command (SetTitle mount title)) = false
 is_change (Command command) = true
 is_change asked = false
 
 -- a change that the page of another site may have sent has no pair, unless the settings allow such commands
+-- rule: Commands by a browser
 abbrev pub is_refused_pair : WebAnswers → RequestParts → Asked → Bool
 is_refused_pair web request asked = not web.browser_commands && is_change asked && may_be_forged request

@@ -16,6 +16,7 @@ use Rattle.radio_values.specs.Cleaning.{cleaned}
 use Rattle.radio_values.specs.Limits.{max_title}
 
 -- a command that was read, whose title is cleaned; some ask for a listing
+-- rule: Commands by GET
 abbrev pub asked_with : Read → Asked
 asked_with (read.MoveClients sent) = Command (asks.MoveClients sent.mount sent.destination)
 asked_with (read.KillClient sent) = Command (asks.KillClient sent.mount sent.id)
@@ -32,6 +33,7 @@ asked_with read.StreamList = Listing shows.Streams
 
 -- a command of this kind lacks an argument, and this mount was named, if one was: a title or a fallback may be set by the mount's source,
 -- the others are the admin's alone
+-- rule: Missing argument
 abbrev pub lacking : CommandKind → Option (List ℕ) → Asked
 lacking Metadata mount = MissingArgument (Source mount)
 lacking Fallbacks mount = MissingArgument (Source mount)
@@ -44,5 +46,6 @@ asked_by (Err (fault.MissingArgument kind mount)) = lacking kind mount
 asked_by (Err other) = NoCommand
 
 -- a path, and the query behind it
+-- rule: Commands by GET
 abbrev pub asked_in : List ℕ → List ℕ → Asked
 asked_in path query = asked_by (command_in path query)

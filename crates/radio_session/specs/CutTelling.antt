@@ -24,6 +24,7 @@ ThenTold (Shut ending) one mid Others x to = (x ≡ one) × (to ≡ mid)
 
 module _ {S : Type 0} (steps : Steps S) where
   -- the pieces come on a connection one after another, until it is shut, and their events are exchanged
+  -- rule: Cuts do not matter
   abbrev pub IsToldIn : Conversation → List (List ℕ) → S → Exchange → S → Type 0
   IsToldIn conversation [] from x to = (x ≡ nothing_exchanged conversation.says) × (to ≡ from)
   IsToldIn conversation (piece ∷ pieces) from x to =
@@ -36,6 +37,7 @@ pub record AreToldAlike (one other : Exchange) : Type 0 where
   pub state : one.state ≡ other.state
 
 -- However bytes are cut that come on a connection, and between which nothing else happens, they are told alike.
+-- rule: Cuts do not matter
 abbrev pub CutsAreToldAlike : {S : Type 0} → Steps S → Type 0
 CutsAreToldAlike {S} steps = (conversation : Conversation) (bytes : List ℕ) (pieces others : List (List ℕ)) (from to end : S) (x y : Exchange) →
     GoesByData steps conversation.id → conversation.says.closing ≡ None →
@@ -43,6 +45,7 @@ CutsAreToldAlike {S} steps = (conversation : Conversation) (bytes : List ℕ) (p
     IsToldIn steps conversation pieces from x to → IsToldIn steps conversation others from y end → AreToldAlike x y
 
 -- Bytes that come in pieces are told as if they had come in one.
+-- rule: Cuts do not matter
 abbrev pub PiecesAreToldAsOne : {S : Type 0} → Steps S → Type 0
 PiecesAreToldAsOne {S} steps = (conversation after : Conversation) (bytes : List ℕ) (pieces : List (List ℕ)) (from to end : S) (cut whole : Exchange) →
     GoesByData steps conversation.id → conversation.says.closing ≡ None →

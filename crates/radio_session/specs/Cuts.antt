@@ -34,6 +34,7 @@ pub record AreHeardAlike (one other : Heard) : Type 0 where
   pub conversation : answered one.conversation ≡ answered other.conversation
 
 -- one piece or more, which are these bytes when they are joined
+-- rule: Cuts do not matter
 pub record IsCutting (bytes : List ℕ) (pieces : List (List ℕ)) : Type 0 where
   pub some : pieces ≢ []
   pub joined : concat pieces ≡ bytes
@@ -47,18 +48,21 @@ abbrev pub heard_then : Heard → Heard → Heard
 heard_then one others = record { events = one.events ++ others.events; conversation = others.conversation }
 
 -- the pieces come on the connection one after another, and this is heard
+-- rule: Cuts do not matter
 abbrev pub IsHeardIn : Conversation → List (List ℕ) → Heard → Type 0
 IsHeardIn conversation [] heard = heard ≡ unheard conversation
 IsHeardIn conversation (piece ∷ pieces) heard =
     (one : Heard) × IsHeard conversation piece one × (others : Heard) × IsHeardIn one.conversation pieces others × (heard ≡ heard_then one others)
 
 -- However bytes are cut, they are heard alike.
+-- rule: Cuts do not matter
 abbrev pub CutsDoNotMatter : Type 0
 CutsDoNotMatter = (conversation : Conversation) (bytes : List ℕ) (pieces others : List (List ℕ)) (one other : Heard) →
     IsCutting bytes pieces → IsCutting bytes others →
     IsHeardIn conversation pieces one → IsHeardIn conversation others other → AreHeardAlike one other
 
 -- Bytes that come in pieces are heard as if they had come in one.
+-- rule: Cuts do not matter
 abbrev pub PiecesAreHeardAsOne : Type 0
 PiecesAreHeardAsOne = (conversation : Conversation) (bytes : List ℕ) (pieces : List (List ℕ)) (cut whole : Heard) →
     IsCutting bytes pieces → IsHeardIn conversation pieces cut → IsHeard conversation bytes whole → AreHeardAlike cut whole

@@ -28,5 +28,6 @@ drawn_by None draws = sound_of_calls draws
 drawn_by (Some w) draws = woven_by_calls w draws
 
 -- the joined draws of a connection with this interval
+-- rule: Metadata interval
 abbrev pub joined_draws : Option ℕ → List Call → List ℕ
 joined_draws interval draws = drawn_by (weaver_at interval) draws

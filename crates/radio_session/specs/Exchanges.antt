@@ -43,6 +43,7 @@ module _ {S : Type 0} (steps : Steps S) (id : ℕ) where
   GoesOn Running event told from Others x to = (others : Exchange) × Others others × (x ≡ prefixed told.bytes others)
   GoesOn (Shut ending) event told from Others x to = LeavesAfter (is_leave event) from to × (x ≡ ended_with told ending)
 
+  -- rule: Line of a script
   abbrev pub Exchanges : Says → List Event → S → Exchange → S → Type 0
   Exchanges says [] from x to = (x ≡ nothing_exchanged says) × (to ≡ from)
   Exchanges says (event ∷ events) from x to =

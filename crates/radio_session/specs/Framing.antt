@@ -24,6 +24,7 @@ abbrev pub sized : List ℕ → Option Framing
 sized length = option_map Sized (number_of 10 18446744073709551615 length)
 
 -- by the coding and by the length that a head gives; it gives one of them at most
+-- rule: Framing; Two lengths; Bad framing
 abbrev pub framed_by : Option (List ℕ) → Option (List ℕ) → Option Framing
 framed_by None None = Some Plain
 framed_by None (Some length) = sized length
@@ -34,10 +35,12 @@ abbrev pub is_put : RequestParts → Bool
 is_put request = bytes_eq request.method (codes "PUT")
 
 -- the methods by which a source feeds a mount
+-- rule: Source request
 abbrev pub is_source : RequestParts → Bool
 is_source request = bytes_eq request.method (codes "SOURCE") || is_put request
 
 -- the data of a PUT come as its headers say, those of a SOURCE come plain
+-- rule: Framing
 abbrev pub framing_of : RequestParts → Option Framing
 framing_of request =
     if is_put request
@@ -45,6 +48,7 @@ framing_of request =
     else Some Plain
 
 -- before the first of the data
+-- rule: Framing
 abbrev pub start_of : Framing → Place
 start_of Plain = plain_start
 start_of (Sized length) = sized_start length
@@ -56,6 +60,7 @@ is_word word None = false
 is_word word (Some value) = is_same_name value word
 
 -- the client waits for a first answer before it sends its data (RFC 9110, section 10.1.1)
+-- rule: Greeting of a source
 abbrev pub greeting_of : RequestParts → Greeting
 greeting_of request =
     if is_put request && is_word (codes "100-continue") (value_of (codes "Expect") request.headers) then Continue else Welcome

@@ -44,10 +44,12 @@ abbrev pub nothing_held : Conversation → Conversation
 nothing_held conversation = record conversation { held = [] }
 
 -- the connection refuses by its own rule: the client leaves, and is told then
+-- rule: Bad head; Bad method
 abbrev pub refuses : Conversation → Rule → Heard
 refuses conversation rule = closes_with conversation [] (Leave conversation.id) (Refusal rule)
 
 -- how a body closes the conversation: it is whole, or there is a fault in it
+-- rule: End of a body
 abbrev pub body_closes : Bool → Option BodyFault → Option LastWord
 body_closes true fault = Some Complete
 body_closes false (Some fault) = Some Faulty
@@ -59,6 +61,7 @@ delivered conversation events place None = record { events = events; conversatio
 delivered conversation events place (Some word) = closes_with conversation events (SourceEnd conversation.id) word
 
 -- these bytes of a body, that come at a place in it
+-- rule: End of a body
 abbrev pub body_heard : Conversation → List Event → Place → List ℕ → Heard
 body_heard conversation before place bytes =
     delivered conversation (before ++ pushes conversation.id (data_of place bytes)) (after place bytes)
@@ -69,6 +72,7 @@ abbrev pub greeted : Conversation → RequestParts → Conversation
 greeted conversation request = record conversation { says = record conversation.says { greeting = greeting_of request } }
 
 -- a source's head has come, whose data come so, and the first of them
+-- rule: Source request
 abbrev pub source_heard : Conversation → RequestParts → List ℕ → Option Framing → Heard
 source_heard conversation request behind None = refuses conversation BadHead
 source_heard conversation request behind (Some framing) =
@@ -79,6 +83,7 @@ abbrev pub get_heard : Conversation → RequestParts → Heard
 get_heard conversation request = record { events = asks_by_get conversation.says.web conversation.id request ∷ []; conversation = going_on conversation Nothing }
 
 -- a head has come, with these bytes behind it: SOURCE and PUT feed the mount of its path, GET hears it or gives a command
+-- rule: Bad method; Source request
 abbrev pub request_heard : Conversation → RequestParts → List ℕ → Heard
 request_heard conversation request behind =
     if is_source request then source_heard conversation request behind (framing_of request)
@@ -86,6 +91,7 @@ request_heard conversation request behind =
     else refuses conversation BadMethod
 
 -- what these bytes, all that have come, are read as
+-- rule: Bad head
 abbrev pub head_heard : Conversation → List ℕ → Result (Progress RequestParts) HeadFault → Heard
 head_heard conversation bytes (Ok More) = record { events = []; conversation = record conversation { held = bytes } }
 head_heard conversation bytes (Ok (Whole request length)) = request_heard (nothing_held conversation) request (drop length bytes)

@@ -29,23 +29,28 @@ abbrev pub IsAsking : Says → Type 0
 IsAsking says = says.is_admitted ≡ false
 
 -- The denial of what was asked is told in an answer of the rule's status that names the rule, and the word is the rule's.
+-- rule: Answer to a denial
 abbrev pub DenialsNameTheirRule : Type 0
 DenialsNameTheirRule = (says : Says) (rule : Rule) (status : Status) → IsAsking says → status_of rule ≡ Some status
     → EndsWith (said says (Deny rule)) (answered_by says.web (denial_text status (word_of rule))) (word_of rule)
 
 -- a rule without a status has no answer
+-- rule: Answer to a denial
 abbrev pub RulesWithoutStatusAreSilent : Type 0
 RulesWithoutStatusAreSilent = (says : Says) (rule : Rule) → status_of rule ≡ None → EndsWith (said says (Deny rule)) [] (word_of rule)
 
 -- nor has a denial after an admission
+-- rule: Answer to a denial
 abbrev pub LateDenialsAreSilent : Type 0
 LateDenialsAreSilent = (says : Says) (rule : Rule) → says.is_admitted ≡ true → EndsWith (said says (Deny rule)) [] (word_of rule)
 
 -- who was finished by a rule is told nothing, and the word is the rule's
+-- rule: Finishes are silent
 abbrev pub FinishesAreSilent : Type 0
 FinishesAreSilent = (says : Says) (rule : Rule) → EndsWith (said says (Finished rule)) [] (word_of rule)
 
 -- A command that was done is told in an answer of its text, and then the connection is done.
+-- rule: Answer to a command
 abbrev pub CommandsAreAnswered : Type 0
 CommandsAreAnswered = (says : Says) (text : CommandText) → IsAsking says → EndsWith (said says (Text text)) (text_answer says.web text) (codes "done")
 
@@ -54,16 +59,19 @@ abbrev pub IsAbout : Says → LastWord → Type 0
 IsAbout says word = says.closing ≡ Some (record { awaits = 0; word = word })
 
 -- the connection's own refusal is told as a denial, once the client has left
+-- rule: Bad head
 abbrev pub RefusalsNameTheirRule : Type 0
 RefusalsNameTheirRule = (says : Says) (rule : Rule) (status : Status) → IsAbout says (Refusal rule) → status_of rule ≡ Some status
     → EndsWith (said says Noted) (answered_by says.web (denial_text status (word_of rule))) (word_of rule)
 
 -- a source whose body is whole is told that it was admitted, if it was not told before; then it is done
+-- rule: Greeting of a source
 abbrev pub WholeBodiesAreDone : Type 0
 WholeBodiesAreDone = (says : Says) → IsAbout says Complete →
     (says.greeting ≡ Welcome → EndsWith (said says Noted) [] (codes "done"))
     × (says.greeting ≡ Continue → EndsWith (said says Noted) (answered_by says.web source_text) (codes "done"))
 
 -- a source in whose body there is a fault is told nothing
+-- rule: End of a body
 abbrev pub FaultyBodiesAreSilent : Type 0
 FaultyBodiesAreSilent = (says : Says) → IsAbout says Faulty → EndsWith (said says Noted) [] (codes "bad-body")

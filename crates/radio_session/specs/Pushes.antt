@@ -5,5 +5,6 @@ use Rattle.radio_events.specs.declared.event.Event.{Event}
 use Rattle.radio_events.specs.declared.event.Event.TheVariants.{Push}
 
 -- a source delivers the blocks of some data, one after another
+-- rule: Cut into blocks
 abbrev pub pushes : ℕ → List ℕ → List Event
 pushes id bytes = map (Push id) (blocks_of bytes)

@@ -55,6 +55,7 @@ abbrev pub drew : Says → Call → Says
 drew says draw = counted (record says { weaver = after_draw says.weaver draw })
 
 -- what a source is told that is admitted
+-- rule: Greeting of a source
 abbrev pub greeting_text : WebAnswers → Greeting → List ℕ
 greeting_text web Welcome = answered_by web source_text
 greeting_text web Continue = continue_text
@@ -65,6 +66,7 @@ body_text web Welcome = []
 body_text web Continue = answered_by web source_text
 
 -- the policy denies: in an answer where nothing was admitted, else by closing alone
+-- rule: Answer to a denial; Greeting of a source
 abbrev pub denied : Says → Rule → Said
 denied says rule = ends (if says.is_admitted then [] else denial says.web rule) says (By rule)
 
@@ -73,23 +75,27 @@ abbrev pub texted : Says → CommandText → Said
 texted says text = ends (if says.is_admitted then [] else text_answer says.web text) says Done
 
 -- the last word of the connection itself: its bytes, and how the connection ends
+-- rule: Greeting of a source
 abbrev pub last_text : WebAnswers → Greeting → LastWord → List ℕ
 last_text web greeting (Refusal rule) = denial web rule
 last_text web greeting Complete = body_text web greeting
 last_text web greeting Faulty = []
 
+-- rule: Greeting of a source
 abbrev pub last_ending : LastWord → Ending
 last_ending (Refusal rule) = By rule
 last_ending Complete = Done
 last_ending Faulty = BadBody
 
 -- nothing to say, but for the connection's own last word where no other reply is awaited before it
+-- rule: Bad method
 abbrev pub noted : Says → Option Closing → Said
 noted says None = tells [] says
 noted says (Some closing) =
     if closing.awaits == 0 then ends (last_text says.web says.greeting closing.word) says (last_ending closing.word) else tells [] (counted says)
 
 -- what is told of a reply
+-- rule: Answer to a denial
 abbrev pub said : Says → Reply → Said
 said says (Arrived id) = tells [] (counted says)
 said says Feeding = tells (greeting_text says.web says.greeting) (admitted says)

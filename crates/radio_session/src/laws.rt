@@ -23,6 +23,7 @@ use radio_source::laws::{
 
 /// A source's whole body behind its head is heard as its data, and where it has an end, as that end
 /// (RFC 9112, section 6): nothing of what frames it is data. A faulty one ends by its fault.
+// rule: Framing; End of a body
 pub fn bodies_are_heard_as_their_data()
     ensures plain { PlainBodiesAreHeard }
     ensures sized { SizedBodiesAreHeard }
@@ -38,6 +39,7 @@ pub fn bodies_are_heard_as_their_data()
 
 /// A source that is admitted is told to go on where it waits for that (RFC 9110, section 10.1.1), and
 /// else that it was admitted.
+// rule: Greeting of a source
 pub fn who_waits_is_told_to_go_on()
     ensures waits { WhoWaitsIsToldToGoOn }
     ensures other { NobodyElseIsToldToGoOn }
@@ -45,6 +47,7 @@ pub fn who_waits_is_told_to_go_on()
 
 /// What comes on a connection is heard alike, however it is cut into pieces: the same head, the same
 /// data and the same events, but for where blocks are cut, and what follows is heard alike.
+// rule: Cuts do not matter
 pub fn cuts_do_not_matter()
     // in two cuttings of the same bytes
     ensures alike { CutsDoNotMatter }
@@ -61,6 +64,7 @@ pub fn cuts_do_not_matter()
 /// What is told on a connection, and how it is shut, do not depend on how the bytes are cut into
 /// pieces that come on it, where the server goes by a source's data and not by how they are cut into
 /// blocks. Nothing else happens between the pieces, and none is taken once the connection is shut.
+// rule: Cuts do not matter
 pub fn cuts_are_told_alike<S: Server>()
     // in two cuttings of the same bytes
     ensures alike { CutsAreToldAlike S.steps }
@@ -90,6 +94,8 @@ pub fn only_refused_calls_fail()
 
 /// The last word of a connection is that of the rule that ended it, or `done` where none did; and
 /// the answer before it, where there is one, has the rule's status and names the rule.
+// rule: Bad head; Bad method; Finishes are silent; Answer to a denial; Answer to a command; Greeting of a source
+// rule: End of a body
 pub fn last_words_name_the_rule()
     // what was asked is denied: an answer that names the rule
     ensures denied { DenialsNameTheirRule }
@@ -112,6 +118,7 @@ pub fn last_words_name_the_rule()
 
 /// What follows a listener's head on his connection is what he has drawn: the data alone, or, where
 /// the head tells an interval, the data with a metadata block after each interval of them.
+// rule: Metadata interval; Metadata count
 pub fn listeners_are_told_what_they_draw()
     // the joined data of the draws follow the head
     ensures joined { DrawsFollowTheHead }

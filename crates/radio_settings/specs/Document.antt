@@ -105,5 +105,6 @@ abbrev pub document_reading : Members → Result Settings SettingsFault
 document_reading document = settings_or_fault document (first_fault (document_faults document))
 
 -- what a text comes to
+-- rule: Reading settings; Keys take effect
 unfoldable pub reading_of : List ℕ → Result Settings SettingsFault
 reading_of text = option_map_or document_reading (parse_document text) (Err NotToml)

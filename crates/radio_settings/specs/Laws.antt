@@ -21,6 +21,7 @@ pub record IsFirstFault (rows : List (Option SettingsFault)) (fault : SettingsFa
   pub well_before : AreAllWell before
 
 -- the text is TOML, and this is the first fault of its document
+-- rule: Reading settings
 pub record IsDocumentFault (text : List ℕ) (fault : SettingsFault) : Type 0 where
   pub document : Members
   pub is_toml : parse_document text ≡ Some document
@@ -31,6 +32,7 @@ abbrev pub IsFaultOf : List ℕ → SettingsFault → Type 0
 IsFaultOf text fault = ((parse_document text ≡ None) × (fault ≡ NotToml)) ⊎ IsDocumentFault text fault
 
 -- the text is TOML without a fault, and sets this
+-- rule: Reading settings
 pub record AreSettingsOf (text : List ℕ) (settings : Settings) : Type 0 where
   pub document : Members
   pub is_toml : parse_document text ≡ Some document
@@ -38,6 +40,7 @@ pub record AreSettingsOf (text : List ℕ) (settings : Settings) : Type 0 where
   pub is_set : settings ≡ settings_of document
 
 -- the name stands among those before it, and no name before it does
+-- rule: Repeated names
 pub record IsFirstRepeat (names : List (List ℕ)) (name : List ℕ) : Type 0 where
   pub before : List (List ℕ)
   pub after : List (List ℕ)

@@ -10,6 +10,7 @@ use Rattle.radio_settings_values.specs.declared.settings.RelaySetting.{RelaySett
 use Rattle.radio_settings.specs.Masters.{master_rows, master_of}
 
 -- both a user and a password, or neither
+-- rule: Pair of a relay
 abbrev pub pair_rows : List Row
 pair_rows = row Username text (required_with Password) ∷ row Password text (required_with Username) ∷ []
 

@@ -78,6 +78,7 @@ abbrev pub has_key : List NamedContent → List ℕ → Bool
 has_key known name = list_any (λ (k : NamedContent). bytes_eq (word k.0) name) known
 
 -- a key of this name is read in the table
+-- rule: Unknown keys
 abbrev pub knows : Section → List ℕ → Bool
 knows section name = has_key (keys_of section) name
 
@@ -85,5 +86,6 @@ abbrev pub sections : List Section
 sections = Top ∷ Listen ∷ Limits ∷ Web ∷ Mount ∷ Relay ∷ Slave ∷ []
 
 -- the first table that knows a key of this name
+-- rule: Unknown keys
 abbrev pub home_of : List ℕ → Option Section
 home_of name = find (λ section. knows section name) sections

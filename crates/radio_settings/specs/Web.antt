@@ -18,6 +18,7 @@ site_rows = row AllowOrigin origin optional ∷ row IcecastStatus flag optional 
 abbrev pub answer_rows : List Row
 answer_rows = row CacheControl flag optional ∷ row BrowserCommands flag optional ∷ row LogPolls flag optional ∷ []
 
+-- rule: Web table
 abbrev pub web_rows : List Row
 web_rows = site_rows ++ answer_rows
 
@@ -36,6 +37,7 @@ unfoldable pub answers_fault : Members → Option SettingsFault
 answers_fault table = first_fault (faults_in answer_rows table)
 
 -- what the table says of answers
+-- rule: Web table; Polls
 unfoldable pub answers_of : Members → AnswerSettings
 answers_of table = record {
   has_table = true;

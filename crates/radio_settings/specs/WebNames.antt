@@ -26,6 +26,7 @@ abbrev pub feeds_free_mount : WebSettings → RelaySetting → Bool
 feeds_free_mount web relay = is_free web relay.local_mount
 
 -- the names of the mounts, then their fallbacks, then the local mounts of the relays
+-- rule: Paths of the web site; Repeated names
 abbrev pub web_name_faults : WebSettings → List MountSetting → List RelaySetting → List (Option SettingsFault)
 web_name_faults web mounts relays =
     unless (list_all (has_free_name web) mounts) (BadName MountName)

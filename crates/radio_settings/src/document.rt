@@ -40,6 +40,7 @@ use toml::Table;
 /// Keys and tables that are not in the table are passed over.
 ///
 /// `Err(SettingsFault::OutOfMemory)` means that memory ran out, and says nothing of the text.
+// rule: Reading settings; Pair of a relay; Keys take effect
 #[tactic(auto, using(crate::proofs::DocumentLemmas::reads_settings, crate::proofs::DocumentLemmas::reads_fault, crate::proofs::DocumentLemmas::reads_no_toml))]
 pub fn read_settings(alloc: Global, text: &str) -> Result<Settings, SettingsFault>
     // What is read is what the text sets, and there is no fault.

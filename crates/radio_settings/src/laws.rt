@@ -13,6 +13,7 @@ ghost use Rattle.radio_settings.specs.Laws.{AreApart, AreSettingsOf, IsFaultOf, 
 
 /// A text comes to a fault exactly where it is not TOML, or some row of its document has that fault and every row
 /// before it is well; and it comes to settings exactly where it is TOML and every row is well.
+// rule: Reading settings
 pub fn first_faults()
     ensures fault { (text : List ℕ) (fault : SettingsFault) → (reading_of text ≡ Err fault) ↔ IsFaultOf text fault }
     ensures settings { (text : List ℕ) (settings : Settings) → (reading_of text ≡ Ok settings) ↔ AreSettingsOf text settings }
@@ -20,12 +21,14 @@ pub fn first_faults()
 
 /// The first repeat of some names is a name that stands among those before it, where no name before it does; and there
 /// is none exactly where no name stands among those before it.
+// rule: Repeated names
 pub fn first_repeats()
     ensures found { (names : List (List ℕ)) (name : List ℕ) → (first_repeat names ≡ Some name) ↔ IsFirstRepeat names name }
     ensures apart { (names : List (List ℕ)) → (first_repeat names ≡ None) ↔ AreApart names }
 {}
 
 /// Some texts, and what they come to.
+// rule: Reading settings
 pub fn worked_texts()
     ensures empty { reading_of (codes "") ≡ Err (Missing SourcePassword) }
     ensures number { reading_of (codes "source-password = 1") ≡ Err (WrongKind SourcePassword) }

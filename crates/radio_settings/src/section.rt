@@ -154,6 +154,7 @@ impl Section {
 
     /// Returns its keys, in the order in which faults are looked for; the names of tables come last of those above all
     /// tables. They are the keys that are read, each of the kind that is asked for.
+    // rule: Unknown keys
     pub fn keys(self) -> &'static [KnownKey]
         ensures { map as_named result.now ≡ keys_of self }
     {
@@ -169,6 +170,7 @@ impl Section {
     }
 
     /// Returns whether a key of this name is read in it.
+    // rule: Unknown keys
     #[tactic(auto, using(crate::proofs::SectionLemmas::any_named))]
     pub fn knows(self, name: &str) -> bool
         ensures { result ≡ knows self name.now }

@@ -6,6 +6,7 @@ use Rattle.radio_settings_values.specs.declared.settings.MountOptions.{MountOpti
 use Rattle.radio_settings_values.specs.declared.settings.Settings.{Settings}
 
 -- what the mount's table sets, or all defaults where it has none
+-- rule: Reading settings
 abbrev pub options_for : Settings → List ℕ → MountOptions
 options_for settings name =
     option_map_or (λ mount. mount.options) (find (λ mount. bytes_eq mount.name name) settings.mounts) settings.other_mounts

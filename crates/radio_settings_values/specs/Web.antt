@@ -6,6 +6,7 @@ use Rattle.radio_settings_values.specs.declared.web.WebPath.TheVariants.{Icecast
 use Rattle.radio_settings_values.specs.declared.web.WebSettings.{WebSettings}
 
 -- what a path names in the web site, of what is on
+-- rule: Icecast status; Web table
 unfoldable pub web_path : WebSettings → List ℕ → Option WebPath
 web_path web path =
     if web.icecast_status && bytes_eq path (codes "/status-json.xsl") then Some IcecastStatus

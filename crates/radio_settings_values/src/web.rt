@@ -36,6 +36,7 @@ pub enum WebPath {
 
 impl WebSettings {
     /// What a path names in the web site; `None` where it names nothing there, or that is not on.
+    // rule: Web table
     #[tactic(auto, unfolding(crate::specs::Web::web_path))]
     pub fn path(&self, path: &[u8]) -> Option<WebPath>
         ensures { result ≡ web_path self.now path.now }
@@ -50,6 +51,7 @@ impl WebSettings {
     }
 
     /// Whether the path is one of the web site, so that no mount can have it for its name.
+    // rule: Web table
     pub fn has(&self, path: &[u8]) -> bool
         ensures { result ≡ is_web_path self.now path.now }
     {

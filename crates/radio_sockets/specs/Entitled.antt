@@ -6,5 +6,6 @@ use Rattle.radio_proxy.specs.declared.header.Named.TheVariants.{Nobody}
 use Rattle.radio_sockets.specs.declared.doors.Coming.{Coming}
 
 -- a connection whose other end is none of these proxies names nobody: its peer is its other end
+-- rule: Proxy header
 abbrev pub IsEntitled : Option (List AddressRange) → Coming → Type 0
 IsEntitled proxies coming = is_proxy proxies coming.socket_peer ≡ false → coming.named ≡ Nobody

@@ -6,6 +6,7 @@ use Rattle.radio_proxy.specs.declared.pending.Outcome.{Outcome}
 use Rattle.radio_proxy.specs.declared.pending.Outcome.TheVariants.{Named, Bad, Left}
 
 -- the word of its end
+-- rule: Missing proxy header
 abbrev pub gone_word : Outcome → List ℕ
 gone_word (Named named) = codes "left"
 gone_word Bad = codes "bad-proxy"

@@ -6,10 +6,12 @@ use Rattle.radio_board.specs.declared.news.NewsFor.{NewsFor}
 use Rattle.radio_board.specs.declared.news.NewsFor.TheVariants.{AllBut, All}
 
 -- whether those who wait are put off: the last turn was more than so many milliseconds ago, and they were not put off before it
+-- rule: Newcomers
 abbrev pub puts_off : ℕ → ℕ → Bool → Bool
 puts_off waiting passed were = nat_lt 0 waiting && nat_lt 50 passed && not were
 
 -- how many of those who wait are taken in before a turn: 64 at most, and none if they are put off
+-- rule: Newcomers
 abbrev pub called_of : ℕ → ℕ → Bool → Called
 called_of waiting passed were = record { count = if puts_off waiting passed were then 0 else min waiting 64; puts_off = puts_off waiting passed were }
 

@@ -63,6 +63,7 @@ impl Acceptor {
     }
 
     /// Accepts until all are to stop, or a fault; then all stop.
+    // rule: Proxy header
     pub fn work<R: Clock + Wait>(
         &mut self,
         rt: &R,

@@ -205,6 +205,7 @@ impl Entrance<Newcomer> for Doors {
 }
 
 /// Returns whether a fault of the system is that there is no descriptor left. Those who are there go on, and may leave some.
+// rule: Failed accepts
 fn is_out_of_descriptors(error: &io::Error) -> bool
     ensures { result ≡ is_out_of_descriptors (raw_os_error error.now) }
 {

@@ -3,6 +3,7 @@
 ghost use Rattle.radio_sockets.specs.Laws.{AcceptorsLook, NewcomersAreTakenIn, NewcomersAreToDo, PromptWorkersTakeAll, SourcesCountAsFive, TurnsAreDue, TwoFaultsWantOne};
 
 /// A newcomer waits for one turn at most, and wakes the worker that is to take it. A source counts as five newcomers.
+// rule: Newcomers
 pub fn newcomers_are_taken_in()
     ensures taken { NewcomersAreTakenIn }
     // and for none if its worker made one just now
@@ -12,11 +13,13 @@ pub fn newcomers_are_taken_in()
 {}
 
 /// A worker makes a turn twice a second at least.
+// rule: Server time
 pub fn turns_are_due()
     ensures { TurnsAreDue }
 {}
 
 /// The acceptor looks once a second at least. It knows when a descriptor is wanted.
+// rule: Failed accepts
 pub fn acceptors_look()
     ensures look { AcceptorsLook }
     ensures wanted { TwoFaultsWantOne }

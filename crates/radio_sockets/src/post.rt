@@ -315,6 +315,7 @@ impl<'a, R: Clock + Wait> Post<Coming, SocketLine<TcpStream>> for SocketPost<'a,
         })
     }
 
+    // rule: Proxy header
     fn open(&mut self, coming: Coming) -> Option<(SocketLine<TcpStream>, Peer)>
         ensures called { self.new.called ≡ self.old.called - 1 }
         // the client that its header names is its peer, or else the socket's other end

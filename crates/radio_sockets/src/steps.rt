@@ -48,6 +48,7 @@ pub(crate) struct Called {
 
 /// Returns how many of the `waiting` connections are taken in before a turn that begins `passed_ms` after the last one. They are
 /// put off if that is long, so that the server is told the moment first, but never twice in a row.
+// rule: Newcomers
 pub(crate) fn called_of(waiting: usize, passed_ms: u64, were_put_off: bool) -> Called
     ensures { result ≡ called_of waiting passed_ms were_put_off }
 {
@@ -60,6 +61,7 @@ pub(crate) fn called_of(waiting: usize, passed_ms: u64, were_put_off: bool) -> C
 }
 
 /// Returns what a worker has to do in a turn, in connections: each of its sources counts as five.
+// rule: Newcomers
 pub(crate) fn weight_of(connections: usize, sources: usize) -> usize
     ensures { result ≡ weight_of connections sources }
 {
@@ -178,6 +180,7 @@ pub(crate) fn begins_round(cause: RoundCause) -> bool
 
 /// Returns whether the system's fault of this number says that there is no descriptor left, for the process (24, `EMFILE`) or
 /// at all (23, `ENFILE`).
+// rule: Failed accepts
 pub(crate) fn lacks_descriptors(code: i32) -> bool
     ensures { result ≡ lacks_descriptors code }
 {

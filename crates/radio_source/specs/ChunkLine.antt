@@ -33,5 +33,6 @@ digits_in count size (b ∷ rest) =
     else (if count == 0 then Refused else padding_in size (b ∷ rest))
 
 -- the chunk line at the front of these bytes: whole, unfinished, or none whatever follows
+-- rule: Chunk
 unfoldable pub chunk_line_in : List ℕ → LineReading
 chunk_line_in bytes = digits_in 0 0 bytes

@@ -42,10 +42,12 @@ pub record ChunkedBody : Type 0 where
   pub trailers : List (List ℕ)
   pub end : LineEnd
 
+-- rule: Chunk
 abbrev pub print_body : ChunkedBody → List ℕ
 print_body b = print_chunks b.chunks ++ (print_chunk_line b.last ++ (print_trailers b.trailers ++ print_end b.end))
 
 -- its parts are of the grammar, and the trailer lines have at most 4096 bytes with their LFs
+-- rule: Last chunk
 pub record IsBody (b : ChunkedBody) : Type 0 where
   pub chunks : All IsChunk b.chunks
   pub last : IsShortLine b.last

@@ -35,6 +35,7 @@ abbrev pub ends_in : Feeding → List ℕ → Bool
 ends_in body piece = has_ended (after body.place piece) && not body.is_end_told
 
 -- what a feed answers
+-- rule: Feed
 unfoldable pub answer_to : Feeding → List ℕ → Answer
 answer_to body piece =
     if body.has_failed then Refuses Failed
@@ -45,6 +46,7 @@ is_refusal (Brings blocks is_complete) = false
 is_refusal (Refuses fault) = true
 
 -- the body after a feed: one that has failed stays as it is
+-- rule: Feed
 unfoldable pub after_feed : Feeding → List ℕ → Feeding
 after_feed body piece =
     if body.has_failed then body

@@ -83,16 +83,19 @@ brought_by PastTheEnd b = []
 brought_by Broken b = []
 
 -- the place after some bytes
+-- rule: Sized body
 abbrev pub after : Place → List ℕ → Place
 after place [] = place
 after place (b ∷ bytes) = after (after_byte place b) bytes
 
 -- the data among some bytes
+-- rule: Sized body
 abbrev pub data_of : Place → List ℕ → List ℕ
 data_of place [] = []
 data_of place (b ∷ bytes) = brought_by place b ++ data_of (after_byte place b) bytes
 
 -- the body's end has come
+-- rule: Sized body
 abbrev pub has_ended : Place → Bool
 has_ended InPlain = false
 has_ended (InSized zero) = true
@@ -108,6 +111,7 @@ has_ended PastTheEnd = true
 has_ended Broken = false
 
 -- the fault that stands among the bytes so far, if any
+-- rule: Place of a fault
 abbrev pub fault_at : Place → Option BodyFault
 fault_at InPlain = None
 fault_at (InSized left) = None

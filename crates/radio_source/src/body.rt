@@ -74,6 +74,7 @@ impl Body {
     /// A fault that stands behind data or behind the end is answered by the next feed, also of an empty piece:
     /// `BadChunk` and `PastEnd` come where neither came before them in the piece. `OutOfMemory` comes where memory was
     /// refused. After any of these the body answers `Failed`.
+    // rule: Sized body; Chunk; Last chunk; Place of a fault; Feed
     #[tactic(auto, unfolding(crate::specs::Feeding::answer_to, crate::specs::Feeding::after_feed))]
     pub fn feed(&mut self, bytes: &[u8]) -> Result<Blocks, BodyFault>
         ensures ok { IfOk result (λ b. answer_to self.old bytes.now ≡ Brings b.blocks.items b.is_complete) }

@@ -18,6 +18,7 @@ use radio_blocks::laws::blocks_are_the_data;
 
 /// However a body is cut into pieces, with an empty piece fed last, its feeds put out what its bytes come to: all its data in
 /// order, then its end, once, if it has come, then the fault that stands among the bytes, once, if there is one.
+// rule: Feed
 pub fn cuts_do_not_matter()
     ensures { (place : Place) (pieces : List (List ℕ)) → fault_at place ≡ None
         → outputs_of_feeds (unfed place) (pieces ++ [] ∷ []) ≡ outputs_of_bytes place (concat pieces) }
@@ -41,6 +42,7 @@ pub fn plain_bodies()
 
 /// The data of a body of n bytes are its first n bytes. It has ended where n bytes have come, and a byte more is
 /// `PastEnd`.
+// rule: Sized body
 pub fn sized_bodies()
     ensures found { (n : ℕ) (bytes : List ℕ) → data_of (sized_start n) bytes ≡ take n bytes }
     ensures open { (n : ℕ) (bytes : List ℕ) → length bytes < n
@@ -53,6 +55,7 @@ pub fn sized_bodies()
 
 /// A chunk line is read as `httparse` states it: whole with its size where one stands at the front, unfinished where none
 /// does but one may come, and refused where none can come any more.
+// rule: Chunk
 pub fn chunk_lines()
     ensures whole { (bytes : List ℕ) (size : ℕ) → chunk_line_in bytes ≡ Whole size
         ↔ ((l : ChunkLine) × (rest : List ℕ) × ReadsChunkLine bytes l rest × (chunk_size l ≡ size)) }
@@ -70,6 +73,7 @@ pub fn chunks_are_their_data()
 {}
 
 /// The data of a chunk are brought as they come, before the chunk is whole.
+// rule: Place of a fault
 pub fn unfinished_chunks_bring_their_data()
     ensures found { (chunks : List Chunk) (line : ChunkLine) (front : List ℕ)
         → All IsChunk chunks → IsShortLine line → 0 < chunk_size line → length front ≤ chunk_size line
@@ -82,6 +86,7 @@ pub fn unfinished_chunks_bring_their_data()
 
 /// A whole body of the grammar, with its trailers, is complete; its data are those of its chunks. Bytes behind it are
 /// past the end.
+// rule: Last chunk
 pub fn whole_bodies_are_complete()
     ensures found { (b : ChunkedBody) → IsBody b → data_of chunked_start (print_body b) ≡ content_of b.chunks }
     ensures place { (b : ChunkedBody) → IsBody b → after chunked_start (print_body b) ≡ AtEnd }
@@ -90,6 +95,7 @@ pub fn whole_bodies_are_complete()
 {}
 
 /// What is complete is a whole body of the grammar.
+// rule: Last chunk
 pub fn complete_bodies_are_whole()
     ensures { (bytes : List ℕ) → after chunked_start bytes ≡ AtEnd
         → (b : ChunkedBody) × IsBody b × (bytes ≡ print_body b) }

@@ -134,6 +134,7 @@ impl Position {
     }
 
     // Goes past the data at the front, or past one byte of the framing, and returns the bytes behind.
+    // rule: Feed
     fn pass_some<'b>(
         &mut self,
         bytes: &'b [u8],
@@ -215,6 +216,7 @@ fn pass_line_byte(line: &mut ArrayVec<u8, MAX_CHUNK_LINE>, byte: u8) -> Stage
 }
 
 // What comes after a byte that is neither data nor in a chunk line.
+// rule: Chunk
 fn after_framing(stage: Stage, byte: u8) -> Stage
     requires framing { stage ≢ Line }
     requires no_data { data_ahead (place_of stage []) 1 ≡ 0 }

@@ -28,6 +28,7 @@ asked_with verb path flag =
     if bytes_eq verb (codes "check") && bytes_eq flag (codes "--strict") then Some (Check path true) else None
 
 -- up to four words behind the program's name; a missing one has none behind it
+-- rule: Fault of a call
 abbrev pub asked_by : Option (String Global) → Option (String Global) → Option (String Global) → Option (String Global) → Option Call
 asked_by (Some verb) None None None = asked_alone (string_bytes verb)
 asked_by (Some verb) (Some path) None None = asked_of (string_bytes verb) path

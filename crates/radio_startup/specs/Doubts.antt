@@ -7,12 +7,14 @@ use Rattle.radio_settings_values.specs.declared.settings.MountSetting.{MountSett
 use Rattle.radio_settings_values.specs.declared.settings.Settings.{Settings}
 
 -- only this machine reaches it: IPv4 from 127.0.0.0 to 127.255.255.255, and `::1`
+-- rule: Doubtful settings
 abbrev pub is_loopback : Option Address → Bool
 is_loopback None = false
 is_loopback (Some (V4 n)) = n / 2 ^ 24 == 127
 is_loopback (Some (V6 n)) = n == 1
 
 -- a mount has a table, a relay feeds it, or there is a slave, which feeds what its master has
+-- rule: Doubtful settings
 abbrev pub is_named : Settings → List ℕ → Bool
 is_named settings name =
     is_some (find (λ mount. bytes_eq mount.name name) settings.mounts)

@@ -11,6 +11,7 @@ use Rattle.radio_log.specs.declared.facts.FaultyKey.{FaultyKey}
 use Rattle.radio_startup.specs.declared.fault.FileFault.{FileFault}
 use Rattle.radio_startup.specs.declared.fault.FileFault.TheVariants.{CannotRead, Line, NotToml, Settings, OutOfMemory}
 
+-- rule: Fault of a call
 abbrev pub fault_line : FileFault → List ℕ
 fault_line (CannotRead path error) = codes "cannot read " ++ string_bytes path
 fault_line (Line path line) = string_bytes path ++ (codes " line " ++ decimal line)
@@ -24,6 +25,7 @@ settings_status NoMemoryForSettings = 1
 settings_status fault = 3
 
 -- 3 for what a file is, 1 where memory was refused
+-- rule: Fault of a call
 abbrev pub exit_status : FileFault → ℕ
 exit_status (CannotRead path error) = 3
 exit_status (Line path line) = 3

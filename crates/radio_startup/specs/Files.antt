@@ -43,6 +43,7 @@ ReadUsers holds (mount ∷ mounts) before after =
     × ReadUsers holds mounts between after
 
 -- the lists are those of the files that the settings name, and there are no others
+-- rule: Files of the settings
 abbrev pub AreListsOf : Holding → Settings → Lists → Type 0
 AreListsOf holds settings lists =
     (addresses : Lists) × ReadsAddresses holds settings.access.addresses no_lists addresses
@@ -53,10 +54,12 @@ abbrev pub AreProxiesAt : Holding → Option (List ℕ) → Option (List Address
 AreProxiesAt holds None proxies = proxies ≡ None
 AreProxiesAt holds (Some path) proxies = (file : List ℕ) × (ranges : List AddressRange) × holds path file × (list_of file ≡ Ok ranges) × (proxies ≡ Some ranges)
 
+-- rule: Files of the settings
 abbrev pub AreProxiesOf : Holding → List ℕ → Option (List AddressRange) → Type 0
 AreProxiesOf holds bytes proxies = (path : Option (List ℕ)) × ProxiesTold bytes path × AreProxiesAt holds path proxies
 
 -- the station has the settings that these bytes say, what they say of answers, and the lists of the files that they name
+-- rule: Settings check
 pub record IsStationOf (holds : Holding) (bytes : List ℕ) (station : Station) : Type 0 where
   pub settings : reading_of bytes ≡ Ok station.settings
   pub answers : answers_told bytes ≡ Some station.answers

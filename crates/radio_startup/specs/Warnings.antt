@@ -115,6 +115,7 @@ of_streams settings =
     ++ option_to_list (no_room settings.mounts settings.limits.clients)
 
 -- all warnings, in the order of their lines
+-- rule: Doubtful settings
 abbrev pub warnings_of : Settings → List UnknownKey → Option ℕ → List Warning
 warnings_of settings unknown descriptors =
     map unknown_key unknown

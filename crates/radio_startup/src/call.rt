@@ -22,6 +22,7 @@ pub enum Call {
 /// Returns what the words behind the program's name ask for: `play SETTINGS`, `serve SETTINGS`, `check SETTINGS`,
 /// `check SETTINGS --strict`, `--version` or `--help`. `None` for any other words. A word may be missing only if those behind
 /// it are.
+// rule: Fault of a call
 pub fn call_by(
     verb: Option<String>,
     path: Option<String>,

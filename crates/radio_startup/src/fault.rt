@@ -40,6 +40,7 @@ pub enum FileFault {
 
 impl FileFault {
     /// The status with which the program ends: 3, and 1 where memory was refused.
+    // rule: Fault of a call
     pub fn status(&self) -> u8
         ensures { result ≡ exit_status self.now }
     {

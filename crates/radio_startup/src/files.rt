@@ -73,6 +73,7 @@ pub fn read_text<F: ReadsFiles>(files: &F, path: &str) -> Result<SettingsText, F
 impl SettingsText {
     /// The settings, with what the files hold that they name, and a second copy of the settings: the house takes one, and who
     /// pulls relays in beside it reads the other. Faults are those of [`read_station`], without the first.
+    // rule: Settings check
     pub fn station_twice<F: ReadsFiles>(&self, files: &F) -> Result<(Station, Settings), FileFault>
         ensures copies { IfOk result (λ read. read.1 ≡ read.0.settings) }
         ensures station { IfOk result (λ read. IsStationOf (F.holds files.now) self.now read.0) }
@@ -83,6 +84,7 @@ impl SettingsText {
     }
 
     /// The settings, with what the files hold that they name. Faults are those of [`read_station`], without the first.
+    // rule: Settings check; Files of the settings
     pub fn station<F: ReadsFiles>(&self, files: &F) -> Result<Station, FileFault>
         ensures { IfOk result (λ station. IsStationOf (F.holds files.now) self.now station) }
     {

@@ -17,6 +17,7 @@ use std::alloc::Global;
 
 /// What the files hold that the settings name: `deny-ip`, then `allow-ip`, then each mount's
 /// `htpasswd` in the order of the tables. The fault is the first one.
+// rule: Files of the settings
 pub fn read_lists<F: ReadsFiles>(files: &F, settings: &Settings) -> Result<Lists, FileFault>
     ensures { IfOk result (λ lists. AreListsOf (F.holds files.now) settings.now lists) }
 {

@@ -21,6 +21,7 @@ const OTHER_DESCRIPTORS: u64 = 8;
 /// in the order of their lines. `descriptors` is how many the system allows the process, if it says so.
 ///
 /// `OutOfMemory` if memory is refused.
+// rule: Doubtful settings
 pub fn warnings_of<'a>(
     alloc: Global,
     settings: &'a Settings,

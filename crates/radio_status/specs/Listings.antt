@@ -39,6 +39,7 @@ mount_row w session = record {
 }
 
 -- the live mounts, in the order of their names
+-- rule: Public status
 abbrev pub mount_rows : World → List MountRow
 mount_rows w = map (mount_row w) w.house.live
 
@@ -60,10 +61,12 @@ listener_row now listed = record {
 }
 
 -- who sits at the mount, in the order of their numbers
+-- rule: List of clients
 abbrev pub listener_rows : World → List ℕ → List ListenerRow
 listener_rows w mount = map (listener_row w.house.time) (guests_at w.seats mount)
 
 -- what is shown; who asks is counted among the clients
+-- rule: Public status
 abbrev pub shown : World → Listing → Text
 shown w Status = Public (status_text (mount_rows w)) w.house.settings.web.allow_origin
 shown w Stats = Json (stats_text (length w.house.clients) (mount_rows w))

@@ -16,6 +16,7 @@ abbrev pub server_as : Settings → List ℕ → Server
 server_as settings host = record { name = codes "radiod"; base_url = base_url host settings.listen.address settings.listen.port }
 
 -- what is shown at a path of the web site, to one who calls the server by this host
+-- rule: Icecast status
 abbrev pub page_at : World → WebPath → List ℕ → Text
 page_at w IcecastStatus host = Public (icecast_text (server_as w.house.settings host) (mount_rows w)) w.house.settings.web.allow_origin
 page_at w AtPage host = Page w.house.settings.web.allow_origin

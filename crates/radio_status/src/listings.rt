@@ -123,6 +123,7 @@ fn add_mount_row<'a>(
 }
 
 /// What listings tell of a live mount.
+// rule: Public status; Hidden mounts
 fn mount_row<'a>(house: &House<'a>, seats: &Listeners, session: &'a Session) -> MountRow<'a>
     ensures { result ≡ mount_row (world house.now seats.now.seats) session.now }
 {

@@ -17,6 +17,7 @@ most_wait = 500
 
 -- what a thread does that waits until a moment: it stops if it is to, goes on once the moment has come, and else waits, but not
 -- beyond the moment
+-- rule: Ten seconds
 abbrev pub pause_at : Bool → ℕ → ℕ → Pause
 pause_at stopped ms until =
     if stopped then Stops else if nat_le until ms then Past else Waits (min most_wait (until - ms))

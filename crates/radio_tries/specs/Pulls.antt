@@ -13,6 +13,7 @@ use Rattle.radio_masters.specs.Pulls.{PullOver, status_in}
 use Rattle.radio_tries.specs.Pauses.{most_silent}
 
 -- a master that has not answered at a moment is given up, of which a relay has asked at that one
+-- rule: Ten seconds
 abbrev pub is_late : ℕ → ℕ → Bool
 is_late began ms = nat_le most_silent (ms - began)
 
@@ -22,6 +23,7 @@ lost true = Left
 lost false = NoAnswer
 
 -- the next address of a master is tried only if this one has not answered
+-- rule: Ten seconds
 abbrev pub is_no_answer : RelayEnd → Bool
 is_no_answer NoAnswer = true
 is_no_answer end = false

@@ -27,6 +27,7 @@ abbrev pub outcome_of : Bool → RelayEnd → ℕ → Option Failing → Outcome
 outcome_of stopped why ms failing = record { why = if stopped then NotWished else why; ms = ms; failing = failing }
 
 -- from which moment on the relay may be tried again: after a rest, or at once if it was not wished any more
+-- rule: Ten seconds
 abbrev pub due_after : Outcome → ℕ
 due_after outcome = if is_not_wished outcome.why then 0 else later outcome.ms rest
 
@@ -62,6 +63,7 @@ abbrev pub started : Option Failing → Tried
 started failing = record { due_ms = never; failing = failing }
 
 -- a relay whose thread has ended
+-- rule: Keeping a place
 abbrev pub ended : Outcome → Tried
 ended outcome = record { due_ms = due_after outcome; failing = outcome.failing }
 
@@ -70,10 +72,12 @@ abbrev pub not_started : ℕ → Option Tried → Tried
 not_started due tried = record { due_ms = due; failing = failing_of tried }
 
 -- until when places are kept, once a thread has ended so: one that keeps its place does so until the relay may be tried again
+-- rule: Keeping a place
 abbrev pub kept_after : Outcome → List ℕ → List ℕ
 kept_after outcome kept = if keeps_place outcome.why then kept ++ due_after outcome ∷ [] else kept
 
 -- the places that are still kept at a moment
+-- rule: Keeping a place
 abbrev pub kept_at : ℕ → List ℕ → List ℕ
 kept_at ms kept = filter (λ until. nat_lt ms until) kept
 
@@ -86,10 +90,12 @@ abbrev pub waiting_of : Trials → ℕ × RelaySetting → Waiting
 waiting_of trials relay = record { due_ms = due_of (tried_at relay.1.local_mount trials); number = relay.0 }
 
 -- all that wait, in the order of the queue
+-- rule: Relay places
 abbrev pub queue : Trials → List RelaySetting → List Waiting
 queue trials relays = map (waiting_of trials) (enumerate_from 0 relays)
 
 -- how many relays may begin: as many run or are kept a place for as there may be sources
+-- rule: Relay places
 abbrev pub free_places : ℕ → ℕ → ℕ → ℕ
 free_places sources running kept = (sources - running) - kept
 

@@ -31,6 +31,7 @@ abbrev pub others_of : Settings → List RelayOrder → List RelaySetting
 others_of settings orders = filter (λ relay. not (is_own settings relay)) (started_by orders)
 
 -- the relays of the settings come first, and then those of the list
+-- rule: Relay places
 abbrev pub in_order : Settings → List RelaySetting → List RelaySetting
 in_order settings relays = filter (is_own settings) relays ++ filter (λ relay. not (is_own settings relay)) relays
 

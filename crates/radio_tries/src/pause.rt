@@ -33,6 +33,7 @@ pub fn after(ms: u64, more_ms: u64) -> u64
 }
 
 /// Returns when a list is asked for again that was asked for at `ms`, in milliseconds, once in so many seconds.
+// rule: List of a slave
 pub fn list_due_ms(ms: u64, interval_s: u32) -> u64
     ensures { result ≡ later ms (interval_s * 1000) }
 {
@@ -40,6 +41,7 @@ pub fn list_due_ms(ms: u64, interval_s: u32) -> u64
 }
 
 /// Returns what a thread does at `ms` that waits until `until_ms`, in milliseconds, and is to stop or not.
+// rule: Ten seconds; List of a slave; Failed list
 pub fn pause_at(is_stopped: bool, ms: u64, until_ms: u64) -> Pause
     ensures { result ≡ pause_at is_stopped ms until_ms }
 {

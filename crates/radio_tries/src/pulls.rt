@@ -9,6 +9,7 @@ use radio_masters::{MountPull, PullEnd, PullTurn, RelayEnd};
 
 /// Returns why this pull, which began at `began_ms`, has ended with this turn at `ms`, if it has. A relay that is not up has had
 /// no answer if its master has closed or is silent for too long.
+// rule: Ten seconds
 pub fn end_of<L: Line>(
     turn: PullTurn,
     pull: &MountPull<L>,
@@ -47,6 +48,7 @@ fn is_late(began_ms: u64, ms: u64) -> bool
 
 /// Returns whether no other address of the master is tried after a pull that has ended so: the master has answered, or nothing
 /// can be asked.
+// rule: Ten seconds
 pub fn is_last_pull(why: RelayEnd) -> bool
     ensures { result ≡ not (is_no_answer why) }
 {

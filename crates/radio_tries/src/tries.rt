@@ -95,6 +95,7 @@ impl Tries {
     /// again.
     ///
     /// `OutOfMemory` if memory was refused for the place: it is free then.
+    // rule: Ten seconds; Keeping a place
     pub fn note_end(&mut self, mount: &MountName, outcome: Outcome) -> Result<(), OutOfMemory>
         ensures tried { self.new.tried ≡ set_value (is_at (name_order mount.now)) self.old.tried (ended outcome) }
         ensures kept { OnOk result (self.new.kept ≡ kept_after outcome self.old.kept) }
@@ -124,6 +125,7 @@ impl Tries {
     }
 
     /// Returns how many places are kept at `ms`, in milliseconds, that no relay has, and forgets those that are not.
+    // rule: Keeping a place
     pub fn kept_places(&mut self, ms: u64) -> usize
         ensures places { self.new ≡ record self.old { kept = kept_at ms self.old.kept } }
         ensures count { result ≡ length (kept_at ms self.old.kept) }
@@ -143,6 +145,7 @@ impl Tries {
     /// that may be tried for the longest begins first.
     ///
     /// `OutOfMemory` if memory was refused.
+    // rule: Relay places
     pub fn begin(
         &self,
         alloc: Global,
@@ -190,6 +193,7 @@ fn set_tried(tries: &mut BTreeMap<MountName, Tried>, mount: &MountName, tried: T
 }
 
 /// Returns how many more relays may begin if there may be so many sources, so many relays run, and so many places are kept.
+// rule: Relay places
 pub fn free_places(sources: usize, running: usize, kept: usize) -> usize
     ensures { result ≡ free_places sources running kept }
 {

@@ -31,6 +31,7 @@ struct Sorted {
 /// Returns what these orders say. Those of a kind stay in their order.
 ///
 /// `OutOfMemory` if memory was refused.
+// rule: Relay places
 pub fn wishes_of(
     alloc: Global,
     settings: &Settings,

@@ -18,5 +18,6 @@ abbrev pub shown_chars : List ℕ → List ℕ
 shown_chars bytes = filter is_shown (chars (utf8_lossy bytes))
 
 -- bytes as a text that may be shown, cut to n bytes
+-- rule: Cleaned texts
 unfoldable pub cleaned : ℕ → List ℕ → List ℕ
 cleaned n bytes = encode_utf8_all (front_within n (shown_chars bytes))

@@ -12,6 +12,7 @@ abbrev pub has_reserved_path : List ℕ → Bool
 has_reserved_path bytes = starts_with nat_eq bytes (codes "/admin/") || bytes_eq bytes (codes "/status.json")
 
 -- these bytes name a mount; they begin with a slash, so there is at least one
+-- rule: Bad mount; Name of a mount
 unfoldable pub is_mount_name : List ℕ → Bool
 is_mount_name bytes =
     nat_le (length bytes) 255 && starts_with nat_eq bytes (codes "/") && is_utf8 bytes

@@ -13,6 +13,7 @@ use std::alloc::Global;
 /// The bytes are read as UTF-8, with U+FFFD for each part that is none. Characters below U+0020 and U+007F are left out,
 /// and of what remains the longest front of at most [`MAX_TITLE`] bytes is kept that ends between two characters.
 /// An `Err` means that memory ran out.
+// rule: Cleaned texts
 pub fn clean_title(alloc: Global, bytes: &[u8]) -> Result<String, OutOfMemory>
     ensures text { IfOk result (λ text. string_bytes text ≡ cleaned max_title bytes.now) }
     ensures fits { IfOk result (λ text. string_len text ≤ max_title) }
@@ -22,6 +23,7 @@ pub fn clean_title(alloc: Global, bytes: &[u8]) -> Result<String, OutOfMemory>
 
 /// A stream's name, genre or type from outside as a text that can be shown: cleaned like a title, to at most
 /// [`MAX_FIELD`] bytes. An `Err` means that memory ran out.
+// rule: Cleaned texts
 pub fn clean_field(alloc: Global, bytes: &[u8]) -> Result<String, OutOfMemory>
     ensures text { IfOk result (λ text. string_bytes text ≡ cleaned max_field bytes.now) }
     ensures fits { IfOk result (λ text. string_len text ≤ max_field) }

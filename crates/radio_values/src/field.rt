@@ -41,6 +41,7 @@ impl Field {
     /// Bytes from outside as a field: read as UTF-8 with U+FFFD for each part that is none, without the characters
     /// that may not be shown, and cut to the longest front of at most 255 bytes that ends between two characters.
     /// An `Err` means that memory ran out.
+    // rule: Cleaned texts
     pub fn clean(alloc: Global, bytes: &[u8]) -> Result<Field, OutOfMemory>
         ensures { IfOk result (λ field. field ≡ cleaned max_field bytes.now) }
     {
@@ -106,6 +107,7 @@ impl Shown {
     ghost use Rattle.radio_values.specs.Shown.{shown_of};
 
     /// A type, a name and a genre from outside, each cleaned. An `Err` means that memory ran out.
+    // rule: Cleaned texts
     pub fn clean(
         alloc: Global,
         content_type: &[u8],

@@ -10,6 +10,7 @@ ghost use Rattle.radio_values.specs.Cleaning.{cleaned, shown_chars, is_shown};
 /// A cleaned text is UTF-8 of at most n bytes, and is left as it is by cleaning. Its characters are the longest front
 /// of those that may be shown which fits n bytes: no longer front of them does. No byte of it is below 32, and none
 /// is 127.
+// rule: Cleaned texts
 pub fn clean_texts()
     ensures text { (n : ℕ) (bytes : List ℕ) → IsUtf8 (cleaned n bytes) }
     ensures fits { (n : ℕ) (bytes : List ℕ) → length (cleaned n bytes) ≤ n }

@@ -49,6 +49,7 @@ impl Model for MountName {
 
 impl MountName {
     /// The name of these bytes; `None` where they name no mount.
+    // rule: Name of a mount
     #[tactic(auto, unfolding(crate::specs::MountName::is_mount_name))]
     pub fn read(bytes: &[u8]) -> Option<MountName>
         // There is one exactly where the bytes name a mount, and it has these bytes.
@@ -103,6 +104,7 @@ impl Ord for MountName {
 
     ghost matches_eq = { Prim.search (comparing, rules) };
 
+    // rule: Name of a mount
     fn cmp(&self, other: &MountName) -> Ordering {
         // most look-ups end at an equal name, and that names are equal is found sooner than their order
         if self == other {

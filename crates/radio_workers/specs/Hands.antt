@@ -3,6 +3,7 @@ use Rattle.std.specs.Prelude.{◌≡◌, List, ◌++◌}
 use Rattle.radio_intake.specs.Passes.{Told}
 
 -- the pass is of the same intake, with the same parts; nothing was put through it, and what was taken through it stands behind what was before
+-- rule: Newcomers
 pub record HasTakenMore {L : Type 0} (before now : Told L) : Type 0 where
   pub intake : now.intake ≡ before.intake
   pub parts : now.parts ≡ before.parts

@@ -19,6 +19,7 @@ module _ {S : Type 0} (steps : Steps S) (refuses : S → Event → Type 0) where
     leaves false = AsksToLeave server conn.id server'
 
   -- each in its order
+  -- rule: End of a worker
   abbrev pub LeavesAll : S → List Connection → S → Type 0
   LeavesAll server [] server' = server' ≡ server
   LeavesAll server (conn ∷ conns) server' = (between : S) × LeavesIfHere server conn between × LeavesAll between conns server'

@@ -20,6 +20,7 @@ HasParted true feeding sources conns sources' conns' =
 HasParted false feeding sources conns sources' conns' = (sources' ≡ sources) × (conns' ≡ conns)
 
 -- the first that lingers was closed, a source's only if no other lingers
+-- rule: Most that linger
 abbrev pub without_oldest : List Connection → List Connection → List Connection × List Connection
 without_oldest sources conns =
     if nat_lt 0 (length (filter lingers conns)) then (sources, without_first conns) else (without_first sources, conns)

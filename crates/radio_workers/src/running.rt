@@ -16,6 +16,7 @@ use std::thread::{Threads, for_each_mut};
 ///
 /// Nothing here asks for memory, and no memory that is refused to a worker ends him. One for whom no thread can be had is
 /// left out as long as others work.
+// rule: Newcomers; End of a worker
 pub fn run_workers<R, S, T, L, P, G>(
     rt: &R,
     alloc: Global,

@@ -238,6 +238,7 @@ impl<S: Server + Drop, L: Line> Shift<S, L> {
     }
 
     /// Returns what is seen after a turn that began with `before` connections, and in which this was found.
+    // rule: Failed accepts
     fn seen(&self, before: usize, found: Found) -> Seen
         ensures news { result.news ≡ found.has_news }
         ensures more { result.more ≡ found.has_more }
@@ -307,6 +308,7 @@ impl<S: Server + Drop, L: Line> Shift<S, L> {
     }
 
     /// Closes the first of those that linger, a source's only if no other does.
+    // rule: Most that linger
     fn close_first_lingering(&mut self)
         ensures { (self.new.sources.items, self.new.conns.items) ≡ without_oldest self.old.sources.items self.old.conns.items }
     {

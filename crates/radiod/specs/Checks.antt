@@ -4,6 +4,7 @@ use Rattle.radiod.specs.declared.fault.Fault.{Fault}
 use Rattle.radiod.specs.declared.fault.Fault.TheVariants.{Warnings}
 
 -- warnings are a fault if the check is strict
+-- rule: Settings check
 abbrev pub verdict : Bool → ℕ → Result (Unit {0}) Fault
 verdict is_strict warnings = if is_strict && nat_lt 0 warnings then Err Warnings else Ok tt
 

@@ -7,12 +7,14 @@ use Rattle.radiod.specs.declared.fault.Fault.{Fault}
 use Rattle.radiod.specs.declared.fault.Fault.TheVariants.{Usage, File, Play, CannotBind, Serve, Warnings, OutOfMemory}
 
 -- the reading of the call's words: they are none that the program knows, or memory was refused
+-- rule: Fault of a call
 abbrev pub EndsWords : Fault → Type 0
 EndsWords Usage = Unit {0}
 EndsWords OutOfMemory = Unit {0}
 EndsWords fault = ⊥
 
 -- a script: the settings are not taken, it was not played to its end, or memory was refused
+-- rule: Fault of a call
 abbrev pub EndsPlay : Fault → Type 0
 EndsPlay (File fault) = Unit {0}
 EndsPlay (Play fault) = Unit {0}
@@ -20,6 +22,7 @@ EndsPlay OutOfMemory = Unit {0}
 EndsPlay fault = ⊥
 
 -- the service: the settings are not taken, their address cannot be bound, it was ended, or memory was refused
+-- rule: Fault of a call
 abbrev pub EndsService : Fault → Type 0
 EndsService (File fault) = Unit {0}
 EndsService (CannotBind address reason) = Unit {0}
@@ -28,6 +31,7 @@ EndsService OutOfMemory = Unit {0}
 EndsService fault = ⊥
 
 -- a check: the settings are not taken, there are warnings and it is strict, or memory was refused
+-- rule: Fault of a call
 abbrev pub EndsCheck : Bool → Fault → Type 0
 EndsCheck is_strict (File fault) = Unit {0}
 EndsCheck is_strict Warnings = is_strict ≡ true

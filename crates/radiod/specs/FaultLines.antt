@@ -13,6 +13,7 @@ use Rattle.radiod.specs.declared.fault.NotBound.{NotBound}
 use Rattle.radiod.specs.declared.fault.NotBound.TheVariants.{NoAddress, Refused}
 use Rattle.radiod.specs.declared.fault.Fault.TheVariants.{Usage, File, Play, CannotBind, Serve, Warnings, OutOfMemory}
 
+-- rule: Fault of a call
 abbrev pub fault_line : Fault → List ℕ
 fault_line Usage = codes "usage: radiod play SETTINGS | radiod serve SETTINGS"
 fault_line (File fault) = file_fault_text fault
@@ -23,6 +24,7 @@ fault_line Warnings = codes "warnings"
 fault_line OutOfMemory = codes "out of memory"
 
 -- 2 for the words of the call, 3 for the settings and the files that they name, and else 1
+-- rule: Fault of a call
 abbrev pub exit_status : Fault → ℕ
 exit_status Usage = 2
 exit_status (File fault) = file_status fault

@@ -37,6 +37,7 @@ pub enum NotBound {
 impl Fault {
     /// The status with which the program ends: 2 for its words, 3 for the settings and the files
     /// that they name, and else 1.
+    // rule: Fault of a call
     pub fn status(&self) -> u8
         ensures { result ≡ exit_status self.now }
     {

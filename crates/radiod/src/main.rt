@@ -184,6 +184,7 @@ fn check_logged<W: Clock + Threads + Wait + Copy + Drop + Send + 'static>(
 }
 
 /// What a check comes to by so many warnings: they are a fault if it is strict.
+// rule: Settings check
 fn verdict(is_strict: bool, warnings: usize) -> Result<(), Fault>
     ensures { result ≡ verdict is_strict warnings }
 {

@@ -168,6 +168,7 @@ fn serve_through<W: Clock + Threads + Wait + Sync, H: House + Send + Sync>(
 }
 
 /// What the settings say of the service: as many may linger as may be clients.
+// rule: Polls
 fn service_of(settings: &Settings, answers: AnswerSettings) -> Service
     ensures commands { result.web.browser_commands ≡ answers.browser_commands }
     ensures caches { result.web.cache_control ≡ answers.cache_control }
@@ -189,6 +190,7 @@ fn service_of(settings: &Settings, answers: AnswerSettings) -> Service
 }
 
 /// What the settings say of answers, as connections take it.
+// rule: Commands by a browser; Cache control
 pub fn web_of(answers: AnswerSettings) -> WebAnswers
     ensures commands { result.browser_commands ≡ answers.browser_commands }
     ensures caches { result.cache_control ≡ answers.cache_control }

@@ -69,6 +69,8 @@ fn one_try_in_a_tenth_of_a_second(rt: HostRuntime) {
 }
 
 /// The hundredth failure in a row comes after 9.9 seconds, and is the end.
+// rule: Failed accepts
+// only tested: Failed accepts: that who comes then waits
 #[test]
 fn a_hundred_failures_end_it(rt: HostRuntime) {
     let mut listener = Failing {
@@ -99,6 +101,7 @@ fn ninety_nine_failures_do_not(rt: HostRuntime) {
 
 /// Where no descriptor is left nothing ends, however long it lasts; a connection that closes is
 /// followed by a try at once.
+// rule: Failed accepts
 #[test]
 fn want_of_descriptors_is_no_failure(rt: HostRuntime) {
     let mut listener = Short { asked: 0 };

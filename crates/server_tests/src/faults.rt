@@ -154,6 +154,7 @@ fn are_served_at_each_failure(alloc: Global) -> bool {
 }
 
 /// A fault of a listener's line, or his closing, is his alone; behind a source that fails he ends.
+// rule: Other clients; Cut off; Lingering; Closed by the peer
 #[test]
 fn a_fault_is_his_alone(rt: HostRuntime) {
     assert!(rt; are_served_at_each_failure(rt.alloc()));
@@ -176,6 +177,7 @@ const LEFT: &[Step] = &[
     Step::Clients(&[1]),
 ];
 
+// rule: Closed by the peer
 #[test]
 fn a_peer_who_closes_is_left(rt: HostRuntime) {
     assert!(rt; steps::are_played(rt.alloc(), "", LEFT));
@@ -197,6 +199,7 @@ const FULL: &[Step] = &[
     Step::Clients(&[1]),
 ];
 
+// rule: Cut off
 #[test]
 fn a_full_house(rt: HostRuntime) {
     assert!(rt; steps::are_played(rt.alloc(), "[limits]\nclients = 1\n", FULL));
@@ -218,6 +221,7 @@ const DENIED: &[Step] = &[
     Step::Clients(&[]),
 ];
 
+// rule: Greeting of a source; Lingering
 #[test]
 fn a_denied_one_reads_his_denial(rt: HostRuntime) {
     assert!(rt; steps::are_played(rt.alloc(), "", DENIED));
@@ -261,6 +265,7 @@ fn refused(alloc: Global, refuses_at: u64) -> bool {
     }
 }
 
+// rule: Cut off
 #[test]
 fn a_refused_call_closes_that_one_alone(rt: HostRuntime) {
     for refuses_at in 0..CALLS {

@@ -170,6 +170,8 @@ pub fn is_lock_free<H: House, R: Wait>(
 }
 
 /// A lock that is held is found without waiting for it, so this ends whoever holds it.
+// rule: Writes outside the lock
+// only tested: Writes outside the lock: all of it
 #[test]
 fn the_lock_is_free_while_writing(rt: HostRuntime) {
     assert!(rt; is_well_visited(&rt, "", Visit::Knocking));

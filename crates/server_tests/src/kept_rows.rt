@@ -168,6 +168,7 @@ fn settles_refused<R: AllocGlobal + Threads + Wait + Clock + Sync>(rt: &R, call:
     is_well_visited(rt, "", Visit::Row(kept))
 }
 
+// rule: Lingering; Closed by the peer
 #[test]
 fn who_fails_has_left_the_house(rt: HostRuntime) {
     assert!(rt; have_left_at_each_call(&rt, PLAIN, Failure::Fault, &[2]));
@@ -176,6 +177,7 @@ fn who_fails_has_left_the_house(rt: HostRuntime) {
 }
 
 /// He stays while he stalls, and has left where he has stalled, lags, or closes while he is owed.
+// rule: Lingering
 #[test]
 fn who_is_slow_has_left_the_house(rt: HostRuntime) {
     assert!(rt; are_kept(&rt, LONG_TIMEOUT, KEPT, &[]));
@@ -185,6 +187,7 @@ fn who_is_slow_has_left_the_house(rt: HostRuntime) {
 }
 
 /// The passes settle where the worker was refused memory, at each call.
+// rule: Refused memory; Reserved ends
 #[test]
 fn a_refused_call_settles(rt: HostRuntime) {
     for call in 0..CALLS {

@@ -164,6 +164,9 @@ const ROWS: &[Row] = &[
     },
 ];
 
+// rule: Turn of a pull
+// only tested: Turn of a pull: that it stops within a second
+// only tested: Turn of a pull: that it is twice a second
 #[test]
 fn pulls_over_a_line(rt: HostRuntime) {
     for row in ROWS {
@@ -211,6 +214,7 @@ fn is_heard_at(station: &mut Station<Core>) -> bool {
     station.shows(0, Look::Took(HEARD))
 }
 
+// rule: Turn of a pull
 #[test]
 fn what_is_pulled_is_heard(rt: HostRuntime) {
     assert!(rt; is_heard(rt.alloc()));
@@ -285,6 +289,7 @@ fn is_read(
     }
 }
 
+// rule: List of a slave; Failed list
 #[test]
 fn lists_of_masters(rt: HostRuntime) {
     for (answer, has_closed, wanted) in LISTS {
@@ -356,6 +361,7 @@ fn is_whole(alloc: Global, pull: &mut ListPull<MemoryLine>, buffer: &mut [u8]) -
     }
 }
 
+// rule: List of a slave
 #[test]
 fn a_list_in_pieces(rt: HostRuntime) {
     assert!(rt; is_listed(rt.alloc()));

@@ -23,6 +23,7 @@ const TAKES_A_BYTE_NOW_AND_THEN: &[Step] = &[
     Step::Shows(1, Look::Took(b"HTTP/1.0 2")),
 ];
 
+// rule: Cut off
 #[test]
 fn a_byte_begins_the_patience_anew(rt: HostRuntime) {
     assert!(rt; are_played(rt.alloc(), LONG_TIMEOUT, TAKES_A_BYTE_NOW_AND_THEN));
@@ -52,6 +53,7 @@ const OWED_NOTHING: &[Step] = &[
     Step::Clients(&[1, 2]),
 ];
 
+// rule: Cut off
 #[test]
 fn patience_counts_from_what_is_owed(rt: HostRuntime) {
     assert!(rt; are_played(rt.alloc(), LONG_TIMEOUT, OWED_NOTHING));
@@ -67,6 +69,7 @@ const OWED_FOR_TEN_SECONDS: &[Step] = &[
     Step::Clients(&[1]),
 ];
 
+// rule: Cut off
 #[test]
 fn patience_ends_then(rt: HostRuntime) {
     assert!(rt; are_played(rt.alloc(), LONG_TIMEOUT, OWED_FOR_TEN_SECONDS));
@@ -91,6 +94,7 @@ const LINGERS: &[Step] = &[
     Step::Clients(&[]),
 ];
 
+// rule: Lingering
 #[test]
 fn one_lingers_for_a_second(rt: HostRuntime) {
     assert!(rt; are_played(rt.alloc(), "", LINGERS));
@@ -111,6 +115,7 @@ const CLOSES: &[Step] = &[
     Step::Clients(&[]),
 ];
 
+// rule: Lingering
 #[test]
 fn one_lingers_until_his_peer_closes(rt: HostRuntime) {
     assert!(rt; are_played(rt.alloc(), "", CLOSES));
@@ -128,6 +133,7 @@ const ASKED_FOR: &[Step] = &[
     Step::Clients(&[]),
 ];
 
+// rule: Client without a seat
 #[test]
 fn one_is_asked_for_after_half_a_second(rt: HostRuntime) {
     assert!(rt; are_played(rt.alloc(), "[limits]\nheader-timeout = 3\n", ASKED_FOR));
@@ -142,6 +148,7 @@ const FINISHED: &[Step] = &[
     Step::Clients(&[]),
 ];
 
+// rule: Client without a seat
 #[test]
 fn who_says_nothing_is_asked_for(rt: HostRuntime) {
     assert!(rt; are_played(rt.alloc(), "[limits]\nheader-timeout = 3\n", FINISHED));

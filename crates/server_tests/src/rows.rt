@@ -64,6 +64,7 @@ const IN_PIECES: &[Step] = &[
     Step::Shows(1, Look::Took(HEARD)),
 ];
 
+// rule: Reading
 #[test]
 fn a_head_in_pieces(rt: HostRuntime) {
     assert!(rt; are_played(rt.alloc(), "", IN_PIECES));
@@ -95,6 +96,7 @@ const BETWEEN_BYTES: &[Step] = &[
     Step::Shows(1, Look::Took(WOVEN)),
 ];
 
+// rule: Reading
 #[test]
 fn blocks_between_bytes(rt: HostRuntime) {
     assert!(rt; are_played(rt.alloc(), INTERVAL, BETWEEN_BYTES));
@@ -126,6 +128,7 @@ const KILLED: &[Step] = &[
     Step::Clients(&[1]),
 ];
 
+// rule: Killed
 #[test]
 fn a_listener_finished_by_a_command(rt: HostRuntime) {
     assert!(rt; are_played(rt.alloc(), "", KILLED));

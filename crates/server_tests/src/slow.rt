@@ -20,6 +20,7 @@ const A_BYTE_A_TURN: &[Step] = &[
 ];
 
 /// A line that takes one byte in a write takes all, in as many turns.
+// rule: Pending bytes first
 #[test]
 fn a_byte_a_turn(rt: HostRuntime) {
     assert!(rt; are_played(rt.alloc(), "", A_BYTE_A_TURN));
@@ -45,6 +46,7 @@ pub const KEPT: &[Step] = &[
     Step::Shows(2, Look::Took(HEARD)),
 ];
 
+// rule: Cut off
 #[test]
 fn a_stalled_line_is_kept_for_the_source_timeout(rt: HostRuntime) {
     assert!(rt; are_played(rt.alloc(), "", KEPT));
@@ -61,6 +63,7 @@ pub const CLOSED: &[Step] = &[
     Step::Shows(1, Look::Took(HEARD)),
 ];
 
+// rule: Cut off
 #[test]
 fn a_stalled_line_is_closed_then(rt: HostRuntime) {
     assert!(rt; are_played(rt.alloc(), "", CLOSED));
@@ -111,6 +114,7 @@ const FALLS_BEHIND: &[Step] = &[
     Step::Shows(0, Look::Took(SOURCE_ANSWER)),
 ];
 
+// rule: Pending bytes first
 #[test]
 fn a_stalled_listener_falls_behind(rt: HostRuntime) {
     assert!(rt; are_played(rt.alloc(), SHORT_QUEUE, FALLS_BEHIND));
@@ -127,6 +131,7 @@ const CATCHES_UP: &[Step] = &[
     Step::Shows(1, Look::Took(THREE_BLOCKS)),
 ];
 
+// rule: Drawing
 #[test]
 fn a_stalled_listener_catches_up(rt: HostRuntime) {
     assert!(rt; are_played(rt.alloc(), SHORT_QUEUE, CATCHES_UP));
@@ -147,6 +152,7 @@ const WITHOUT_NEWS: &[Step] = &[
     Step::Shows(1, Look::Took(THREE_BLOCKS)),
 ];
 
+// rule: Drawing
 #[test]
 fn without_news_a_listener_waits(rt: HostRuntime) {
     assert!(rt; are_played(rt.alloc(), "", WITHOUT_NEWS));
@@ -167,6 +173,7 @@ pub const LAGS: &[Step] = &[
     Step::Shows(0, Look::Took(SOURCE_ANSWER)),
 ];
 
+// rule: Pending bytes first
 #[test]
 fn a_stalled_listener_lags(rt: HostRuntime) {
     assert!(rt; are_played(rt.alloc(), SHORT_QUEUE, LAGS));
@@ -194,6 +201,7 @@ pub const CLOSES_WHILE_OWED: &[Step] = &[
     Step::Clients(&[1]),
 ];
 
+// rule: Pending bytes first
 #[test]
 fn one_who_closes_while_he_is_owed(rt: HostRuntime) {
     assert!(rt; are_played(rt.alloc(), "", CLOSES_WHILE_OWED));
@@ -222,6 +230,7 @@ const ENDED_SOURCE: &[Step] = &[
     Step::Clients(&[]),
 ];
 
+// rule: Finishes are silent
 #[test]
 fn a_silent_source_hears_of_its_end(rt: HostRuntime) {
     assert!(rt; are_played(rt.alloc(), "", ENDED_SOURCE));
@@ -248,6 +257,7 @@ const SAID_NOTHING: &[Step] = &[
     Step::Clients(&[]),
 ];
 
+// rule: Client without a seat
 #[test]
 fn one_who_says_nothing_is_closed(rt: HostRuntime) {
     assert!(rt; are_played(rt.alloc(), SHORT_TIMEOUT, SAID_NOTHING));

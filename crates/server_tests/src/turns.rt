@@ -38,6 +38,7 @@ fn begin_as(alloc: Global, due: &[u64], places: usize, want: &[usize]) -> bool {
     }
 }
 
+// rule: Relay places
 #[test]
 fn turns_of_relays(rt: HostRuntime) {
     for (due, places, want) in ROWS {

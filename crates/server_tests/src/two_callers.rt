@@ -118,11 +118,13 @@ fn is_drawn(reply: &Reply) -> bool {
     }
 }
 
+// rule: Legal history; Receipts; Settled history; History adds up; Admin stats
 #[test]
 fn two_callers(rt: HostRuntime) {
     assert!(rt; is_well_visited(&rt, "", Visit::TwoCallers));
 }
 
+// rule: Faults of settling
 #[test]
 fn a_pass_is_left_out(rt: HostRuntime) {
     assert!(rt; is_well_visited(&rt, "", Visit::LeftOut));

@@ -123,6 +123,7 @@ fn are_alike(rt: &impl Wait, alloc: Global) -> bool {
     }
 }
 
+// rule: Legal history; Reserved ends
 #[test]
 fn the_same_calls_unkept(rt: HostRuntime) {
     assert!(rt; are_alike(&rt, rt.alloc()));

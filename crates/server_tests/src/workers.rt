@@ -297,6 +297,7 @@ const TWO: Rush = Rush {
 };
 
 /// While the first write to one listener is held, the other is served.
+// rule: Order of calls; Writes outside the lock
 #[test]
 fn two_served_at_once(rt: HostRuntime) {
     assert!(rt; is_well_visited(&rt, "", Visit::Rush(TWO)));
@@ -326,12 +327,14 @@ const SIX: Rush = Rush {
 };
 
 /// While a write is held, the hall serves all others.
+// rule: Writes outside the lock
 #[test]
 fn a_held_write_holds_nobody(rt: HostRuntime) {
     assert!(rt; is_well_visited(&rt, "", Visit::Rush(SIX)));
 }
 
 /// The same where the writes fail; who was cut off has left.
+// rule: Writes outside the lock
 #[test]
 fn a_held_write_that_fails_holds_nobody(rt: HostRuntime) {
     let rush = Rush {
@@ -342,6 +345,7 @@ fn a_held_write_that_fails_holds_nobody(rt: HostRuntime) {
 }
 
 /// Four workers serve sources, listeners and others, who all leave at the end; their passes settle.
+// rule: Settled history; Order of calls; End of a worker
 #[test]
 fn four_workers(rt: HostRuntime) {
     let rush = Rush {
@@ -356,6 +360,7 @@ fn four_workers(rt: HostRuntime) {
 }
 
 /// An intake that is full is emptied, and each who came was let in, and has left.
+// rule: Newcomers
 #[test]
 fn a_full_intake(rt: HostRuntime) {
     let rush = Rush {

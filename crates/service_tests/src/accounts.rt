@@ -35,6 +35,8 @@ fn lines_with(bytes: &[u8], word: &str) -> usize {
     count
 }
 
+// rule: Line of a client
+// only tested: Line of a client: that a worker notes each thing
 #[test]
 fn a_source_is_told_once(rt: HostRuntime) {
     let alloc = rt.alloc();
@@ -43,6 +45,7 @@ fn a_source_is_told_once(rt: HostRuntime) {
     assert!(rt; has_lines(alloc, &log, &account, "source-gone", 1));
 }
 
+// rule: Line of a client
 #[test]
 fn the_first_end_is_told(rt: HostRuntime) {
     let alloc = rt.alloc();

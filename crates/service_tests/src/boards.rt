@@ -63,6 +63,7 @@ fn has_come<R: Net>(rt: &R) -> Option<Poll> {
     Poll::new(rt).ok()
 }
 
+// rule: Most that linger
 #[test]
 fn ten_of_two_workers_linger(rt: HostRuntime) {
     let poll = has_come(&rt).expect(&rt, "a poll");

@@ -19,6 +19,7 @@ const VALUES: &[(&[u8], bool)] = &[
     (b"a: b", true),
 ];
 
+// rule: Answers are read back
 #[test]
 fn values_of_headers(rt: HostRuntime) {
     for (bytes, is_value) in VALUES {
@@ -68,6 +69,7 @@ fn are_texts(alloc: Global) -> bool {
     true
 }
 
+// rule: Answers are read back
 #[test]
 fn answers(rt: HostRuntime) {
     assert!(rt; are_texts(rt.alloc()));

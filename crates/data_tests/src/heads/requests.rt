@@ -47,6 +47,7 @@ fn fault_of(bytes: &[u8]) -> Option<HeadFault> {
 }
 
 /// The server answers both as bad heads.
+// rule: Longest head
 #[test]
 fn too_many_headers_and_bytes(rt: HostRuntime) {
     let bytes = [b'x'; 8192];

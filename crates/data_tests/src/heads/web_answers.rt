@@ -112,6 +112,7 @@ fn are_texts(alloc: Global) -> bool {
     are_streams(alloc) && are_listings(alloc) && are_pages(alloc)
 }
 
+// rule: Answers are read back
 #[test]
 fn answers_for_web_sites(rt: HostRuntime) {
     assert!(rt; are_texts(rt.alloc()));

@@ -17,6 +17,7 @@ const TITLES: &[(&[u8], Option<&[u8]>)] = &[
     (b"", None),
 ];
 
+// rule: Title of a block
 #[test]
 fn titles_in_texts(rt: HostRuntime) {
     for (text, want) in TITLES {

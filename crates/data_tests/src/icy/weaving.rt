@@ -41,6 +41,7 @@ fn room_after_a_call(alloc: Global) -> Result<usize, OutOfMemory> {
 }
 
 /// The sound, a byte for each of 100 blocks, and as much as the block of a title may take: asked for at once.
+// rule: Metadata block
 #[test]
 fn room_is_asked_for_once(rt: HostRuntime) {
     assert!(rt; room_after_a_call(rt.alloc()) == Ok(1133));

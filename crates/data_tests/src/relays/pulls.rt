@@ -177,6 +177,7 @@ fn is_told_however_cut(
     Ok(true)
 }
 
+// rule: Cuts of a pull
 #[test]
 fn answers_cut_at_each_byte(rt: HostRuntime) {
     for (answer, want, fault) in ANSWERS {
@@ -219,6 +220,7 @@ fn runs_in_blocks(rt: HostRuntime) {
     }
 }
 
+// rule: Bad pull
 #[test]
 fn endless_heads(rt: HostRuntime) {
     let (front, last) = ENDLESS.split_at(8191);

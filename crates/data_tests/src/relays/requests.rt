@@ -52,6 +52,7 @@ fn are_sent(alloc: Global, text: &str, relay: &[u8], slave: &[u8]) -> Result<boo
     sent
 }
 
+// rule: Relay request
 #[test]
 fn requests(rt: HostRuntime) {
     for (text, relay, slave) in REQUESTS {

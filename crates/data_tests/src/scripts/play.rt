@@ -50,6 +50,7 @@ fn ends_as(alloc: Global, sound: (u64, u64), ending: Result<(), PlayFault>, leng
 }
 
 // At each call of the reader in its turn: the lines before were answered, and nothing else was.
+// rule: Line of a script
 #[test]
 fn ends_with_the_readers_failure(rt: HostRuntime) {
     for sound in 0..=SCRIPT.len() {

@@ -391,6 +391,7 @@ fn sets(alloc: Global, text: &str, want: &Station) -> bool {
 /// Texts, and what they set.
 const STATIONS: &[(&str, &Station)] = &[(EVERY_KEY, &EVERY_KEY_SET), (NEEDED_KEYS, &DEFAULTS)];
 
+// rule: Reading settings
 #[test]
 fn every_key_and_its_default(rt: HostRuntime) {
     for (text, want) in STATIONS {

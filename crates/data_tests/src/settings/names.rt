@@ -18,6 +18,7 @@ fn order_of(path: &[u8], other: &[u8]) -> Option<Ordering> {
     Some(MountName::read(path)?.cmp(&MountName::read(other)?))
 }
 
+// rule: Name of a mount
 #[test]
 fn names_are_compared_by_their_bytes(rt: HostRuntime) {
     for (path, other, order) in ORDERS {

@@ -19,6 +19,7 @@ pub const DRAW_ROOM: u32 = 65536;
 /// before. Where there is none, and nothing was asked for him for half a second, he draws too; who has
 /// no seat is asked for with a draw that has no room then: they hear by which rule they were finished,
 /// if they were.
+// rule: Drawing
 pub(crate) fn draw<S: Server, L: Line>(server: &mut S, conn: &mut Conn<L>, now: Now, log: &Log)
     ensures { Draws S.steps now.ms now.news server.old conn.old server.new conn.new }
 {
@@ -78,6 +79,7 @@ fn is_full(pieces: &Pieces) -> bool
     left == 0
 }
 
+// rule: Drawing
 fn draw_for<S: Server, L: Line>(server: &mut S, conn: &mut Conn<L>, room: u32, log: &Log)
     requires { conn.old.status.fate ≡ Open }
     ensures { DrawsFor S.steps room server.old conn.old server.new conn.new }

@@ -21,6 +21,8 @@ impl Session {
     ///
     /// `OutOfMemory`: memory was refused, now or to an earlier call; there are no events then, and
     /// the session has failed.
+    // rule: Bad head; Bad method; Commands by GET; Commands by a browser; Source request; Framing; Two lengths
+    // rule: Bad framing; Listen request
     pub fn take(&mut self, bytes: &[u8]) -> Result<Vec<Event>, OutOfMemory>
         // the events and what is left are what the bytes are heard as
         ensures heard { IfOk result (λ events. IsHeard self.old bytes.now (record { events = events.items; conversation = self.new })) }

@@ -24,6 +24,7 @@ impl Session {
     ///
     /// `OutOfMemory`: memory was refused, now or to an earlier call; nothing was appended then, and
     /// the session has failed.
+    // rule: Bad head; Cache control; Sandboxed streams; Answer to a denial
     pub fn give(&mut self, reply: Reply, out: &mut Vec<u8>) -> Result<State, OutOfMemory>
         ensures bytes { IfOk result (λ _. out.new.items ≡ out.old.items ++ (said self.old.says reply).bytes) }
         ensures state { IfOk result (λ state. state ≡ (said self.old.says reply).state) }

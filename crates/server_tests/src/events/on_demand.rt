@@ -59,11 +59,13 @@ const HAS_LEFT: &[(Call, &str)] = &[
     (Call::Leave(1), "noted"),
 ];
 
+// rule: Waiting mount; Waiting is not live
 #[test]
 fn events_on_demand(rt: HostRuntime) {
     assert!(rt; all_reply(rt.alloc(), &[], &[WAITS, IDLE]));
 }
 
+// rule: Pulls on demand
 #[test]
 fn wanted_mounts(rt: HostRuntime) {
     assert!(rt; wants_then(rt.alloc(), TWO_WAIT, &["/d", "/w"]));

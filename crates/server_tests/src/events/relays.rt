@@ -106,6 +106,8 @@ const CALLS_HOME: &[(Call, &str)] = &[
     (Call::Draw(2, 9), "drawn more"),
 ];
 
+// rule: History adds up; Order for a relay; Source killed; Relay comes up; Relay is no client; Relay feeds
+// rule: Relay goes down; Relay ended before
 #[test]
 fn events_of_relays(rt: HostRuntime) {
     let tables = &[FEEDS, DENIALS, KILLED, SILENT, COUNTED, CALLS_HOME];

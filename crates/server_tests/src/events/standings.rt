@@ -141,6 +141,7 @@ const TABLES: &[&[(Call, &str)]] = &[
     NEXT_NUMBER,
 ];
 
+// rule: Client numbers; Client states; Out of place; Leaving; First rule; End of a session; Commands by GET; Draws
 #[test]
 fn events_at_each_standing(rt: HostRuntime) {
     assert!(rt; all_reply(rt.alloc(), THREE_CLIENTS, TABLES));

@@ -69,6 +69,7 @@ fn runs_to_fault(alloc: Global, script: &[u8], number: usize) -> bool {
     }
 }
 
+// rule: Line of a script
 #[test]
 fn runs_eight_bytes(rt: HostRuntime) {
     assert!(rt; runs_to(rt.alloc(), EIGHT_BYTES, EIGHT_BYTES_TRANSCRIPT));

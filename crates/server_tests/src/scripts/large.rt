@@ -60,6 +60,7 @@ fn is_left_behind(alloc: Global) -> bool {
     }
 }
 
+// rule: Cuts do not matter
 #[test]
 fn sixteen_mebibytes_in_one_delivery(rt: HostRuntime) {
     assert!(rt; is_left_behind(rt.alloc()));
@@ -133,6 +134,7 @@ fn is_told(alloc: Global, body: &(&[u8], &[u8], &[u8])) -> Result<bool, OutOfMem
     Ok(is_line_of_body(alloc, body, bytes.as_slice(), line.as_slice()))
 }
 
+// rule: Cuts do not matter
 #[test]
 fn a_mebibyte_in_one_delivery(rt: HostRuntime) {
     for body in BODIES {
