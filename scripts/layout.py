@@ -13,7 +13,8 @@ EXAMPLE = TOP / "examples/on_the_air"
 TOOLS = ["drain", "exporter", "combined", "follower"]
 SHARED = ["admin.py", "log_lines.py"]
 PAGES = ["README.md", "CHANGELOG.md", "LICENSE-MIT", "LICENSE-APACHE"]
-GUIDES = ["STATION.md", "USERS.md", "FORMATS.md", "RULES.md"]
+GUIDES = ["STATION.md", "USERS.md", "FORMATS.md"]
+RULES = sorted((TOP / "docs/rules").glob("*.md"))
 UNITS = ["radiod.service", "radiod-exporter.service", "radiod-follower.service"]
 # Read and written by root, read by the station's group: it holds passwords.
 SETTINGS_MODE = 0o640
@@ -56,6 +57,8 @@ class Layout:
             yield self.doc / name, (TOP / name).read_bytes, 0o644
         for name in GUIDES:
             yield self.doc / name, (TOP / "docs" / name).read_bytes, 0o644
+        for page in RULES:
+            yield self.doc / "rules" / page.name, page.read_bytes, 0o644
         yield self.doc / "settings.toml", (EXAMPLE / "settings.toml").read_bytes, 0o644
         for name in UNITS:
             yield self.units / name, lambda name=name: self.unit(name), 0o644

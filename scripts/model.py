@@ -1,4 +1,4 @@
-"""A plain model of the server, written from docs/RULES.md and not from the code: what a script's lines come to.
+"""A plain model of the server, written from docs/rules and not from the code: what a script's lines come to.
 
 It knows what `scripts/try_random` makes: whole heads of SOURCE and GET, plain bodies, pulls of relays, also on demand, commands, listings, titles of
 ASCII; no address lists.
