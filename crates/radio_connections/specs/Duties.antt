@@ -212,7 +212,7 @@ abbrev pub IsAtMostDraw : ℕ → ℕ → List Entry → Type 0
 IsAtMostDraw id room entries = (entries ≡ []) ⊎ ((reply : Reply) × (entries ≡ entry (Draw id room) reply ∷ []))
 
 -- What is applied for it in a turn: the events that its bytes mean, behind them at most one draw, and behind that at most his leaving.
--- rule: Reading; Client without a seat
+-- rule: Reading; Drawing
 pub record IsOneTurn (c : Connection) (entries : List Entry) (c' : Connection) : Type 0 where
   pub heard : List Entry
   pub drawn : List Entry
@@ -227,7 +227,7 @@ abbrev pub IsUnasked : ℕ → Connection → Type 0
 IsUnasked ms c = 500 ≤ ms - c.status.asked_ms
 
 -- For one that goes on, to which nothing was owed and for which nothing was asked for so long, something is asked.
--- rule: Finishes are silent; Drawing; Client without a seat
+-- rule: Finishes are silent; Drawing
 abbrev pub IsAskedFor : ℕ → Connection → List Entry → Connection → Type 0
 IsAskedFor ms c entries c' = c.owed ≡ [] → c'.status.fate ≡ Open → IsUnasked ms c → entries ≡ [] → ⊥
 

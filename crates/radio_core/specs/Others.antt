@@ -45,7 +45,7 @@ pub record RepliesFit (w : World) (event : Event) : Type 0 where
   pub finished : (rule : Rule) → reply_to w event ≡ Finished rule → (id : ℕ) × (client_in event ≡ Some id) × (standing_of w id ≡ HasFinished rule)
 
 -- whoever has lost his seat by an event has left by it, or is finished by it
--- rule: Losing a seat
+-- rule: Changes of seats
 abbrev pub LosesNoSeatElse : World → Event → Type 0
 LosesNoSeatElse w event = (id : ℕ) (seat : Seat) → seat_of w.seats id ≡ Some seat → seat_of (world_after w event).seats id ≡ None
     → (event ≡ Leave id) ⊎ ((rule : Rule) × Finishes w event id rule)

@@ -69,7 +69,7 @@ pub data SeatStep (w : World) (Cause : Rule → Type 0) (event : Event) (id : �
   -- he is finished by a rule
   IsEnded : (seat : Seat) (rule : Rule) → Cause rule → SeatStep w Cause event id (Some seat) [] None
 
--- rule: Losing a seat; Seat of a newcomer
+-- rule: Changes of seats; Seat of a newcomer
 abbrev pub SeatsStep : World → Event → Type 0
 SeatsStep w event = (id : ℕ)
     → SeatStep w (Finishes w event id) event id (seat_of w.seats id) (handed_at w event id) (seat_of (world_after w event).seats id)

@@ -61,6 +61,6 @@ abbrev pub SessionsStep : World → Event → Type 0
 SessionsStep w event = (mount : List ℕ) → SessionStep w event mount (session_of w.house.live mount) (session_of (world_after w event).house.live mount)
 
 -- no event changes the settings
--- rule: Settings stay
+-- rule: Change of users
 abbrev pub KeepsSettings : World → Event → Type 0
 KeepsSettings w event = (world_after w event).house.settings ≡ w.house.settings

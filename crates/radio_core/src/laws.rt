@@ -16,7 +16,7 @@ ghost use Rattle.radio_core.specs.SourceReplies.{SourcesAreToldByTheirData, Ends
 ghost use Rattle.radio_core.specs.CoreReplies.{CoresGoByTheirStates};
 
 /// The law of sessions.
-// rule: Mount in use; Source silent; Session; Shown fields; Blocks of a source; Settings stay; Relay feeds
+// rule: Mount in use; Source silent; Session; Shown fields; Blocks of a source; Change of users; Relay feeds
 pub fn sessions_are_their_sources()
     // whatever has happened, the session of a mount stays as it is but where its source delivers a
     // block, sets a title or ends it, or a command sets its title or ends it; it begins for a source
@@ -35,7 +35,7 @@ pub fn lists_are_their_commands()
 {}
 
 /// The law of seats.
-// rule: Losing a seat; Seat of a newcomer; Called home
+// rule: Changes of seats; Seat of a newcomer; Called home
 pub fn seats_are_their_listeners()
     // whatever has happened, a seat stays as it is, is handed what stands at its place where its listener draws, is given to
     // one who asks for a live mount and whom the policy allows it, goes where a move takes it, or is lost by leaving or by a
@@ -61,7 +61,7 @@ pub fn nobody_lags()
 {}
 
 /// What an event does to its own client, and to others.
-// rule: Other clients; Losing a seat
+// rule: Other clients; Changes of seats
 pub fn events_are_of_their_clients()
     // whatever has happened, who is told that he has arrived, feeds or is seated asked for it, and stands so then; and who
     // is told that he was finished was

@@ -14,7 +14,7 @@ bare_within (suc k) n out =
     if nat_le (length out) n then out else take n out ++ bare_within k n (after_block (drop n out))
 
 -- the sound of a woven stream: all of it up to the interval, or else the first interval, and past a block the same again
--- rule: Metadata taken out
+-- rule: Metadata block
 unfoldable pub bare : ℕ → List ℕ → List ℕ
 bare n out = bare_within (length out) n out
 

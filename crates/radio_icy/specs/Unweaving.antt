@@ -70,7 +70,7 @@ abbrev pub brought_by : Unweaving → ℕ → List Atom
 brought_by u b = brought_at u.left u.block b
 
 -- what a piece of the stream brings
--- rule: Metadata taken out
+-- rule: Metadata block
 abbrev pub heard : Unweaving → List ℕ → List Atom
 heard u [] = []
 heard u (b ∷ bytes) = brought_by u b ++ heard (after_fed_byte u b) bytes

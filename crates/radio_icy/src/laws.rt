@@ -46,7 +46,7 @@ pub fn bare_streams()
 
 /// The bare sound of what was woven is the sound that went in, and the texts of its blocks are those of the titles
 /// that were sent.
-// rule: Metadata taken out
+// rule: Metadata block
 pub fn bare_of_woven()
     ensures sound { (n : ℕ) (calls : List Call) (out : List ℕ)
         → 0 < n → IsWoven n calls out → bare n out ≡ sound_of_calls calls }
@@ -55,7 +55,7 @@ pub fn bare_of_woven()
 {}
 
 /// However a stream is cut into pieces, the same is heard, and the reader stands at the same place after it.
-// rule: Metadata taken out
+// rule: Metadata block
 pub fn cut_streams()
     ensures heard { (u : Unweaving) (pieces : List (List ℕ))
         → heard_by_pieces u pieces ≡ heard u (concat pieces) }
@@ -64,7 +64,7 @@ pub fn cut_streams()
 {}
 
 /// What is heard in a stream from its start is its bare sound and the texts of its blocks.
-// rule: Metadata taken out
+// rule: Metadata block
 pub fn unwoven_streams()
     ensures sound { (n : ℕ) (out : List ℕ) → sound_in (heard (new_unweaving n) out) ≡ bare n out }
     ensures texts { (n : ℕ) (out : List ℕ) → texts_in (heard (new_unweaving n) out) ≡ block_texts n out }

@@ -65,7 +65,7 @@ impl Unweaver {
     /// empty block brings nothing, and the sound before and after it is one run.
     ///
     /// An `Err` means that memory ran out: the reader is then as it was, and the piece may be fed again.
-    // rule: Metadata taken out
+    // rule: Metadata block
     pub fn feed(&mut self, bytes: &[u8]) -> Result<Vec<Item>, OutOfMemory>
         ensures heard { IfOk result (λ items. atoms_of items.items ≡ heard self.old bytes.now) }
         ensures runs { IfOk result (λ items. AreRuns items.items) }

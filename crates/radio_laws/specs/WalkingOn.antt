@@ -43,7 +43,7 @@ ListenersWalkOn w event = (move : Move) (before : World) → Brings w event move
     → FaresByHisTurn before move id seat
 
 -- and at a source's or a relay's coming, end or leaving, and at a command that moves listeners or ends a session, that is the whole of what becomes of the seats
--- rule: Nothing else moves
+-- rule: Changes of seats
 pub record MovesAreWhole (w : World) (event : Event) : Type 0 where
   pub at_its_coming : (asked : SourceRequest) (move : Move) (before : World) → event ≡ Source asked → Brings w event move before
       → (world_after w event).seats ≡ (carried_along before move).seats

@@ -157,7 +157,7 @@ pub fn stretches_are_whole()
 {}
 
 /// The law of moves.
-// rule: End of a session; Called home; Turns of a move; Nothing else moves; Relay feeds; End at a waiting mount
+// rule: End of a session; Called home; Turns of a move; Changes of seats; Relay feeds; End at a waiting mount
 pub fn listeners_walk_on()
     // whatever has happened, a move that an event brings takes each listener, in the order of their numbers and by what stands
     // at his turn, to the end of the stream of the mount where his walk lands, or finishes him by the rule that stops it, or

@@ -2,6 +2,6 @@
 use Rattle.std.specs.Prelude.{ℕ}
 
 -- so many names of a list are relayed at most
--- rule: Long list
+-- rule: List of a slave
 abbrev pub most_listed : ℕ
 most_listed = 10000

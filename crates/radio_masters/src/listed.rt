@@ -11,7 +11,7 @@ pub const MOST_LISTED: usize = 10_000;
 
 /// Keeps the first [`MOST_LISTED`] names of a list, in the order of their bytes, and lets the others go. Returns whether there
 /// were others.
-// rule: Long list
+// rule: List of a slave
 pub fn keep_first(names: &mut BTreeSet<MountName>) -> bool
     ensures kept { names.new.keys ≡ take most_listed names.old.keys }
     ensures others { IsTrue result ↔ (most_listed < length names.old.keys) }

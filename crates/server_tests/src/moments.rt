@@ -133,7 +133,7 @@ const ASKED_FOR: &[Step] = &[
     Step::Clients(&[]),
 ];
 
-// rule: Client without a seat
+// rule: Drawing
 #[test]
 fn one_is_asked_for_after_half_a_second(rt: HostRuntime) {
     assert!(rt; are_played(rt.alloc(), "[limits]\nheader-timeout = 3\n", ASKED_FOR));
@@ -148,7 +148,7 @@ const FINISHED: &[Step] = &[
     Step::Clients(&[]),
 ];
 
-// rule: Client without a seat
+// rule: Drawing
 #[test]
 fn who_says_nothing_is_asked_for(rt: HostRuntime) {
     assert!(rt; are_played(rt.alloc(), "[limits]\nheader-timeout = 3\n", FINISHED));

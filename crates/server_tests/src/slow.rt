@@ -257,7 +257,7 @@ const SAID_NOTHING: &[Step] = &[
     Step::Clients(&[]),
 ];
 
-// rule: Client without a seat
+// rule: Drawing
 #[test]
 fn one_who_says_nothing_is_closed(rt: HostRuntime) {
     assert!(rt; are_played(rt.alloc(), SHORT_TIMEOUT, SAID_NOTHING));

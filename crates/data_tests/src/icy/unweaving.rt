@@ -101,7 +101,7 @@ fn is_longest_told(alloc: Global) -> Result<bool, OutOfMemory> {
     is_told_at_each_cut(alloc, stream.as_slice(), want.as_slice())
 }
 
-// rule: Metadata taken out
+// rule: Metadata block
 #[test]
 fn longest_block_cut_at_each_byte(rt: HostRuntime) {
     assert!(rt; is_longest_told(rt.alloc()) == Ok(true));
@@ -128,7 +128,7 @@ fn is_told_again(alloc: Global, interval: usize) -> Result<bool, OutOfMemory>
     )
 }
 
-// rule: Metadata taken out
+// rule: Metadata block
 #[test]
 fn a_mebibyte(rt: HostRuntime) {
     for interval in [1, 16000] {
