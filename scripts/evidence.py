@@ -113,7 +113,8 @@ def evidence_of_page(file, text):
     """What the comments of a page of planted bugs show."""
     for number, line in enumerate(text.splitlines(), 1):
         for match in IN_MARKDOWN.finditer(line):
-            words = IN_MARKDOWN.sub("", line[: match.start()]).strip("| ").split(" | ")[0].split("; ")[-1].strip()
+            before = IN_MARKDOWN.sub("", line[: match.start()]).strip("| ").split(" | ")[0]
+            words = re.sub(r" +", " ", re.split(r"; (?![^(]*\))", before)[-1]).strip()
             for name, untold in named_in(match.groups()):
                 yield Evidence(name, "plant", words, file, number, untold)
 
