@@ -43,6 +43,7 @@ pub record IsSpared (c c' : Connection) : Type 0 where
   pub cut : c'.status.fate ≡ Cut → LacksMemory c c'
 
 -- the first of its events was applied, or the connection was cut off
+-- rule: Connection without memory
 pub record IsAnswered (event : Event) (c : Connection) (entries : List Entry) (c' : Connection) : Type 0 where
   pub same : c'.id ≡ c.id
   -- there is one entry of it at most, and one where it goes on; and to another event than a request to hear a mount, no seat is given

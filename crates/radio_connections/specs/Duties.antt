@@ -109,7 +109,7 @@ pub record NotesTaking (c c' : Connection) : Type 0 where
   pub none : c'.taken ≡ c.taken → c'.status.has_taken ≡ c.status.has_taken
 
 -- memory was refused for what was to be done for it: its session has failed, or one of its events was refused
--- rule: Cut off
+-- rule: Cut off; Connection without memory
 abbrev pub LacksMemory : Connection → Connection → Type 0
 LacksMemory c c' = (c'.session.has_failed ≡ true) ⊎ (c.refused.events < c'.refused.events)
 

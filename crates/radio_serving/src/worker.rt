@@ -119,7 +119,7 @@ impl<S: Server + Drop> Worker<S> {
     /// Serves each connection once, at the turn's moment, and closes those that are over. The server
     /// is told the time if a twentieth of a second has passed since it last was.
     // rule: Finishes are silent; Pending bytes first; Reading; Drawing; Cut off; Lingering
-    // rule: Closed by the peer; Unwanted bytes; Server time
+    // rule: Closed by the peer; Unwanted bytes; Server time; Connection without memory
     pub fn serve_turn<L: Line, G: Gate>(&mut self, conns: &mut Vec<Conn<L>>, gate: &G, turn: Turn)
         ensures { IsTurn S.steps S.refuses turn.ms turn.news self.old conns.old.items self.new conns.new.items }
     {

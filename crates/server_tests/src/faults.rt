@@ -199,7 +199,7 @@ const FULL: &[Step] = &[
     Step::Clients(&[1]),
 ];
 
-// rule: Cut off
+// rule: Connection without memory
 #[test]
 fn a_full_house(rt: HostRuntime) {
     assert!(rt; steps::are_played(rt.alloc(), "[limits]\nclients = 1\n", FULL));
@@ -265,7 +265,7 @@ fn refused(alloc: Global, refuses_at: u64) -> bool {
     }
 }
 
-// rule: Cut off
+// rule: Connection without memory
 #[test]
 fn a_refused_call_closes_that_one_alone(rt: HostRuntime) {
     for refuses_at in 0..CALLS {

@@ -17,6 +17,7 @@ use radio_session::{Session, State};
 
 /// Applies an event of the connection, and tells it the reply. The connection has ended where it is
 /// shut by that, and is cut off where memory is refused. The notice is what is to be told of the event.
+// rule: Connection without memory
 pub(crate) fn answer<S: Server, L: Line>(
     server: &mut S,
     conn: &mut Conn<L>,
