@@ -6,7 +6,7 @@ ghost use Rattle.radio_exchanges.specs.Pulls.{AskingIsOne, GoingDownIsOne, Takin
 use radio_relay::laws::cuts_do_not_matter;
 
 /// What a pull comes to over a core is what it comes to from any state that the core stands for.
-// rule: Cuts of a pull
+// rule: Pulled stream
 pub fn cores_pull_as_their_states()
     ensures takes { CoresTakeAsTheirStates }
     ensures asks { CoresAskAsTheirStates }
@@ -14,7 +14,7 @@ pub fn cores_pull_as_their_states()
 {}
 
 /// What comes to a pull comes to one thing, from each state of the server.
-// rule: Cuts of a pull
+// rule: Pulled stream
 pub fn pulling_is_one()
     ensures takes { TakingIsOne }
     ensures asks { AskingIsOne }

@@ -34,7 +34,7 @@ DenialsAreTold = (state : ScriptState) (label : ℕ) (conversation : Conversatio
     (answered_by conversation.says.web (denial_text status (word_of rule))) (word_of rule)
 
 -- a command was done: the lines show the answer that says so, and that the connection is done
--- rule: Answer to a command
+-- rule: Commands by GET
 abbrev pub CommandsAreTold : Type 0
 CommandsAreTold = (state : ScriptState) (label : ℕ) (conversation : Conversation) (event : Event) (text : CommandText)
     → IsAsking conversation.says → reply_to state.world event ≡ Text text → ShutsWith state label conversation event (text_answer conversation.says.web text) (codes "done")

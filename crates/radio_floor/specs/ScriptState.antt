@@ -123,7 +123,7 @@ relay_named w mount =
     if is_mount_name mount then find (λ relay. bytes_eq relay.local_mount mount) w.house.settings.relays else None
 
 -- the relay connects to its master under a new label: its request goes out; with no such relay the label is at fault
--- rule: End of a pull
+-- rule: Relay goes down
 abbrev pub connects : ScriptState → ℕ → Option RelaySetting → Performed
 connects state label None = at_fault state
 connects state label (Some relay) = record {
@@ -179,7 +179,7 @@ AsksOn state label pulling event done =
     × (pulled_on state label (record pulling { number = after.number }) after.state w ≡ done)
 
 -- what comes to a relay's connection comes to that
--- rule: End of a pull
+-- rule: Relay goes down
 abbrev pub ComesToRelay : ScriptState → ℕ → Pulling → Input → Performed → Type 0
 ComesToRelay state label pulling (Data bytes) done =
     (now : Pulling) × (ends : State) × (w : World) × Takes Step pulling bytes state.world now ends w × (pulled_on state label now ends w ≡ done)

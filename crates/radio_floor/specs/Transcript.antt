@@ -20,7 +20,7 @@ IsTranscriptOf web settings lists deliveries text stop = (last : ScriptState)
     × Runs (conduct web) (opening_script settings lists) 1 deliveries text stop last
 
 -- a script was played so: what was left unread, the result, what was written, and in how many turns
--- rule: A script without memory; Line of a script; Fault of a script
+-- rule: Script without memory; Line of a script; Fault of a script
 abbrev pub PlaysScript : WebAnswers → Settings → Lists → List ℕ → List ℕ → Result (Unit {0}) PlayFault → List ℕ → ℕ → Type 0
 PlaysScript web settings lists script left result written turns = (last : ScriptState)
     × Plays (conduct web) (opening_script settings lists) 1 script left result written turns last

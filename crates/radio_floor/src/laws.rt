@@ -25,7 +25,7 @@ pub fn the_transcript_is_one()
 /// `done` where its peer has closed it, its command was done or its body is whole. A denial of its arrival or of
 /// what it asked, and the connection's own refusal, show the answer that names the rule, if the rule has a status;
 /// a command that was done shows the answer that says so.
-// rule: Finishes are silent; Answer to a denial; Answer to a command; Last word; Greeting of a source
+// rule: Finishes are silent; Answer to a denial; Commands by GET; Last word; Greeting of a source
 pub fn last_words_are_told()
     ensures arrivals { DeniedArrivalsAreTold }
     ensures denied { DenialsAreTold }

@@ -49,7 +49,7 @@ pub fn run(
 /// - `Line`: that line of the script, counted from 1, is no delivery, or its label is at fault.
 /// - `TooMuch`: the script has more than 1,000,000 lines, or one of more than 65,536 bytes.
 /// - `OutOfMemory`: memory was refused.
-// rule: A script without memory; Line of a script; Fault of a script; Labels
+// rule: Script without memory; Line of a script; Fault of a script; Labels
 pub fn play<R: CountedRead, W: CountedWrite>(
     alloc: Global,
     web: WebAnswers,

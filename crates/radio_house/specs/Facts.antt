@@ -68,7 +68,7 @@ fallback_of house mount =
     option_map_or (λ set. set.fallback) (set_for house.fallbacks mount) (options_for house.settings mount).listeners.fallback_mount
 
 -- what a walk sees of the house
--- rule: End of a walk; Seats are accepted
+-- rule: End of a walk; Closed to moves
 abbrev pub sight_of : House → Sight
 sight_of house = record {
   -- at a mount that waits for a session one may sit, as at a live one

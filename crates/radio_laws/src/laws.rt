@@ -130,7 +130,7 @@ pub fn mounts_wait_on_demand()
 {}
 
 /// The law of service.
-// rule: Out of place; What is allowed happens; End of a session; Blocks of a source; Draws; Relay comes up
+// rule: Out of place; Allowed; End of a session; Blocks of a source; Draws; Relay comes up
 pub fn whoever_may_is_served()
     // whatever has happened, what the policy allows happens; a title and the end of a source's data are noted; and a listener
     // who has a seat is handed what stands at his place, as much as is there and as he has room for
@@ -190,7 +190,7 @@ pub fn commands_are_done()
 {}
 
 /// The law of users.
-// rule: Change of users; Seats are accepted
+// rule: Change of users; Closed to moves
 pub fn users_change_one_by_one()
     // whatever has happened, who is let in at a mount stays as it is, but for a user to whom a command gives a password,
     // and for one whom a command takes away; no mount has users that had none, and the addresses that are let in stay

@@ -20,7 +20,7 @@ Follows (Shut ending) rest last = last
 
 module _ {S : Type 0} (steps : Steps S) where
   -- a relay that is up goes down
-  -- rule: End of a pull
+  -- rule: Relay goes down
   abbrev pub GoesDown : Option ℕ → S → S → Type 0
   GoesDown None from to = to ≡ from
   GoesDown (Some id) from to = (reply : Reply) × steps from (RelayDown id) reply to
@@ -31,7 +31,7 @@ module _ {S : Type 0} (steps : Steps S) where
   GoesDownIfShut (Shut ending) number from to = GoesDown number from to
 
   -- an event is applied
-  -- rule: End of a pull
+  -- rule: Relay goes down
   pub record Asks (number : Option ℕ) (event : Event) (from : S) (after : Standing) (to : S) : Type 0 where
     pub reply : Reply
     pub mid : S
@@ -51,7 +51,7 @@ module _ {S : Type 0} (steps : Steps S) where
       (now : Standing) × (mid : S) × Asks number event from now mid × Follows now.state (Rest now mid) ((after ≡ now) × (to ≡ mid))
 
   -- what items ask for is applied, one after another, until the pull is shut
-  -- rule: Cuts of a pull
+  -- rule: Pulled stream
   abbrev pub Brings : List ℕ → Option ℕ → List PullItem → S → Standing → S → Type 0
   Brings mount number [] from after to = (after ≡ going_on number) × (to ≡ from)
   Brings mount number (item ∷ items) from after to =
@@ -66,7 +66,7 @@ module _ {S : Type 0} (steps : Steps S) where
       GoesDown pulling.number from to × (state ≡ Shut BadPull) × (pulling' ≡ record pulling { stage = Over })
 
   -- the next bytes of the master's answer come
-  -- rule: Cuts of a pull
+  -- rule: Pulled stream
   abbrev pub Takes : Pulling → List ℕ → S → Pulling → State → S → Type 0
   Takes pulling bytes from pulling' state to =
       (pulled : Pulled) × IsPulledAt pulling.stage bytes pulled

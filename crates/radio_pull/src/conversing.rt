@@ -78,7 +78,7 @@ fn bring<S: Server>(
 ///
 /// `OutOfMemory`: memory was refused; nothing is said of the server then, and the pull is to be
 /// closed.
-// rule: End of a pull
+// rule: Relay goes down
 pub fn ask<S: Server>(
     server: &mut S,
     relay: &mut RelayPull,
@@ -115,7 +115,7 @@ fn ask_for<S: Server>(
 
 /// The connection to the master is closed: the relay goes down, if it is up. `OutOfMemory` where
 /// whoever applies it is refused memory.
-// rule: End of a pull
+// rule: Relay goes down
 pub fn close<S: Server>(server: &mut S, relay: &RelayPull) -> Result<(), OutOfMemory>
     ensures { OnOk result (GoesDown S.steps relay.now.number server.old server.new) }
 {

@@ -73,6 +73,6 @@ abbrev pub mounts_in_question : Settings → List (List ℕ) → List (List ℕ)
 mounts_in_question settings list live = with_all (with_all list (local_mounts settings.relays)) live
 
 -- the orders, mount for mount
--- rule: Relays that are pulled
+-- rule: Pulled relays
 unfoldable pub orders : Settings → List (List ℕ) → List (List ℕ) → List (List ℕ) → List RelayOrder
 orders settings list live wanted = flat_map (order_at settings list live wanted) (mounts_in_question settings list live)

@@ -89,7 +89,7 @@ pulled_as bytes (Ok (Whole head length)) = answer_pulled head (drop length bytes
 pulled_as bytes (Err fault) = stops BadHead
 
 -- what a master's answer pulls in: all bytes of it that have come
--- rule: Pulled stream; Cuts of a pull
+-- rule: Pulled stream
 abbrev pub IsPulled : List ℕ → Pulled → Type 0
 IsPulled bytes pulled =
     (reading : Result (Progress ResponseParts) HeadFault) × IsReading ShowsResponse bytes reading × (pulled ≡ pulled_as bytes reading)

@@ -10,7 +10,7 @@ use radio_icy::laws::{bare_of_woven, cut_streams, titles_of_texts, unwoven_strea
 
 /// However a master's answer is cut into pieces, the same is pulled in: what its head shows, the same sound and titles in
 /// the same order, and the same fault, in the piece in which it stands.
-// rule: Cuts of a pull
+// rule: Pulled stream
 pub fn cuts_do_not_matter()
     ensures cuts { CutsDoNotMatter }
     ensures one { PullingIsOne }

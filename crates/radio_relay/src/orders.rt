@@ -27,7 +27,7 @@ pub enum RelayOrder {
 ///   is among them, every other one always.
 ///
 /// The only error is `OutOfMemory`.
-// rule: Pulls on demand; Relays that are pulled
+// rule: Pulls on demand; Pulled relays
 pub fn plan(
     alloc: Global,
     settings: &Settings,

@@ -50,7 +50,7 @@ abbrev pub FinishesAreSilent : Type 0
 FinishesAreSilent = (says : Says) (rule : Rule) → EndsWith (said says (Finished rule)) [] (word_of rule)
 
 -- A command that was done is told in an answer of its text, and then the connection is done.
--- rule: Answer to a command
+-- rule: Commands by GET
 abbrev pub CommandsAreAnswered : Type 0
 CommandsAreAnswered = (says : Says) (text : CommandText) → IsAsking says → EndsWith (said says (Text text)) (text_answer says.web text) (codes "done")
 

@@ -94,7 +94,7 @@ pub fn only_refused_calls_fail()
 
 /// The last word of a connection is that of the rule that ended it, or `done` where none did; and
 /// the answer before it, where there is one, has the rule's status and names the rule.
-// rule: Bad head; Bad method; Finishes are silent; Answer to a denial; Answer to a command; Greeting of a source
+// rule: Bad head; Bad method; Finishes are silent; Answer to a denial; Commands by GET; Greeting of a source
 // rule: End of a body
 pub fn last_words_name_the_rule()
     // what was asked is denied: an answer that names the rule

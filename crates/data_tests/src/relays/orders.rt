@@ -124,7 +124,7 @@ fn are_planned(alloc: Global) -> Result<bool, OutOfMemory> {
     planned
 }
 
-// rule: Relays that are pulled
+// rule: Pulled relays
 #[test]
 fn plans(rt: HostRuntime) {
     assert!(rt; are_planned(rt.alloc()) == Ok(true));

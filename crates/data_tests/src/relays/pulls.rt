@@ -177,7 +177,7 @@ fn is_told_however_cut(
     Ok(true)
 }
 
-// rule: Cuts of a pull
+// rule: Pulled stream
 #[test]
 fn answers_cut_at_each_byte(rt: HostRuntime) {
     for (answer, want, fault) in ANSWERS {
