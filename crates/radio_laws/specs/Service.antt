@@ -48,7 +48,7 @@ pub record IsHanded (w : World) (id room : ℕ) : Type 0 where
   pub all_there : length (data_at session.stream seat.place room) ≡ min room (end_of session.stream - seat.place)
   pub goes_on : seat_of (world_after w (Draw id room)).seats id ≡ Some (record seat { place = seat.place + min room (end_of session.stream - seat.place) })
 
--- rule: Allowed
+-- rule: Allowed actions
 pub record Serves (w : World) : Type 0 where
   -- a client arrives, and is there from now on
   pub admits : (peer : Peer) → Allows (rows_to_arrive w.house peer) → (reply_to w (Arrive peer) ≡ Arrived (w.house.last_id + 1))

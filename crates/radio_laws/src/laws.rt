@@ -130,7 +130,7 @@ pub fn mounts_wait_on_demand()
 {}
 
 /// The law of service.
-// rule: Out of place; Allowed; End of a session; Blocks of a source; Draws; Relay comes up
+// rule: Out of place; Allowed actions; End of a session; Blocks of a source; Draws; Relay comes up
 pub fn whoever_may_is_served()
     // whatever has happened, what the policy allows happens; a title and the end of a source's data are noted; and a listener
     // who has a seat is handed what stands at his place, as much as is there and as he has room for

@@ -97,7 +97,7 @@ fn judge_push(facts: &PushFacts) -> Verdict
     }
 }
 
-// rule: Allowed; First rule; Order for a listener
+// rule: Allowed actions; First rule; Order for a listener
 fn judge_listen(facts: &Option<ListenFacts>) -> Verdict
     ensures { result ≡ verdict_in (listen_rows facts.now) }
 {
