@@ -2,12 +2,36 @@
 
 use radio_addr::Peer;
 use radio_listing::{
-    ListenerRow, MountRow, OutOfMemory, PublicRow, Server, Text, base_url, icecast_status,
-    list_clients, list_mounts, stats, status, stream_list,
+    AboutRow, ListenerRow, MountRow, OutOfMemory, PublicRow, Server, Text, base_url,
+    icecast_status, list_clients, list_mounts, stats, status, stream_list,
 };
 use std::alloc::Global;
 
+fn about<'a>(
+    description: &'a [u8],
+    url: &'a [u8],
+    bitrate: &'a [u8],
+    audio_info: &'a [u8],
+) -> AboutRow<'a> {
+    AboutRow {
+        description: Text::of(description),
+        url: Text::of(url),
+        bitrate: Text::of(bitrate),
+        audio_info: Text::of(audio_info),
+    }
+}
+
 fn mount<'a>(name: &'a [u8], title: &'a [u8], hidden: bool) -> MountRow<'a> {
+    mount_with(name, title, hidden, about(b"", b"", b"", b""))
+}
+
+/// A mount whose stream says this of itself.
+fn mount_with<'a>(
+    name: &'a [u8],
+    title: &'a [u8],
+    hidden: bool,
+    about: AboutRow<'a>,
+) -> MountRow<'a> {
     let public = PublicRow {
         mount: Text::of(name),
         name: Text::of(b""),
@@ -15,6 +39,7 @@ fn mount<'a>(name: &'a [u8], title: &'a [u8], hidden: bool) -> MountRow<'a> {
         content_type: Text::of(b"audio/mpeg"),
         title: Text::of(title),
         listeners: 1,
+        about,
     };
     MountRow {
         public,
@@ -95,10 +120,11 @@ fn listeners_are_written(rt: HostRuntime) {
     assert!(rt; is_written(listing, LISTENERS));
 }
 
-fn server<'a>(base_url: &'a [u8]) -> Server<'a> {
+fn server<'a>(base_url: &'a [u8], start: &'a [u8]) -> Server<'a> {
     Server {
         name: Text::of(b"radiod"),
         base_url: Text::of(base_url),
+        start: Text::of(start),
     }
 }
 
@@ -113,16 +139,44 @@ const TWO_SOURCES: &str =
 
 #[test]
 fn icecast_listings_are_written(rt: HostRuntime) {
-    let server = server(b"http://r:8000");
+    let server = server(b"http://r:8000", b"");
     let rows = [mount(b"/a", b"X", false), mount(b"/h", b"", true)];
     assert!(rt; is_written(icecast_status(rt.alloc(), &server, &[]), NO_SOURCE));
     assert!(rt; is_written(icecast_status(rt.alloc(), &server, &rows), ONE_SOURCE));
 }
 
+/// Icecast's status of a server that says when it started, and of a source with a bit rate and more, one with parts of these.
+const WITH_MORE: &[u8] =
+    br#"{"icestats":{"server_id":"radiod","server_start_iso8601":"2026-11-25T08:43:49+0000","source":[{"audio_info":"bitrate=128;channels=2","bitrate":128,"genre":"","listeners":1,"listenurl":"http://r/a","server_description":"Talk","server_name":"","server_type":"audio/mpeg","server_url":"https://r.example/","title":""},{"bitrate":"0128","genre":"","listeners":1,"listenurl":"http://r/b","server_name":"","server_type":"audio/mpeg","title":""},{"bitrate":"Quality 5","genre":"","listeners":1,"listenurl":"http://r/c","server_name":"","server_type":"audio/mpeg","title":""}]}}"#;
+
+#[test]
+fn icecast_tells_what_streams_say_of_themselves(rt: HostRuntime) {
+    let server = server(b"http://r", b"2026-11-25T08:43:49+0000");
+    let whole = about(
+        b"Talk",
+        b"https://r.example/",
+        b"128",
+        b"bitrate=128;channels=2",
+    );
+    let rows = [
+        mount_with(b"/a", b"", false, whole),
+        mount_with(b"/b", b"", false, about(b"", b"", b"0128", b"")),
+        mount_with(b"/c", b"", false, about(b"", b"", b"Quality 5", b"")),
+    ];
+    assert!(rt; is_written(icecast_status(rt.alloc(), &server, &rows), WITH_MORE));
+}
+
+#[test]
+fn other_listings_say_nothing_more(rt: HostRuntime) {
+    let whole = about(b"Talk", b"https://r.example/", b"128", b"");
+    let rows = [mount_with(b"/a", b"X", false, whole)];
+    assert!(rt; is_written(status(rt.alloc(), &rows), SHOWN));
+}
+
 #[test]
 fn icecast_lists_are_written(rt: HostRuntime) {
     let rows = [mount(b"/a", b"\xff\"", false), mount(b"/b c", b"", false)];
-    let listing = icecast_status(rt.alloc(), &server(b"http://r"), &rows);
+    let listing = icecast_status(rt.alloc(), &server(b"http://r", b""), &rows);
     assert!(rt; is_written(listing, TWO_SOURCES.as_bytes()));
 }
 

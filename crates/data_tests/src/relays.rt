@@ -8,7 +8,7 @@ mod requests;
 use radio_relay::{OutOfMemory, PullFault, PullItem};
 use radio_settings::read_settings;
 use radio_settings_values::Settings;
-use radio_values::Shown;
+use radio_values::{About, Shown};
 use std::alloc::{AllocError, Global};
 
 /// Appends these parts.
@@ -31,7 +31,25 @@ fn tell(item: &PullItem, told: &mut Vec<u8>) -> Result<(), OutOfMemory> {
 fn tell_shown(shown: &Shown, told: &mut Vec<u8>) -> Result<(), OutOfMemory> {
     let content_type = shown.content_type.as_bytes();
     let (name, genre) = (shown.name.as_bytes(), shown.genre.as_bytes());
-    tell_parts(&[b"{", content_type, b"|", name, b"|", genre, b"}"], told)
+    tell_parts(&[b"{", content_type, b"|", name, b"|", genre], told)?;
+    tell_about(&shown.about, told)?;
+    told.extend_from_slice(b"}")
+}
+
+/// Appends what else a stream says of itself, if it says anything.
+fn tell_about(about: &About, told: &mut Vec<u8>) -> Result<(), OutOfMemory> {
+    let (description, url) = (about.description.as_bytes(), about.url.as_bytes());
+    let (bitrate, audio_info) = (about.bitrate.as_bytes(), about.audio_info.as_bytes());
+    let says_nothing = [description, url, bitrate, audio_info]
+        .iter()
+        .all(|text| text.is_empty());
+    if says_nothing {
+        return Ok(());
+    }
+    tell_parts(
+        &[b"|", description, b"|", url, b"|", bitrate, audio_info],
+        told,
+    )
 }
 
 fn tell_all(items: &[PullItem], told: &mut Vec<u8>) -> Result<(), OutOfMemory> {

@@ -1,5 +1,5 @@
 -- The bytes of each answer.
-use Rattle.std.specs.Prelude.{ℕ, zero, suc, List, [], ◌++◌, codes, decimal, Option, None, Some}
+use Rattle.std.specs.Prelude.{ℕ, zero, suc, Bool, true, false, List, [], ◌++◌, codes, decimal, Option, None, Some}
 use Rattle.radio_policy.specs.declared.rule.Rule.{Rule}
 use Rattle.radio_policy.specs.declared.rule.Status.{Status}
 use Rattle.radio_policy.specs.Words.{word_of, status_of}
@@ -7,6 +7,8 @@ use Rattle.radio_events.specs.declared.text.Text.{Text as CommandText}
 use Rattle.radio_events.specs.declared.text.Text.TheVariants.{Done as CommandDone, Moved, Ended as ListenersEnded, Json, Streams, Public, Page}
 use Rattle.radio_events.specs.Texts.{done_line, moved_line, ended_line}
 use Rattle.radio_events.specs.declared.reply.StreamHead.{StreamHead}
+use Rattle.radio_values.specs.declared.about.About.{About}
+use Rattle.radio_heads.specs.declared.answer.AboutHeaders.{AboutHeaders}
 use Rattle.radio_heads.specs.Answer.{denial_text, sized_text, content_type}
 use Rattle.radio_heads.specs.declared.answer.TextKind.TheVariants.{Plain, Json as InJson}
 use Rattle.radio_heads.specs.WebAnswer.{shared_text, stream_text}
@@ -29,13 +31,29 @@ interval_told None = None
 interval_told (Some zero) = None
 interval_told (Some (suc n)) = Some (suc n)
 
+-- a text, or none of it
+abbrev pub text_if : Bool → List ℕ → List ℕ
+text_if true text = text
+text_if false text = []
+
+-- what the head of a stream has of what else it says of itself
+-- rule: Icecast heads
+abbrev pub about_told : WebAnswers → About → AboutHeaders
+about_told web about = record {
+  description = text_if web.icecast_heads about.description;
+  url = text_if web.icecast_heads about.url;
+  bitrate = text_if web.icecast_heads about.bitrate;
+}
+
 -- the head of a stream, with metadata blocks at this interval
 -- rule: Allow origin
+-- rule: Icecast heads
 abbrev pub head_text : WebAnswers → Option ℕ → StreamHead → List ℕ
 head_text web interval head = stream_by web head.shown.content_type (stream_text head.allow_origin (record {
   content_type = head.shown.content_type;
   name = head.shown.name;
   genre = head.shown.genre;
+  about = about_told web head.shown.about;
   interval = interval_told interval;
 }))
 

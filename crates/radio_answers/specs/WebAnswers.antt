@@ -1,5 +1,5 @@
 -- What the settings say of answers.
-use Rattle.std.specs.Prelude.{ℕ, nat_eq, Bool, false, not, ◌&&◌, ◌||◌, ◌==◌, List, codes}
+use Rattle.std.specs.Prelude.{ℕ, nat_eq, Bool, false, None, not, ◌&&◌, ◌||◌, ◌==◌, List, codes}
 use Rattle.std.specs.List.{list_any, starts_with}
 use Rattle.std.specs.Str.{bytes_eq}
 use Rattle.radio_heads.specs.Additions.{with_additions}
@@ -7,7 +7,7 @@ use Rattle.radio_answers.specs.declared.web_answers.WebAnswers.{WebAnswers}
 
 -- what holds without a table `[web]`
 abbrev pub no_web : WebAnswers
-no_web = record { browser_commands = false; cache_control = false; sandbox = false }
+no_web = record { browser_commands = false; cache_control = false; sandbox = false; icecast_heads = false; server_start = None }
 
 -- an answer as the settings say: that no cache keeps it, or nothing
 -- rule: Cache control

@@ -4,16 +4,17 @@ ghost use Rattle.std.specs.Prelude.{◌≡◌, ◌≤◌, ◌++◌, IfSome, OnOk
 ghost use Rattle.radio_heads.specs.Additions.{with_additions};
 ghost use Rattle.radio_heads.specs.Answer.{answer_text, continue_text};
 ghost use Rattle.radio_heads.specs.WebAnswer.{web_answer_text};
-ghost use Rattle.radio_answers.specs.Answers.{denial, head_text, interval_told};
+ghost use Rattle.radio_answers.specs.Answers.{about_told, denial, head_text, interval_told, text_if};
 ghost use Rattle.radio_answers.specs.WebAnswers.{answered_by};
 
 use crate::{OutOfMemory, WebAnswers};
 use radio_events::StreamHead;
 use radio_heads::{
-    Additions, Answer, FieldValue, WebAnswer, Welcome, add_headers, write_answer, write_web_answer,
+    AboutHeaders, Additions, Answer, FieldValue, WebAnswer, Welcome, add_headers, write_answer,
+    write_web_answer,
 };
 use radio_policy::Rule;
-use radio_values::AllowedOrigin;
+use radio_values::{About, AllowedOrigin, Field};
 use std::alloc::Global;
 
 /// Appends an answer's text, as the settings say. `OutOfMemory` if memory was refused; nothing was appended then.
@@ -64,6 +65,7 @@ pub fn append_continue(alloc: Global, out: &mut Vec<u8>) -> Result<(), OutOfMemo
 
 /// Appends the head that an admitted listener gets, with metadata blocks at this interval, in bytes of data.
 /// `OutOfMemory` if memory was refused; nothing was appended then.
+// rule: Icecast heads
 #[tactic(auto, using(crate::proofs::FieldLemmas::shown_is_field_text))]
 pub fn append_stream_head(
     alloc: Global,
@@ -80,10 +82,34 @@ pub fn append_stream_head(
         content_type: FieldValue::new(shown.content_type.as_bytes()),
         name: FieldValue::new(shown.name.as_bytes()),
         genre: FieldValue::new(shown.genre.as_bytes()),
+        about: about_told(web, &shown.about),
         interval: metadata_interval(interval),
     });
     let additions = web.stream_additions(shown.content_type.as_bytes());
     append_shared(alloc, additions, &answer, &head.allow_origin, out)
+}
+
+/// Returns what the head of a stream has of what else it says of itself: nothing, unless the settings ask for it.
+fn about_told(web: WebAnswers, about: &About) -> AboutHeaders<'_>
+    ensures { result ≡ about_told web about.now }
+{
+    AboutHeaders {
+        description: value_if(web.icecast_heads, &about.description),
+        url: value_if(web.icecast_heads, &about.url),
+        bitrate: value_if(web.icecast_heads, &about.bitrate),
+    }
+}
+
+/// Returns the field as the value of a header, or an empty one.
+#[tactic(auto, using(crate::proofs::FieldLemmas::shown_is_field_text))]
+fn value_if(shows: bool, field: &Field) -> FieldValue<'_>
+    ensures { result ≡ text_if shows field.now }
+{
+    if shows {
+        FieldValue::new(field.as_bytes())
+    } else {
+        FieldValue::new(b"")
+    }
 }
 
 /// Returns after how many bytes of data a metadata block is sent, if any is (ICY convention). An interval of none has

@@ -4,6 +4,7 @@ ghost use Rattle.std.specs.Prelude.{◌≡◌, ◌&&◌, not, false};
 ghost use Rattle.std.specs.List.{list_any};
 ghost use Rattle.radio_answers.specs.WebAnswers.{has_media_name, is_media, no_web, parts_types};
 
+use radio_events::MomentText;
 use radio_heads::Additions;
 
 /// What the table `[web]` of the settings says of a connection's requests and answers.
@@ -15,6 +16,10 @@ pub struct WebAnswers {
     pub cache_control: bool,
     /// There is such a table, so browsers are expected: a stream that is no media is answered so that none runs it.
     pub sandbox: bool,
+    /// `icecast-heads`: the head of a stream has what else the stream says of itself, as Icecast's heads do.
+    pub icecast_heads: bool,
+    /// When the server started, for the pages that say so; `None` if none does.
+    pub server_start: Option<MomentText>,
 }
 
 impl WebAnswers {
@@ -26,6 +31,8 @@ impl WebAnswers {
             browser_commands: false,
             cache_control: false,
             sandbox: false,
+            icecast_heads: false,
+            server_start: None,
         }
     }
 

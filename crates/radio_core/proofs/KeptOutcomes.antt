@@ -220,7 +220,7 @@ module _ (w : World) (rise : Each HasRisingStarts w.house.live) (kept : SeatsAre
       ∙ ap (if_undecided (standing_of w asked.id)) (fun_ext (λ peer.
       ap (on_verdict (verdict_in (listen_rows (listen_facts w.house w.seats asked))) (Answer asked.id)) (hears_alike asked peer)))
   paths_alike asked (Some path) =
-      ap (λ (text : Text). if_undecided (standing_of w asked.id) (λ _. says (SaysText text) (Answer asked.id))) (page_kept w path asked.host)
+      ap (λ (text : Text). if_undecided (standing_of w asked.id) (λ _. says (SaysText text) (Answer asked.id))) (page_kept w path asked.visit)
 
   pub outcome_kept : (event : Event) → outcome (kept_of w) event ≡ outcome w event
   unfolding outcome

@@ -1,5 +1,5 @@
 -- what is shown of the station, where streams are kept as far as a queue is long
-use Rattle.std.proofs.Common.{◌≡◌, ℕ, List, [], ◌∷◌, refl, ap}
+use Rattle.std.proofs.Common.{◌≡◌, List, [], ◌∷◌, refl, ap}
 use Rattle.std.specs.Prelude.{map, length}
 use Rattle.radio_events.specs.declared.command.Listing.{Listing}
 use Rattle.radio_events.specs.declared.command.Listing.TheVariants.{Status, Stats, Mounts, Clients, Streams}
@@ -18,6 +18,7 @@ use Rattle.radio_settings_values.specs.declared.web.WebPath.{WebPath}
 use Rattle.radio_settings_values.specs.declared.web.WebPath.TheVariants.{IcecastStatus, Page as AtPage}
 use Rattle.radio_listing.specs.Icecast.{icecast_text}
 use Rattle.radio_events.specs.declared.event.Event.{Event}
+use Rattle.radio_events.specs.declared.event.Visit.{Visit}
 use Rattle.radio_events.specs.Texts.{IsShort}
 use Rattle.radio_parts.specs.Sessions.{Session}
 use Rattle.radio_house.specs.World.{World}
@@ -39,10 +40,10 @@ module _ (w : World) where
   shown_kept (Clients mount) = refl
   shown_kept Streams = ap (λ (rows : List MountRow). StreamList (stream_text rows)) rows_kept
 
-  pub page_kept : (path : WebPath) (host : List ℕ) → page_at (kept_of w) path host ≡ page_at w path host
-  page_kept IcecastStatus host =
-      ap (λ (rows : List MountRow). Public (icecast_text (server_as w.house.settings host) rows) w.house.settings.web.allow_origin) rows_kept
-  page_kept AtPage host = refl
+  pub page_kept : (path : WebPath) (visit : Visit) → page_at (kept_of w) path visit ≡ page_at w path visit
+  page_kept IcecastStatus visit =
+      ap (λ (rows : List MountRow). Public (icecast_text (server_as w.house.settings visit) rows) w.house.settings.web.allow_origin) rows_kept
+  page_kept AtPage visit = refl
 
   -- and it is no short text
   pub no_short : (listing : Listing) → IsShort (shown w listing) → ⊥
@@ -52,13 +53,13 @@ module _ (w : World) where
   no_short (Clients mount) short = short
   no_short Streams short = short
 
-  no_short_page : (path : WebPath) (host : List ℕ) → IsShort (page_at w path host) → ⊥
-  no_short_page IcecastStatus host short = short
-  no_short_page AtPage host short = short
+  no_short_page : (path : WebPath) (visit : Visit) → IsShort (page_at w path visit) → ⊥
+  no_short_page IcecastStatus visit short = short
+  no_short_page AtPage visit short = short
 
   pub shown_long : (event : Event) (text : Text) → IsShownBy w event text → IsShort text → ⊥
   shown_long event text (IsListing listing c) short = no_short listing short
-  shown_long event text (IsAtPath asked path is_event is_path) short = no_short_page path asked.host short
+  shown_long event text (IsAtPath asked path is_event is_path) short = no_short_page path asked.visit short
 
   -- so it tells no number of those who were moved, or have finished
   pub shown_untold : (event : Event) (text : Text) → IsShownBy w event text → (counts : Carried) → told_counts text counts ≡ text

@@ -78,6 +78,12 @@ module _ (w : World) (s : IsSound w) (mount : List ℕ) where
       shows_type = refl;
       shows_name = is_shown (options_for w.house.settings there).stream.stream_name shown.name;
       shows_genre = is_shown (options_for w.house.settings there).stream.genre shown.genre;
+      shows_about = record {
+        description = is_shown (options_for w.house.settings there).stream.about.description shown.about.description;
+        url = is_shown (options_for w.house.settings there).stream.about.url shown.about.url;
+        bitrate = is_shown (options_for w.house.settings there).stream.about.bitrate shown.about.bitrate;
+        audio_info = refl;
+      };
     }
 
     begins : SessionStep w event mount mine (session_of (with_session w.house.live fresh) mount)

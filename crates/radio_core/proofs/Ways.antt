@@ -334,7 +334,7 @@ by_path w asked None no_path =
     (standing_of w asked.id) refl
 by_path w asked (Some path) is_path =
     by_undecided w (Listen asked) asked.id refl _
-    (λ peer e. Shows (Listen asked) asked.id peer (page_at w path asked.host) refl e (IsAtPath asked path refl is_path))
+    (λ peer e. Shows (Listen asked) asked.id peer (page_at w path asked.visit) refl e (IsAtPath asked path refl is_path))
     (standing_of w asked.id) refl
 
 pub way_of : (w : World) (event : Event) → Way w event (outcome w event)

@@ -19,7 +19,7 @@ use Rattle.radio_house.specs.World.{World, standing_of}
 
 -- the client is shown it, and has had his answer
 abbrev pub shows_page : World → ListenRequest → WebPath → Outcome
-shows_page w asked path = says (SaysText (page_at w path asked.host)) (Answer asked.id)
+shows_page w asked path = says (SaysText (page_at w path asked.visit)) (Answer asked.id)
 
 -- a client asks by a path, which is one of the web site's, or may be that of a mount
 abbrev pub asks_by : World → ListenRequest → Option WebPath → Outcome
@@ -35,4 +35,4 @@ asks_by_path w asked = asks_by w asked (web_path w.house.settings.web asked.moun
 pub data IsShownBy (w : World) (event : Event) : Text → Type 0 where
   IsListing : (listing : Listing) → IsListed w event listing → IsShownBy w event (shown w listing)
   IsAtPath : (asked : ListenRequest) (path : WebPath) → event ≡ Listen asked → web_path w.house.settings.web asked.mount ≡ Some path
-      → IsShownBy w event (page_at w path asked.host)
+      → IsShownBy w event (page_at w path asked.visit)

@@ -1,6 +1,8 @@
 -- What an event does to the session of one mount.
 use Rattle.std.specs.Prelude.{◌≡◌, ◌⊎◌, ℕ, ◌+◌, ◌*◌, ◌-◌, ◌≤◌, Option, Some, None, List, [], ◌∷◌, ◌++◌, length}
+use Rattle.radio_values.specs.declared.about.About.{About}
 use Rattle.radio_values.specs.declared.field.Shown.{Shown}
+use Rattle.radio_settings_values.specs.declared.settings.AboutOptions.{AboutOptions}
 use Rattle.radio_settings_values.specs.Options.{options_for}
 use Rattle.radio_events.specs.declared.event.Event.{Event}
 use Rattle.radio_events.specs.declared.event.Event.TheVariants.{Source, Push, SourceEnd, Title, Leave, RelayUp, RelayDown, Clock}
@@ -16,8 +18,15 @@ pub data IsShownAs (given : Option (List ℕ)) (own : List ℕ) : List ℕ → T
   OfTheSettings : (text : List ℕ) → given ≡ Some text → IsShownAs given own text
   OfTheSource : given ≡ None → IsShownAs given own own
 
+-- so of each text that a stream says of itself beyond its name and genre; the parameters of the audio are the source's
+pub record IsSaidAs (given : AboutOptions) (own : About) (about : About) : Type 0 where
+  pub description : IsShownAs given.description own.description about.description
+  pub url : IsShownAs given.url own.url about.url
+  pub bitrate : IsShownAs given.bitrate own.bitrate about.bitrate
+  pub audio_info : about.audio_info ≡ own.audio_info
+
 -- a session that has only begun: the source, or relay, of this number has come to feed the mount now, it has delivered nothing, and the session shows
--- its content type, with the name and the genre of the mount's settings, or else its own
+-- its content type, with the name, the genre and what else the mount's settings say of it, or else its own
 pub record HasBegun (w : World) (mount : List ℕ) (number : ℕ) (shown : Shown) (session : Session) : Type 0 where
   pub its_mount : session.mount ≡ mount
   pub its_source : session.number ≡ number
@@ -28,6 +37,7 @@ pub record HasBegun (w : World) (mount : List ℕ) (number : ℕ) (shown : Shown
   pub shows_type : session.shown.content_type ≡ shown.content_type
   pub shows_name : IsShownAs (options_for w.house.settings mount).stream.stream_name shown.name session.shown.name
   pub shows_genre : IsShownAs (options_for w.house.settings mount).stream.genre shown.genre session.shown.genre
+  pub shows_about : IsSaidAs (options_for w.house.settings mount).stream.about shown.about session.shown.about
 
 -- all that an event can do to the session of a mount
 pub data SessionStep (w : World) (event : Event) (mount : List ℕ) : Option Session → Option Session → Type 0 where

@@ -28,7 +28,7 @@ pub use radio_access::Lists;
 pub use radio_changes::Change;
 pub use radio_events::{
     Asked, Boxed, Command, CommandRequest, Event, ListenRequest, Listing, OpenedBy, Reply,
-    SourceRequest, StreamHead, Text,
+    SourceRequest, StreamHead, Text, Visit,
 };
 pub use radio_mount_part::{ListedPart, MountPart, PartAnswer};
 pub use radio_mounts::MountParts;

@@ -4,7 +4,7 @@ ghost use Rattle.std.specs.Prelude.{◌≡◌, IsOk, IfOk};
 ghost use Rattle.radio_events.specs.Events.{TakesNoMemory};
 
 use crate::{
-    Asked, Boxed, Command, CommandRequest, Event, ListenRequest, OutOfMemory, SourceRequest,
+    Asked, Boxed, Command, CommandRequest, Event, ListenRequest, OutOfMemory, SourceRequest, Visit,
 };
 use bytes::Bytes;
 use radio_blocks::Block;
@@ -91,9 +91,19 @@ fn listen_again(asked: &Boxed<ListenRequest>) -> Result<Boxed<ListenRequest>, Ou
         mount: asked.mount.clone()?,
         pair: pair_again(&asked.pair)?,
         wants_metadata: asked.wants_metadata,
-        host: asked.host.clone()?,
+        visit: visit_again(&asked.visit)?,
     };
     Boxed::new(asked.allocator(), again)
+}
+
+/// An equal visit. `OutOfMemory` where memory was refused.
+fn visit_again(visit: &Visit) -> Result<Visit, OutOfMemory>
+    ensures { IfOk result (λ again. again ≡ visit.now) }
+{
+    Ok(Visit {
+        host: visit.host.clone()?,
+        server_start: visit.server_start,
+    })
 }
 
 /// An equal request, in an allocation of its own. `OutOfMemory` where memory was refused.

@@ -44,10 +44,22 @@ pub struct ListenRequest {
     pub pair: Option<Pair>,
     /// Whether he wants metadata between the data (ICY convention, `Icy-MetaData`).
     pub wants_metadata: bool,
-    /// The host by which he calls the server (RFC 9110, section 7.2), where he asks for what is told
-    /// in full addresses; else, and where he calls it by none, empty.
-    pub host: Bytes,
+    /// What a page of the web site may say to this client.
+    pub visit: Visit,
 }
+
+/// What a page of the web site says of the server to one client.
+#[derive(Drop)]
+pub struct Visit {
+    /// The host by which the client calls the server (RFC 9110, section 7.2), if the page has full addresses; empty for
+    /// other pages, and if the client names no host.
+    pub host: Bytes,
+    /// When the server started; `None` if the program does not say.
+    pub server_start: Option<MomentText>,
+}
+
+/// A second of UTC, as `2026-11-25T08:43:49+0000` (ISO 8601, as Icecast writes moments).
+pub type MomentText = [u8; 24];
 
 /// What happens to the server.
 #[derive(Drop)]

@@ -1,7 +1,7 @@
 //! What happens to the server, and what it replies.
 //!
 //! - [`Event`]: what happens; [`SourceRequest`], [`ListenRequest`] and [`CommandRequest`] are what a
-//!   client asks for.
+//!   client asks for. [`Visit`]: what a page of the web site says of the server to one client.
 //! - [`Boxed`]: a value in an allocation of its own, as what a client asks for is: so an event and a reply move for little.
 //! - [`Reply`]: what the server replies; a [`Text`] is its answer to a command, or to one who
 //!   is shown something of the station.
@@ -29,7 +29,7 @@ pub use boxed::Boxed;
 pub use caller::Caller;
 pub use command::{Asked, Command, CommandRequest, Listing, OpenedBy};
 pub use entry::Entry;
-pub use event::{Event, ListenRequest, SourceRequest};
+pub use event::{Event, ListenRequest, MomentText, SourceRequest, Visit};
 pub use reply::{Reply, StreamHead};
 pub use server::Server;
 pub use shared_server::SharedServer;

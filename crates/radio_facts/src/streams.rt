@@ -1,13 +1,14 @@
 //! What the settings make of a stream, and of a listener's.
 
 ghost use Rattle.std.specs.Prelude.{◌≡◌, unwrap_or, IfOk};
-ghost use Rattle.radio_house.specs.Streams.{shown_for};
+ghost use Rattle.radio_house.specs.Streams.{about_for, shown_for};
 ghost use Rattle.radio_facts.specs.Streams.{burst_of, interval_for, head_of};
 
 use crate::OutOfMemory;
 use radio_events::StreamHead;
 use radio_house::House;
-use radio_values::{Field, MountName, Shown};
+use radio_settings_values::AboutOptions;
+use radio_values::{About, Field, MountName, Shown};
 
 /// What a stream on the mount shows, which itself shows this. `OutOfMemory` where memory was
 /// refused.
@@ -20,6 +21,19 @@ pub fn shown_for(house: &House<'_>, mount: &MountName, shown: &Shown) -> Result<
         content_type: shown.content_type.clone()?,
         name: field_or(&stream.stream_name, &shown.name)?,
         genre: field_or(&stream.genre, &shown.genre)?,
+        about: about_for(&stream.about, &shown.about)?,
+    })
+}
+
+/// What else it says of itself. `OutOfMemory` where memory was refused.
+fn about_for(set: &AboutOptions, about: &About) -> Result<About, OutOfMemory>
+    ensures { IfOk result (λ both. both ≡ about_for set.now about.now) }
+{
+    Ok(About {
+        description: field_or(&set.description, &about.description)?,
+        url: field_or(&set.url, &about.url)?,
+        bitrate: field_or(&set.bitrate, &about.bitrate)?,
+        audio_info: about.audio_info.clone()?,
     })
 }
 

@@ -109,7 +109,7 @@ behind_feeds_not id (Leave him) h l = l
 
 get_feeds_not : (web : WebAnswers) (id : ℕ) (request : RequestParts) → IsSourcing (asks_by_get web id request) → ⊥
 get_feeds_not web id request l = by_kind (is_for_commands (path_in request)) l where
-  by_kind : (b : Bool) → IsSourcing (if b then gives_command web id request (path_in request) else asks_to_hear id request (path_in request)) → ⊥
+  by_kind : (b : Bool) → IsSourcing (if b then gives_command web id request (path_in request) else asks_to_hear web id request (path_in request)) → ⊥
   by_kind true h = h
   by_kind false h = h
 

@@ -43,13 +43,13 @@ idle_or_leaving_is_his id e (inr h) = ap client_in h
 
 pub get_is_his : (web : WebAnswers) (id : ℕ) (request : RequestParts) → client_in (asks_by_get web id request) ≡ Some id
 get_is_his web id request = by_kind (is_for_commands (path_in request)) where
-  by_kind : (b : Bool) → client_in (if b then gives_command web id request (path_in request) else asks_to_hear id request (path_in request)) ≡ Some id
+  by_kind : (b : Bool) → client_in (if b then gives_command web id request (path_in request) else asks_to_hear web id request (path_in request)) ≡ Some id
   by_kind true = refl
   by_kind false = refl
 
 pub get_is_of : (web : WebAnswers) (id : ℕ) (request : RequestParts) {asked : ListenRequest} → asks_by_get web id request ≡ Listen asked → asked.id ≡ id
 get_is_of web id request {asked} e = by_kind (is_for_commands (path_in request)) e where
-  by_kind : (b : Bool) → (if b then gives_command web id request (path_in request) else asks_to_hear id request (path_in request)) ≡ Listen asked → asked.id ≡ id
+  by_kind : (b : Bool) → (if b then gives_command web id request (path_in request) else asks_to_hear web id request (path_in request)) ≡ Listen asked → asked.id ≡ id
   by_kind true e = cc
   by_kind false e = let his : Some id ≡ Some asked.id = ap client_in e in cc
 

@@ -88,7 +88,7 @@ module _ (web : WebAnswers) (settled : IsSettled ShowsRequest) (within : HeadsLi
           (HasSentGet by_get) where
             get_is_his : client_in (asks_by_get web id request) ≡ Some id
             get_is_his = by_kind (is_for_commands (path_in request)) where
-              by_kind : (b : Bool) → client_in (if b then gives_command web id request (path_in request) else asks_to_hear id request (path_in request)) ≡ Some id
+              by_kind : (b : Bool) → client_in (if b then gives_command web id request (path_in request) else asks_to_hear web id request (path_in request)) ≡ Some id
               by_kind true = refl
               by_kind false = refl
 

@@ -99,7 +99,7 @@ his_up_not id (Clock ms) e l = elim l [ ]
 
 get_up_not : (web : WebAnswers) (id : ℕ) (request : RequestParts) → IsUp (asks_by_get web id request) → ⊥
 get_up_not web id request l = by_kind (is_for_commands (path_in request)) l where
-  by_kind : (b : Bool) → IsUp (if b then gives_command web id request (path_in request) else asks_to_hear id request (path_in request)) → ⊥
+  by_kind : (b : Bool) → IsUp (if b then gives_command web id request (path_in request) else asks_to_hear web id request (path_in request)) → ⊥
   by_kind true h = h
   by_kind false h = h
 

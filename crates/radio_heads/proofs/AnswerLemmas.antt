@@ -12,11 +12,12 @@ use Rattle.httparse.specs.Grammar.{IsToken, is_token, is_token_byte, is_value_by
 use Rattle.radio_policy.specs.declared.rule.Status.TheVariants.{BadRequest, Unauthorized, Forbidden, NotFound}
 use Rattle.radio_heads.specs.declared.answer.TextKind.{TextKind}
 use Rattle.radio_heads.specs.declared.answer.TextKind.TheVariants.{Plain, Json}
+use Rattle.radio_heads.specs.declared.answer.AboutHeaders.{AboutHeaders}
 use Rattle.radio_heads.specs.declared.answer.Welcome.{Welcome}
-use Rattle.radio_heads.specs.Answer.{line, header_line, shown_line, interval_line, challenge_line, status_line, content_type, listener_text, sized_head}
+use Rattle.radio_heads.specs.Answer.{about_lines, line, header_line, shown_line, interval_line, challenge_line, status_line, content_type, listener_text, sized_head}
 use Rattle.radio_heads.specs.Answer.{denial_body}
 use Rattle.radio_heads.specs.FieldValue.{IsFieldText}
-use Rattle.radio_heads.specs.Laws.{IsCleanWelcome, shown_header, interval_header, challenge_header, listener_headers, listener_parts, sized_parts}
+use Rattle.radio_heads.specs.Laws.{IsCleanAbout, IsCleanWelcome, IsShortAbout, about_headers, shown_header, interval_header, challenge_header, listener_headers, listener_parts, sized_parts}
 use Rattle.radio_heads.specs.Laws.{IsReadBack, ListenerIsReadBack, ShortListenerIsReadBack, DenialIsReadBack, TextIsReadBack}
 use Rattle.radio_heads.specs.Reading.{IsHead}
 use Rattle.radio_heads.specs.Response.{ShowsResponse}
@@ -116,6 +117,26 @@ five_lines f s l a b c d e p q r t u one two three four five =
     joined : flat_map f (a ++ b ++ c ++ d ++ e) ≡ p ++ q ++ r ++ t ++ u
     joined = rw (flat_map-append f (a ++ b ++ c ++ d) e, flat_map-append f (a ++ b ++ c) d, flat_map-append f (a ++ b) c, flat_map-append f a b) (cc)
 
+-- the lines of six headers or groups of headers, between a first and a last line
+pub six_lines : (f : Header → List ℕ) (s l : List ℕ) (a b c d e g : List Header) (p q r t u v : List ℕ)
+    → flat_map f a ≡ p → flat_map f b ≡ q → flat_map f c ≡ r → flat_map f d ≡ t → flat_map f e ≡ u → flat_map f g ≡ v
+    → s ++ p ++ q ++ r ++ t ++ u ++ v ++ l ≡ s ++ flat_map f (a ++ b ++ c ++ d ++ e ++ g) ++ l
+six_lines f s l a b c d e g p q r t u v one two three four five six =
+    regroup s p q r t u v l ∙ ap (λ (lines : List ℕ). s ++ lines ++ l) (sym joined)
+  where
+    regroup : (s p q r t u v l : List ℕ) → s ++ p ++ q ++ r ++ t ++ u ++ v ++ l ≡ s ++ (p ++ q ++ r ++ t ++ u ++ v) ++ l
+    regroup s p q r t u v l = simp append_assoc
+
+    joined : flat_map f (a ++ b ++ c ++ d ++ e ++ g) ≡ p ++ q ++ r ++ t ++ u ++ v
+    joined =
+        rw (
+          flat_map-append f (a ++ b ++ c ++ d ++ e) g,
+          flat_map-append f (a ++ b ++ c ++ d) e,
+          flat_map-append f (a ++ b ++ c) d,
+          flat_map-append f (a ++ b) c,
+          flat_map-append f a b,
+        ) (cc)
+
 -- what is clean group by group is clean
 pub four_clean : (a b c d : List Header) → All IsCleanHeader a → All IsCleanHeader b → All IsCleanHeader c → All IsCleanHeader d
     → All IsCleanHeader (a ++ b ++ c ++ d)
@@ -128,6 +149,16 @@ pub four_sound : (a b c d : List Header) → All IsSoundHeader a → All IsSound
 four_sound a b c d one two three four =
     All-append IsSoundHeader (a ++ b ++ c) d
     (All-append IsSoundHeader (a ++ b) c (All-append IsSoundHeader a b one two) three) four
+
+pub five_sound : (a b c d e : List Header) → All IsSoundHeader a → All IsSoundHeader b → All IsSoundHeader c → All IsSoundHeader d → All IsSoundHeader e
+    → All IsSoundHeader (a ++ b ++ c ++ d ++ e)
+five_sound a b c d e one two three four five =
+    All-append IsSoundHeader (a ++ b ++ c ++ d) e (four_sound a b c d one two three four) five
+
+pub six_sound : (a b c d e g : List Header) → All IsSoundHeader a → All IsSoundHeader b → All IsSoundHeader c → All IsSoundHeader d → All IsSoundHeader e
+    → All IsSoundHeader g → All IsSoundHeader (a ++ b ++ c ++ d ++ e ++ g)
+six_sound a b c d e g one two three four five six =
+    All-append IsSoundHeader (a ++ b ++ c ++ d ++ e) g (five_sound a b c d e one two three four five) six
 
 -- ---- answers with a body
 
@@ -220,27 +251,60 @@ denial_is_read NotFound rule = sized_is_read 404 _ _ (content_type Plain) (denia
 pub text_is_read : TextIsReadBack
 text_is_read kind body = sized_is_read 200 _ _ (content_type kind) body status_200 (type_is_value kind) (type_is_short kind)
 
+-- ---- what a stream says of itself beyond its name and genre
+
+about_lines_are_group : (f : Header → List ℕ) (a b c : List Header) (p q r : List ℕ) → flat_map f a ≡ p → flat_map f b ≡ q → flat_map f c ≡ r
+    → flat_map f (a ++ b ++ c) ≡ p ++ q ++ r
+about_lines_are_group f a b c p q r one two three = rw (flat_map-append f (a ++ b) c, flat_map-append f a b) (cc)
+
+pub about_lines_are : (about : AboutHeaders) → flat_map header_text (about_headers about) ≡ about_lines about
+about_lines_are about =
+    about_lines_are_group header_text (shown_header (codes "icy-description") about.description) (shown_header (codes "icy-url") about.url)
+    (shown_header (codes "icy-br") about.bitrate) _ _ _
+    (shown_lines (codes "icy-description") about.description) (shown_lines (codes "icy-url") about.url) (shown_lines (codes "icy-br") about.bitrate)
+
+pub about_is_sound : (about : AboutHeaders) → IsCleanAbout about → All IsSoundHeader (about_headers about)
+unfolding is_token_byte
+about_is_sound about clean =
+    All-append IsSoundHeader (shown_header (codes "icy-description") about.description ++ shown_header (codes "icy-url") about.url)
+    (shown_header (codes "icy-br") about.bitrate)
+    (All-append IsSoundHeader (shown_header (codes "icy-description") about.description) (shown_header (codes "icy-url") about.url)
+    (shown_is_sound (codes "icy-description") about.description refl clean.description)
+    (shown_is_sound (codes "icy-url") about.url refl clean.url))
+    (shown_is_sound (codes "icy-br") about.bitrate refl clean.bitrate)
+
 -- ---- the answer to a listener
 
 pub listener_text_is : (w : Welcome) → listener_text w ≡ head_text 200 (listener_headers w)
 listener_text_is w =
-    five_lines header_text (status_line (codes "HTTP/1.0") 200) (line [])
+    six_lines header_text (status_line (codes "HTTP/1.0") 200) (line [])
     ((codes "Content-Type", w.content_type) ∷ []) (shown_header (codes "icy-name") w.name) (shown_header (codes "icy-genre") w.genre)
-    (interval_header w.interval) ((codes "Connection", codes "close") ∷ [])
-    _ _ _ _ _
+    (about_headers w.about) (interval_header w.interval) ((codes "Connection", codes "close") ∷ [])
+    _ _ _ _ _ _
     (one_line (codes "Content-Type") w.content_type) (shown_lines (codes "icy-name") w.name) (shown_lines (codes "icy-genre") w.genre)
-    (interval_lines w.interval) (one_line (codes "Connection") (codes "close"))
+    (about_lines_are w.about) (interval_lines w.interval) (one_line (codes "Connection") (codes "close"))
 
 pub shown_is_few : (name value : List ℕ) → length (shown_header name value) ≤ 1
 shown_is_few name [] = omega arith
 shown_is_few name (b ∷ value) = omega arith
 
+pub about_is_few : (about : AboutHeaders) → length (about_headers about) ≤ 3
+about_is_few about =
+    omega (
+      arith,
+      length-append (shown_header (codes "icy-description") about.description ++ shown_header (codes "icy-url") about.url) (shown_header (codes "icy-br") about.bitrate),
+      length-append (shown_header (codes "icy-description") about.description) (shown_header (codes "icy-url") about.url),
+      shown_is_few (codes "icy-description") about.description,
+      shown_is_few (codes "icy-url") about.url,
+      shown_is_few (codes "icy-br") about.bitrate,
+    )
+
 pub interval_is_few : (interval : Option ℕ) → length (interval_header interval) ≤ 1
 interval_is_few None = omega arith
 interval_is_few (Some n) = omega arith
 
-pub length-five : (a b c d e : List Header) → length (a ++ b ++ c ++ d ++ e) ≡ length a + length b + length c + length d + length e
-length-five a b c d e = simp length-append
+pub length-groups-of-six : (a b c d e f : List Header) → length (a ++ b ++ c ++ d ++ e ++ f) ≡ length a + length b + length c + length d + length e + length f
+length-groups-of-six a b c d e f = simp length-append
 
 pub listener_is_sound : (w : Welcome) → IsCleanWelcome w → IfSome w.interval (λ n. n < 2 ^ 32) → All IsSoundHeader (listener_headers w)
 unfolding is_token_byte
@@ -248,24 +312,25 @@ listener_is_sound w clean small =
     let close = (codes "Connection", codes "close") ∷ [] in
     All-append IsSoundHeader
     ((codes "Content-Type", w.content_type) ∷ [] ++ shown_header (codes "icy-name") w.name ++ shown_header
-    (codes "icy-genre") w.genre ++ interval_header w.interval)
+    (codes "icy-genre") w.genre ++ about_headers w.about ++ interval_header w.interval)
     close
-    (four_sound ((codes "Content-Type", w.content_type) ∷ []) (shown_header (codes "icy-name") w.name)
-    (shown_header (codes "icy-genre") w.genre) (interval_header w.interval)
+    (five_sound ((codes "Content-Type", w.content_type) ∷ []) (shown_header (codes "icy-name") w.name)
+    (shown_header (codes "icy-genre") w.genre) (about_headers w.about) (interval_header w.interval)
     (one_is_sound (codes "Content-Type") w.content_type refl clean.content_type)
     (shown_is_sound (codes "icy-name") w.name refl clean.name)
     (shown_is_sound (codes "icy-genre") w.genre refl clean.genre)
+    (about_is_sound w.about clean.about)
     (sound_from (interval_header w.interval) (interval_is_clean w.interval small)))
     (sound_from close close_is_clean)
 
 pub listener_is_read : ListenerIsReadBack
 listener_is_read w more clean small short =
     let same = listener_text_is w in
-    let few = length-five ((codes "Content-Type", w.content_type) ∷ []) (shown_header (codes "icy-name") w.name)
-    (shown_header (codes "icy-genre") w.genre) (interval_header w.interval) ((codes "Connection", codes "close") ∷ []) in
+    let few = length-groups-of-six ((codes "Content-Type", w.content_type) ∷ []) (shown_header (codes "icy-name") w.name)
+    (shown_header (codes "icy-genre") w.genre) (about_headers w.about) (interval_header w.interval) ((codes "Connection", codes "close") ∷ []) in
     subst (λ (xs : List ℕ). IsHead ShowsResponse (xs ++ more) (listener_parts w) (length xs)) (sym same)
     (head_is_written 200 _ _ (listener_headers w) more status_200 (listener_is_sound w clean small)
-    (omega (arith, few, shown_is_few (codes "icy-name") w.name, shown_is_few (codes "icy-genre") w.genre, interval_is_few w.interval))
+    (omega (arith, few, shown_is_few (codes "icy-name") w.name, shown_is_few (codes "icy-genre") w.genre, about_is_few w.about, interval_is_few w.interval))
     (subst (λ (xs : List ℕ). length xs ≤ 8192) same short))
 
 -- ---- values of at most 255 bytes
@@ -273,6 +338,20 @@ listener_is_read w more clean small short =
 pub shown_is_short : (name value : List ℕ) → length (shown_line name value) ≤ length name + length value + 4
 shown_is_short name [] = omega arith
 shown_is_short name (b ∷ value) = omega (arith, length-header_line name (b ∷ value))
+
+pub about_is_short : (about : AboutHeaders) → IsShortAbout about → length (about_lines about) ≤ 900
+about_is_short about short =
+    omega (
+      arith,
+      length-append (shown_line (codes "icy-description") about.description ++ shown_line (codes "icy-url") about.url) (shown_line (codes "icy-br") about.bitrate),
+      length-append (shown_line (codes "icy-description") about.description) (shown_line (codes "icy-url") about.url),
+      shown_is_short (codes "icy-description") about.description,
+      shown_is_short (codes "icy-url") about.url,
+      shown_is_short (codes "icy-br") about.bitrate,
+      short.description,
+      short.url,
+      short.bitrate,
+    )
 
 pub interval_is_short : (interval : Option ℕ) → IfSome interval (λ n. n < 2 ^ 32) → length (interval_line interval) ≤ 40
 interval_is_short None small = omega arith
@@ -284,10 +363,15 @@ pub length-seven : (a b c d e f g : List ℕ)
     → length (a ++ b ++ c ++ d ++ e ++ f ++ g) ≡ length a + length b + length c + length d + length e + length f + length g
 length-seven a b c d e f g = simp length-append
 
+length-eight : (a b c d e f g h : List ℕ)
+    → length (a ++ b ++ c ++ d ++ e ++ f ++ g ++ h)
+    ≡ length a + length b + length c + length d + length e + length f + length g + length h
+length-eight a b c d e f g h = simp length-append
+
 pub short_listener_is_read : ShortListenerIsReadBack
 short_listener_is_read w more clean small short =
-    let whole = length-seven (status_line (codes "HTTP/1.0") 200) (header_line (codes "Content-Type") w.content_type)
-    (shown_line (codes "icy-name") w.name) (shown_line (codes "icy-genre") w.genre) (interval_line w.interval)
+    let whole = length-eight (status_line (codes "HTTP/1.0") 200) (header_line (codes "Content-Type") w.content_type)
+    (shown_line (codes "icy-name") w.name) (shown_line (codes "icy-genre") w.genre) (about_lines w.about) (interval_line w.interval)
     (header_line (codes "Connection") (codes "close")) (line []) in
     let first : length (status_line (codes "HTTP/1.0") 200) ≡ 17 = ap length status_200.line_is in
     let second = length-header_line (codes "Content-Type") w.content_type in
@@ -296,4 +380,4 @@ short_listener_is_read w more clean small short =
     let fifth = interval_is_short w.interval small in
     let sizes : (length w.content_type ≤ 255) × (length w.name ≤ 255) × (length w.genre ≤ 255)
     = (short.content_type, short.name, short.genre) in
-    listener_is_read w more clean small (omega (arith, whole, first, second, third, fourth, fifth, sizes))
+    listener_is_read w more clean small (omega (arith, whole, first, second, third, fourth, about_is_short w.about short.about, fifth, sizes))

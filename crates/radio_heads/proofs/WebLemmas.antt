@@ -8,16 +8,16 @@ use Rattle.std.proofs.lemmas.List.Elements.{All-nil, All-append}
 use Rattle.httparse.specs.Grammar.{is_token_byte, trim_ows}
 use Rattle.radio_heads.specs.declared.answer.TextKind.{TextKind}
 use Rattle.radio_heads.specs.declared.answer.Welcome.{Welcome}
-use Rattle.radio_heads.specs.Answer.{line, header_line, shown_line, interval_line, status_line, content_type, listener_text}
+use Rattle.radio_heads.specs.Answer.{about_lines, line, header_line, shown_line, interval_line, status_line, content_type, listener_text}
 use Rattle.radio_heads.specs.FieldValue.{IsFieldText}
-use Rattle.radio_heads.specs.Laws.{IsCleanWelcome, IsShortWelcome, shown_header, interval_header}
+use Rattle.radio_heads.specs.Laws.{IsCleanWelcome, IsShortWelcome, about_headers, shown_header, interval_header}
 use Rattle.radio_heads.specs.Reading.{IsHead}
 use Rattle.radio_heads.specs.Response.{ShowsResponse}
 use Rattle.radio_heads.specs.WebAnswer.{IsCleanOrigin, html, origin_line, page_head, page_text, shared_head, shared_text, stream_start, stream_text}
 use Rattle.radio_heads.specs.WebLaws.{IsShortOrigin, origin_header, page_headers, parts_with, shared_headers, stream_headers}
 use Rattle.radio_heads.proofs.ReadBackLemmas.{Header, IsHeaderValue, IsSoundHeader, header_text, head_text, head_is_written, sound_from, status_200}
 use Rattle.radio_heads.proofs.ValueLemmas.{decimal_is_value}
-use Rattle.radio_heads.proofs.AnswerLemmas.{close_is_clean, five_lines, four_lines, four_sound, interval_is_clean, interval_is_few, interval_is_short}
+use Rattle.radio_heads.proofs.AnswerLemmas.{about_is_few, about_is_short, about_is_sound, about_lines_are, close_is_clean, five_lines, five_sound, six_sound, four_lines, four_sound, interval_is_clean, interval_is_few, interval_is_short}
 use Rattle.radio_heads.proofs.AnswerLemmas.{interval_lines, length-decimal, length-header_line, length-six, length-seven, one_is_sound, one_line}
 use Rattle.radio_heads.proofs.AnswerLemmas.{shown_is_few, shown_is_short, shown_is_sound, shown_lines, type_is_short, type_is_value, value_from}
 
@@ -47,31 +47,27 @@ abbrev close : List Header
 close = (codes "Connection", codes "close") ∷ []
 
 -- what is sound group by group is sound
-five_sound : (a b c d e : List Header) → All IsSoundHeader a → All IsSoundHeader b → All IsSoundHeader c → All IsSoundHeader d → All IsSoundHeader e
-    → All IsSoundHeader (a ++ b ++ c ++ d ++ e)
-five_sound a b c d e one two three four five =
-    All-append IsSoundHeader (a ++ b ++ c ++ d) e (four_sound a b c d one two three four) five
-
-six_sound : (a b c d e g : List Header) → All IsSoundHeader a → All IsSoundHeader b → All IsSoundHeader c → All IsSoundHeader d → All IsSoundHeader e
-    → All IsSoundHeader g → All IsSoundHeader (a ++ b ++ c ++ d ++ e ++ g)
-six_sound a b c d e g one two three four five six =
-    All-append IsSoundHeader (a ++ b ++ c ++ d ++ e) g (five_sound a b c d e one two three four five) six
+seven_sound : (a b c d e g h : List Header) → All IsSoundHeader a → All IsSoundHeader b → All IsSoundHeader c → All IsSoundHeader d → All IsSoundHeader e
+    → All IsSoundHeader g → All IsSoundHeader h → All IsSoundHeader (a ++ b ++ c ++ d ++ e ++ g ++ h)
+seven_sound a b c d e g h one two three four five six seven =
+    All-append IsSoundHeader (a ++ b ++ c ++ d ++ e ++ g) h (six_sound a b c d e g one two three four five six) seven
 
 -- ---- a stream
 
--- the lines of six headers or groups of headers, between a first and a last line
-six_lines : (f : Header → List ℕ) (s l : List ℕ) (a b c d e g : List Header) (p q r t u v : List ℕ)
-    → flat_map f a ≡ p → flat_map f b ≡ q → flat_map f c ≡ r → flat_map f d ≡ t → flat_map f e ≡ u → flat_map f g ≡ v
-    → s ++ p ++ q ++ r ++ t ++ u ++ v ++ l ≡ s ++ flat_map f (a ++ b ++ c ++ d ++ e ++ g) ++ l
-six_lines f s l a b c d e g p q r t u v one two three four five six =
-    regroup s p q r t u v l ∙ ap (λ (lines : List ℕ). s ++ lines ++ l) (sym joined)
+-- the lines of seven headers or groups of headers, between a first and a last line
+seven_lines : (f : Header → List ℕ) (s l : List ℕ) (a b c d e g h : List Header) (p q r t u v w : List ℕ)
+    → flat_map f a ≡ p → flat_map f b ≡ q → flat_map f c ≡ r → flat_map f d ≡ t → flat_map f e ≡ u → flat_map f g ≡ v → flat_map f h ≡ w
+    → s ++ p ++ q ++ r ++ t ++ u ++ v ++ w ++ l ≡ s ++ flat_map f (a ++ b ++ c ++ d ++ e ++ g ++ h) ++ l
+seven_lines f s l a b c d e g h p q r t u v w one two three four five six seven =
+    regroup s p q r t u v w l ∙ ap (λ (lines : List ℕ). s ++ lines ++ l) (sym joined)
   where
-    regroup : (s p q r t u v l : List ℕ) → s ++ p ++ q ++ r ++ t ++ u ++ v ++ l ≡ s ++ (p ++ q ++ r ++ t ++ u ++ v) ++ l
-    regroup s p q r t u v l = simp append_assoc
+    regroup : (s p q r t u v w l : List ℕ) → s ++ p ++ q ++ r ++ t ++ u ++ v ++ w ++ l ≡ s ++ (p ++ q ++ r ++ t ++ u ++ v ++ w) ++ l
+    regroup s p q r t u v w l = simp append_assoc
 
-    joined : flat_map f (a ++ b ++ c ++ d ++ e ++ g) ≡ p ++ q ++ r ++ t ++ u ++ v
+    joined : flat_map f (a ++ b ++ c ++ d ++ e ++ g ++ h) ≡ p ++ q ++ r ++ t ++ u ++ v ++ w
     joined =
         rw (
+          flat_map-append f (a ++ b ++ c ++ d ++ e ++ g) h,
           flat_map-append f (a ++ b ++ c ++ d ++ e) g,
           flat_map-append f (a ++ b ++ c ++ d) e,
           flat_map-append f (a ++ b ++ c) d,
@@ -81,34 +77,35 @@ six_lines f s l a b c d e g p q r t u v one two three four five six =
 
 pub stream_text_is : (origin : Option (List ℕ)) (w : Welcome) → stream_text origin w ≡ head_text 200 (stream_headers origin w)
 stream_text_is origin w =
-    six_lines header_text (status_line (codes "HTTP/1.0") 200) (line [])
+    seven_lines header_text (status_line (codes "HTTP/1.0") 200) (line [])
     ((codes "Content-Type", w.content_type) ∷ []) (shown_header (codes "icy-name") w.name) (shown_header (codes "icy-genre") w.genre)
-    (interval_header w.interval) (origin_header origin) close
-    _ _ _ _ _ _
+    (about_headers w.about) (interval_header w.interval) (origin_header origin) close
+    _ _ _ _ _ _ _
     (one_line (codes "Content-Type") w.content_type) (shown_lines (codes "icy-name") w.name) (shown_lines (codes "icy-genre") w.genre)
-    (interval_lines w.interval) (origin_lines origin) (one_line (codes "Connection") (codes "close"))
+    (about_lines_are w.about) (interval_lines w.interval) (origin_lines origin) (one_line (codes "Connection") (codes "close"))
 
 pub stream_is_sound : (origin : Option (List ℕ)) (w : Welcome) → IsCleanOrigin origin → IsCleanWelcome w → IfSome w.interval (λ n. n < 2 ^ 32)
     → All IsSoundHeader (stream_headers origin w)
 unfolding is_token_byte
 stream_is_sound origin w clean_origin clean small =
-    six_sound ((codes "Content-Type", w.content_type) ∷ []) (shown_header (codes "icy-name") w.name)
-    (shown_header (codes "icy-genre") w.genre) (interval_header w.interval) (origin_header origin) close
+    seven_sound ((codes "Content-Type", w.content_type) ∷ []) (shown_header (codes "icy-name") w.name)
+    (shown_header (codes "icy-genre") w.genre) (about_headers w.about) (interval_header w.interval) (origin_header origin) close
     (one_is_sound (codes "Content-Type") w.content_type refl clean.content_type)
     (shown_is_sound (codes "icy-name") w.name refl clean.name)
     (shown_is_sound (codes "icy-genre") w.genre refl clean.genre)
+    (about_is_sound w.about clean.about)
     (sound_from (interval_header w.interval) (interval_is_clean w.interval small))
     (origin_is_sound origin clean_origin)
     (sound_from close close_is_clean)
 
-length-groups : (a b c d e g : List Header)
-    → length (a ++ b ++ c ++ d ++ e ++ g) ≡ length a + length b + length c + length d + length e + length g
-length-groups a b c d e g = simp length-append
+length-groups : (a b c d e g h : List Header)
+    → length (a ++ b ++ c ++ d ++ e ++ g ++ h) ≡ length a + length b + length c + length d + length e + length g + length h
+length-groups a b c d e g h = simp length-append
 
-length-eight : (a b c d e f g h : List ℕ)
-    → length (a ++ b ++ c ++ d ++ e ++ f ++ g ++ h)
-    ≡ length a + length b + length c + length d + length e + length f + length g + length h
-length-eight a b c d e f g h = simp length-append
+length-nine : (a b c d e f g h i : List ℕ)
+    → length (a ++ b ++ c ++ d ++ e ++ f ++ g ++ h ++ i)
+    ≡ length a + length b + length c + length d + length e + length f + length g + length h + length i
+length-nine a b c d e f g h i = simp length-append
 
 first_is_short : length (status_line (codes "HTTP/1.0") 200) ≡ 17
 first_is_short = ap length status_200.line_is
@@ -116,9 +113,9 @@ first_is_short = ap length status_200.line_is
 pub stream_is_short : (origin : Option (List ℕ)) (w : Welcome) → IsShortOrigin origin → IsShortWelcome w → IfSome w.interval (λ n. n < 2 ^ 32)
     → length (stream_text origin w) ≤ 8000
 stream_is_short origin w short_origin short small =
-    let whole = length-eight (status_line (codes "HTTP/1.0") 200) (header_line (codes "Content-Type") w.content_type)
-    (shown_line (codes "icy-name") w.name) (shown_line (codes "icy-genre") w.genre) (interval_line w.interval) (origin_line origin)
-    (header_line (codes "Connection") (codes "close")) (line []) in
+    let whole = length-nine (status_line (codes "HTTP/1.0") 200) (header_line (codes "Content-Type") w.content_type)
+    (shown_line (codes "icy-name") w.name) (shown_line (codes "icy-genre") w.genre) (about_lines w.about) (interval_line w.interval)
+    (origin_line origin) (header_line (codes "Connection") (codes "close")) (line []) in
     let second = length-header_line (codes "Content-Type") w.content_type in
     let third = shown_is_short (codes "icy-name") w.name in
     let fourth = shown_is_short (codes "icy-genre") w.genre in
@@ -126,17 +123,18 @@ stream_is_short origin w short_origin short small =
     let sixth = origin_is_short origin short_origin in
     let sizes : (length w.content_type ≤ 255) × (length w.name ≤ 255) × (length w.genre ≤ 255)
     = (short.content_type, short.name, short.genre) in
-    omega (arith, whole, first_is_short, second, third, fourth, fifth, sixth, sizes)
+    omega (arith, whole, first_is_short, second, third, fourth, about_is_short w.about short.about, fifth, sixth, sizes)
 
 pub stream_is_few : (origin : Option (List ℕ)) (w : Welcome) → length (stream_headers origin w) ≤ 60
 stream_is_few origin w =
     let few = length-groups ((codes "Content-Type", w.content_type) ∷ []) (shown_header (codes "icy-name") w.name)
-    (shown_header (codes "icy-genre") w.genre) (interval_header w.interval) (origin_header origin) close in
+    (shown_header (codes "icy-genre") w.genre) (about_headers w.about) (interval_header w.interval) (origin_header origin) close in
     omega (
       arith,
       few,
       shown_is_few (codes "icy-name") w.name,
       shown_is_few (codes "icy-genre") w.genre,
+      about_is_few w.about,
       interval_is_few w.interval,
       origin_is_few origin,
     )

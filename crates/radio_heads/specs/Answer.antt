@@ -4,6 +4,7 @@ use Rattle.http.specs.StatusCode.{status_text}
 use Rattle.httparse.specs.Ascii.{crlf_bytes}
 use Rattle.radio_heads.specs.declared.answer.Answer.{Answer as AnyAnswer}
 use Rattle.radio_heads.specs.declared.answer.Answer.TheVariants.{Listener, Source, Continue, Denial, Text}
+use Rattle.radio_heads.specs.declared.answer.AboutHeaders.{AboutHeaders}
 use Rattle.radio_heads.specs.declared.answer.Welcome.{Welcome}
 use Rattle.radio_policy.specs.declared.rule.Status.{Status}
 use Rattle.radio_policy.specs.declared.rule.Status.TheVariants.{BadRequest, Unauthorized, Forbidden, NotFound}
@@ -22,6 +23,14 @@ header_line name value = line (name ++ codes ": " ++ value)
 abbrev pub shown_line : List ℕ → List ℕ → List ℕ
 shown_line name [] = []
 shown_line name (b ∷ value) = header_line name (b ∷ value)
+
+-- what a stream says of itself beyond its name and genre
+-- rule: Icecast heads
+abbrev pub about_lines : AboutHeaders → List ℕ
+about_lines about =
+    shown_line (codes "icy-description") about.description
+    ++ shown_line (codes "icy-url") about.url
+    ++ shown_line (codes "icy-br") about.bitrate
 
 -- the metadata interval, where one is given
 abbrev pub interval_line : Option ℕ → List ℕ
@@ -49,18 +58,16 @@ content_type Plain = codes "text/plain; charset=utf-8"
 content_type Json = codes "application/json"
 
 -- a listener is admitted to a stream of this type, name and genre, with metadata at each interval where one is given
-abbrev pub listener_head : List ℕ → List ℕ → List ℕ → Option ℕ → List ℕ
-listener_head type name genre interval =
+abbrev pub listener_text : Welcome → List ℕ
+listener_text w =
     status_line (codes "HTTP/1.0") 200
-    ++ header_line (codes "Content-Type") type
-    ++ shown_line (codes "icy-name") name
-    ++ shown_line (codes "icy-genre") genre
-    ++ interval_line interval
+    ++ header_line (codes "Content-Type") w.content_type
+    ++ shown_line (codes "icy-name") w.name
+    ++ shown_line (codes "icy-genre") w.genre
+    ++ about_lines w.about
+    ++ interval_line w.interval
     ++ header_line (codes "Connection") (codes "close")
     ++ line []
-
-abbrev pub listener_text : Welcome → List ℕ
-listener_text w = listener_head w.content_type w.name w.genre w.interval
 
 -- a source is admitted
 abbrev pub source_text : List ℕ

@@ -10,6 +10,7 @@ use Rattle.radio_heads.specs.declared.answer.Answer.{Answer}
 use Rattle.radio_heads.specs.declared.answer.Answer.TheVariants.{Listener, Source, Continue, Denial, Text}
 use Rattle.radio_heads.specs.declared.answer.TextKind.{TextKind}
 use Rattle.radio_heads.specs.declared.answer.TextKind.TheVariants.{Plain}
+use Rattle.radio_heads.specs.declared.answer.AboutHeaders.{AboutHeaders}
 use Rattle.radio_heads.specs.declared.answer.Welcome.{Welcome}
 use Rattle.radio_heads.specs.declared.response.Version.TheVariants.{Http10}
 use Rattle.radio_heads.specs.Answer.{listener_text, sized_head, sized_text, denial_body, status_number, content_type}
@@ -61,6 +62,13 @@ abbrev pub shown_header : List ℕ → List ℕ → List (List ℕ × List ℕ)
 shown_header name [] = []
 shown_header name (b ∷ value) = (name, b ∷ value) ∷ []
 
+-- what a stream says of itself beyond its name and genre
+abbrev pub about_headers : AboutHeaders → List (List ℕ × List ℕ)
+about_headers about =
+    shown_header (codes "icy-description") about.description
+    ++ shown_header (codes "icy-url") about.url
+    ++ shown_header (codes "icy-br") about.bitrate
+
 -- the metadata interval, where one is given
 abbrev pub interval_header : Option ℕ → List (List ℕ × List ℕ)
 interval_header None = []
@@ -77,6 +85,7 @@ listener_headers w =
     (codes "Content-Type", w.content_type) ∷ []
     ++ shown_header (codes "icy-name") w.name
     ++ shown_header (codes "icy-genre") w.genre
+    ++ about_headers w.about
     ++ interval_header w.interval
     ++ (codes "Connection", codes "close") ∷ []
 
@@ -84,11 +93,18 @@ listener_headers w =
 abbrev pub listener_parts : Welcome → ResponseParts
 listener_parts w = record { version = Http10; status = 200; headers = map read_back (listener_headers w) }
 
+-- no value of it has a byte that would end its line
+pub record IsCleanAbout (about : AboutHeaders) : Type 0 where
+  pub description : IsFieldText about.description
+  pub url : IsFieldText about.url
+  pub bitrate : IsFieldText about.bitrate
+
 -- no value of it has a byte that would end its line: so it is of every one that a program has, by the types of its values
 pub record IsCleanWelcome (w : Welcome) : Type 0 where
   pub content_type : IsFieldText w.content_type
   pub name : IsFieldText w.name
   pub genre : IsFieldText w.genre
+  pub about : IsCleanAbout w.about
 
 -- the values from outside in an answer's headers are such: only a listener's has any
 -- rule: Answers are read back
@@ -100,10 +116,17 @@ HasFieldTexts (Denial status rule) = Unit {0}
 HasFieldTexts (Text kind body) = Unit {0}
 
 -- each value of it has at most 255 bytes
+pub record IsShortAbout (about : AboutHeaders) : Type 0 where
+  pub description : length about.description ≤ 255
+  pub url : length about.url ≤ 255
+  pub bitrate : length about.bitrate ≤ 255
+
+-- each value of it has at most 255 bytes
 pub record IsShortWelcome (w : Welcome) : Type 0 where
   pub content_type : length w.content_type ≤ 255
   pub name : length w.name ≤ 255
   pub genre : length w.genre ≤ 255
+  pub about : IsShortAbout w.about
 
 -- what the head of an answer with a body shows
 abbrev pub sized_parts : ℕ → List ℕ → ℕ → ResponseParts

@@ -3,7 +3,7 @@ use Rattle.std.specs.Prelude.{ℕ, List, [], ◌++◌, length, codes, decimal, O
 use Rattle.radio_heads.specs.declared.answer.Welcome.{Welcome}
 use Rattle.radio_heads.specs.declared.web_answer.WebAnswer.{WebAnswer as AnyWebAnswer}
 use Rattle.radio_heads.specs.declared.web_answer.WebAnswer.TheVariants.{Stream, Text, Page}
-use Rattle.radio_heads.specs.Answer.{content_type, line, header_line, shown_line, interval_line, status_line}
+use Rattle.radio_heads.specs.Answer.{about_lines, content_type, line, header_line, shown_line, interval_line, status_line}
 use Rattle.radio_heads.specs.FieldValue.{IsFieldText}
 use Rattle.radio_heads.specs.Laws.{IsCleanWelcome}
 
@@ -19,6 +19,7 @@ stream_start w =
     ++ header_line (codes "Content-Type") w.content_type
     ++ shown_line (codes "icy-name") w.name
     ++ shown_line (codes "icy-genre") w.genre
+    ++ about_lines w.about
     ++ interval_line w.interval
 
 -- rule: Allow origin

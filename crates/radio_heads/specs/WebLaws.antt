@@ -5,7 +5,7 @@ use Rattle.radio_heads.specs.declared.answer.Welcome.{Welcome}
 use Rattle.radio_heads.specs.declared.response.Version.TheVariants.{Http10}
 use Rattle.radio_heads.specs.Answer.{content_type, listener_text, sized_text}
 use Rattle.radio_heads.specs.FieldValue.{IsFieldText}
-use Rattle.radio_heads.specs.Laws.{IsCleanWelcome, IsShortWelcome, interval_header, read_back, shown_header}
+use Rattle.radio_heads.specs.Laws.{IsCleanWelcome, IsShortWelcome, about_headers, interval_header, read_back, shown_header}
 use Rattle.radio_heads.specs.Reading.{IsHead}
 use Rattle.radio_heads.specs.Response.{ResponseParts, ShowsResponse}
 use Rattle.radio_heads.specs.WebAnswer.{IsCleanOrigin, html, page_head, page_text, shared_head, shared_text, stream_text}
@@ -27,6 +27,7 @@ stream_headers origin w =
     (codes "Content-Type", w.content_type) ∷ []
     ++ shown_header (codes "icy-name") w.name
     ++ shown_header (codes "icy-genre") w.genre
+    ++ about_headers w.about
     ++ interval_header w.interval
     ++ origin_header origin
     ++ (codes "Connection", codes "close") ∷ []

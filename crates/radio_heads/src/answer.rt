@@ -30,8 +30,21 @@ pub struct Welcome<'a> {
     pub name: FieldValue<'a>,
     /// The stream's genre, which is left out where it is empty.
     pub genre: FieldValue<'a>,
+    /// What else the stream says of itself.
+    pub about: AboutHeaders<'a>,
     /// The data bytes between two metadata blocks, where the listener asked for metadata.
     pub interval: Option<u32>,
+}
+
+/// What a stream says of itself beyond its name and genre, as Icecast's heads show it. A value is left out if it is empty.
+#[derive(Drop)]
+pub struct AboutHeaders<'a> {
+    /// `icy-description`: the description.
+    pub description: FieldValue<'a>,
+    /// `icy-url`: the URL of the station's web site.
+    pub url: FieldValue<'a>,
+    /// `icy-br`: the bit rate in kbit/s.
+    pub bitrate: FieldValue<'a>,
 }
 
 /// The kind of a command's answer.

@@ -36,7 +36,7 @@ mod web_answer;
 mod writing;
 
 pub use additions::{Additions, add_headers};
-pub use answer::{Answer, TextKind, Welcome};
+pub use answer::{AboutHeaders, Answer, TextKind, Welcome};
 pub use field_value::FieldValue;
 pub use head::Head;
 pub use headers::{DEFAULT_CONTENT_TYPE, MAX_HEADERS};

@@ -1,11 +1,11 @@
 //! The texts of the answers.
 ghost use Rattle.std.specs.Prelude.{◌≡◌, [], ◌++◌, codes, decimal, length, IfOk, OnOk};
-ghost use Rattle.radio_heads.specs.Answer.{answer_text, line, header_line, shown_line, interval_line, challenge_line, status_line};
+ghost use Rattle.radio_heads.specs.Answer.{about_lines, answer_text, line, header_line, shown_line, interval_line, challenge_line, status_line};
 ghost use Rattle.radio_heads.specs.Answer.{listener_text, sized_head, sized_text, denial_text, content_type, status_number};
-ghost use Rattle.radio_heads.specs.Laws.{HasFieldTexts, IsCleanWelcome};
+ghost use Rattle.radio_heads.specs.Laws.{HasFieldTexts, IsCleanAbout, IsCleanWelcome};
 
 use crate::OutOfMemory;
-use crate::answer::{Answer, TextKind, Welcome};
+use crate::answer::{AboutHeaders, Answer, TextKind, Welcome};
 use crate::field_value::FieldValue;
 use crate::web_answer::write_stream;
 use http::StatusCode;
@@ -38,6 +38,15 @@ pub(crate) fn end_no_line(welcome: &Welcome)
     let _type = welcome.content_type.as_bytes();
     let _name = welcome.name.as_bytes();
     let _genre = welcome.genre.as_bytes();
+    about_ends_no_line(&welcome.about);
+}
+
+fn about_ends_no_line(about: &AboutHeaders)
+    ensures { IsCleanAbout about.now }
+{
+    let _description = about.description.as_bytes();
+    let _url = about.url.as_bytes();
+    let _bitrate = about.bitrate.as_bytes();
 }
 
 /// The headers that tell of the stream.
@@ -45,11 +54,22 @@ pub(crate) fn push_stream(text: &mut Vec<u8>, welcome: &Welcome) -> Result<(), O
     ensures { OnOk result (text.new.items ≡ text.old.items
         ++ header_line (codes "Content-Type") welcome.now.content_type
         ++ shown_line (codes "icy-name") welcome.now.name
-        ++ shown_line (codes "icy-genre") welcome.now.genre) }
+        ++ shown_line (codes "icy-genre") welcome.now.genre
+        ++ about_lines welcome.now.about) }
 {
     push_value(text, "Content-Type", &welcome.content_type)?;
     push_shown(text, "icy-name", &welcome.name)?;
-    push_shown(text, "icy-genre", &welcome.genre)
+    push_shown(text, "icy-genre", &welcome.genre)?;
+    push_about(text, &welcome.about)
+}
+
+/// The headers of what else it says of itself.
+fn push_about(text: &mut Vec<u8>, about: &AboutHeaders) -> Result<(), OutOfMemory>
+    ensures { OnOk result (text.new.items ≡ text.old.items ++ about_lines about.now) }
+{
+    push_shown(text, "icy-description", &about.description)?;
+    push_shown(text, "icy-url", &about.url)?;
+    push_shown(text, "icy-br", &about.bitrate)
 }
 
 /// The last header, and the empty line.

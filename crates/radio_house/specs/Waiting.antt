@@ -23,7 +23,7 @@ is_on_demand settings mount = feeds_on_demand settings.relays mount
 abbrev pub shown_by_nobody : Shown
 shown_by_nobody = shown_of (codes "audio/mpeg") [] []
 
--- what is heard at a mount that waits: nothing, as of a session of number 0, which nobody has; it has the name and the genre that the settings give it
+-- what is heard at a mount that waits: nothing, as of a session of number 0, which nobody has; it shows what the settings give it
 -- rule: Waiting mount
 abbrev pub silence_at : House → List ℕ → Session
 silence_at house mount = opened mount 0 (shown_for house mount shown_by_nobody) 0

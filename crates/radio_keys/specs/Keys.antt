@@ -6,6 +6,7 @@ use Rattle.radio_keys.specs.declared.key.Key.TheVariants.{Address, Port, Workers
 use Rattle.radio_keys.specs.declared.key.Key.TheVariants.{HeaderTimeout, Web, AllowOrigin, IcecastStatus, Page, CacheControl, BrowserCommands, LogPolls, Mount, MountName, Username, Password, MaxListeners, MaxListenerDuration}
 use Rattle.radio_keys.specs.declared.key.Key.TheVariants.{FallbackMount, FallbackOverride, FallbackWhenFull, Hidden, Mp3MetadataInterval, StreamName, Genre}
 use Rattle.radio_keys.specs.declared.key.Key.TheVariants.{Htpasswd, AllowDuplicateUsers, Relay, Server, LocalMount, OnDemand, Slave, MasterServer}
+use Rattle.radio_keys.specs.declared.key.Key.TheVariants.{StreamDescription, StreamUrl, Bitrate, PublicUrl, IcecastHeads}
 use Rattle.radio_keys.specs.declared.key.Key.TheVariants.{MasterPort, MasterUsername, MasterPassword, MasterUpdateInterval}
 
 -- the word for a key of the tables of mounts and relays and of the slave, or for one of their names
@@ -23,6 +24,9 @@ stream_word Hidden = codes "hidden"
 stream_word Mp3MetadataInterval = codes "mp3-metadata-interval"
 stream_word StreamName = codes "stream-name"
 stream_word Genre = codes "genre"
+stream_word StreamDescription = codes "stream-description"
+stream_word StreamUrl = codes "stream-url"
+stream_word Bitrate = codes "bitrate"
 stream_word Htpasswd = codes "htpasswd"
 stream_word AllowDuplicateUsers = codes "allow_duplicate_users"
 stream_word Relay = codes "relay"
@@ -62,7 +66,9 @@ word Web = codes "web"
 word AllowOrigin = codes "allow-origin"
 word IcecastStatus = codes "icecast-status"
 word Page = codes "page"
+word PublicUrl = codes "public-url"
 word CacheControl = codes "cache-control"
 word BrowserCommands = codes "browser-commands"
 word LogPolls = codes "log-polls"
+word IcecastHeads = codes "icecast-heads"
 word key = stream_word key

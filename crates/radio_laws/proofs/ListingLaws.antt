@@ -181,7 +181,7 @@ module _ (w : World) (event : Event) (asker : ℕ) (peer : Peer) (its : client_i
   by_what text (IsAtPath asked path is on) =
       let both : Some asked.id ≡ Some asker = sym (ap client_in is) ∙ its in
       let same : asked.id ≡ asker = cc in
-      inr (shown_there w asked path on peer (ap (standing_of w) same ∙ undecided) event (page_at w path asked.host) is refl)
+      inr (shown_there w asked path on peer (ap (standing_of w) same ∙ undecided) event (page_at w path asked.visit) is refl)
 
 pub only_who_may_is_shown : (w : World) (event : Event) → OnlyWhoMayIsShown w event
 only_who_may_is_shown w event text d long = by_cause (told_for w event text d) where

@@ -41,6 +41,7 @@ module _ (w : World) where
     content_type = refl;
     title = refl;
     listeners = refl;
+    about = refl;
     hidden = refl;
     session = refl;
     fallback = λ next. (falls_to fed.mount next, falls_back w fed.mount next);

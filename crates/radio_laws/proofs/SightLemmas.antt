@@ -27,7 +27,7 @@ use Rattle.radio_status.specs.Pages.{page_at, server_as}
 use Rattle.radio_events.specs.declared.reply.Reply.TheVariants.{Text as SaysText}
 use Rattle.radio_events.specs.declared.text.Text.{Text}
 use Rattle.radio_events.specs.declared.text.Text.TheVariants.{Streams as StreamList}
-use Rattle.radio_status.specs.Listings.{shown, mount_row, mount_rows, public_row}
+use Rattle.radio_status.specs.Listings.{about_row, shown, mount_row, mount_rows, public_row}
 use Rattle.radio_parts.specs.Sessions.{Session}
 use Rattle.radio_core.specs.Step.{reply_to}
 use Rattle.radio_house.specs.World.{World}
@@ -60,18 +60,18 @@ module _ (w : World) (asked : CommandRequest) (listing : Listing) (text : Text) 
 
 -- and one for a path of the web site by what is there
 module _ (w : World) (asked : ListenRequest) (path : WebPath) (text : Text) (on : web_path w.house.settings.web asked.mount ≡ Some path) where
-  page_so : (event : Event) (told : Text) → IsShownBy w event told → event ≡ Listen asked → page_at w path asked.host ≡ told
+  page_so : (event : Event) (told : Text) → IsShownBy w event told → event ≡ Listen asked → page_at w path asked.visit ≡ told
   page_so event told (IsListing other c) e = let other = sym c.is_event ∙ e in cc
   page_so event told (IsAtPath request there is_event is_on) e =
       let one : Listen request ≡ Listen asked = sym is_event ∙ e in
       let same : request ≡ asked = cc in
       let both : Some there ≡ Some path = sym is_on ∙ ap (λ (r : ListenRequest). web_path w.house.settings.web r.mount) same ∙ on in
       let it : there ≡ path = cc in
-      ap (λ (p : WebPath). page_at w p asked.host) (sym it) ∙ ap (λ (r : ListenRequest). page_at w there r.host) (sym same)
+      ap (λ (p : WebPath). page_at w p asked.visit) (sym it) ∙ ap (λ (r : ListenRequest). page_at w there r.visit) (sym same)
 
-  is_visited : reply_to w (Listen asked) ≡ SaysText text → page_at w path asked.host ≡ text
+  is_visited : reply_to w (Listen asked) ≡ SaysText text → page_at w path asked.visit ≡ text
   is_visited d = by_cause (told_for w (Listen asked) text d) where
-    by_cause : IsToldFor w (Listen asked) text → page_at w path asked.host ≡ text
+    by_cause : IsToldFor w (Listen asked) text → page_at w path asked.visit ≡ text
     by_cause (ByShowing asker peer its undecided what) = page_so (Listen asked) text what refl
     by_cause (ByDoing command c said) = let other = sym c.is_event in cc
 
@@ -88,6 +88,7 @@ row_seen seen = record {
   content_type = seen.shown.content_type;
   title = unwrap_or seen.title [];
   listeners = seen.listeners;
+  about = about_row seen.shown.about;
 }
 
 module _ (w : World) where
@@ -138,7 +139,7 @@ module _ (w : World) where
   module _ (urls : (server : Server) (rows : List MountRow) → urls_told (icecast_data server rows) ≡ shown_urls server.base_url rows) where
     pub hidden_are_not_told_on_the_web : HiddenAreNotToldOnTheWeb w
     hidden_are_not_told_on_the_web asked text is d =
-        let server = server_as w.house.settings asked.host in (
+        let server = server_as w.house.settings asked.visit in (
           server,
           mount_rows w,
           sym (is_visited w asked IcecastStatus text (is_on w asked.mount IcecastStatus is) d),
@@ -152,11 +153,11 @@ module _ (alike : (rows others : List MountRow) → rows_shown rows ≡ rows_sho
   look_alike same = alike (mount_rows w) (mount_rows v) (shown_rows w w.house.live ∙ ap (map row_seen) same ∙ sym (shown_rows v v.house.live))
 
   visited_alike : seen_by_all w ≡ seen_by_all v → AreVisitedAlike w v
-  visited_alike same asked other text said is its host address port d e =
+  visited_alike same asked other text said is its visit url address port d e =
       let there = is_on w asked.mount IcecastStatus is in
-      let server : server_as w.house.settings asked.host ≡ server_as v.house.settings other.host = rw (host, address, port) refl in
+      let server : server_as w.house.settings asked.visit ≡ server_as v.house.settings other.visit = rw (visit, url, address, port) refl in
       ap body_of (sym (is_visited w asked IcecastStatus text there d))
-      ∙ (look_alike same).icecast (server_as w.house.settings asked.host)
+      ∙ (look_alike same).icecast (server_as w.house.settings asked.visit)
       ∙ ap (λ (s : Server). icecast_text s (mount_rows v)) server
       ∙ ap body_of (is_visited v other IcecastStatus said (is_on v other.mount IcecastStatus its) e)
 

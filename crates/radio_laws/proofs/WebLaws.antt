@@ -16,6 +16,7 @@ use Rattle.radio_events.specs.declared.event.Event.{Event}
 use Rattle.radio_events.specs.declared.event.Event.TheVariants.{Listen}
 use Rattle.radio_events.specs.declared.event.ListenRequest.{ListenRequest}
 use Rattle.radio_events.specs.declared.event.SourceRequest.{SourceRequest}
+use Rattle.radio_events.specs.declared.event.Visit.{Visit}
 use Rattle.radio_events.specs.declared.reply.Reply.TheVariants.{Text as SaysText, Deny}
 use Rattle.radio_events.specs.declared.text.Text.{Text}
 use Rattle.radio_changes.specs.declared.change.Change.TheVariants.{Answer}
@@ -79,16 +80,17 @@ is_path w asked path e =
     by_side (inr h) = subst (IsPath w asked) (sym h.0) (PageIsOn ((bytes_eq-Decides asked (codes "/")).0 h.1.named) h.1.put_on)
 
 -- what is shown tells what is there
-pub tells_at : (w : World) (path : WebPath) (host : List ℕ) → TellsAt w path host (page_at w path host)
-tells_at w IcecastStatus host = record {
+pub tells_at : (w : World) (path : WebPath) (visit : Visit) → TellsAt w path visit (page_at w path visit)
+tells_at w IcecastStatus visit = record {
   rows = mount_rows w;
   of_the_live = rows_tell w;
-  server = server_as w.house.settings host;
+  server = server_as w.house.settings visit;
   name = refl;
   base = refl;
+  start = refl;
   says = refl;
 }
-tells_at w AtPage host = refl
+tells_at w AtPage visit = refl
 
 shows_so : (w : World) (asked : ListenRequest) (path : WebPath) (now : Standing) (peer : Peer) → now ≡ Undecided peer
     → if_undecided now (λ _. shows_page w asked path) ≡ shows_page w asked path
@@ -100,7 +102,7 @@ module _ (w : World) (asked : ListenRequest) (path : WebPath) (on : web_path w.h
   unfolding outcome
   visited = ap (asks_by w asked) on ∙ shows_so w asked path (standing_of w asked.id) peer undecided
 
-  pub told_there : reply_to w (Listen asked) ≡ SaysText (page_at w path asked.host)
+  pub told_there : reply_to w (Listen asked) ≡ SaysText (page_at w path asked.visit)
   unfolding reply_to
   told_there = ap (λ (o : Outcome). o.reply) visited
 
@@ -108,13 +110,13 @@ module _ (w : World) (asked : ListenRequest) (path : WebPath) (on : web_path w.h
   unfolding world_after
   later_there = ap (λ (o : Outcome). changed w o.change) visited
 
-  pub shown_there : (event : Event) (text : Text) → event ≡ Listen asked → page_at w path asked.host ≡ text → IsShownAtPath w event text
+  pub shown_there : (event : Event) (text : Text) → event ≡ Listen asked → page_at w path asked.visit ≡ text → IsShownAtPath w event text
   shown_there event text is told = record {
     asked = asked;
     is_event = is;
     path = path;
     is_path = is_path w asked.mount path on;
-    tells = subst (TellsAt w path asked.host) told (tells_at w path asked.host);
+    tells = subst (TellsAt w path asked.visit) told (tells_at w path asked.visit);
     answered =
         subst (λ (later : World). standing_of later asked.id ≡ Answered) (sym (ap (world_after w) is ∙ later_there))
         (turns_answered w asked.id (asks w asked.id peer undecided)).his;
@@ -124,9 +126,9 @@ module _ (w : World) (asked : ListenRequest) (path : WebPath) (on : web_path w.h
 
 pub who_visits_is_shown : (w : World) → WhoVisitsIsShown w
 who_visits_is_shown w asked peer path undecided is = (
-  page_at w path asked.host,
+  page_at w path asked.visit,
   told_there w asked path (is_on w asked.mount path is) peer undecided,
-  tells_at w path asked.host,
+  tells_at w path asked.visit,
 )
 
 -- no source feeds such a mount

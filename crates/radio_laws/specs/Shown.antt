@@ -28,13 +28,14 @@ use Rattle.radio_events.specs.declared.event.Event.{Event}
 use Rattle.radio_events.specs.declared.event.Event.TheVariants.{Source, Listen, Command}
 use Rattle.radio_events.specs.declared.event.SourceRequest.{SourceRequest}
 use Rattle.radio_events.specs.declared.event.ListenRequest.{ListenRequest}
+use Rattle.radio_events.specs.declared.event.Visit.{Visit}
 use Rattle.radio_events.specs.declared.reply.Reply.TheVariants.{Text as SaysText, Deny}
 use Rattle.radio_policy.specs.declared.rule.Rule.TheVariants.{BadMount}
 use Rattle.radio_events.specs.declared.text.Text.{Text}
 use Rattle.radio_events.specs.declared.text.Text.TheVariants.{Done, Moved, Ended, Json, Streams as StreamList, Public, Page}
 use Rattle.radio_events.specs.Texts.{IsShort}
 use Rattle.radio_house.specs.declared.standing.Standing.TheVariants.{Undecided, Answered}
-use Rattle.radio_status.specs.Listings.{mount_rows, listener_rows}
+use Rattle.radio_status.specs.Listings.{about_row, mount_rows, listener_rows}
 use Rattle.radio_parts.specs.Sessions.{Session}
 use Rattle.radio_core.specs.Step.{reply_to, world_after}
 use Rattle.radio_house.specs.World.{World, standing_of}
@@ -66,6 +67,7 @@ pub record TellsOf (w : World) (fed : Session) (row : MountRow) : Type 0 where
   pub content_type : row.public.content_type ≡ fed.shown.content_type
   pub title : row.public.title ≡ unwrap_or fed.title []
   pub listeners : row.public.listeners ≡ count_at w.seats fed.mount
+  pub about : row.public.about ≡ about_row fed.shown.about
   pub hidden : row.hidden ≡ (options_for w.house.settings fed.mount).stream.hidden
   pub session : row.session ≡ fed.number
   pub fallback : (next : List ℕ) → FallsBack w fed.mount next ↔ (row.fallback ≡ Some next)
@@ -126,19 +128,22 @@ pub data IsPath (w : World) (path : List ℕ) : WebPath → Type 0 where
   StatusIsOn : path ≡ codes "/status-json.xsl" → w.house.settings.web.icecast_status ≡ true → IsPath w path IcecastStatus
   PageIsOn : path ≡ codes "/" → w.house.settings.web.page ≡ true → IsPath w path AtPage
 
--- the text tells what is there in Icecast's words, to one who calls the server by this host
-pub record TellsAsIcecast (w : World) (host : List ℕ) (text : Text) : Type 0 where
+-- the text tells what is there in Icecast's words on this visit: with the public URL of the settings, or else by the host by which the client calls the
+-- server, and with the moment at which the server started, if the program says it
+pub record TellsAsIcecast (w : World) (visit : Visit) (text : Text) : Type 0 where
   pub rows : List MountRow
   pub of_the_live : TellOf w w.house.live rows
   pub server : Server
   pub name : server.name ≡ codes "radiod"
-  pub base : server.base_url ≡ base_url host w.house.settings.listen.address w.house.settings.listen.port
+  pub base : server.base_url
+      ≡ unwrap_or w.house.settings.web.public_url (base_url visit.host w.house.settings.listen.address w.house.settings.listen.port)
+  pub start : server.start ≡ unwrap_or visit.server_start []
   pub says : text ≡ Public (icecast_text server rows) w.house.settings.web.allow_origin
 
 -- rule: Web page
-abbrev pub TellsAt : World → WebPath → List ℕ → Text → Type 0
-TellsAt w IcecastStatus host text = TellsAsIcecast w host text
-TellsAt w AtPage host text = text ≡ Page w.house.settings.web.allow_origin
+abbrev pub TellsAt : World → WebPath → Visit → Text → Type 0
+TellsAt w IcecastStatus visit text = TellsAsIcecast w visit text
+TellsAt w AtPage visit text = text ≡ Page w.house.settings.web.allow_origin
 
 -- what is at a path of the web site is shown to one who asks for it, who has had his answer then, and nothing changes but that
 pub record IsShownAtPath (w : World) (event : Event) (text : Text) : Type 0 where
@@ -146,7 +151,7 @@ pub record IsShownAtPath (w : World) (event : Event) (text : Text) : Type 0 wher
   pub is_event : event ≡ Listen asked
   pub path : WebPath
   pub is_path : IsPath w asked.mount path
-  pub tells : TellsAt w path asked.host text
+  pub tells : TellsAt w path asked.visit text
   pub answered : standing_of (world_after w event) asked.id ≡ Answered
   pub sessions : (world_after w event).house.live ≡ w.house.live
   pub seats : (world_after w event).seats ≡ w.seats
@@ -165,7 +170,7 @@ WhoMayIsShown w = (asked : CommandRequest) (peer : Peer) (listing : Listing) →
 -- rule: Web page
 abbrev pub WhoVisitsIsShown : World → Type 0
 WhoVisitsIsShown w = (asked : ListenRequest) (peer : Peer) (path : WebPath) → standing_of w asked.id ≡ Undecided peer → IsPath w asked.mount path
-    → (text : Text) × (reply_to w (Listen asked) ≡ SaysText text) × TellsAt w path asked.host text
+    → (text : Text) × (reply_to w (Listen asked) ≡ SaysText text) × TellsAt w path asked.visit text
 
 -- and nobody feeds a mount of that name
 -- rule: Paths of the web site
@@ -209,10 +214,10 @@ abbrev pub AreAnsweredAlike : World → World → Listing → Type 0
 AreAnsweredAlike w v listing = (asked other : CommandRequest) (text said : Text) → asked.asked ≡ AsksFor listing → other.asked ≡ AsksFor listing
     → reply_to w (Command asked) ≡ SaysText text → reply_to v (Command other) ≡ SaysText said → body_of text ≡ body_of said
 
--- in two states those who ask for Icecast's status and call the server by one host are answered by the same bytes, where the servers have one address
+-- in two states those who ask for Icecast's status on equal visits are answered by the same bytes, if the servers have one address and one public URL
 abbrev pub AreVisitedAlike : World → World → Type 0
-AreVisitedAlike w v = (asked other : ListenRequest) (text said : Text) → IsPath w asked.mount IcecastStatus → IsPath v other.mount IcecastStatus → asked.host ≡ other.host
-    → w.house.settings.listen.address ≡ v.house.settings.listen.address → w.house.settings.listen.port ≡ v.house.settings.listen.port
+AreVisitedAlike w v = (asked other : ListenRequest) (text said : Text) → IsPath w asked.mount IcecastStatus → IsPath v other.mount IcecastStatus → asked.visit ≡ other.visit
+    → w.house.settings.web.public_url ≡ v.house.settings.web.public_url → w.house.settings.listen.address ≡ v.house.settings.listen.address → w.house.settings.listen.port ≡ v.house.settings.listen.port
     → reply_to w (Listen asked) ≡ SaysText text → reply_to v (Listen other) ≡ SaysText said → body_of text ≡ body_of said
 
 -- two states that agree on what everybody may see of the live mounts show everybody and every relay the same bytes, whatever else they hold; and those with

@@ -5,19 +5,26 @@ ghost use Rattle.std.specs.String.{string_bytes};
 ghost use Rattle.serde_json.specs.Data.{object, no_members, put as with_member};
 ghost use Rattle.serde_json.specs.Read.{read};
 ghost use Rattle.serde_json.specs.View.{view};
-ghost use Rattle.radio_listing.specs.Icecast.{icecast_data, icecast_text, one_or_list, source_data};
+ghost use Rattle.radio_listing.specs.Icecast.{bitrate_data, icecast_data, icecast_text, number_written, one_or_list, source_data, with_about, with_bitrate};
 ghost use Rattle.radio_listing.specs.Json.{text};
 ghost use Rattle.radio_listing.specs.Objects.{members_in};
 ghost use Rattle.radio_listing.specs.Public.{rows_shown};
 
 use crate::object::{Object, one_member};
-use crate::{MountRow, OutOfMemory, PublicRow, Server, Text};
+use crate::{AboutRow, MountRow, OutOfMemory, PublicRow, Server, Text};
+use radio_texts::read_number;
 use serde_json::Value;
 use std::alloc::Global;
+
+/// The greatest bit rate that is told as a number.
+const MAX_BITRATE: u64 = 4_294_967_295;
 
 /// What Icecast 2.4 answers: `{"icestats":{"server_id":..,"source":..}}`, each live mount that is not hidden as
 /// `{"genre":..,"listeners":N,"listenurl":..,"server_name":..,"server_type":..,"title":..}`. The source is one such object
 /// for one mount, a list for several, and an empty list for none. It is compact JSON (RFC 8259), with no line end.
+///
+/// A text that is not empty has a member more: `server_start_iso8601` of the server, and `audio_info`, `bitrate`,
+/// `server_description` and `server_url` of a mount. The bit rate is a number if it is written as one.
 ///
 /// Where nothing is on air Icecast itself leaves `source` out, or writes a lone object that says nothing.
 // rule: Icecast status
@@ -45,6 +52,7 @@ fn icecast_value(
     let mut stats = Object::new(alloc);
     stats.put("source", source)?;
     stats.put_text("server_id", &server.name)?;
+    stats.put_text_if_any("server_start_iso8601", &server.start)?;
     one_member(alloc, "icestats", stats.into_value())
 }
 
@@ -105,7 +113,52 @@ fn fill_source(source: &mut Object, base: &Text<'_>, row: &PublicRow<'_>) -> Res
     put_url(source, base, &row.mount)?;
     source.put_text("server_name", &row.name)?;
     source.put_text("server_type", &row.content_type)?;
-    source.put_text("title", &row.title)
+    source.put_text("title", &row.title)?;
+    put_about(source, &row.about)
+}
+
+/// What else its stream says of itself.
+fn put_about(source: &mut Object, about: &AboutRow<'_>) -> Result<(), OutOfMemory>
+    ensures { OnOk result (members_in source.new ≡ with_about about.now (members_in source.old)) }
+{
+    source.put_text_if_any("server_description", &about.description)?;
+    source.put_text_if_any("server_url", &about.url)?;
+    put_bitrate(source, &about.bitrate)?;
+    source.put_text_if_any("audio_info", &about.audio_info)
+}
+
+fn put_bitrate(source: &mut Object, bitrate: &Text<'_>) -> Result<(), OutOfMemory>
+    ensures { OnOk result (members_in source.new ≡ with_bitrate bitrate.now (members_in source.old)) }
+{
+    if bitrate.as_bytes().is_empty() {
+        return Ok(());
+    }
+    let value = bitrate_value(source.alloc, bitrate)?;
+    source.put("bitrate", value)
+}
+
+/// A bit rate as a number if it is written as one, else as a text.
+fn bitrate_value(alloc: Global, bitrate: &Text<'_>) -> Result<Value, OutOfMemory>
+    ensures { IfOk result (λ value. view value ≡ bitrate_data bitrate.now) }
+{
+    match number_written(alloc, bitrate.as_bytes())? {
+        Some(number) => Ok(Value::from(number)),
+        None => Ok(Value::String(bitrate.shown(alloc)?)),
+    }
+}
+
+/// The number that is written so, if one is: with no sign, and no zero in front.
+fn number_written(alloc: Global, text: &[u8]) -> Result<Option<u64>, OutOfMemory>
+    ensures { IfOk result (λ number. number ≡ number_written text.now) }
+{
+    let Some(number) = read_number(text, 10, MAX_BITRATE) else {
+        return Ok(None);
+    };
+    if number.to_string(alloc)?.as_bytes() == text {
+        Ok(Some(number))
+    } else {
+        Ok(None)
+    }
 }
 
 /// Where a mount is heard.

@@ -24,7 +24,7 @@ pub use icecast_listing::icecast_status;
 pub use listener_listing::list_clients;
 pub use public_listings::{status, stream_list};
 pub use reached::{MAX_HOST, base_url};
-pub use rows::{ListenerRow, MountRow, PublicRow, Server};
+pub use rows::{AboutRow, ListenerRow, MountRow, PublicRow, Server};
 pub use text::Text;
 
 /// The error of each call that takes memory: there was none.

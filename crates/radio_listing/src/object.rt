@@ -2,6 +2,7 @@
 ghost use Rattle.std.specs.Prelude.{◌≡◌, [], unwrap_or, IfOk, OnOk};
 ghost use Rattle.serde_json.specs.Data.{boolean, object, no_members, member, put as with_member};
 ghost use Rattle.serde_json.specs.View.{view};
+ghost use Rattle.radio_listing.specs.Icecast.{with_text};
 ghost use Rattle.radio_listing.specs.Json.{text, count};
 ghost use Rattle.radio_listing.specs.Objects.{members_in};
 ghost use Rattle.radio_listing.specs.Public.{with_public};
@@ -42,6 +43,20 @@ impl Object {
     {
         let shown = shown.shown(self.alloc)?;
         self.put(name, Value::String(shown))
+    }
+
+    /// A text, or nothing if it is empty.
+    pub(crate) fn put_text_if_any(
+        &mut self,
+        name: &str,
+        shown: &Text<'_>,
+    ) -> Result<(), OutOfMemory>
+        ensures { OnOk result (members_in self.new ≡ with_text name.now shown.now (members_in self.old)) }
+    {
+        if shown.as_bytes().is_empty() {
+            return Ok(());
+        }
+        self.put_text(name, shown)
     }
 
     /// A text, the empty one where there is none.

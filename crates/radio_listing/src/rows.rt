@@ -18,6 +18,21 @@ pub struct PublicRow<'a> {
     pub title: Text<'a>,
     /// How many listen at the mount.
     pub listeners: u64,
+    /// What else the stream says of itself.
+    pub about: AboutRow<'a>,
+}
+
+/// What a stream says of itself beyond its name and genre. Each is empty if it does not say it.
+#[derive(Drop)]
+pub struct AboutRow<'a> {
+    /// The description.
+    pub description: Text<'a>,
+    /// The URL of the station's web site.
+    pub url: Text<'a>,
+    /// The bit rate in kbit/s.
+    pub bitrate: Text<'a>,
+    /// The parameters of the audio.
+    pub audio_info: Text<'a>,
 }
 
 /// A live mount.
@@ -55,4 +70,6 @@ pub struct Server<'a> {
     pub name: Text<'a>,
     /// What stands before a mount's name in its URL, as `http://radio.example:8000`.
     pub base_url: Text<'a>,
+    /// When it started (ISO 8601); empty if nobody is told.
+    pub start: Text<'a>,
 }

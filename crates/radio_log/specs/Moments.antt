@@ -22,3 +22,7 @@ time_text m = two_digits m.hour ++ codes ":" ++ two_digits m.minute ++ codes ":"
 -- `2026-11-25T08:43:49Z` (RFC 3339, section 5.6)
 unfoldable pub moment_text : Moment → List ℕ
 moment_text m = day_text m ++ codes "T" ++ time_text m ++ codes "Z"
+
+-- `2026-11-25T08:43:49+0000` (ISO 8601, section 5.4.2)
+unfoldable pub offset_text : Moment → List ℕ
+offset_text m = day_text m ++ codes "T" ++ time_text m ++ codes "+0000"

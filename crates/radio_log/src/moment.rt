@@ -1,6 +1,6 @@
 //! Moments in UTC.
 ghost use Rattle.std.specs.Prelude.{◌≡◌, ◌++◌, min, OnOk};
-ghost use Rattle.radio_log.specs.Moments.{IsSecond, day_text, moment_text, time_text};
+ghost use Rattle.radio_log.specs.Moments.{IsSecond, day_text, moment_text, offset_text, time_text};
 ghost use Rattle.httpdate.specs.Text.{two_digits, four_digits};
 
 use crate::OutOfMemory;
@@ -55,6 +55,19 @@ impl Moment {
         text.extend_from_slice(b"T")?;
         text.extend_from_slice(&self.time_text())?;
         text.extend_from_slice(b"Z")
+    }
+
+    /// Returns its text with an offset, as `2026-11-25T08:43:49+0000` (ISO 8601, section 5.4.2).
+    #[tactic(auto, unfolding(crate::specs::Moments::offset_text, crate::specs::Moments::day_text, crate::specs::Moments::time_text))]
+    pub fn offset_text(&self) -> [u8; 24]
+        ensures { result ≡ offset_text self.now }
+    {
+        let [y1, y2, y3, y4, y_end, o1, o2, o_end, d1, d2] = self.day_text();
+        let [h1, h2, h_end, m1, m2, m_end, s1, s2] = self.time_text();
+        [
+            y1, y2, y3, y4, y_end, o1, o2, o_end, d1, d2, b'T', h1, h2, h_end, m1, m2, m_end, s1,
+            s2, b'+', b'0', b'0', b'0', b'0',
+        ]
     }
 
     /// The day, as `2026-11-25`.

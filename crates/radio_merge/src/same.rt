@@ -10,7 +10,9 @@ mod values;
 use commands::is_same_request;
 use data::is_same_data;
 use radio_addr::Peer;
-use radio_events::{CommandRequest, Event, ListenRequest, Reply, SourceRequest, StreamHead, Text};
+use radio_events::{
+    CommandRequest, Event, ListenRequest, MomentText, Reply, SourceRequest, StreamHead, Text, Visit,
+};
 use radio_values::Shown;
 use values::{
     is_same_bytes, is_same_origin, is_same_pair, is_same_peer, is_same_rule, is_same_shown,
@@ -181,7 +183,24 @@ fn is_same_listener(a: &ListenRequest, b: &ListenRequest) -> bool
         && a.wants_metadata == b.wants_metadata
         && is_same_bytes(a.mount.as_slice(), b.mount.as_slice())
         && is_same_pair(&a.pair, &b.pair)
+        && is_same_visit(&a.visit, &b.visit)
+}
+
+fn is_same_visit(a: &Visit, b: &Visit) -> bool
+    ensures { IsTrue result ↔ a.now ≡ b.now }
+{
+    is_same_moment(&a.server_start, &b.server_start)
         && is_same_bytes(a.host.as_slice(), b.host.as_slice())
+}
+
+fn is_same_moment(a: &Option<MomentText>, b: &Option<MomentText>) -> bool
+    ensures { IsTrue result ↔ a.now ≡ b.now }
+{
+    match (a, b) {
+        (Some(a), Some(b)) => is_same_bytes(a, b),
+        (None, None) => true,
+        _ => false,
+    }
 }
 
 /// Whether the numbers and the bytes are the same.

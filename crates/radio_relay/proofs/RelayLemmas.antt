@@ -13,11 +13,12 @@ use Rattle.std.specs.List.{list_all}
 use Rattle.std.specs.Str.Parse.{AllDigits, digits_value}
 use Rattle.httparse.specs.Grammar.{AllPass, is_ows, skip_ows, trim_ows}
 use Rattle.httparse.proofs.TrimLemmas.{AllPass-reverse}
+use Rattle.radio_heads.specs.declared.answer.AboutHeaders.{AboutHeaders}
 use Rattle.radio_heads.specs.declared.answer.Welcome.{Welcome}
 use Rattle.radio_heads.specs.declared.outcome.Progress.TheVariants.{Whole}
 use Rattle.radio_heads.specs.Answer.{listener_text}
 use Rattle.radio_heads.specs.Headers.{value_of}
-use Rattle.radio_heads.specs.Laws.{ReadingsAgree, ShortListenerIsReadBack, read_back, shown_header, interval_header, listener_parts}
+use Rattle.radio_heads.specs.Laws.{ReadingsAgree, ShortListenerIsReadBack, about_headers, read_back, shown_header, interval_header, listener_parts}
 use Rattle.radio_heads.specs.Response.{ShowsResponse}
 use Rattle.radio_icy.specs.Bare.{bare, block_texts, sound_in as sound_heard, texts_in}
 use Rattle.radio_icy.specs.Block.{title_text}
@@ -88,26 +89,59 @@ number-read n small =
     chosen _ _ _ (digits_value 10 (decimal n)) n (lt-ltb 0 (length (decimal n)) is.0.0) (digits-pass (decimal n) is.0.1)
     (le-leb (digits_value 10 (decimal n)) max_interval (rw is.1 small)) is.1
 
--- the headers of an answer with an interval
-abbrev headers_with : List ℕ → List ℕ → List ℕ → ℕ → List (List ℕ × List ℕ)
-headers_with type name genre n =
-    map read_back ((codes "Content-Type", type) ∷ []
-    ++ shown_header (codes "icy-name") name
-    ++ shown_header (codes "icy-genre") genre
+-- the headers behind those of the type, the name and the genre: what else the stream says of itself, an interval, and the end
+abbrev last_headers : List ℕ → List ℕ → List ℕ → ℕ → List (List ℕ × List ℕ)
+last_headers description url bitrate n =
+    map read_back (shown_header (codes "icy-description") description
+    ++ shown_header (codes "icy-url") url
+    ++ shown_header (codes "icy-br") bitrate
     ++ interval_header (Some n)
     ++ (codes "Connection", codes "close") ∷ [])
 
-no_coding : (type name genre : List ℕ) (n : ℕ) → value_of (codes "Transfer-Encoding") (headers_with type name genre n) ≡ None
-no_coding type [] [] n = refl
-no_coding type [] (b ∷ genre) n = refl
-no_coding type (b ∷ name) [] n = refl
-no_coding type (b ∷ name) (d ∷ genre) n = refl
+no_last_coding : (description url bitrate : List ℕ) (n : ℕ) → value_of (codes "Transfer-Encoding") (last_headers description url bitrate n) ≡ None
+no_last_coding [] [] [] n = refl
+no_last_coding [] [] (d ∷ bitrate) n = refl
+no_last_coding [] (b ∷ url) [] n = refl
+no_last_coding [] (b ∷ url) (d ∷ bitrate) n = refl
+no_last_coding (a ∷ description) [] [] n = refl
+no_last_coding (a ∷ description) [] (d ∷ bitrate) n = refl
+no_last_coding (a ∷ description) (b ∷ url) [] n = refl
+no_last_coding (a ∷ description) (b ∷ url) (d ∷ bitrate) n = refl
 
-interval_there : (type name genre : List ℕ) (n : ℕ) → value_of (codes "icy-metaint") (headers_with type name genre n) ≡ Some (trim_ows (decimal n))
-interval_there type [] [] n = refl
-interval_there type [] (b ∷ genre) n = refl
-interval_there type (b ∷ name) [] n = refl
-interval_there type (b ∷ name) (d ∷ genre) n = refl
+last_interval : (description url bitrate : List ℕ) (n : ℕ)
+    → value_of (codes "icy-metaint") (last_headers description url bitrate n) ≡ Some (trim_ows (decimal n))
+last_interval [] [] [] n = refl
+last_interval [] [] (d ∷ bitrate) n = refl
+last_interval [] (b ∷ url) [] n = refl
+last_interval [] (b ∷ url) (d ∷ bitrate) n = refl
+last_interval (a ∷ description) [] [] n = refl
+last_interval (a ∷ description) [] (d ∷ bitrate) n = refl
+last_interval (a ∷ description) (b ∷ url) [] n = refl
+last_interval (a ∷ description) (b ∷ url) (d ∷ bitrate) n = refl
+
+-- the headers of an answer with an interval
+abbrev headers_with : List ℕ → List ℕ → List ℕ → AboutHeaders → ℕ → List (List ℕ × List ℕ)
+headers_with type name genre about n =
+    map read_back ((codes "Content-Type", type) ∷ []
+    ++ shown_header (codes "icy-name") name
+    ++ shown_header (codes "icy-genre") genre
+    ++ about_headers about
+    ++ interval_header (Some n)
+    ++ (codes "Connection", codes "close") ∷ [])
+
+no_coding : (type name genre : List ℕ) (about : AboutHeaders) (n : ℕ)
+    → value_of (codes "Transfer-Encoding") (headers_with type name genre about n) ≡ None
+no_coding type [] [] about n = no_last_coding about.description about.url about.bitrate n
+no_coding type [] (b ∷ genre) about n = no_last_coding about.description about.url about.bitrate n
+no_coding type (b ∷ name) [] about n = no_last_coding about.description about.url about.bitrate n
+no_coding type (b ∷ name) (d ∷ genre) about n = no_last_coding about.description about.url about.bitrate n
+
+interval_there : (type name genre : List ℕ) (about : AboutHeaders) (n : ℕ)
+    → value_of (codes "icy-metaint") (headers_with type name genre about n) ≡ Some (trim_ows (decimal n))
+interval_there type [] [] about n = last_interval about.description about.url about.bitrate n
+interval_there type [] (b ∷ genre) about n = last_interval about.description about.url about.bitrate n
+interval_there type (b ∷ name) [] about n = last_interval about.description about.url about.bitrate n
+interval_there type (b ∷ name) (d ∷ genre) about n = last_interval about.description about.url about.bitrate n
 
 some_interval : (n : ℕ) → 1 ≤ n → interval_of (Some n) ≡ Ok (Some n)
 some_interval zero low = absurd (omega arith)
@@ -120,7 +154,7 @@ told coding metaint n none some low high =
 
 interval-told : (w : Welcome) (n : ℕ) → w.interval ≡ Some n → 1 ≤ n → n ≤ max_interval → interval_in (listener_parts w) ≡ Ok (Some n)
 interval-told w n is low high =
-    rw is (told _ _ n (no_coding w.content_type w.name w.genre n) (interval_there w.content_type w.name w.genre n) low high)
+    rw is (told _ _ n (no_coding w.content_type w.name w.genre w.about n) (interval_there w.content_type w.name w.genre w.about n) low high)
 
 -- ---- the titles
 

@@ -2,7 +2,9 @@
 use Rattle.std.specs.Prelude.{ℕ, zero, suc, not, ◌==◌, List, [], codes, Option, None, Some, is_some, unwrap_or, Result, Ok, Err, if◌then◌else◌}
 use Rattle.radio_heads.specs.Headers.{default_content_type, value_of}
 use Rattle.radio_heads.specs.Response.{ResponseParts}
+use Rattle.radio_values.specs.declared.about.About.{About}
 use Rattle.radio_values.specs.declared.field.Shown.{Shown}
+use Rattle.radio_values.specs.About.{about_of}
 use Rattle.radio_values.specs.Shown.{shown_of}
 use Rattle.radio_texts.specs.Numbers.{number_of}
 use Rattle.radio_relay.specs.declared.fault.PullFault.{PullFault}
@@ -12,13 +14,26 @@ use Rattle.radio_relay.specs.declared.fault.PullFault.TheVariants.{Status, BadHe
 abbrev pub value_or : List ℕ → List ℕ → ResponseParts → List ℕ
 value_or other name head = unwrap_or (value_of name head.headers) other
 
--- what it shows: a type, a name and a genre; where it names no type, the one that Icecast takes then
+-- what else it shows: a description, a URL and a bit rate; no header has the parameters of the audio
 -- rule: Head of a master
-abbrev pub shown_by : ResponseParts → Shown
-shown_by head = shown_of
+abbrev pub about_by : ResponseParts → About
+about_by head = about_of
+    (value_or [] (codes "icy-description") head)
+    (value_or [] (codes "icy-url") head)
+    (value_or [] (codes "icy-br") head)
+    []
+
+-- a type, a name and a genre; if it names no type, the one that Icecast takes then
+abbrev pub named_by : ResponseParts → Shown
+named_by head = shown_of
     (value_or default_content_type (codes "Content-Type") head)
     (value_or [] (codes "icy-name") head)
     (value_or [] (codes "icy-genre") head)
+
+-- what it shows: these, and what else the head says of the stream
+-- rule: Head of a master
+abbrev pub shown_by : ResponseParts → Shown
+shown_by head = record (named_by head) { about = about_by head }
 
 -- the longest metadata interval, in bytes
 abbrev pub max_interval : ℕ

@@ -1,12 +1,12 @@
 //! What the head of a master's answer tells of the stream behind it.
 ghost use Rattle.std.specs.Prelude.{◌≡◌, ◌≤◌, IfOk, IfSome};
 ghost use Rattle.radio_texts.specs.Numbers.{number_of};
-ghost use Rattle.radio_relay.specs.Answer.{interval_in, interval_of, max_interval, shown_by, value_or};
+ghost use Rattle.radio_relay.specs.Answer.{about_by, interval_in, interval_of, max_interval, named_by, shown_by, value_or};
 
 use crate::{OutOfMemory, PullFault};
 use radio_heads::{DEFAULT_CONTENT_TYPE, ResponseHead};
 use radio_texts::read_number;
-use radio_values::Shown;
+use radio_values::{About, Shown};
 use std::alloc::Global;
 
 /// The longest metadata interval that a master may tell, in bytes.
@@ -45,10 +45,28 @@ fn interval_of(text: &[u8]) -> Result<Option<usize>, PullFault>
 pub fn shown_by(alloc: Global, head: &ResponseHead) -> Result<Shown, OutOfMemory>
     ensures { IfOk result (λ shown. shown ≡ shown_by head.now) }
 {
+    let shown = named_by(alloc, head)?;
+    Ok(shown.with_about(about_by(alloc, head)?))
+}
+
+/// Its type, name and genre, cleaned. `OutOfMemory` if memory was refused.
+fn named_by(alloc: Global, head: &ResponseHead) -> Result<Shown, OutOfMemory>
+    ensures { IfOk result (λ shown. shown ≡ named_by head.now) }
+{
     let content_type = value_or(DEFAULT_CONTENT_TYPE, "Content-Type", head);
     let name = value_or(b"", "icy-name", head);
     let genre = value_or(b"", "icy-genre", head);
     Shown::clean(alloc, content_type, name, genre)
+}
+
+/// What else it shows of the stream, cleaned. `OutOfMemory` if memory was refused.
+fn about_by(alloc: Global, head: &ResponseHead) -> Result<About, OutOfMemory>
+    ensures { IfOk result (λ about. about ≡ about_by head.now) }
+{
+    let description = value_or(b"", "icy-description", head);
+    let url = value_or(b"", "icy-url", head);
+    let bitrate = value_or(b"", "icy-br", head);
+    About::clean(alloc, description, url, bitrate, b"")
 }
 
 /// The value of a header, or the other where there is no such header; an empty value is one.

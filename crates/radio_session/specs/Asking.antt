@@ -6,7 +6,9 @@ use Rattle.std.specs.Option.{option_and_then}
 use Rattle.percent_encoding.specs.Percent.{percent_decode}
 use Rattle.radio_creds.specs.Authorization.{basic_pair}
 use Rattle.radio_creds.specs.Credentials.{Credentials}
+use Rattle.radio_values.specs.declared.about.About.{About}
 use Rattle.radio_values.specs.declared.field.Shown.{Shown}
+use Rattle.radio_values.specs.About.{about_of}
 use Rattle.radio_values.specs.Shown.{shown_of}
 use Rattle.radio_heads.specs.Head.{RequestParts}
 use Rattle.radio_heads.specs.Headers.{default_content_type, value_of}
@@ -19,6 +21,7 @@ use Rattle.radio_session.specs.Commands.{asked_in}
 use Rattle.radio_events.specs.declared.command.Asked.{Asked}
 use Rattle.radio_events.specs.declared.event.Event.{Event}
 use Rattle.radio_events.specs.declared.event.Event.TheVariants.{Source, Listen, Command}
+use Rattle.radio_events.specs.declared.event.Visit.{Visit}
 
 -- the user and the password that it sends, if its `Authorization` has them (RFC 7617)
 -- rule: Source request; Listen request
@@ -29,13 +32,26 @@ pair_of request = option_and_then basic_pair (value_of (codes "Authorization") r
 abbrev pub value_or : List ℕ → List ℕ → RequestParts → List ℕ
 value_or other name request = unwrap_or (value_of name request.headers) other
 
--- what a source tells of its stream: a type, a name and a genre; where it names no type, the one that Icecast takes then
+-- what else a source tells of its stream: a description, a URL, a bit rate and parameters of the audio
 -- rule: Shown fields
-abbrev pub shown_by : RequestParts → Shown
-shown_by request = shown_of
+abbrev pub about_by : RequestParts → About
+about_by request = about_of
+    (value_or [] (codes "ice-description") request)
+    (value_or [] (codes "ice-url") request)
+    (value_or [] (codes "ice-bitrate") request)
+    (value_or [] (codes "ice-audio-info") request)
+
+-- a type, a name and a genre; if it names no type, the one that Icecast takes then
+abbrev pub named_by : RequestParts → Shown
+named_by request = shown_of
     (value_or default_content_type (codes "Content-Type") request)
     (value_or [] (codes "ice-name") request)
     (value_or [] (codes "ice-genre") request)
+
+-- what a source tells of its stream: these, and what else it says of the stream
+-- rule: Shown fields
+abbrev pub shown_by : RequestParts → Shown
+shown_by request = record (named_by request) { about = about_by request }
 
 -- a listener wants metadata between the data (ICY convention)
 -- rule: Metadata interval
@@ -66,10 +82,19 @@ asks_to_feed id request = Source (record { id = id; mount = path_in request; pai
 abbrev pub host_for : List ℕ → RequestParts → List ℕ
 host_for path request = if bytes_eq path (codes "/status-json.xsl") then value_or [] (codes "Host") request else []
 
+-- what a page may say of the server to a client that asks for this path
+abbrev pub visit_for : WebAnswers → List ℕ → RequestParts → Visit
+visit_for web path request = record { host = host_for path request; server_start = web.server_start }
+
 -- a client asks to hear the mount of this path
-abbrev pub asks_to_hear : ℕ → RequestParts → List ℕ → Event
-asks_to_hear id request path =
-    Listen (record { id = id; mount = path; pair = pair_of request; wants_metadata = wants_metadata request; host = host_for path request })
+abbrev pub asks_to_hear : WebAnswers → ℕ → RequestParts → List ℕ → Event
+asks_to_hear web id request path = Listen (record {
+  id = id;
+  mount = path;
+  pair = pair_of request;
+  wants_metadata = wants_metadata request;
+  visit = visit_for web path request;
+})
 
 -- the pair that counts for a command
 -- rule: Commands by a browser
@@ -86,4 +111,4 @@ gives_command web id request path =
 -- rule: Commands by GET; Listen request
 abbrev pub asks_by_get : WebAnswers → ℕ → RequestParts → Event
 asks_by_get web id request =
-    let path = path_in request in if is_for_commands path then gives_command web id request path else asks_to_hear id request path
+    let path = path_in request in if is_for_commands path then gives_command web id request path else asks_to_hear web id request path

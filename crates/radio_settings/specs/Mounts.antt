@@ -3,10 +3,11 @@ use Rattle.std.specs.Prelude.{Option, false, true, List, [], ◌∷◌, ◌++◌
 use Rattle.toml.specs.Data.{Members}
 use Rattle.radio_keys.specs.declared.fault.SettingsFault.{SettingsFault}
 use Rattle.radio_keys.specs.declared.key.Key.TheVariants.{Mount, MountName, Username, Password, MaxListeners, MaxListenerDuration, FallbackMount}
-use Rattle.radio_keys.specs.declared.key.Key.TheVariants.{FallbackOverride, FallbackWhenFull, Hidden, BurstSize, Mp3MetadataInterval, StreamName, Genre}
+use Rattle.radio_keys.specs.declared.key.Key.TheVariants.{FallbackOverride, FallbackWhenFull, Hidden, BurstSize, Mp3MetadataInterval, StreamName, Genre, StreamDescription, StreamUrl, Bitrate}
 use Rattle.radio_keys.specs.declared.key.Key.TheVariants.{Htpasswd, AllowDuplicateUsers}
 use Rattle.radio_keys.specs.Lookup.{text_at, text_or, field_at, number_at, number_or, flag_or, tables_at}
 use Rattle.radio_keys.specs.Rows.{Row, row, faults_in, first_fault, text, number, flag, mount_name, required, optional}
+use Rattle.radio_settings_values.specs.declared.settings.AboutOptions.{AboutOptions}
 use Rattle.radio_settings_values.specs.declared.settings.AccessSettings.{AccessSettings}
 use Rattle.radio_settings_values.specs.declared.settings.LimitSettings.{LimitSettings}
 use Rattle.radio_settings_values.specs.declared.settings.ListenerOptions.{ListenerOptions}
@@ -28,6 +29,14 @@ listener_rows =
     ∷ row FallbackWhenFull flag optional
     ∷ []
 
+-- what the settings say of a stream beyond its name and genre
+abbrev pub about_rows : List Row
+about_rows =
+    row StreamDescription text optional
+    ∷ row StreamUrl text optional
+    ∷ row Bitrate text optional
+    ∷ []
+
 abbrev pub stream_rows : List Row
 stream_rows =
     row Hidden flag optional
@@ -35,7 +44,7 @@ stream_rows =
     ∷ row Mp3MetadataInterval (number 1 1000000) optional
     ∷ row StreamName text optional
     ∷ row Genre text optional
-    ∷ []
+    ∷ about_rows
 
 abbrev pub user_rows : List Row
 user_rows = row Htpasswd text optional ∷ row AllowDuplicateUsers flag optional ∷ []
@@ -59,6 +68,9 @@ listeners_fault table = first_fault (faults_in listener_rows table)
 unfoldable pub stream_fault : Members → Option SettingsFault
 stream_fault table = first_fault (faults_in stream_rows table)
 
+unfoldable pub about_fault : Members → Option SettingsFault
+about_fault table = first_fault (faults_in about_rows table)
+
 unfoldable pub users_fault : Members → Option SettingsFault
 users_fault table = first_fault (faults_in user_rows table)
 
@@ -76,6 +88,13 @@ listeners_of table = record {
   fallback_when_full = flag_or FallbackWhenFull table false;
 }
 
+unfoldable pub about_of : Members → AboutOptions
+about_of table = record {
+  description = field_at StreamDescription table;
+  url = field_at StreamUrl table;
+  bitrate = field_at Bitrate table;
+}
+
 -- its burst is by default that of `[limits]`
 unfoldable pub stream_of : LimitSettings → Members → StreamOptions
 stream_of limits table = record {
@@ -84,6 +103,7 @@ stream_of limits table = record {
   mp3_metadata_interval = number_or Mp3MetadataInterval table 16000;
   stream_name = field_at StreamName table;
   genre = field_at Genre table;
+  about = about_of table;
 }
 
 unfoldable pub users_of : Members → UserOptions

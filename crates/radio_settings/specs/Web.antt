@@ -4,19 +4,24 @@ use Rattle.std.specs.Option.{option_map_or}
 use Rattle.toml.specs.Parse.{parse_document}
 use Rattle.toml.specs.Data.{Members}
 use Rattle.radio_keys.specs.declared.fault.SettingsFault.{SettingsFault}
-use Rattle.radio_keys.specs.declared.key.Key.TheVariants.{Web, AllowOrigin, IcecastStatus, Page, CacheControl, BrowserCommands, LogPolls}
+use Rattle.radio_keys.specs.declared.key.Key.TheVariants.{Web, AllowOrigin, IcecastStatus, Page, PublicUrl, CacheControl, BrowserCommands, LogPolls, IcecastHeads}
 use Rattle.radio_keys.specs.Lookup.{text_at, flag_or, table_at}
-use Rattle.radio_keys.specs.Rows.{Row, row, faults_in, first_fault, flag, optional, origin}
+use Rattle.radio_keys.specs.Rows.{Row, row, faults_in, first_fault, flag, optional, origin, text}
 use Rattle.radio_settings_values.specs.declared.web.WebSettings.{WebSettings}
 use Rattle.radio_settings.specs.declared.web.AnswerSettings.{AnswerSettings}
 
 -- what the web site has
 abbrev pub site_rows : List Row
-site_rows = row AllowOrigin origin optional ∷ row IcecastStatus flag optional ∷ row Page flag optional ∷ []
+site_rows = row AllowOrigin origin optional ∷ row IcecastStatus flag optional ∷ row Page flag optional ∷ row PublicUrl text optional ∷ []
 
 -- how requests and answers are dealt with
 abbrev pub answer_rows : List Row
-answer_rows = row CacheControl flag optional ∷ row BrowserCommands flag optional ∷ row LogPolls flag optional ∷ []
+answer_rows =
+    row CacheControl flag optional
+    ∷ row BrowserCommands flag optional
+    ∷ row LogPolls flag optional
+    ∷ row IcecastHeads flag optional
+    ∷ []
 
 -- rule: Web table
 abbrev pub web_rows : List Row
@@ -31,6 +36,7 @@ web_of table = record {
   allow_origin = text_at AllowOrigin table;
   icecast_status = flag_or IcecastStatus table false;
   page = flag_or Page table false;
+  public_url = text_at PublicUrl table;
 }
 
 unfoldable pub answers_fault : Members → Option SettingsFault
@@ -44,11 +50,12 @@ answers_of table = record {
   cache_control = flag_or CacheControl table false;
   browser_commands = flag_or BrowserCommands table false;
   log_polls = flag_or LogPolls table true;
+  icecast_heads = flag_or IcecastHeads table false;
 }
 
 -- without a table
 abbrev pub no_answers : AnswerSettings
-no_answers = record { has_table = false; cache_control = false; browser_commands = false; log_polls = true }
+no_answers = record { has_table = false; cache_control = false; browser_commands = false; log_polls = true; icecast_heads = false }
 
 -- what a document says of them
 abbrev pub answers_in : Members → AnswerSettings
@@ -56,4 +63,4 @@ answers_in document = option_map_or answers_of (table_at Web document) no_answer
 
 -- what a text says of them, if it is TOML
 abbrev pub answers_told : List ℕ → Option AnswerSettings
-answers_told text = option_map answers_in (parse_document text)
+answers_told bytes = option_map answers_in (parse_document bytes)

@@ -6,7 +6,7 @@ ghost use Rattle.toml.specs.View.{table_view};
 ghost use Rattle.radio_keys.specs.Rows.{faults_in, first_fault};
 ghost use Rattle.radio_keys.specs.Reading.{Reads, ReadsAs};
 ghost use Rattle.radio_settings.specs.Parts.{mounts_fault};
-ghost use Rattle.radio_settings.specs.Mounts.{listeners_fault, listeners_of, mount_fault, mount_of, mount_rows, mounts_of};
+ghost use Rattle.radio_settings.specs.Mounts.{about_fault, about_of, listeners_fault, listeners_of, mount_fault, mount_of, mount_rows, mounts_of};
 ghost use Rattle.radio_settings.specs.Mounts.{options_fault, options_of, source_fault, source_of, stream_fault, stream_of, users_fault, users_of};
 
 use crate::{Key, OutOfMemory, SettingsFault};
@@ -14,8 +14,8 @@ use radio_keys::{
     field, flag_or, name, number, number_or, required_name, tables_at, text, text_or,
 };
 use radio_settings_values::{
-    AccessSettings, LimitSettings, ListenerOptions, Login, MountOptions, MountSetting,
-    StreamOptions, UserOptions,
+    AboutOptions, AccessSettings, LimitSettings, ListenerOptions, Login, MountOptions,
+    MountSetting, StreamOptions, UserOptions,
 };
 use std::alloc::{AllocError, Global};
 use toml::Table;
@@ -127,7 +127,7 @@ fn listeners(table: &Table) -> Result<ListenerOptions, SettingsFault>
     })
 }
 
-#[tactic(auto, unfolding(crate::specs::Mounts::stream_fault, crate::specs::Mounts::stream_of))]
+#[tactic(auto, unfolding(crate::specs::Mounts::stream_fault, crate::specs::Mounts::stream_of, crate::specs::Mounts::about_fault))]
 fn stream(
     alloc: Global,
     table: &Table,
@@ -142,6 +142,19 @@ fn stream(
         mp3_metadata_interval: number_or(table, Key::Mp3MetadataInterval, 16000)?,
         stream_name: field(alloc, table, Key::StreamName)?,
         genre: field(alloc, table, Key::Genre)?,
+        about: about(alloc, table)?,
+    })
+}
+
+#[tactic(auto, unfolding(crate::specs::Mounts::about_fault, crate::specs::Mounts::about_of))]
+fn about(alloc: Global, table: &Table) -> Result<AboutOptions, SettingsFault>
+    ensures { let t = table_view table.now in
+        Reads (about_fault t) (about_of t) result }
+{
+    Ok(AboutOptions {
+        description: field(alloc, table, Key::StreamDescription)?,
+        url: field(alloc, table, Key::StreamUrl)?,
+        bitrate: field(alloc, table, Key::Bitrate)?,
     })
 }
 

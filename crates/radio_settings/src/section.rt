@@ -95,9 +95,11 @@ const WEB: &[KnownKey] = &[
     (Key::AllowOrigin, ValueKind::Origin),
     (Key::IcecastStatus, ValueKind::Flag),
     (Key::Page, ValueKind::Flag),
+    (Key::PublicUrl, ValueKind::Text),
     (Key::CacheControl, ValueKind::Flag),
     (Key::BrowserCommands, ValueKind::Flag),
     (Key::LogPolls, ValueKind::Flag),
+    (Key::IcecastHeads, ValueKind::Flag),
 ];
 
 const MOUNT: &[KnownKey] = &[
@@ -114,6 +116,9 @@ const MOUNT: &[KnownKey] = &[
     (Key::Mp3MetadataInterval, Number(1, 1_000_000)),
     (Key::StreamName, ValueKind::Text),
     (Key::Genre, ValueKind::Text),
+    (Key::StreamDescription, ValueKind::Text),
+    (Key::StreamUrl, ValueKind::Text),
+    (Key::Bitrate, ValueKind::Text),
     (Key::Htpasswd, ValueKind::Text),
     (Key::AllowDuplicateUsers, ValueKind::Flag),
 ];

@@ -10,7 +10,7 @@ ghost use Rattle.radio_settings.specs.Web.{answers_fault, answers_in, answers_of
 ghost use Rattle.radio_settings.specs.WebNames.{feeds_free_mount, has_free_fallback, has_free_name, web_names_fault};
 
 use crate::{Key, SettingsFault};
-use radio_keys::{flag_or, origin, table_at, table_or};
+use radio_keys::{flag_or, origin, table_at, table_or, text};
 use radio_settings_values::{MountSetting, RelaySetting, WebSettings};
 use std::alloc::Global;
 use toml::Table;
@@ -26,6 +26,8 @@ pub struct AnswerSettings {
     pub browser_commands: bool,
     /// `log-polls`
     pub log_polls: bool,
+    /// `icecast-heads`
+    pub icecast_heads: bool,
 }
 
 /// What browsers are told, and the scripts of web sites.
@@ -46,11 +48,13 @@ fn web_in(alloc: Global, table: &Table) -> Result<WebSettings, SettingsFault>
     let allow_origin = origin(alloc, table, Key::AllowOrigin)?;
     let icecast_status = flag_or(table, Key::IcecastStatus, false)?;
     let page = flag_or(table, Key::Page, false)?;
+    let public_url = text(alloc, table, Key::PublicUrl)?;
     let _answers = answers_of(table)?;
     Ok(WebSettings {
         allow_origin,
         icecast_status,
         page,
+        public_url,
     })
 }
 
@@ -64,6 +68,7 @@ fn answers_of(table: &Table) -> Result<AnswerSettings, SettingsFault>
         cache_control: flag_or(table, Key::CacheControl, false)?,
         browser_commands: flag_or(table, Key::BrowserCommands, false)?,
         log_polls: flag_or(table, Key::LogPolls, true)?,
+        icecast_heads: flag_or(table, Key::IcecastHeads, false)?,
     })
 }
 
@@ -79,6 +84,7 @@ pub fn answers(document: &Table) -> Result<AnswerSettings, SettingsFault>
             cache_control: false,
             browser_commands: false,
             log_polls: true,
+            icecast_heads: false,
         }),
     }
 }

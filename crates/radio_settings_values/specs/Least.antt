@@ -17,7 +17,14 @@ least_options = record {
     fallback_override = false;
     fallback_when_full = false;
   };
-  stream = record { hidden = false; burst_size = 0; mp3_metadata_interval = 1; stream_name = None; genre = None };
+  stream = record {
+    hidden = false;
+    burst_size = 0;
+    mp3_metadata_interval = 1;
+    stream_name = None;
+    genre = None;
+    about = record { description = None; url = None; bitrate = None };
+  };
   users = record { htpasswd = None; allow_duplicate_users = false };
 }
 
@@ -31,7 +38,7 @@ least_settings = record {
   };
   listen = record { address = []; port = 0; workers = 1 };
   limits = record { clients = 1; sources = 1; queue_size = 1; burst_size = 0; source_timeout = 1; header_timeout = 1 };
-  web = record { allow_origin = None; icecast_status = false; page = false };
+  web = record { allow_origin = None; icecast_status = false; page = false; public_url = None };
   mounts = [];
   other_mounts = least_options;
   relays = [];

@@ -17,9 +17,9 @@ mod web;
 
 pub use mounts::{MountSettings, Named, NamedSettings, RelaySettings};
 pub use settings::{
-    AccessSettings, AddressLists, Bytes, LimitSettings, ListenSettings, ListenerOptions, Login,
-    Master, MountOptions, MountSetting, Port, RelayAccess, RelaySetting, SecondsOfDay, Settings,
-    SlaveSetting, SomeBytes, StreamOptions, UserOptions,
+    AboutOptions, AccessSettings, AddressLists, Bytes, LimitSettings, ListenSettings,
+    ListenerOptions, Login, Master, MountOptions, MountSetting, Port, RelayAccess, RelaySetting,
+    SecondsOfDay, Settings, SlaveSetting, SomeBytes, StreamOptions, UserOptions,
 };
 pub use web::{WebPath, WebSettings};
 

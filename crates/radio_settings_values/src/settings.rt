@@ -196,6 +196,19 @@ pub struct StreamOptions {
     pub stream_name: Option<Field>,
     /// The genre; `None` for the source's.
     pub genre: Option<Field>,
+    /// What else is said of the stream.
+    pub about: AboutOptions,
+}
+
+/// What a mount's table says of its stream beyond its name and genre.
+#[derive(Drop)]
+pub struct AboutOptions {
+    /// `stream-description`; `None` for the source's.
+    pub description: Option<Field>,
+    /// `stream-url`; `None` for the source's.
+    pub url: Option<Field>,
+    /// `bitrate`; `None` for the source's.
+    pub bitrate: Option<Field>,
 }
 
 /// Who may listen to a mount.

@@ -2,7 +2,7 @@
 ghost use Rattle.std.specs.Prelude.{◌≡◌};
 ghost use Rattle.radio_settings_values.specs.Web.{is_web_path, web_path};
 
-use radio_values::AllowedOrigin;
+use radio_values::{AllowedOrigin, Text};
 
 /// The table `[web]`: what browsers are told, and the scripts of web sites. Where it is absent nothing of it is on.
 pub struct WebSettings {
@@ -12,6 +12,8 @@ pub struct WebSettings {
     pub icecast_status: bool,
     /// Whether `/` answers a page of what is on air.
     pub page: bool,
+    /// What is written before a mount's name in its public URL; `None` for how the client calls the server.
+    pub public_url: Option<Text>,
 }
 
 impl Drop for WebSettings {
@@ -20,8 +22,10 @@ impl Drop for WebSettings {
             allow_origin,
             icecast_status: _,
             page: _,
+            public_url,
         } = self;
         drop(allow_origin);
+        drop(public_url);
     }
 }
 

@@ -53,6 +53,14 @@ pub fn line_now<R: Clock + AllocGlobal>(rt: &R, fact: Fact<'_>) -> Option<Dated>
     }
 }
 
+/// Returns this moment; `None` if the clock does not know it.
+pub fn moment_now<R: Clock>(rt: &R) -> Option<Moment> {
+    match rt.since_1970() {
+        Ok(since) => Some(Moment::at(since.as_secs())),
+        Err(_) => None,
+    }
+}
+
 /// Returns how many seconds have passed since 1970; 0 if the clock does not know.
 fn seconds_now<R: Clock>(rt: &R) -> u64 {
     match rt.since_1970() {

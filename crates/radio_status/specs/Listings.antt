@@ -5,6 +5,8 @@ use Rattle.radio_creds.specs.Credentials.{Credentials}
 use Rattle.radio_settings_values.specs.Options.{options_for}
 use Rattle.radio_seats.specs.Listed.{ListedGuest, guests_at}
 use Rattle.radio_seats_rows.specs.Seats.{count_at}
+use Rattle.radio_values.specs.declared.about.About.{About}
+use Rattle.radio_listing.specs.declared.rows.AboutRow.{AboutRow}
 use Rattle.radio_listing.specs.declared.rows.PublicRow.{PublicRow}
 use Rattle.radio_listing.specs.declared.rows.MountRow.{MountRow}
 use Rattle.radio_listing.specs.declared.rows.ListenerRow.{ListenerRow}
@@ -19,6 +21,15 @@ use Rattle.radio_house.specs.Facts.{fallback_of}
 use Rattle.radio_parts.specs.Sessions.{Session}
 use Rattle.radio_house.specs.World.{World}
 
+-- what a stream says of itself beyond its name and genre
+abbrev pub about_row : About → AboutRow
+about_row about = record {
+  description = about.description;
+  url = about.url;
+  bitrate = about.bitrate;
+  audio_info = about.audio_info;
+}
+
 -- what everybody may see of a live mount
 abbrev pub public_row : World → Session → PublicRow
 public_row w session = record {
@@ -28,6 +39,7 @@ public_row w session = record {
   content_type = session.shown.content_type;
   title = unwrap_or session.title [];
   listeners = count_at w.seats session.mount;
+  about = about_row session.shown.about;
 }
 
 abbrev pub mount_row : World → Session → MountRow

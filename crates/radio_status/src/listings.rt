@@ -5,7 +5,7 @@ ghost use Rattle.std.specs.Option.{option_map};
 ghost use Rattle.radio_listing.specs.Listeners.{listeners_text};
 ghost use Rattle.radio_listing.specs.Public.{status_text};
 ghost use Rattle.radio_seats.specs.Listed.{lent_guest};
-ghost use Rattle.radio_status.specs.Listings.{shown, public_row, mount_row, mount_rows, listener_row, listener_rows, user_of};
+ghost use Rattle.radio_status.specs.Listings.{about_row, shown, public_row, mount_row, mount_rows, listener_row, listener_rows, user_of};
 ghost use Rattle.radio_house.specs.World.{world};
 ghost use Rattle.radio_mounts.specs.Parts.{live_in};
 ghost use Rattle.radio_events.specs.declared.command.Listing.TheVariants.{Status, Stats, Mounts, Streams};
@@ -18,13 +18,13 @@ use radio_creds::Pair;
 use radio_events::{Listing, Text};
 use radio_house::House;
 use radio_listing::{
-    ListenerRow, MountRow, PublicRow, Text as Shown, list_clients, list_mounts, stats, status,
-    stream_list,
+    AboutRow, ListenerRow, MountRow, PublicRow, Text as Shown, list_clients, list_mounts, stats,
+    status, stream_list,
 };
 use radio_mount_part::MountPart;
 use radio_parts::Session;
 use radio_seats::LentListener;
-use radio_values::{MountName, Title};
+use radio_values::{About, MountName, Title};
 use std::alloc::Global;
 
 /// How many milliseconds a second has.
@@ -151,6 +151,19 @@ fn public_row<'a>(house: &House<'_>, seats: &Listeners, session: &'a Session) ->
         content_type: Shown::of(session.shown.content_type.as_bytes()),
         title: title_shown(&session.title),
         listeners: seats.count(mount),
+        about: about_row(&session.shown.about),
+    }
+}
+
+/// What else its stream says of itself.
+fn about_row(about: &About) -> AboutRow<'_>
+    ensures { result ≡ about_row about.now }
+{
+    AboutRow {
+        description: Shown::of(about.description.as_bytes()),
+        url: Shown::of(about.url.as_bytes()),
+        bitrate: Shown::of(about.bitrate.as_bytes()),
+        audio_info: Shown::of(about.audio_info.as_bytes()),
     }
 }
 

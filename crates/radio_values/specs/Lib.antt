@@ -4,5 +4,6 @@ pub mod Sendable
 pub mod MountName
 pub mod MountNameInside
 pub mod Field
+pub mod About
 pub mod Shown
 pub mod AllowedOrigin

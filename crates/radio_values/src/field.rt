@@ -5,7 +5,7 @@ ghost use Rattle.radio_values.specs.Cleaning.{cleaned, is_shown};
 ghost use Rattle.radio_values.specs.Limits.{max_field};
 ghost use Rattle.radio_values.specs.Field.{IsClean};
 
-use crate::{OutOfMemory, clean_field};
+use crate::{About, OutOfMemory, clean_field};
 use std::alloc::Global;
 use std::marker::Model;
 use std::sync::ArcStr;
@@ -41,7 +41,6 @@ impl Field {
     /// Bytes from outside as a field: read as UTF-8 with U+FFFD for each part that is none, without the characters
     /// that may not be shown, and cut to the longest front of at most 255 bytes that ends between two characters.
     /// An `Err` means that memory ran out.
-    // rule: Cleaned texts
     pub fn clean(alloc: Global, bytes: &[u8]) -> Result<Field, OutOfMemory>
         ensures { IfOk result (λ field. field ≡ cleaned max_field bytes.now) }
     {
@@ -80,7 +79,7 @@ impl Clone for Field {
     }
 }
 
-/// What the heads of a stream's listeners show of it. A clone shares the three texts.
+/// What the heads of a stream's listeners show of it. A clone shares the texts.
 pub struct Shown {
     /// The content type, as in `Content-Type`.
     pub content_type: Field,
@@ -88,6 +87,8 @@ pub struct Shown {
     pub name: Field,
     /// The genre, as in `icy-genre`; empty where there is none.
     pub genre: Field,
+    /// What else it says of itself.
+    pub about: About,
 }
 
 impl Drop for Shown {
@@ -96,18 +97,20 @@ impl Drop for Shown {
             content_type,
             name,
             genre,
+            about,
         } = self;
         drop(content_type);
         drop(name);
         drop(genre);
+        drop(about);
     }
 }
 
 impl Shown {
     ghost use Rattle.radio_values.specs.Shown.{shown_of};
 
-    /// A type, a name and a genre from outside, each cleaned. An `Err` means that memory ran out.
-    // rule: Cleaned texts
+    /// A type, a name and a genre from outside, each cleaned, of a stream that says nothing else of itself. An `Err`
+    /// means that memory ran out.
     pub fn clean(
         alloc: Global,
         content_type: &[u8],
@@ -120,7 +123,27 @@ impl Shown {
             content_type: Field::clean(alloc, content_type)?,
             name: Field::clean(alloc, name)?,
             genre: Field::clean(alloc, genre)?,
+            about: About::none(alloc)?,
         })
+    }
+
+    /// Returns the same with this in place of what else it says of itself.
+    pub fn with_about(self, about: About) -> Shown
+        ensures { result ≡ record self { about = about } }
+    {
+        let Shown {
+            content_type,
+            name,
+            genre,
+            about: before,
+        } = self;
+        drop(before);
+        Shown {
+            content_type,
+            name,
+            genre,
+            about,
+        }
     }
 }
 
@@ -132,6 +155,7 @@ impl Clone for Shown {
             content_type: self.content_type.clone()?,
             name: self.name.clone()?,
             genre: self.genre.clone()?,
+            about: self.about.clone()?,
         })
     }
 }

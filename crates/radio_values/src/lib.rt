@@ -3,12 +3,14 @@
 //! - [`MountName`]: the name of a mount.
 //! - [`Within`]: a number with its range.
 //! - [`Text`]: a text as it stands in the settings.
-//! - [`Field`]: a text that heads may show, and [`Shown`], what they show of a stream.
+//! - [`Field`]: a text that heads may show, and [`Shown`], what they show of a stream, with [`About`], what else it says
+//!   of itself.
 //! - [`AllowedOrigin`]: whose pages may read an answer.
 //! - [`clean_title`] and [`clean_field`] make texts from outside fit to be sent; a [`Title`] is one that was.
 //!   [`laws`] says what is true of all cleaned texts.
 #![tactic(auto)]
 
+mod about;
 mod allowed_origin;
 mod clean;
 mod field;
@@ -18,6 +20,7 @@ mod sendable;
 mod text;
 mod within;
 
+pub use about::About;
 pub use allowed_origin::{AllowedOrigin, MAX_ORIGIN};
 pub use clean::{clean_field, clean_title};
 pub use field::{Field, Shown};
@@ -32,5 +35,5 @@ pub type OutOfMemory = std::alloc::AllocError;
 /// The most bytes that a title may have, so that its text fits a block of 255 times 16 bytes.
 pub const MAX_TITLE: usize = 4065;
 
-/// The most bytes that a shown field may have: a stream's name, genre or type.
+/// The most bytes that a shown field may have: a stream's name, genre or type, or one of [`About`].
 pub const MAX_FIELD: usize = 255;

@@ -243,7 +243,8 @@ fn play_in(rt: &HostRuntime, station: Station) -> Result<(), Fault>
     } = station;
     // A script names each peer itself.
     drop(proxies);
-    let web = web_of(answers);
+    // A script's transcript is the same whenever it is played.
+    let web = web_of(answers, None);
     let played = play(rt.alloc(), web, settings, lists, &mut reader, &mut writer);
     drop(reader);
     drop(writer);

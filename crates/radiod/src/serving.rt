@@ -1,6 +1,8 @@
 //! A station on the air.
 
 ghost use Rattle.std.specs.Prelude.{◌≡◌, ◌^◌, IfErr};
+ghost use Rattle.std.specs.Option.{option_map};
+ghost use Rattle.radio_log.specs.Moments.{offset_text};
 ghost use Rattle.radio_house.specs.World.{opening};
 ghost use Rattle.radiod.specs.Binding.{IsNotBound};
 ghost use Rattle.radiod.specs.Ends.{EndsService};
@@ -12,11 +14,12 @@ use radio_addr::AddressList;
 use radio_book::{House, PASSES, Unkept};
 use radio_hall_lock::Hall;
 use radio_listening::{BindFault, Listening, ServeFault, Service, SystemNet, WebAnswers};
+use radio_log::Moment;
 use radio_outlet::LogQueue;
 use radio_review::UnknownKey;
 use radio_settings::AnswerSettings;
 use radio_settings_values::Settings;
-use radio_startup::{Station, warn};
+use radio_startup::{Station, moment_now, warn};
 use std::alloc::Global;
 use std::marker::Brand;
 use std::sync::ledger::Blank;
@@ -126,7 +129,7 @@ fn serve_in<W: Clock + Threads + Wait + Sync, H: House + Send + Sync>(
 {
     let (hall, answers, proxies) = open_hall::<H>(rt.alloc(), station, blank);
     let listening = listening.behind(proxies);
-    let service = service_of(again, answers);
+    let service = service_of(again, answers, moment_now(waits));
     let fault = serve_through(rt, waits, &hall, again, service, listening, log);
     drop(hall);
     fault
@@ -167,12 +170,14 @@ fn serve_through<W: Clock + Threads + Wait + Sync, H: House + Send + Sync>(
     listening.serve(waits, &net, hall, settings, service, log)
 }
 
-/// What the settings say of the service: as many may linger as may be clients.
+/// What the settings say of the service, which starts at this moment: as many may linger as may be clients.
 // rule: Polls
-fn service_of(settings: &Settings, answers: AnswerSettings) -> Service
+fn service_of(settings: &Settings, answers: AnswerSettings, start: Option<Moment>) -> Service
     ensures commands { result.web.browser_commands ≡ answers.browser_commands }
     ensures caches { result.web.cache_control ≡ answers.cache_control }
     ensures sandbox { result.web.sandbox ≡ answers.has_table }
+    ensures heads { result.web.icecast_heads ≡ answers.icecast_heads }
+    ensures start { result.web.server_start ≡ option_map offset_text start }
     ensures polls { result.log_polls ≡ answers.log_polls }
     ensures workers { result.workers ≡ settings.now.listen.workers }
     ensures patience { result.patience_s ≡ settings.now.limits.source_timeout }
@@ -180,7 +185,7 @@ fn service_of(settings: &Settings, answers: AnswerSettings) -> Service
     ensures queue { result.queue_size ≡ settings.now.limits.queue_size }
 {
     Service {
-        web: web_of(answers),
+        web: web_of(answers, start),
         log_polls: answers.log_polls,
         workers: settings.listen.workers.get(),
         patience_s: settings.limits.source_timeout.get(),
@@ -189,16 +194,23 @@ fn service_of(settings: &Settings, answers: AnswerSettings) -> Service
     }
 }
 
-/// What the settings say of answers, as connections take it.
+/// What the settings say of answers, as connections take it, and when the server started, if it is told.
 // rule: Commands by a browser; Cache control
-pub fn web_of(answers: AnswerSettings) -> WebAnswers
+pub fn web_of(answers: AnswerSettings, start: Option<Moment>) -> WebAnswers
     ensures commands { result.browser_commands ≡ answers.browser_commands }
     ensures caches { result.cache_control ≡ answers.cache_control }
     ensures sandbox { result.sandbox ≡ answers.has_table }
+    ensures heads { result.icecast_heads ≡ answers.icecast_heads }
+    ensures start { result.server_start ≡ option_map offset_text start }
 {
     WebAnswers {
         browser_commands: answers.browser_commands,
         cache_control: answers.cache_control,
         sandbox: answers.has_table,
+        icecast_heads: answers.icecast_heads,
+        server_start: match start {
+            Some(start) => Some(start.offset_text()),
+            None => None,
+        },
     }
 }

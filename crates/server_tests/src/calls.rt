@@ -8,7 +8,7 @@ use radio_core::Core;
 use radio_creds::basic;
 use radio_events::{
     Asked, Boxed, Command, CommandRequest, Event, ListenRequest, Listing, OpenedBy, Reply,
-    SourceRequest,
+    SourceRequest, Visit,
 };
 use radio_values::{MountName, Shown, Title};
 use std::alloc::Global;
@@ -233,7 +233,10 @@ pub fn listen_event(alloc: Global, id: u64, path: &str) -> Result<Event, OutOfMe
         mount: Bytes::copy_from_slice(alloc, path.as_bytes())?,
         pair: None,
         wants_metadata: false,
-        host: Bytes::from_static(b""),
+        visit: Visit {
+            host: Bytes::from_static(b""),
+            server_start: None,
+        },
     };
     Ok(Event::Listen(Boxed::new(alloc, request)?))
 }

@@ -3,8 +3,8 @@
 use radio_addr::Peer;
 use radio_admin::{AdminFault, CommandKind, read_command, read_path};
 use radio_listing::{
-    ListenerRow, MountRow, OutOfMemory, PublicRow, Text, list_clients, list_mounts, stats, status,
-    stream_list,
+    AboutRow, ListenerRow, MountRow, OutOfMemory, PublicRow, Text, list_clients, list_mounts,
+    stats, status, stream_list,
 };
 use radio_settings::MountName;
 use std::alloc::{AllocGlobal, Global};
@@ -19,6 +19,12 @@ fn row<'a>() -> MountRow<'a> {
             content_type: Text::of(b"audio/mpeg"),
             title: Text::of(b"X"),
             listeners: 1,
+            about: AboutRow {
+                description: Text::of(b""),
+                url: Text::of(b""),
+                bitrate: Text::of(b""),
+                audio_info: Text::of(b""),
+            },
         },
         hidden: false,
         session: 1,

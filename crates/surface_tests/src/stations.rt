@@ -7,7 +7,7 @@ ghost use Rattle.radio_hall.specs.Words.{no_lists, opening};
 use bytes::Bytes;
 use radio_addr::Peer;
 use radio_book::{Book, House, Kept, PASSES, Pass, Unkept};
-use radio_core::{Boxed, Core, Event, ListenRequest, Lists, OutOfMemory, Reply};
+use radio_core::{Boxed, Core, Event, ListenRequest, Lists, OutOfMemory, Reply, Visit};
 use radio_hall::Hall;
 use radio_settings::{MountName, Settings, SettingsFault, read_settings};
 use std::alloc::{AllocGlobal, Global};
@@ -38,7 +38,10 @@ fn listening(alloc: Global) -> Result<Event, OutOfMemory> {
         mount: Bytes::from_static(b"/a"),
         pair: None,
         wants_metadata: false,
-        host: Bytes::from_static(b""),
+        visit: Visit {
+            host: Bytes::from_static(b""),
+            server_start: None,
+        },
     };
     Ok(Event::Listen(Boxed::new(alloc, request)?))
 }

@@ -1,5 +1,7 @@
 //! Values of headers, and answers with a body, which the server does not write yet.
-use radio_heads::{Answer, FieldValue, Progress, TextKind, Welcome, read_response, write_answer};
+use radio_heads::{
+    AboutHeaders, Answer, FieldValue, Progress, TextKind, Welcome, read_response, write_answer,
+};
 use std::alloc::Global;
 
 /// Bytes, and whether they may be a header's value: none that would end its line, or bring another one.
@@ -113,8 +115,18 @@ fn welcomed<'a>(
         content_type: FieldValue::read(content_type)?,
         name: FieldValue::read(name)?,
         genre: FieldValue::read(genre)?,
+        about: nothing_more()?,
         interval,
     }))
+}
+
+/// A stream that says nothing of itself but its name and genre.
+pub fn nothing_more<'a>() -> Option<AboutHeaders<'a>> {
+    Some(AboutHeaders {
+        description: FieldValue::read(b"")?,
+        url: FieldValue::read(b"")?,
+        bitrate: FieldValue::read(b"")?,
+    })
 }
 
 /// Whether a name is read back out of the answer to a listener as the other.

@@ -1,6 +1,8 @@
 //! Answers that the pages of web sites read, and whose pages may.
+use crate::heads::answers::nothing_more;
 use radio_heads::{
-    FieldValue, Progress, TextKind, WebAnswer, Welcome, read_response, write_web_answer,
+    AboutHeaders, FieldValue, Progress, TextKind, WebAnswer, Welcome, read_response,
+    write_web_answer,
 };
 use radio_page::{POLICY, page};
 use std::alloc::Global;
@@ -8,6 +10,15 @@ use std::alloc::Global;
 const STREAM: &[u8] = b"HTTP/1.0 200 OK\r\n\
 Content-Type: audio/mpeg\r\n\
 icy-name: Radio X\r\n\
+icy-metaint: 16000\r\n\
+Connection: close\r\n\
+\r\n";
+
+const STREAM_WITH_MORE: &[u8] = b"HTTP/1.0 200 OK\r\n\
+Content-Type: audio/mpeg\r\n\
+icy-name: Radio X\r\n\
+icy-description: Talk, and songs\r\n\
+icy-br: 128\r\n\
 icy-metaint: 16000\r\n\
 Connection: close\r\n\
 \r\n";
@@ -52,13 +63,23 @@ Connection: close\r\n\
 \r\n\
 <p>";
 
-fn stream<'a>() -> Option<WebAnswer<'a>> {
+fn stream<'a>(about: Option<AboutHeaders<'a>>) -> Option<WebAnswer<'a>> {
     Some(WebAnswer::Stream(Welcome {
         content_type: FieldValue::read(b"audio/mpeg")?,
         name: FieldValue::read(b"Radio X")?,
         genre: FieldValue::read(b"")?,
+        about: about?,
         interval: Some(16000),
     }))
+}
+
+/// A stream that says something of itself, and has no URL.
+fn about<'a>() -> Option<AboutHeaders<'a>> {
+    Some(AboutHeaders {
+        description: FieldValue::read(b"Talk, and songs")?,
+        url: FieldValue::read(b"")?,
+        bitrate: FieldValue::read(b"128")?,
+    })
 }
 
 fn text<'a>() -> Option<WebAnswer<'a>> {
@@ -93,8 +114,10 @@ fn is_text(
 }
 
 fn are_streams(alloc: Global) -> bool {
-    let stream = stream();
-    is_text(alloc, &stream, None, STREAM) && is_text(alloc, &stream, Some(b"*"), STREAM_FOR_ALL)
+    let bare = stream(nothing_more());
+    is_text(alloc, &bare, None, STREAM)
+        && is_text(alloc, &bare, Some(b"*"), STREAM_FOR_ALL)
+        && is_text(alloc, &stream(about()), None, STREAM_WITH_MORE)
 }
 
 fn are_listings(alloc: Global) -> bool {

@@ -15,6 +15,11 @@ const ANSWERS: &[(&[u8], &[u8], Option<PullFault>)] = &[
         b"{audio/aac|N|G}\0a",
         None,
     ),
+    (
+        b"HTTP/1.0 200 OK\r\nicy-name: N\r\nicy-description: D\ticy\r\nicy-url: u\r\nicy-br: 96\r\nice-audio-info: b=1\r\n\r\na",
+        b"{audio/mpeg|N||Dicy|u|96}a",
+        None,
+    ),
     // the same title twice, a URL behind a title, and texts without one
     (
         b"HTTP/1.0 200 OK\r\nicy-metaint:1\r\n\r\na\x01StreamTitle='X';b\x01StreamTitle='X';c\0d",

@@ -1,10 +1,11 @@
 //! Every key given once and read back, and every default.
 
+use crate::settings::dashes::{field_or_dash, name_or_dash, or_dash, or_zero, origin_or_dash};
 use radio_settings::{AnswerSettings, read_answers, read_proxies, read_settings};
 use radio_settings_values::{
     Login, MountOptions, RelaySetting, Settings, SlaveSetting, WebPath, WebSettings,
 };
-use radio_values::{Field, MountName, Text, Within};
+use radio_values::{MountName, Text};
 use std::alloc::Global;
 
 const EVERY_KEY: &str = "
@@ -31,9 +32,11 @@ header-timeout = 8
 allow-origin = \"*\"
 icecast-status = true
 page = true
+public-url = \"pu\"
 cache-control = true
 browser-commands = true
 log-polls = false
+icecast-heads = true
 [[mount]]
 mount-name = \"/a\"
 username = \"mu\"
@@ -48,6 +51,9 @@ burst-size = 11
 mp3-metadata-interval = 12
 stream-name = \"N\\tight\"
 genre = \"Talk\"
+stream-description = \"D\\tay\"
+stream-url = \"U\"
+bitrate = \"128\"
 htpasswd = \"h\"
 allow_duplicate_users = false
 [[relay]]
@@ -90,6 +96,8 @@ struct Station {
     /// Whose pages may read, and what `/status-json.xsl` and `/` name.
     origin: &'static [u8],
     paths: [Option<WebPath>; 2],
+    /// What is written before a mount's name.
+    public_url: &'static str,
     answers: AnswerSettings,
     /// The path of the list of proxies.
     proxies: &'static str,
@@ -104,7 +112,7 @@ struct Station {
 
 /// What holds for a mount, in the order of `mount_texts`, `mount_numbers` and `mount_flags`.
 struct Mount {
-    texts: [&'static str; 6],
+    texts: [&'static str; 9],
     numbers: [u32; 4],
     flags: [bool; 4],
 }
@@ -114,20 +122,22 @@ const EVERY_KEY_SET: Station = Station {
     numbers: [1, 2, 3, 4, 5, 6, 7, 8],
     origin: b"*",
     paths: [Some(WebPath::IcecastStatus), Some(WebPath::Page)],
+    public_url: "pu",
     answers: AnswerSettings {
         has_table: true,
         cache_control: true,
         browser_commands: true,
         log_polls: false,
+        icecast_heads: true,
     },
     proxies: "pf",
     mount: Mount {
-        texts: ["mu", "mp", "/b", "Night", "Talk", "h"],
+        texts: ["mu", "mp", "/b", "Night", "Talk", "Day", "U", "128", "h"],
         numbers: [9, 10, 11, 12],
         flags: [true, true, true, false],
     },
     other_mount: Mount {
-        texts: ["source", "sp", "-", "-", "-", "-"],
+        texts: ["source", "sp", "-", "-", "-", "-", "-", "-", "-"],
         numbers: [0, 0, 6, 16000],
         flags: [false, false, false, true],
     },
@@ -139,7 +149,7 @@ const EVERY_KEY_SET: Station = Station {
 };
 
 const DEFAULT_MOUNT: Mount = Mount {
-    texts: ["source", "sp", "-", "-", "-", "-"],
+    texts: ["source", "sp", "-", "-", "-", "-", "-", "-", "-"],
     numbers: [0, 0, 65_536, 16000],
     flags: [false, false, false, true],
 };
@@ -149,11 +159,13 @@ const DEFAULTS: Station = Station {
     numbers: [8000, 4, 100, 2, 524_288, 65_536, 10, 15],
     origin: b"-",
     paths: [None, None],
+    public_url: "-",
     answers: AnswerSettings {
         has_table: false,
         cache_control: false,
         browser_commands: false,
         log_polls: true,
+        icecast_heads: false,
     },
     proxies: "-",
     mount: DEFAULT_MOUNT,
@@ -195,13 +207,17 @@ fn basic_numbers(settings: &Settings) -> [u32; 8] {
     ]
 }
 
-fn mount_texts(options: &MountOptions) -> [&str; 6] {
+fn mount_texts(options: &MountOptions) -> [&str; 9] {
+    let about = &options.stream.about;
     [
         options.source.username.as_str(),
         options.source.password.as_str(),
         name_or_dash(&options.listeners.fallback_mount),
         field_or_dash(&options.stream.stream_name),
         field_or_dash(&options.stream.genre),
+        field_or_dash(&about.description),
+        field_or_dash(&about.url),
+        field_or_dash(&about.bitrate),
         or_dash(&options.users.htpasswd),
     ]
 }
@@ -213,13 +229,6 @@ fn mount_numbers(options: &MountOptions) -> [u32; 4] {
         options.stream.burst_size.get(),
         options.stream.mp3_metadata_interval.get(),
     ]
-}
-
-fn or_zero<const LOW: u32, const HIGH: u32>(limit: Option<Within<LOW, HIGH>>) -> u32 {
-    match limit {
-        Some(limit) => limit.get(),
-        None => 0,
-    }
 }
 
 fn mount_flags(options: &MountOptions) -> [bool; 4] {
@@ -249,27 +258,6 @@ fn login_texts(login: &Option<Login>) -> (&str, &str) {
     }
 }
 
-fn or_dash(text: &Option<Text>) -> &str {
-    match text {
-        Some(text) => text.as_str(),
-        None => "-",
-    }
-}
-
-fn field_or_dash(field: &Option<Field>) -> &str {
-    match field {
-        Some(field) => field.as_str(),
-        None => "-",
-    }
-}
-
-fn name_or_dash(name: &Option<MountName>) -> &str {
-    match name {
-        Some(name) => name.as_str(),
-        None => "-",
-    }
-}
-
 /// Whether another handle on a text has the same text.
 fn is_shared(text: &Text) -> bool {
     match text.clone() {
@@ -278,16 +266,10 @@ fn is_shared(text: &Text) -> bool {
     }
 }
 
-fn origin_or_dash(web: &WebSettings) -> &[u8] {
-    match &web.allow_origin {
-        Some(origin) => origin.as_bytes(),
-        None => b"-",
-    }
-}
-
 /// Whether the web site is as wanted, and no other path is one of it.
 fn is_web(web: &WebSettings, want: &Station) -> bool {
     origin_or_dash(web) == want.origin
+        && or_dash(&web.public_url) == want.public_url
         && [web.path(b"/status-json.xsl"), web.path(b"/")] == want.paths
         && web.has(b"/") == web.page
         && !web.has(b"/status.json")

@@ -41,7 +41,7 @@ impl Control {
                     &self.house(),
                     self.seats(),
                     path,
-                    asked.host.as_slice(),
+                    &asked.visit,
                 )?),
                 change: Change::Answer { id: asked.id },
             }),

@@ -5,7 +5,7 @@ ghost use Rattle.std.specs.Prelude.{◌≡◌, ◌↔◌, IsTrue};
 use radio_addr::Peer;
 use radio_creds::Pair;
 use radio_policy::Rule;
-use radio_values::{AllowedOrigin, MountName, Shown, Title};
+use radio_values::{About, AllowedOrigin, MountName, Shown, Title};
 
 pub(crate) fn is_same_name(a: &MountName, b: &MountName) -> bool
     ensures { IsTrue result ↔ a.now ≡ b.now }
@@ -69,6 +69,16 @@ pub(crate) fn is_same_shown(a: &Shown, b: &Shown) -> bool
     is_same_bytes(a.content_type.as_bytes(), b.content_type.as_bytes())
         && is_same_bytes(a.name.as_bytes(), b.name.as_bytes())
         && is_same_bytes(a.genre.as_bytes(), b.genre.as_bytes())
+        && is_same_about(&a.about, &b.about)
+}
+
+fn is_same_about(a: &About, b: &About) -> bool
+    ensures { IsTrue result ↔ a.now ≡ b.now }
+{
+    is_same_bytes(a.description.as_bytes(), b.description.as_bytes())
+        && is_same_bytes(a.url.as_bytes(), b.url.as_bytes())
+        && is_same_bytes(a.bitrate.as_bytes(), b.bitrate.as_bytes())
+        && is_same_bytes(a.audio_info.as_bytes(), b.audio_info.as_bytes())
 }
 
 pub(crate) fn is_same_title(a: &Option<Title>, b: &Option<Title>) -> bool

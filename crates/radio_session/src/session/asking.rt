@@ -1,8 +1,8 @@
 //! What a request asks of the server.
 
 ghost use Rattle.std.specs.Prelude.{◌≡◌, IfOk};
-ghost use Rattle.radio_session.specs.Asking.{pair_of, value_or, shown_by, wants_metadata, path_in, query_in};
-ghost use Rattle.radio_session.specs.Asking.{asks_to_feed, asks_by_get, asks_to_hear, gives_command, host_for, is_for_commands, pair_for};
+ghost use Rattle.radio_session.specs.Asking.{about_by, named_by, pair_of, value_or, shown_by, wants_metadata, path_in, query_in};
+ghost use Rattle.radio_session.specs.Asking.{asks_to_feed, asks_by_get, asks_to_hear, gives_command, host_for, visit_for, is_for_commands, pair_for};
 
 use crate::session::browsers::is_refused_pair;
 use crate::session::commands::asked_in;
@@ -11,9 +11,9 @@ use crate::{OutOfMemory, WebAnswers};
 use bytes::Bytes;
 use radio_admin::{CommandKind, read_path};
 use radio_creds::{Pair, basic};
-use radio_events::{Asked, Boxed, CommandRequest, Event, ListenRequest, SourceRequest};
+use radio_events::{Asked, Boxed, CommandRequest, Event, ListenRequest, SourceRequest, Visit};
 use radio_heads::{DEFAULT_CONTENT_TYPE, Head};
-use radio_values::Shown;
+use radio_values::{About, Shown};
 use std::alloc::Global;
 
 /// The path of what Icecast answers of the mounts that everybody may see.
@@ -53,7 +53,7 @@ pub(crate) fn asks_by_get(
     if is_for_commands(path.as_slice()) {
         gives_command(alloc, web, id, head, &path)
     } else {
-        asks_to_hear(alloc, id, head, path)
+        asks_to_hear(alloc, web, id, head, path)
     }
 }
 
@@ -66,19 +66,35 @@ fn is_for_commands(path: &[u8]) -> bool
 
 /// The event of a client who asks to hear the mount of this path. `OutOfMemory` where memory was
 /// refused.
-fn asks_to_hear(alloc: Global, id: u64, head: &Head, path: Bytes) -> Result<Event, OutOfMemory>
-    ensures { IfOk result (λ event. event ≡ asks_to_hear id head.now path) }
+fn asks_to_hear(
+    alloc: Global,
+    web: WebAnswers,
+    id: u64,
+    head: &Head,
+    path: Bytes,
+) -> Result<Event, OutOfMemory>
+    ensures { IfOk result (λ event. event ≡ asks_to_hear web id head.now path) }
 {
     let pair = pair_of(alloc, head)?;
-    let host = Bytes::copy_from_slice(alloc, host_for(path.as_slice(), head))?;
+    let visit = visit_for(alloc, web, path.as_slice(), head)?;
     let request = ListenRequest {
         id,
         mount: path,
         pair,
         wants_metadata: wants_metadata(head),
-        host,
+        visit,
     };
     Ok(Event::Listen(Boxed::new(alloc, request)?))
+}
+
+/// What a page may say of the server to a client that asks for this path. `OutOfMemory` if memory was refused.
+fn visit_for(alloc: Global, web: WebAnswers, path: &[u8], head: &Head) -> Result<Visit, OutOfMemory>
+    ensures { IfOk result (λ visit. visit ≡ visit_for web path.now head.now) }
+{
+    Ok(Visit {
+        host: Bytes::copy_from_slice(alloc, host_for(path, head))?,
+        server_start: web.server_start,
+    })
 }
 
 /// The host by which the client calls the server, where he asks for what is told in full addresses.
@@ -157,10 +173,29 @@ fn pair_of(alloc: Global, head: &Head) -> Result<Option<Pair>, OutOfMemory>
 fn shown_by(alloc: Global, head: &Head) -> Result<Shown, OutOfMemory>
     ensures { IfOk result (λ shown. shown ≡ shown_by head.now) }
 {
+    let shown = named_by(alloc, head)?;
+    Ok(shown.with_about(about_by(alloc, head)?))
+}
+
+/// Its type, name and genre, cleaned. `OutOfMemory` if memory was refused.
+fn named_by(alloc: Global, head: &Head) -> Result<Shown, OutOfMemory>
+    ensures { IfOk result (λ shown. shown ≡ named_by head.now) }
+{
     let content_type = value_or(DEFAULT_CONTENT_TYPE, "Content-Type", head);
     let name = value_or(b"", "ice-name", head);
     let genre = value_or(b"", "ice-genre", head);
     Shown::clean(alloc, content_type, name, genre)
+}
+
+/// What else it tells of its stream, cleaned. `OutOfMemory` if memory was refused.
+fn about_by(alloc: Global, head: &Head) -> Result<About, OutOfMemory>
+    ensures { IfOk result (λ about. about ≡ about_by head.now) }
+{
+    let description = value_or(b"", "ice-description", head);
+    let url = value_or(b"", "ice-url", head);
+    let bitrate = value_or(b"", "ice-bitrate", head);
+    let audio_info = value_or(b"", "ice-audio-info", head);
+    About::clean(alloc, description, url, bitrate, audio_info)
 }
 
 /// Whether a listener wants metadata between the data (ICY convention).

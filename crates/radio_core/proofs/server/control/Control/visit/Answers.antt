@@ -1,9 +1,9 @@
-use Rattle.std.proofs.Common.{◌≡◌, ℕ, List, ap, sym, ◌∙◌}
+use Rattle.std.proofs.Common.{◌≡◌, ap, sym, ◌∙◌}
 use Rattle.radio_events.specs.declared.reply.Reply.TheVariants.{Text as SaysText}
 use Rattle.radio_events.specs.declared.text.Text.{Text}
 use Rattle.radio_changes.specs.declared.change.Change.TheVariants.{Answer}
 use Rattle.radio_status.specs.Pages.{page_at}
-use Rattle.radio_house.specs.World.{World, world}
+use Rattle.radio_house.specs.World.{World}
 use Rattle.radio_core.specs.Outcomes.{says}
 use Rattle.radio_core.proofs.LentState.{lent_state}
 use Rattle.radio_core.proofs.server.control.Control.visit.Goals as goal
@@ -12,8 +12,7 @@ pub returns-in_ok-page-in-Undecided : goal.returns-in_ok-page-in-Undecided
 returns-in_ok-page-in-Undecided c =
     let w = c.args.self.now in
     let asked = c.args.asked.now in
-    let is_there : c.in_ok-page-in-Undecided.field-0 ≡ page_at w c.args.path asked.host
+    let is_there : c.in_ok-page-in-Undecided.field-0 ≡ page_at w c.args.path asked.visit
     = c.in_ok-page-in-Undecided.ensures
-    ∙ ap (λ (host : List ℕ). page_at (world c.house.result c.seats.result.now.seats) c.args.path host) c.as_slice.ensures
-    ∙ ap (λ (v : World). page_at v c.args.path asked.host) (lent_state w c.house.result c.seats.result.now.seats c.house.ensures c.seats.ensures.seats) in
+    ∙ ap (λ (v : World). page_at v c.args.path asked.visit) (lent_state w c.house.result c.seats.result.now.seats c.house.ensures c.seats.ensures.seats) in
     rw (sym c.standing.ensures ∙ c.in-Undecided.is) (ap (λ (text : Text). says (SaysText text) (Answer asked.id)) is_there)
