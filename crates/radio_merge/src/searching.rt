@@ -23,7 +23,8 @@ struct Search<'a> {
 /// Returns an order of all entries that keeps the order of each list and of each pass, with each control entry at its cuts.
 ///
 /// It takes any entry that can be taken, again and again. That is enough, since what is asked are precedences alone: an entry
-/// that can be taken now can still be taken later. `OutOfOrder` if receipts are left when no entry can be taken any more.
+/// that can be taken now can still be taken later. An own entry behind a cut waits for the control entry that was lent its mount,
+/// also if other control entries come before that. `OutOfOrder` if receipts are left when no entry can be taken any more.
 pub(crate) fn find_order(
     alloc: Global,
     family: &Family,
@@ -70,12 +71,17 @@ impl<'a> Search<'a> {
         Ok(self.takes(next))
     }
 
-    /// The place of the next item of a mount's list, if that is an own entry.
+    /// The place of the next item of a mount's list, if that is an own entry, and comes before the next control entry that was lent
+    /// the mount.
     fn next_own(&self, mount: usize) -> Option<Stamp> {
         let (taken, item) = self.positions.next(self.family, mount)?;
         item.own_entry()?;
+        let list = (mount as u64).checked_add(1)?;
+        if next_cut(self.positions.control(), list) == Some(taken as u64) {
+            return None;
+        }
         Some(Stamp {
-            list: (mount as u64).checked_add(1)?,
+            list,
             serial: (taken as u64).checked_add(1)?,
         })
     }
@@ -174,6 +180,21 @@ impl<'a> Search<'a> {
             }
         }
     }
+}
+
+/// Where the list is cut next, if it is.
+fn next_cut(lines: &[ControlLine], list: u64) -> Option<u64> {
+    for line in lines {
+        match line {
+            ControlLine::Cut {
+                list: other,
+                from,
+                ..
+            } if *other == list => return Some(*from),
+            ControlLine::Cut { .. } | ControlLine::Made(_) => {}
+        }
+    }
+    None
 }
 
 /// The first pass that has receipts left: its last taken receipt and its first one left.
