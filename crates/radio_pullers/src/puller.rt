@@ -188,8 +188,7 @@ impl<'a, R: Clock + Wait, N: Reach, S: Server + Drop> Puller<'a, R, N, S> {
         match self.begin(address) {
             Ok(mut pull) => {
                 let why = self.turns(&mut pull);
-                // No end is refused. Who has gone down already is not known any more.
-                let _ = self.end(&pull);
+                self.go_down(&pull);
                 why
             }
             Err(why) => why,
@@ -209,6 +208,18 @@ impl<'a, R: Clock + Wait, N: Reach, S: Server + Drop> Puller<'a, R, N, S> {
         match MountPull::new(self.board.alloc(), self.relay.setting(), line) {
             Ok(pull) => Ok(pull),
             Err(_) => Err(RelayEnd::OutOfMemory),
+        }
+    }
+
+    /// Has the relay of a pull that has ended go down. If memory is refused for that, it asks again, until the server ends. Who has
+    /// gone down already is not known any more.
+    fn go_down(&mut self, pull: &MountPull<SocketLine<TcpStream>>) {
+        'asking: for _ in self.rt.forever() {
+            if self.end(pull).is_ok() || self.board.is_over() {
+                return;
+            }
+            let until_ms = after(moment(self.rt), WAIT_MS);
+            let _ = waits_until(self.rt, self.board, None, until_ms);
         }
     }
 
