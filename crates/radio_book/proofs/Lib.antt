@@ -1,6 +1,6 @@
-pub mod Telling
 pub mod Newcomers
 pub mod TotalLemmas
 pub mod Threads
 pub mod OwnLemmas
 pub mod MountBookLemmas
+mod ToldLemmas

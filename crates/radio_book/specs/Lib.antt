@@ -1,9 +1,6 @@
 pub mod Receipts
-pub mod History
 pub mod Newcomers
-pub mod Books
 pub mod Totals
-pub mod Wanted
-pub mod LastMounts
 pub mod OwnSteps
 pub mod MountBooks
+pub mod ControlLists

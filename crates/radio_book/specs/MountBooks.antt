@@ -7,6 +7,7 @@ use Rattle.radio_chronicle.specs.declared.line.ControlLine.{ControlLine}
 use Rattle.radio_chronicle.specs.declared.line.ControlLine.TheVariants.{Cut, Made}
 use Rattle.radio_chronicle.specs.declared.stamp.Stamp.{Stamp}
 use Rattle.radio_core.specs.CanStep.{CanStep}
+use Rattle.radio_core.specs.Common.{common_after, common_of}
 use Rattle.radio_core.specs.ControlSteps.{control_after, control_reply}
 use Rattle.radio_core.specs.Lending.{IsTakenOut}
 use Rattle.radio_events.specs.declared.event.Event.{Event}
@@ -15,7 +16,7 @@ use Rattle.radio_house.specs.World.{World}
 use Rattle.radio_mount_part.specs.declared.part.MountPart.{MountPart}
 use Rattle.radio_mount_part.specs.declared.step.PartAnswer.{PartAnswer}
 use Rattle.radio_mount_part.specs.declared.step.PartAnswer.TheVariants.{Replied, Elsewhere as GivenBack}
-use Rattle.radio_book.specs.History.{entry_of}
+use Rattle.radio_book.specs.Receipts.{entry_of}
 use Rattle.radio_book.specs.OwnSteps.{answered_here, once, part_here, CanDrawHere}
 use Rattle.radio_book.specs.Receipts.{ReceiptOf, receipt_of}
 use Rattle.radio_book.specs.declared.own_steps.Twice.{Twice}
@@ -39,6 +40,7 @@ abbrev pub CanOwn : BookOfMount → Event → Type 0
 CanOwn book event = CanDrawHere book.part event
 
 -- the part replies so by itself, and is as it says then
+-- rule: Legal history
 pub record IsOwnStep (before : BookOfMount) (event : Event) (reply : Reply) (after : BookOfMount) : Type 0 where
   pub replied : answered_here before.part event ≡ Replied reply
   pub becomes : after ≡ record before { part = part_here before.queue before.moment before.part event }
@@ -85,6 +87,7 @@ pub record IsControlStep (books : List BookOfMount) (before : World) (event : Ev
   pub lends : AreLent books lent before whole
   pub replied : CanStep whole event → reply ≡ control_reply whole event
   pub changed : CanStep whole event → later ≡ control_after whole event
+  pub common : common_of later ≡ common_after (common_of whole) event reply
   pub takes_back : AreBack lent back later after
 
 -- nothing has happened, but that the parts may have been lent and taken back

@@ -62,6 +62,7 @@ abbrev pub present_of : List ReceiptOf → List Newcomer
 present_of stamps = present_from [] stamps
 
 -- it was let in by these calls, and has not gone by them
+-- rule: Reserved ends
 abbrev pub is_here : Newcomer → List ReceiptOf → Bool
 is_here one stamps = is_some (place_of one (present_of stamps))
 
@@ -70,5 +71,6 @@ abbrev pub room_by : Option Newcomer → Bool → List Newcomer → ℕ
 room_by None came present = if came then 2 else 1
 room_by (Some gone) came present = if is_some (place_of gone present) then 0 else 1
 
+-- rule: Reserved ends
 abbrev pub room_for : List Newcomer → Event → ℕ
 room_for present event = room_by (leaver_of event) (is_arrival event) present

@@ -7,6 +7,7 @@ use Rattle.radio_events.specs.declared.entry.Entry.{Entry}
 use Rattle.radio_chronicle.specs.History.{world_of}
 
 -- how many clients have come, and how many have left
+-- rule: History adds up
 abbrev pub clients_come : List Entry → ℕ
 clients_come history = sum_by (λ e. arrivals e.reply e.event) history
 
@@ -14,6 +15,7 @@ abbrev pub clients_left : List Entry → ℕ
 clients_left history = sum_by (λ e. departures e.reply e.event) history
 
 -- how many relays have come up, and how many have gone down
+-- rule: History adds up
 abbrev pub relays_come : List Entry → ℕ
 relays_come history = sum_by (λ e. relays_up e.reply e.event) history
 
@@ -30,9 +32,11 @@ listeners_left w [] = 0
 listeners_left w (e ∷ history) = listeners_leaving w e.reply e.event + listeners_left (world_after w e.event) history
 
 -- the seats that have ended: of listeners who are there still, and of those who have left
+-- rule: History adds up
 abbrev pub seats_ended : World → List Entry → ℕ
 seats_ended opening history = seats_lost (world_of opening history) + listeners_left opening history
 
+-- rule: History adds up
 pub record AddsUp (opening : World) (history : List Entry) : Type 0 where
   -- numbers are given one after another, from 1 on, to clients and to relays
   pub numbers : clients_come history + relays_come history ≡ (world_of opening history).house.last_id

@@ -1,59 +1,72 @@
-//! What happened, and what is owed.
+//! The control, its list, and what is owed.
 
-ghost use Rattle.std.specs.Prelude.{◌≡◌, ◌+◌, ◌≤◌, ◌<◌, ◌^◌, ◌∷◌, [], ◌++◌, ℕ, length, true, false, IsOk, IfOk, IfSome, OnOk, OnErr, vec_len, vec_capacity};
-ghost use Rattle.radio_house.specs.World.{World};
-ghost use Rattle.radio_core.specs.Step.{Represents, reply_to, world_after};
+ghost use Rattle.std.specs.Prelude.{◌≡◌, ◌+◌, ◌-◌, ◌≤◌, ◌<◌, ◌^◌, ◌∷◌, [], ◌++◌, length, true, false, IsOk, IsSome, IfOk, IfSome, OnOk, OnErr, vec_len, vec_capacity};
 ghost use Rattle.radio_events.specs.Events.{TakesNoMemory};
 ghost use Rattle.radio_chronicle.specs.Stamps.{stamp};
-ghost use Rattle.radio_book.specs.History.{entry_of};
+ghost use Rattle.radio_book.specs.ControlLists.{AreWantedThere, IsToldBy};
+ghost use Rattle.radio_book.specs.MountBooks.{lines_for, AreNoted, IsControlAsBefore, IsControlStep, IsRefused};
 ghost use Rattle.radio_book.specs.Newcomers.{is_arrival, room_for};
 
 use crate::copies::{Copies, thrice};
 use crate::debt::Debt;
 use crate::holdings::Holdings;
+use crate::lending::{apart, lend_each, note_cuts, step_over, step3_over, take_back_each};
 use crate::receipt::NOWHERE;
-use crate::{Chronicle, House, OutOfMemory, Receipt, Stamp};
-use radio_chronicle::Story;
+use crate::{Chronicle, Entry, House, MountBook, OutOfMemory, Receipt, Stamp};
+use radio_chronicle::{ControlLine, Notes};
+use radio_core::{Control, ListedPart};
 use radio_events::Event;
+use radio_values::MountName;
 use std::alloc::{AllocError, Global};
+use std::marker::PhantomData;
 use std::sync::ledger::Share;
 
-/// What happened, and what is owed: there is room for each entry that is owed. What no caller has of
-/// the ledger yet is cut into as many parts as there are passes left.
+/// The control and its list, and what is owed: there is room for two lines for each end that is owed, a cut and an entry.
+/// What no caller has of the ledger yet is cut into as many parts as there are passes left.
 #[derive(Drop)]
 pub(crate) struct Accounts<C: Chronicle, H: House> {
-    pub(crate) story: Story<C, H>,
+    pub(crate) control: Control,
+    pub(crate) lines: Notes<ControlLine>,
     debt: Debt<H>,
     spare: Share<H>,
     passes_left: u64,
-    ghost room: { debt.owed ≤ story.entries.room },
+    of: PhantomData<C>,
+    ghost keeps: { lines.keeps ≡ C.KEEPS },
+    ghost room: { debt.owed + debt.owed ≤ lines.room },
+    ghost fits: { debt.owed + debt.owed < 2 ^ 64 },
     ghost left: { spare.parts ≡ passes_left },
     ghost none: { spare.amount ≡ 0 },
+    ghost by_entries: { ∥ IsToldBy C.KEEPS H.opening lines.items control ∥₁ },
 }
 
 impl<C: Chronicle, H: House> Accounts<C, H> {
     pub(crate) fn new(
-        story: Story<C, H>,
+        alloc: Global,
+        control: Control,
         debt: Debt<H>,
         spare: Share<H>,
         passes_left: u64,
     ) -> Accounts<C, H>
+        requires opening { control ≡ H.opening }
         requires none { debt.owed ≡ 0 }
         requires spare { (spare.parts ≡ passes_left) × (spare.amount ≡ 0) }
-        ensures { result.story ≡ story }
+        ensures control { result.control ≡ control }
+        ensures lines { result.lines.items ≡ [] }
     {
         Accounts {
-            story,
+            control,
+            lines: Notes::new(alloc, C::KEEPS),
             debt,
             spare,
             passes_left,
+            of: PhantomData,
         }
     }
 
-    /// Empty holdings. `None` where all were taken.
+    /// Empty holdings. `None` if all were taken.
     pub(crate) fn holdings(&mut self, alloc: Global) -> Option<Holdings<H>>
         ensures empty { IfSome result (λ holdings. holdings.receipts.items ≡ []) }
-        ensures same { self.new.story ≡ self.old.story }
+        ensures same { (self.new.control ≡ self.old.control) × (self.new.lines ≡ self.old.lines) }
     {
         if self.passes_left == 0 {
             return None;
@@ -63,58 +76,67 @@ impl<C: Chronicle, H: House> Accounts<C, H> {
         Some(Holdings::new(alloc, share))
     }
 
-    /// One event, where nothing is stored. `OutOfMemory` where memory was refused; nothing has
-    /// changed then.
-    pub(crate) fn answer(&mut self, event: Event) -> Result<Receipt, OutOfMemory>
-        requires { C.KEEPS ≡ false }
-        ensures step { (w : World) → Represents self.old.story.core w
-            → IfOk result (λ receipt. (receipt.reply ≡ reply_to w event) × Represents self.new.story.core (world_after w event)) }
-        ensures event { IfOk result (λ receipt. (receipt.stamp ≡ stamp 0 0) × (receipt.event ≡ event)) }
-        ensures entries { self.new.story.entries ≡ self.old.story.entries }
-        ensures err { OnErr result (self.new.story.core ≡ self.old.story.core) }
-        ensures frees { TakesNoMemory event → IsOk result }
+    /// Returns the mount's part, wherever it is; `None` if the mount has none. `OutOfMemory` if memory was refused.
+    pub(crate) fn part_of(&mut self, book: MountBook<C>) -> Result<Option<ListedPart>, OutOfMemory>
+        ensures { self.new.lines ≡ self.old.lines }
     {
-        match event {
-            Event::Draw { id, room } => self.answer_draw(id, room),
-            event => self.answer_copied(event),
+        let (mount, part) = book.into_part();
+        match part {
+            Some(part) => Ok(Some(part)),
+            None => self.control.take_out(&mount),
         }
     }
 
-    /// A draw, where nothing is stored. Most of what happens is draws, and their copies are made where
-    /// they are wanted.
-    fn answer_draw(&mut self, id: u64, room: u32) -> Result<Receipt, OutOfMemory>
-        requires { C.KEEPS ≡ false }
-        ensures step { (w : World) → Represents self.old.story.core w
-            → IfOk result (λ receipt. (receipt.reply ≡ reply_to w (Event.Draw id room)) × Represents self.new.story.core (world_after w (Event.Draw id room))) }
-        ensures event { IfOk result (λ receipt. (receipt.stamp ≡ stamp 0 0) × (receipt.event ≡ (Event.Draw id room))) }
-        ensures entries { self.new.story.entries ≡ self.old.story.entries }
-        ensures err { OnErr result (self.new.story.core ≡ self.old.story.core) }
+    /// Returns the mounts where somebody sits, which relays feed on demand, over the parts that are lent. `OutOfMemory` if memory
+    /// was refused.
+    pub(crate) fn wanted(
+        &mut self,
+        lent: &mut [MountBook<C>],
+    ) -> Result<Vec<MountName>, OutOfMemory>
+        ensures legal { IfOk result (λ mounts. ∥ AreWantedThere H.opening mounts.items ∥₁) }
+        ensures lent { IsControlAsBefore lent.old self.old.control lent.new self.new.control }
+        ensures lines { self.new.lines.items ≡ self.old.lines.items }
     {
-        let reply = self.story.answer(Event::Draw { id, room })?;
-        Ok(Receipt {
-            stamp: NOWHERE,
-            event: Event::Draw { id, room },
-            reply,
-        })
+        lend_each(&mut self.control, lent);
+        let wanted = self.control.wanted();
+        take_back_each(&mut self.control, lent);
+        wanted
     }
 
-    /// Any event, of which a copy is made, where nothing is stored.
-    fn answer_copied(&mut self, event: Event) -> Result<Receipt, OutOfMemory>
+    /// Its lines.
+    pub(crate) fn into_lines(self) -> Vec<ControlLine>
+        ensures { result.items ≡ self.lines.items }
+    {
+        let Accounts {
+            control,
+            lines,
+            debt,
+            spare,
+            ..
+        } = self;
+        drop(control);
+        drop(debt);
+        drop(spare);
+        lines.into_items()
+    }
+
+    /// One event over the parts that are lent, if nothing is stored. `OutOfMemory` if memory was refused; nothing has changed
+    /// then.
+    pub(crate) fn answer(
+        &mut self,
+        lent: &mut [MountBook<C>],
+        event: Event,
+    ) -> Result<Receipt, OutOfMemory>
         requires { C.KEEPS ≡ false }
-        ensures step { (w : World) → Represents self.old.story.core w
-            → IfOk result (λ receipt. (receipt.reply ≡ reply_to w event) × Represents self.new.story.core (world_after w event)) }
-        ensures event { IfOk result (λ receipt. (receipt.stamp ≡ stamp 0 0) × (receipt.event ≡ event)) }
-        ensures entries { self.new.story.entries ≡ self.old.story.entries }
-        ensures err { OnErr result (self.new.story.core ≡ self.old.story.core) }
+        ensures event { IfOk result (λ receipt. (receipt.event ≡ event) × (receipt.stamp ≡ stamp 0 0)) }
+        ensures step { IfOk result (λ receipt. IsControlStep lent.old self.old.control event receipt.reply lent.new self.new.control) }
+        ensures lines { self.new.lines.items ≡ self.old.lines.items }
+        ensures err { OnErr result (IsRefused lent.old self.old.control lent.new self.new.control) }
         ensures frees { TakesNoMemory event → IsOk result }
     {
         match event.again() {
-            Ok(told) => match self.story.answer(event) {
-                Ok(reply) => Ok(Receipt {
-                    stamp: NOWHERE,
-                    event: told,
-                    reply,
-                }),
+            Ok(told) => match step_over(&mut self.control, lent, event) {
+                Ok(reply) => Ok(Receipt::new(NOWHERE, told, reply)),
                 Err(refused) => {
                     drop(told);
                     Err(refused)
@@ -127,25 +149,25 @@ impl<C: Chronicle, H: House> Accounts<C, H> {
         }
     }
 
-    /// One event, which is stored. `OutOfMemory` where memory was refused; nothing has changed then.
+    /// One event over the parts that are lent, which is stored. `OutOfMemory` if memory was refused; nothing has changed then.
     pub(crate) fn note(
         &mut self,
         holdings: &mut Holdings<H>,
+        lent: &mut [MountBook<C>],
         event: Event,
     ) -> Result<Receipt, OutOfMemory>
         requires { C.KEEPS ≡ true }
-        ensures step { (w : World) → Represents self.old.story.core w
-            → IfOk result (λ receipt. (receipt.reply ≡ reply_to w event) × Represents self.new.story.core (world_after w event)) }
         ensures event { IfOk result (λ receipt. receipt.event ≡ event) }
-        ensures place { IfOk result (λ receipt. receipt.stamp ≡ stamp 0 (length self.new.story.entries.items)) }
-        ensures history { IfOk result (λ receipt. self.new.story.entries.items ≡ self.old.story.entries.items ++ entry_of receipt ∷ []) }
+        ensures step { IfOk result (λ receipt. IsControlStep lent.old self.old.control event receipt.reply lent.new self.new.control) }
+        ensures place { IfOk result (λ receipt. receipt.stamp ≡ stamp 0 (length self.new.lines.items)) }
+        ensures lines { IfOk result (λ receipt. AreNoted self.old.lines.items lent.new receipt self.new.lines.items) }
         ensures receipts { IfOk result (λ receipt. holdings.new.receipts.items ≡ holdings.old.receipts.items ++ receipt ∷ []) }
-        ensures err { OnErr result ((self.new.story.core ≡ self.old.story.core) × (self.new.story.entries.items ≡ self.old.story.entries.items)
-            × (holdings.new.receipts.items ≡ holdings.old.receipts.items)) }
-        ensures frees { TakesNoMemory event → room_for holdings.old.present.items event ≡ 0 → IsOk result }
+        ensures err { OnErr result (IsRefused lent.old self.old.control lent.new self.new.control) }
+        ensures err_lines { OnErr result ((self.new.lines.items ≡ self.old.lines.items) × (holdings.new.receipts.items ≡ holdings.old.receipts.items)) }
+        ensures frees { TakesNoMemory event → room_for holdings.old.present.items event ≡ 0 → length lent.old ≤ 1 → IsOk result }
     {
-        match self.prepare(holdings, &event) {
-            Ok(copies) => self.note_in_room(holdings, event, copies),
+        match self.prepare(holdings, lent.len(), &event) {
+            Ok(copies) => self.note_in_room(holdings, lent, event, copies),
             Err(refused) => {
                 drop(event);
                 Err(refused)
@@ -153,89 +175,113 @@ impl<C: Chronicle, H: House> Accounts<C, H> {
         }
     }
 
-    /// Makes room for an event and for the ends that are owed then, and copies of the event.
-    /// `OutOfMemory` where memory was refused.
-    fn prepare(&mut self, holdings: &mut Holdings<H>, event: &Event) -> Result<Copies, OutOfMemory>
+    /// Makes room for an event that is lent so many parts, and for the ends that are owed then, and copies of the event.
+    /// `OutOfMemory` if memory was refused.
+    fn prepare(
+        &mut self,
+        holdings: &mut Holdings<H>,
+        lent: usize,
+        event: &Event,
+    ) -> Result<Copies, OutOfMemory>
         ensures copies { IfOk result (λ copies. (copies.noted ≡ event.now) × (copies.held ≡ event.now) × (copies.told ≡ event.now)) }
-        ensures entries { OnOk result ((0 < self.new.story.entries.room)
-            × (self.new.debt.owed + room_for holdings.new.present.items event.now ≤ self.new.story.entries.room)) }
-        ensures most { OnOk result (self.new.story.entries.room < 2 ^ 64) }
+        ensures some { OnOk result (0 < self.new.debt.owed + room_for holdings.new.present.items event.now) }
+        ensures lines { OnOk result (lines_for self.new.debt.owed (room_for holdings.new.present.items event.now) lent ≤ self.new.lines.room) }
+        ensures most { OnOk result (self.new.lines.room < 2 ^ 64) }
         ensures receipts { OnOk result
             (vec_len holdings.new.receipts + vec_len holdings.new.present + room_for holdings.new.present.items event.now
             ≤ vec_capacity holdings.new.receipts) }
         ensures present { OnOk result (is_arrival event.now ≡ true → vec_len holdings.new.present < vec_capacity holdings.new.present) }
-        ensures frees { TakesNoMemory event.now → room_for holdings.old.present.items event.now ≡ 0 → IsOk result }
-        ensures same { (self.new.story.core ≡ self.old.story.core) × (self.new.story.entries.items ≡ self.old.story.entries.items) }
+        ensures frees { TakesNoMemory event.now → room_for holdings.old.present.items event.now ≡ 0 → lent ≤ 1 → IsOk result }
+        ensures same { (self.new.control ≡ self.old.control) × (self.new.lines.items ≡ self.old.lines.items) }
         ensures held { (holdings.new.receipts.items ≡ holdings.old.receipts.items) × (holdings.new.present.items ≡ holdings.old.present.items) }
     {
-        self.make_room(holdings, event)?;
+        self.make_room(holdings, lent, event)?;
         thrice(event)
     }
 
-    /// Makes room for an event and for the ends that are owed then. `OutOfMemory` where memory was
+    /// Makes room for an event that is lent so many parts, and for the ends that are owed then. `OutOfMemory` if memory was
     /// refused.
-    fn make_room(&mut self, holdings: &mut Holdings<H>, event: &Event) -> Result<(), OutOfMemory>
-        ensures entries { OnOk result ((0 < self.new.story.entries.room)
-            × (self.new.debt.owed + room_for holdings.new.present.items event.now ≤ self.new.story.entries.room)) }
-        ensures most { OnOk result (self.new.story.entries.room < 2 ^ 64) }
+    fn make_room(
+        &mut self,
+        holdings: &mut Holdings<H>,
+        lent: usize,
+        event: &Event,
+    ) -> Result<(), OutOfMemory>
+        ensures some { OnOk result (0 < self.new.debt.owed + room_for holdings.new.present.items event.now) }
+        ensures lines { OnOk result (lines_for self.new.debt.owed (room_for holdings.new.present.items event.now) lent ≤ self.new.lines.room) }
+        ensures most { OnOk result (self.new.lines.room < 2 ^ 64) }
         ensures receipts { OnOk result
             (vec_len holdings.new.receipts + vec_len holdings.new.present + room_for holdings.new.present.items event.now
             ≤ vec_capacity holdings.new.receipts) }
         ensures present { OnOk result (is_arrival event.now ≡ true → vec_len holdings.new.present < vec_capacity holdings.new.present) }
-        ensures frees { room_for holdings.old.present.items event.now ≡ 0 → IsOk result }
-        ensures same { (self.new.story.core ≡ self.old.story.core) × (self.new.story.entries.items ≡ self.old.story.entries.items) }
+        ensures frees { room_for holdings.old.present.items event.now ≡ 0 → lent ≤ 1 → IsOk result }
+        ensures same { (self.new.control ≡ self.old.control) × (self.new.lines.items ≡ self.old.lines.items) }
         ensures held { (holdings.new.receipts.items ≡ holdings.old.receipts.items) × (holdings.new.present.items ≡ holdings.old.present.items) }
     {
         let more = holdings.room_for(event);
         holdings.audit(&mut self.debt);
-        let Some(entries) = self.debt.owed.checked_add(more) else {
+        let Some(lines) = lines_for(self.debt.owed, more, lent) else {
             return Err(AllocError);
         };
-        self.story.entries.reserve(entries)?;
+        self.lines.reserve(lines)?;
         holdings.reserve(more)
     }
 
-    /// One event, which is stored, and for which there is room. `OutOfMemory` where memory was
-    /// refused; nothing has changed then.
+    /// One event over the parts that are lent, which is stored, and for which there is room.
     fn note_in_room(
         &mut self,
         holdings: &mut Holdings<H>,
+        lent: &mut [MountBook<C>],
         event: Event,
         copies: Copies,
     ) -> Result<Receipt, OutOfMemory>
         requires keeps { C.KEEPS ≡ true }
         requires copies { (copies.noted ≡ event) × (copies.held ≡ event) × (copies.told ≡ event) }
-        requires entries { (0 < self.old.story.entries.room)
-            × (self.old.debt.owed + room_for holdings.old.present.items event ≤ self.old.story.entries.room) }
-        requires most { self.old.story.entries.room < 2 ^ 64 }
+        requires some { 0 < self.old.debt.owed + room_for holdings.old.present.items event }
+        requires lines { lines_for self.old.debt.owed (room_for holdings.old.present.items event) (length lent.old) ≤ self.old.lines.room }
+        requires most { self.old.lines.room < 2 ^ 64 }
         requires receipts { vec_len holdings.old.receipts + vec_len holdings.old.present + room_for holdings.old.present.items event
             ≤ vec_capacity holdings.old.receipts }
         requires present { is_arrival event ≡ true → vec_len holdings.old.present < vec_capacity holdings.old.present }
-        ensures step { (w : World) → Represents self.old.story.core w
-            → IfOk result (λ receipt. (receipt.reply ≡ reply_to w event) × Represents self.new.story.core (world_after w event)) }
         ensures event { IfOk result (λ receipt. receipt.event ≡ event) }
-        ensures place { IfOk result (λ receipt. receipt.stamp ≡ stamp 0 (length self.new.story.entries.items)) }
-        ensures history { IfOk result (λ receipt. self.new.story.entries.items ≡ self.old.story.entries.items ++ entry_of receipt ∷ []) }
+        ensures step { IfOk result (λ receipt. IsControlStep lent.old self.old.control event receipt.reply lent.new self.new.control) }
+        ensures place { IfOk result (λ receipt. receipt.stamp ≡ stamp 0 (length self.new.lines.items)) }
+        ensures lines { IfOk result (λ receipt. AreNoted self.old.lines.items lent.new receipt self.new.lines.items) }
         ensures receipts { IfOk result (λ receipt. holdings.new.receipts.items ≡ holdings.old.receipts.items ++ receipt ∷ []) }
-        ensures err { OnErr result ((self.new.story.core ≡ self.old.story.core) × (self.new.story.entries ≡ self.old.story.entries)
-            × (holdings.new.receipts.items ≡ holdings.old.receipts.items)) }
+        ensures err { OnErr result (IsControlAsBefore lent.old self.old.control lent.new self.new.control) }
+        ensures err_lines { OnErr result ((self.new.lines.items ≡ self.old.lines.items) × (holdings.new.receipts.items ≡ holdings.old.receipts.items)) }
         ensures frees { TakesNoMemory event → IsOk result }
     {
-        let Copies { noted, held, told } = copies;
-        match self.story.record(event, noted) {
-            Ok((held_reply, reply)) => {
+        match step3_over(&mut self.control, lent, event) {
+            Ok(replies) => {
+                let Copies { noted, held, told } = copies;
+                let (first, second, third) = apart(replies);
+                note_cuts(&mut self.lines, lent);
+                self.lines.note(ControlLine::Made(Entry {
+                    event: noted,
+                    reply: first,
+                }));
                 let stamp = Stamp {
                     list: 0,
-                    serial: self.story.entries.len() as u64,
+                    serial: self.lines.len() as u64,
                 };
-                holdings.note(&mut self.debt, Receipt::new(stamp, held, held_reply));
-                Ok(Receipt::new(stamp, told, reply))
+                holdings.note(&mut self.debt, Receipt::new(stamp, held, second));
+                Ok(Receipt::new(stamp, told, third))
             }
             Err(refused) => {
-                drop(held);
-                drop(told);
+                drop(copies);
                 Err(refused)
             }
         }
     }
+}
+
+/// Returns for how many lines there has to be room before an entry that is lent so many parts: for it and its cuts, and then for
+/// two lines for each end that is owed, of which so many more may be owed.
+fn lines_for(owed: usize, more: usize, lent: usize) -> Option<usize>
+    ensures value { IfSome result (λ lines. lines ≡ lines_for owed more lent) }
+    ensures some { more ≡ 0 → lent ≤ 1 → owed + owed < 2 ^ 64 → IsSome result }
+{
+    let ends = owed.checked_add(more)?;
+    ends.checked_add(ends)?.checked_add(lent.saturating_sub(1))
 }

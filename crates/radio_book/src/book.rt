@@ -1,36 +1,34 @@
-//! A core whose events are noted.
+//! The book of all that is not one mount's.
 
-ghost use Rattle.std.specs.Prelude.{◌≡◌, ◌<◌, ◌^◌, ◌∷◌, [], ◌++◌, ℕ, length, true, false, IsOk, IfOk, IfSome, OnErr};
-ghost use Rattle.radio_house.specs.World.{World, opening};
-ghost use Rattle.radio_core.specs.Step.{Represents, reply_to, world_after};
+ghost use Rattle.std.specs.Prelude.{◌≡◌, ◌≤◌, ◌^◌, ◌∷◌, [], ◌++◌, length, map, true, false, Some, IsOk, IfOk, IfSome, OnErr};
+ghost use Rattle.radio_house.specs.World.{opening};
 ghost use Rattle.radio_events.specs.Events.{TakesNoMemory};
-ghost use Rattle.radio_chronicle.specs.History.{IsRun, IsTold};
 ghost use Rattle.radio_chronicle.specs.Stamps.{stamp};
-ghost use Rattle.radio_book.specs.History.{IsLegal, entry_of};
-ghost use Rattle.radio_book.specs.Wanted.{AreWanted};
-ghost use Rattle.radio_book.specs.LastMounts.{WasAt};
 ghost use Rattle.radio_seats_rows.specs.Seats.{last_mount_of};
-ghost use Rattle.radio_facts.specs.Wanted.{wanted};
+ghost use Rattle.radio_book.specs.ControlLists.{AreWantedThere, IsControlReply, IsToldBy, WasThere};
+ghost use Rattle.radio_book.specs.MountBooks.{mount_and_list, AreNoted, IsControlAsBefore, IsControlStep, IsRefused};
 ghost use Rattle.radio_book.specs.Newcomers.{is_here, leaver_of};
 ghost use Rattle.radio_book.specs.declared.newcomer.Newcomer.{Newcomer};
 
 use crate::accounts::Accounts;
 use crate::debt::Debt;
-use crate::{Chronicle, Entry, House, Kept, OutOfMemory, Pass, Receipt};
+use crate::{Chronicle, House, Kept, MountBook, OutOfMemory, Pass, Receipt};
 use radio_access::Lists;
-use radio_chronicle::Story;
-use radio_core::Core;
+use radio_chronicle::ControlLine;
+use radio_core::{Control, ListedPart};
 use radio_events::Event;
+use radio_house::Standing;
+use radio_mount_part::MountItem;
 use radio_settings_values::Settings;
 use radio_values::MountName;
-use std::alloc::Global;
+use std::alloc::{AllocError, Global};
 use std::marker::Model;
 use std::sync::ledger::Blank;
 
 /// How many passes a book gives.
 pub const PASSES: u64 = 1 << 32;
 
-/// A core, and the entries of what happened to it. Contracts see the core and the entries that are stored.
+/// The control, to which mounts' parts are lent, and its list. Contracts see the control and the lines that are stored.
 pub struct Book<C: Chronicle, H: House> {
     alloc: Global,
     accounts: Accounts<C, H>,
@@ -45,14 +43,14 @@ impl<C: Chronicle, H: House> Drop for Book<C, H> {
 
 impl<C: Chronicle, H: House> Model for Book<C, H> {
     ghost use Rattle.std.specs.Coded.{codes};
-    ghost use Rattle.radio_core.specs.contracts.server.Core as the_core;
-    ghost use Rattle.radio_book.specs.Books.{BookState};
+    ghost use Rattle.radio_core.specs.contracts.server.control.Control as the_control;
+    ghost use Rattle.radio_book.specs.MountBooks.{ControlState};
 
-    ghost Value = { BookState };
+    ghost Value = { ControlState };
 
-    ghost coded = { Prim.hlevel (codes, the_core.the_row.coded) };
+    ghost coded = { Prim.hlevel (codes, the_control.the_row.coded) };
 
-    ghost view = { λ b. record { core = b.accounts.story.core; history = b.accounts.story.entries.items } };
+    ghost view = { λ b. record { control = b.accounts.control; lines = b.accounts.lines.items } };
 }
 
 impl<C: Chronicle, H: House> Book<C, H> {
@@ -60,15 +58,17 @@ impl<C: Chronicle, H: House> Book<C, H> {
     pub fn new(alloc: Global, settings: Settings, lists: Lists, blank: Blank) -> Book<C, H>
         requires opening { H.opening ≡ opening settings lists }
         requires ledger { (blank.name ≡ H.name) × (blank.parts ≡ H.parts) × (blank.parts ≡ 2 ^ 32) }
-        // its core stands for the opening state of these settings and lists
-        ensures core { Represents result.core (opening settings lists) }
-        ensures history { result.history ≡ [] }
+        ensures control { result.control ≡ opening settings lists }
+        ensures lines { result.lines ≡ [] }
     {
         let (book, spare) = blank.open::<H>();
-        let story = Story::new(alloc, Core::new(alloc, settings, lists));
+        let mut control = Control::new(alloc, settings, lists);
+        if C::KEEPS {
+            control.keep_lists();
+        }
         Book {
             alloc,
-            accounts: Accounts::new(story, Debt::new(book), spare, PASSES),
+            accounts: Accounts::new(alloc, control, Debt::new(book), spare, PASSES),
         }
     }
 
@@ -81,91 +81,130 @@ impl<C: Chronicle, H: House> Book<C, H> {
         Some(Pass::new(self.alloc, holdings))
     }
 
-    /// One event, noted with its reply where entries are stored; its receipt.
+    /// One event over the parts that are lent: each is put in the place of that which the control has, and taken out again. If
+    /// entries are stored, a cut of each list and the entry are. Returns the receipt.
     ///
-    /// `OutOfMemory` where memory was refused; book and pass are unchanged then. Where entries are
-    /// stored, the end of a client or a relay that was let in through this pass, and has not gone
-    /// through it, is never refused: its entry was reserved when it was let in. Where they are not, no
-    /// end is ever refused, nor the clock.
-    pub fn apply(&mut self, pass: &mut Pass<C, H>, event: Event) -> Result<Receipt, OutOfMemory>
-        // whatever state the core stands for, the reply is that of a step from it, and the core stands for the state after it
-        ensures step { (w : World) → Represents self.old.core w
-            → IfOk result (λ receipt. (receipt.reply ≡ reply_to w event) × Represents self.new.core (world_after w event)) }
+    /// `OutOfMemory` if memory was refused; the control and the parts are as before then, but that who had lagged out of a part
+    /// has lost its seat, and the list and the pass are unchanged.
+    // rule: Legal history; Receipts; Reserved ends
+    pub fn apply(
+        &mut self,
+        pass: &mut Pass<C, H>,
+        lent: &mut [MountBook<C>],
+        event: Event,
+    ) -> Result<Receipt, OutOfMemory>
         ensures event { IfOk result (λ receipt. receipt.event ≡ event) }
-        // whatever was called before, there is a history that is a run from the opening state, and
-        // the reply is that of a step after it; where entries are stored, the receipt's place is
-        // the one behind it
-        ensures legal { IfOk result (λ receipt. ∥ IsLegal C.KEEPS H.opening receipt ∥₁) }
-        // where entries are stored, the history grows by this event with this reply, at the receipt's place in the control's list
-        ensures history { C.KEEPS ≡ true → IfOk result (λ receipt. self.new.history ≡ self.old.history ++ entry_of receipt ∷ []) }
-        ensures place { C.KEEPS ≡ true → IfOk result (λ receipt. receipt.stamp ≡ stamp 0 (length self.new.history)) }
-        // and the pass by the receipt
+        // the reply is the control's over what it is lent
+        ensures step { IfOk result (λ receipt. IsControlStep lent.old self.old.control event receipt.reply lent.new self.new.control) }
+        // it is that of a control of which its list tells, whatever was called before
+        ensures legal { IfOk result (λ receipt. ∥ IsControlReply H.opening event receipt.reply ∥₁) }
+        // the same books in the same order
+        ensures same { map mount_and_list lent.new ≡ map mount_and_list lent.old }
+        // if entries are stored, the list grows by a cut for each book and the entry, at whose place the receipt is
+        ensures lines { C.KEEPS ≡ true → IfOk result (λ receipt. AreNoted self.old.lines lent.new receipt self.new.lines) }
+        ensures place { C.KEEPS ≡ true → IfOk result (λ receipt. receipt.stamp ≡ stamp 0 (length self.new.lines)) }
         ensures pass { C.KEEPS ≡ true → IfOk result (λ receipt. pass.new ≡ pass.old ++ receipt ∷ []) }
-        // where they are not, nothing is noted
-        ensures unkept { C.KEEPS ≡ false → (self.new.history ≡ self.old.history) × (pass.new ≡ pass.old) × IfOk result (λ receipt. receipt.stamp ≡ stamp 0 0) }
-        ensures err { OnErr result ((self.new ≡ self.old) × (pass.new ≡ pass.old)) }
-        // the end of who was let in by the receipts of this pass, and has not gone by them, is never refused
-        ensures leave { (one : Newcomer) → leaver_of event ≡ Some one → is_here one pass.old ≡ true → IsOk result }
-        // where nothing is stored, the end of a session and of a connection, and the clock, are never refused
+        // if they are not, nothing is noted
+        ensures unkept { C.KEEPS ≡ false → (self.new.lines ≡ self.old.lines) × (pass.new ≡ pass.old) × IfOk result (λ receipt. receipt.stamp ≡ stamp 0 0) }
+        ensures err { OnErr result (IsRefused lent.old self.old.control lent.new self.new.control) }
+        ensures err_lines { OnErr result ((self.new.lines ≡ self.old.lines) × (pass.new ≡ pass.old)) }
+        // the end of who was let in by the receipts of this pass, and has not gone by them, is never refused if it is lent one part
+        ensures leave { (one : Newcomer) → leaver_of event ≡ Some one → is_here one pass.old ≡ true → length lent.old ≤ 1 → IsOk result }
+        // if nothing is stored, the end of a session and of a connection, and the clock, are never refused
         ensures frees { C.KEEPS ≡ false → TakesNoMemory event → IsOk result }
     {
         if C::KEEPS {
-            self.accounts.note(&mut pass.holdings, event)
+            self.accounts.note(&mut pass.holdings, lent, event)
         } else {
-            self.accounts.answer(event)
+            self.accounts.answer(lent, event)
+        }
+    }
+}
+
+impl<C: Chronicle, H: House> Book<C, H> {
+    /// Returns the mounts where somebody sits, which relays feed on demand, in the order of their bytes, over the parts that are
+    /// lent. It makes no entry. `OutOfMemory` if memory was refused.
+    // rule: Pulls on demand
+    pub fn wanted(&mut self, lent: &mut [MountBook<C>]) -> Result<Vec<MountName>, OutOfMemory>
+        ensures legal { IfOk result (λ mounts. ∥ AreWantedThere H.opening mounts.items ∥₁) }
+        // the same books in the same order
+        ensures same { map mount_and_list lent.new ≡ map mount_and_list lent.old }
+        ensures lent { IsControlAsBefore lent.old self.old.control lent.new self.new.control }
+        ensures lines { self.new.lines ≡ self.old.lines }
+    {
+        self.accounts.wanted(lent)
+    }
+
+    /// Returns the mount where the listener of this number sits, or sat last, if there is one. It takes no memory.
+    pub fn last_mount(&self, id: u64) -> Option<MountName>
+        ensures control { result ≡ last_mount_of self.now.control.seats id }
+        // as a control knows of which its list tells, whatever was called before
+        ensures legal { ∥ WasThere H.opening id result ∥₁ }
+    {
+        self.accounts.control.last_mount(id).copied()
+    }
+
+    /// Returns whether the client or relay of this number feeds a mount. It takes no memory.
+    pub fn feeds(&self, id: u64) -> bool {
+        self.fed_mount(id).is_some()
+    }
+
+    /// Returns the mount that the client or relay of this number feeds, or where it sits, or sat last, if there is one. It takes no
+    /// memory.
+    pub fn place_of(&self, id: u64) -> Option<MountName> {
+        match self.fed_mount(id) {
+            Some(mount) => Some(mount),
+            None => self.last_mount(id),
         }
     }
 
-    /// The mounts where somebody sits, which relays feed on demand, in the order of their bytes. It
-    /// makes no entry. `OutOfMemory` where memory was refused.
-    pub fn wanted(&self) -> Result<Vec<MountName>, OutOfMemory>
-        // they are those of whatever state the core stands for
-        ensures step { (w : World) → Represents self.now.core w → IfOk result (λ mounts. mounts.items ≡ wanted w) }
-        // whatever was called, there is a history that is a run from the opening state, and they are those of the state after it
-        ensures legal { IfOk result (λ mounts. ∥ AreWanted H.opening mounts.items ∥₁) }
-    {
-        let story = &self.accounts.story;
-        story.core.wanted()
+    fn fed_mount(&self, id: u64) -> Option<MountName> {
+        match self.accounts.control.standing(id) {
+            Standing::Feeds(mount) => Some(mount),
+            Standing::Unknown
+            | Standing::Undecided(_)
+            | Standing::Sits
+            | Standing::Answered
+            | Standing::Finished(_) => None,
+        }
     }
 
-    /// The mount where the listener of this number sits, or sat last, if he is one. It makes no entry,
-    /// and takes no memory.
-    pub fn last_mount(&self, id: u64) -> Option<MountName>
-        // it is that of whatever state the core stands for
-        ensures step { (w : World) → Represents self.now.core w → result ≡ last_mount_of w.seats id }
-        // whatever was called, there is a history that is a run from the opening state, and it is that of the state after it
-        ensures legal { ∥ WasAt H.opening id result ∥₁ }
-    {
-        let story = &self.accounts.story;
-        story.core.last_mount(id).copied()
-    }
-
-    /// Whatever was called, there is a history that is a run from the opening state, and the core
-    /// stands for the state after it; where entries are stored, they are that history.
+    /// Whatever was called, there are entries by which what all mounts have in common has become what it is; if entries are
+    /// stored, they are those of the list.
+    // rule: Legal history
     pub fn is_told(&self)
-        ensures { ∥ IsTold C.KEEPS H.opening self.now.history self.now.core ∥₁ }
+        ensures { ∥ IsToldBy C.KEEPS H.opening self.now.lines self.now.control ∥₁ }
     {
-        let _story = &self.accounts.story;
+        let _accounts = &self.accounts;
     }
 }
 
 impl<H: House> Book<Kept, H> {
-    /// Its history, when nobody calls any more, which is a run from the opening state.
-    pub fn into_history(self) -> Vec<Entry>
-        ensures history { result.items ≡ self.history }
-        ensures run { ∥ IsRun H.opening result.items ∥₁ }
+    /// Returns the items of the mount's list, when nobody calls any more; none if nothing has happened at the mount. `OutOfMemory`
+    /// if memory was refused, now or for the list.
+    pub fn items_of(&mut self, book: MountBook<Kept>) -> Result<Vec<MountItem>, OutOfMemory>
+        ensures same { self.new.lines ≡ self.old.lines }
+    {
+        let part = self.accounts.part_of(book)?;
+        items_in(self.alloc, part)
+    }
+
+    /// Returns its lines, when nobody calls any more.
+    pub fn into_lines(self) -> Vec<ControlLine>
+        ensures { result.items ≡ self.lines }
     {
         let Book { alloc: _, accounts } = self;
-        entries_of(accounts.story)
+        accounts.into_lines()
     }
 }
 
-/// The entries of a story that is over, which are a run from the opening state.
-fn entries_of<H: House>(story: Story<Kept, H>) -> Vec<Entry>
-    ensures history { result.items ≡ story.entries.items }
-    ensures run { ∥ IsRun H.opening result.items ∥₁ }
-{
-    let Story { core, entries, .. } = story;
-    drop(core);
-    entries.into_items()
+/// Returns the items of the part's list; none if there is no part.
+fn items_in(alloc: Global, part: Option<ListedPart>) -> Result<Vec<MountItem>, OutOfMemory> {
+    let Some(part) = part else {
+        return Ok(Vec::new(alloc));
+    };
+    match part.into_items() {
+        Some(kept) => Ok(kept.items),
+        None => Err(AllocError),
+    }
 }

@@ -11,6 +11,7 @@ ghost use Rattle.radio_book.specs.Totals.{AddsUp};
 use radio_core::{clients_and_seats_add_up, events_are_of_their_clients};
 
 /// The law of totals, for whoever has a history, as the settling of all passes gives one.
+// rule: History adds up
 pub fn histories_add_up()
     // in every run from an opening state, the numbers that were given are those of the clients and of
     // the relays that have come; of each the ones are there that have not gone, and the seats that

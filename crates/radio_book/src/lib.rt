@@ -1,17 +1,16 @@
-//! One legal history: a core with the entries of what happened to it, and receipts of them for those who called.
+//! What happened to the control and to each mount's part, and receipts of it for those who called.
 //!
-//! - [`Book`]: a core and its entries; [`Book::apply`] is one event, noted.
+//! - [`Book`]: the control and its list; [`Book::apply`] is one event over the mounts' parts that are lent. Read it first.
+//! - [`MountBook`]: a mount's part; [`MountBook::apply`] is what it does by itself.
 //! - [`Chronicle`]: whether entries are stored, [`Kept`] or [`Unkept`]; a [`Stamp`] is the place of one.
-//! - [`Pass`]: what a caller has: the receipts of his calls, and the right to see off whom he let in,
-//!   a client or a relay ([`Newcomer`]).
+//! - [`Pass`]: what a caller has: the receipts of its calls, and the right to end whom it let in, a client or a relay
+//!   ([`Newcomer`]).
 //! - [`histories_add_up`]: what a history counts up to.
-//! - [`House`]: which house a book and its passes belong to; it stands in contracts alone.
+//! - [`House`]: which server a book and its passes belong to; only contracts speak of it.
 #![tactic(auto)]
 
 mod accounts;
 mod book;
-mod control_accounts;
-mod control_book;
 mod copies;
 mod debt;
 mod holdings;
@@ -22,9 +21,9 @@ mod newcomer;
 mod own_steps;
 mod pass;
 mod receipt;
+mod stand_ins;
 
 pub use book::{Book, PASSES};
-pub use control_book::ControlBook;
 pub use laws::histories_add_up;
 pub use mount_book::{MountBook, Own};
 pub use newcomer::Newcomer;
@@ -33,5 +32,5 @@ pub use radio_chronicle::{Chronicle, ControlLine, House, Kept, Stamp, Unkept};
 pub use radio_events::Entry;
 pub use receipt::Receipt;
 
-/// What a call answers where memory was refused. Nothing has changed then.
+/// The error of a call if memory was refused.
 pub type OutOfMemory = std::alloc::AllocError;

@@ -9,6 +9,7 @@ use crate::copies::twice;
 use crate::holdings::Holdings;
 use crate::own_steps::{Twice, is_own, items_here, step_here, step_twice_here};
 use crate::receipt::NOWHERE;
+use crate::stand_ins::take_out;
 use crate::{Chronicle, House, OutOfMemory, Pass, Receipt, Stamp};
 use radio_chronicle::ControlLine;
 use radio_core::{Control, ListedPart, PartAnswer};
@@ -36,6 +37,8 @@ pub struct MountBook<C: Chronicle> {
     queue: u64,
     /// How many items its list had when the part was lent last.
     items: u64,
+    /// What the control had in the place of the part that is lent: it goes back there, so that nothing has to be made anew.
+    stand_in: Option<ListedPart>,
     of: PhantomData<C>,
 }
 
@@ -49,9 +52,11 @@ impl<C: Chronicle> Drop for MountBook<C> {
             moment: _,
             queue: _,
             items: _,
+            stand_in,
             of: _,
         } = self;
         drop(part);
+        drop(stand_in);
     }
 }
 
@@ -77,6 +82,7 @@ impl<C: Chronicle> MountBook<C> {
             moment: 0,
             queue,
             items: 0,
+            stand_in: None,
             of: PhantomData,
         }
     }
@@ -109,6 +115,7 @@ impl<C: Chronicle> MountBook<C> {
 
     /// Does what the event does if the mount's part can by itself: a draw of a listener that is attached to it, a block or a
     /// title of the source that feeds it. `OutOfMemory` if memory was refused; nothing has changed then.
+    // rule: Legal history; Receipts
     pub fn apply<H: House>(
         &mut self,
         pass: &mut Pass<C, H>,
@@ -142,7 +149,7 @@ impl<C: Chronicle> MountBook<C> {
         };
         self.items = part.item_count();
         match control.exchange(part) {
-            Ok(there) => drop(there),
+            Ok(there) => self.stand_in = Some(there),
             Err(part) => self.part = Some(part),
         }
     }
@@ -152,12 +159,12 @@ impl<C: Chronicle> MountBook<C> {
         ensures { IsBack self.old self.new control.old control.new }
     {
         self.moment = control.time();
+        let stand_in = self.stand_in.take();
         if self.part.is_some() {
+            drop(stand_in);
             return;
         }
-        if let Ok(Some(part)) = control.take_out(&self.mount) {
-            self.part = Some(part);
-        }
+        self.part = take_out(control, &self.mount, stand_in);
     }
 
     /// Returns the line of what a control entry has made in the list.
@@ -187,8 +194,10 @@ impl<C: Chronicle> MountBook<C> {
             moment: _,
             queue: _,
             items: _,
+            stand_in,
             of: _,
         } = self;
+        drop(stand_in);
         (mount, part)
     }
 

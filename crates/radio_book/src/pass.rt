@@ -1,6 +1,7 @@
 //! What a caller of a book has.
 
 ghost use Rattle.std.specs.Prelude.{◌≡◌, []};
+ghost use Rattle.radio_book.specs.Receipts.{has_fed};
 
 use crate::holdings::Holdings;
 use crate::{Chronicle, House, Receipt};
@@ -54,6 +55,14 @@ impl<C: Chronicle, H: House> Pass<C, H> {
         ensures { result.now ≡ self.now }
     {
         self.holdings.receipts.as_slice()
+    }
+
+    /// Returns whether the client has fed a mount by a call through this pass; `false` if nothing is stored.
+    pub fn has_fed(&self, id: u64) -> bool
+        ensures { result ≡ has_fed id self.now }
+    {
+        let receipts = self.holdings.receipts.as_slice();
+        receipts.iter().any(|receipt| receipt.feeds_by(id))
     }
 
     /// Returns the number of the list of the mount where the client or relay was attached last, if that is known.

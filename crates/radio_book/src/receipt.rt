@@ -9,7 +9,7 @@ pub(crate) const NOWHERE: Stamp = Stamp { list: 0, serial: 0 };
 
 /// The receipt of a call of a book: this entry is at this place of a list of the server.
 ///
-/// [`Book::apply`](crate::Book::apply) alone makes one.
+/// [`Book::apply`](crate::Book::apply) and [`MountBook::apply`](crate::MountBook::apply) alone make one.
 pub struct Receipt {
     pub(crate) stamp: Stamp,
     pub(crate) event: Event,
@@ -38,7 +38,7 @@ impl Model for Receipt {
 
 impl Receipt {
     ghost use Rattle.std.specs.Prelude.{◌≡◌};
-    ghost use Rattle.radio_book.specs.Receipts.{receipt_of};
+    ghost use Rattle.radio_book.specs.Receipts.{feeds_by, receipt_of};
 
     pub(crate) fn new(stamp: Stamp, event: Event, reply: Reply) -> Receipt
         ensures { result ≡ receipt_of stamp event reply }
@@ -69,6 +69,26 @@ impl Receipt {
         ensures { result.now ≡ self.now.reply }
     {
         &self.reply
+    }
+
+    /// Returns whether the client has begun to feed a mount by it.
+    pub(crate) fn feeds_by(&self, id: u64) -> bool
+        ensures { result ≡ feeds_by id self.now.event self.now.reply }
+    {
+        match &self.event {
+            Event::Source(asked) => asked.id == id && matches!(self.reply, Reply::Feeding),
+            Event::Arrive { .. }
+            | Event::Push { .. }
+            | Event::SourceEnd { .. }
+            | Event::Title { .. }
+            | Event::Listen(_)
+            | Event::Draw { .. }
+            | Event::Command(_)
+            | Event::Leave { .. }
+            | Event::RelayUp { .. }
+            | Event::RelayDown { .. }
+            | Event::Clock { .. } => false,
+        }
     }
 
     /// What the server replied; the rest is gone.

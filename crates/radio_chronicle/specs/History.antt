@@ -1,8 +1,8 @@
 -- Histories: events with their replies, in the order in which they happened.
-use Rattle.std.specs.Prelude.{◌≡◌, Bool, true, List, [], ◌∷◌, map}
+use Rattle.std.specs.Prelude.{◌≡◌, List, [], ◌∷◌, map}
 use Rattle.radio_house.specs.World.{World}
 use Rattle.radio_core.specs.Run.{world_after_all}
-use Rattle.radio_core.specs.Step.{reply_to, world_after, Represents}
+use Rattle.radio_core.specs.Step.{reply_to, world_after}
 use Rattle.radio_events.specs.declared.entry.Entry.{Entry}
 
 -- the state after a history's events, from this state
@@ -14,11 +14,3 @@ world_of w history = world_after_all w (map (λ e. e.event) history)
 abbrev pub IsRun : World → List Entry → Type 0
 IsRun w [] = Unit {0}
 IsRun w (e ∷ history) = (e.reply ≡ reply_to w e.event) × IsRun (world_after w e.event) history
-
--- the core stands for the state after a history that is a run from the opening state; where entries are stored, they are that history
--- rule: Legal history
-pub record IsTold (keeps : Bool) (opening : World) (stored : List Entry) (core : World) : Type 0 where
-  pub history : List Entry
-  pub run : IsRun opening history
-  pub represents : Represents core (world_of opening history)
-  pub kept : keeps ≡ true → stored ≡ history

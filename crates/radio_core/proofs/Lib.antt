@@ -18,6 +18,7 @@ pub mod ChangedUsers
 pub mod ListsSteps
 pub mod Obeyed
 mod PlannedLemmas
+mod CommonLemmas
 mod SourceReplyLemmas
 pub mod ArrivalLemmas
 pub mod CalledHome

@@ -5,7 +5,7 @@ use Rattle.radio_changes.proofs.Threads.{timed_state_send}
 use Rattle.radio_core.specs.contracts.server.control.Control as control
 use Rattle.radio_core.specs.contracts.server.Core as core
 
-control_send : IsSend control.the_row
+pub control_send : IsSend control.the_row
 control_send = view_send _ _ _ _ _ (declared_send control.TheInside.the_type (search sendable depth 8, (timed_state_send, tt)))
 
 pub core_send : IsSend core.the_row

@@ -1,4 +1,4 @@
-use Rattle.std.specs.Prelude.{ℕ, ◌+◌, length, Option, Some, None}
+use Rattle.std.specs.Prelude.{◌≡◌, ℕ, ◌+◌, length, Option, Some, None}
 use Rattle.std.specs.Option.{option_map_or, option_or}
 use Rattle.radio_house.specs.House.{House}
 use Rattle.radio_events.specs.declared.reply.Reply.TheVariants.{Drawn, Stray}
@@ -40,6 +40,10 @@ draws_from w id room seat = part_draws (as_heard w.house (part_at w seat.mount))
 abbrev pub moves_to : ℕ → Option ℕ → Change
 moves_to id None = Nothing
 moves_to id (Some place) = Advance id place
+
+-- it moves him, or does nothing
+abbrev pub IsMove : ℕ → Change → Type 0
+IsMove id change = (place : Option ℕ) × (change ≡ moves_to id place)
 
 -- what comes of a draw that is replied to so, and moves him there
 abbrev pub comes_to : ℕ → Drawing → Outcome

@@ -17,6 +17,7 @@ pub mod Clock
 pub mod Allowed
 pub mod Command
 pub mod Planned
+pub mod Common
 pub mod ControlSteps
 pub mod Moves
 pub mod Sound

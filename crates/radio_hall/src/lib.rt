@@ -1,6 +1,6 @@
 //! The server for threads, under one name: the hall, the queue of new connections, and the workers that serve them.
 //!
-//! - [`Hall`] is a book that threads call, each through its [`Pass`]; [`settle`] holds the passes against it in the end.
+//! - [`Hall`] has a lock for each mount and one for the control, and threads call it, each through its [`Pass`]; [`settle`] holds the passes against it in the end.
 //! - [`Intake`] is the queue from the acceptor to the workers, and [`Accepts`] says when the acceptor accepts.
 //! - [`Conn`] is a connection over a [`Line`]. A [`Worker`] admits and serves connections; [`run_workers`] runs one in each
 //!   thread. A [`Gate`] is told of each write.
@@ -13,11 +13,11 @@ pub use radio_connections::{
     CallCount, Conn, Gate, History, Line, OpenGate, Received, Sent, Server, WebAnswers,
 };
 pub use radio_events::SharedServer;
-pub use radio_hall_lock::{Caller, Hall, OutOfMemory};
 pub use radio_intake::{
     AcceptFault, Accepted, Accepts, Entrance, Intake, IntakePass, ROOM, Tried, accept_next,
 };
+pub use radio_locks::{Caller, Hall, OutOfMemory};
 pub use radio_notes::Log;
 pub use radio_serving::{Turn, Watched, Worker};
-pub use radio_settling::{SettleFault, settle, settle_book, settle_family};
+pub use radio_settling::{SettleFault, settle, settle_books, settle_family};
 pub use radio_workers::{Call, Post, Seat, Seen, Workplace, add_seat, run_workers};

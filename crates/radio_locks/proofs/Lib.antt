@@ -1,1 +1,3 @@
 pub mod Replies
+mod PassLemmas
+pub mod Threads

@@ -1,15 +1,24 @@
-//! A lock for each mount's book, and one for the control's.
+//! A lock for each mount's book, and one for the control's: the server that several threads call.
 //!
-//! - [`Locks`]: the locks; [`Locks::apply`] is one event. Read it first.
+//! - [`Hall`]: the locks; [`Hall::apply`] is one event. Read it first.
+//! - [`Caller`]: whom a worker asks, of `radio_events`: a hall is a [`SharedServer`](radio_events::SharedServer).
+//! - [`passes_gain_what_was_applied`]: a law, which runs no code.
 //!
 //! Order of the locks: the control's before a mount's. Whoever holds a mount's lock waits for no other, so there is no cycle.
 //! A mount's book is out of its lock only while an event of the control runs, which is lent it.
 #![tactic(auto)]
 
-mod lending;
-mod locks;
+mod callers;
+mod concerned;
+mod hall;
+mod laws;
+mod locked_control;
+mod mount_lists;
+mod mount_locks;
 
-pub use locks::Locks;
+pub use hall::Hall;
+pub use laws::passes_gain_what_was_applied;
+pub use radio_events::Caller;
 
 /// The error of a call if memory was refused.
 pub type OutOfMemory = std::alloc::AllocError;

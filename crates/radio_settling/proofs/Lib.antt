@@ -1,4 +1,2 @@
 mod Settled
-mod ControlAlone
-mod Books
 mod Twins

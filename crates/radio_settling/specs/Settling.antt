@@ -18,8 +18,7 @@ use Rattle.radio_merge.specs.declared.fault.MergeFault.TheVariants.{OutOfOrder a
 use Rattle.radio_chronicle.specs.Lines.{line_entry}
 use Rattle.radio_mount_part.specs.Items.{own_entry}
 use Rattle.radio_merge.specs.Merged.{IsMerge, IsSubsequence}
-use Rattle.radio_book.specs.History.{entry_of}
-use Rattle.radio_book.specs.Receipts.{ReceiptOf}
+use Rattle.radio_book.specs.Receipts.{entry_of, ReceiptOf}
 use Rattle.radio_settling.specs.declared.fault.SettleFault.{SettleFault}
 use Rattle.radio_settling.specs.declared.fault.SettleFault.TheVariants.{Strange, Twice, OutOfOrder, Unlike, Count, OutOfMemory}
 
@@ -34,6 +33,7 @@ entry_at control mounts at =
     else option_and_then (own_at (at.serial - 1)) (slice_get mounts (at.list - 1))
 
 -- the receipt's entry is at its place, counted from 1
+-- rule: Receipts
 abbrev pub StandsIn : List ControlLine → List (List MountItem) → ReceiptOf → Type 0
 StandsIn control mounts receipt = (0 < receipt.stamp.serial) × (entry_at control mounts receipt.stamp ≡ Some (entry_of receipt))
 
@@ -49,6 +49,7 @@ own_places before [] = []
 own_places before (items ∷ mounts) = places_of own_entry (before + 1) 0 items ++ own_places (before + 1) mounts
 
 -- the places of all entries that were given a receipt
+-- rule: Settled history
 abbrev pub all_places : List ControlLine → List (List MountItem) → List Stamp
 all_places control mounts = places_of line_entry 0 0 control ++ own_places 0 mounts
 
@@ -145,6 +146,7 @@ ShowsByPlaces opening control mounts passes (Strange at) = ⊥
 ShowsByPlaces opening control mounts passes OutOfMemory = Unit {0}
 
 -- what the lists and all passes show if this is their fault
+-- rule: Faults of settling
 abbrev pub Shows : World → List ControlLine → List (List MountItem) → List (List ReceiptOf) → SettleFault → Type 0
 Shows opening control mounts passes OutOfMemory = Unit {0}
 Shows opening control mounts passes (Strange at) = Any (λ pass. Any (IsStrange control mounts at) pass) passes
@@ -155,6 +157,7 @@ abbrev pub IsCounted : ℕ → ℕ → SettleFault → Type 0
 IsCounted entries receipts fault = (fault ≡ OutOfMemory) ⊎ (fault ≡ Count entries receipts)
 
 -- All passes are settled as this history: it merges the lists, each receipt is at its place, and each place of an entry has one receipt in all passes together.
+-- rule: Settled history
 pub record IsSettled (control : List ControlLine) (mounts : List (List MountItem)) (passes : List (List ReceiptOf)) (history : List Entry) : Type 0 where
   pub merges : MergesPasses control mounts passes history
   pub stand : AllStand control mounts passes

@@ -1,23 +1,24 @@
-//! All passes held against the book of a hall.
+//! All passes held against the lists of a hall.
 
-ghost use Rattle.std.specs.Prelude.{◌≡◌, [], length, map, IfOk, IfErr, List, sum_by};
-ghost use Rattle.radio_events.specs.declared.entry.Entry.{Entry as EntryOf};
-ghost use Rattle.radio_house.specs.World.{opening};
+ghost use Rattle.std.specs.Prelude.{◌≡◌, length, IfOk, IfErr, List, sum_by};
 ghost use Rattle.radio_chronicle.specs.History.{IsRun};
-ghost use Rattle.radio_chronicle.specs.declared.line.ControlLine.TheVariants.{Made};
+ghost use Rattle.radio_chronicle.specs.declared.line.ControlLine.{ControlLine as LineOf};
+ghost use Rattle.radio_house.specs.World.{opening};
+ghost use Rattle.radio_mount_part.specs.declared.item.MountItem.{MountItem as ItemOf};
 ghost use Rattle.radio_settling.specs.Settling.{IsSettled, Shows};
 
 use crate::SettleFault;
-use crate::settling::settle_book;
+use crate::family::settle_books;
 use radio_access::Lists;
 use radio_book::{Entry, House, Kept, Pass};
-use radio_hall_lock::Hall;
+use radio_locks::Hall;
 use radio_settings_values::Settings;
 use std::alloc::Global;
 
-/// Holds all passes of a hall against its history, once the threads have been joined; the history then. A new core of these settings
-/// and lists, which are those of the hall, steps through it. The faults are those of [`settle_family`](crate::settle_family); after one the hall and the
-/// passes are gone.
+/// Holds all passes of a hall against its lists, once the threads have been joined. Returns the one history that all lists are, through
+/// which a new core of these settings and lists, which are those of the hall, steps with the same replies. The faults are those of
+/// [`settle_books`]; after one the hall and the passes are gone.
+// rule: Settled history
 pub fn settle<H: House>(
     alloc: Global,
     hall: Hall<Kept, H>,
@@ -25,16 +26,22 @@ pub fn settle<H: House>(
     settings: Settings,
     lists: Lists,
 ) -> Result<Vec<Entry>, SettleFault>
-    // it is a run from the hall's opening state, and one from that of these settings and lists
-    ensures run { IfOk result (λ history. ∥ IsRun H.opening history.items ∥₁) }
+    // it is a run from the opening state of these settings and lists, so from the hall's if they are the hall's
     ensures replays { IfOk result (λ history. IsRun (opening settings lists) history.items) }
-    // each receipt of each pass is at its place, in the order of the pass, and nothing else is there
-    ensures settled { IfOk result (λ history. IsSettled (map Made history.items) [] passes.items history.items) }
+    ensures run { H.opening ≡ opening settings lists → IfOk result (λ history. IsRun H.opening history.items) }
+    // it is a merge of the control's list and of those of the mounts; each receipt is at its place, in the order of its pass, and nothing else is there
+    ensures settled { IfOk result (λ history. (lines : List LineOf) × (items : List (List ItemOf)) × IsSettled lines items passes.items history.items) }
     ensures total { IfOk result (λ history. length history.items ≡ sum_by length passes.items) }
-    // a fault comes only if the passes show it, over a history that is a run from the opening state
-    ensures fault { IfErr result (λ fault. ∥ ((history : List EntryOf) × IsRun H.opening history × Shows (opening settings lists) (map Made history) [] passes.items fault) ∥₁) }
+    // a fault comes only if the lists and the passes show it
+    ensures fault { IfErr result (λ fault. (lines : List LineOf) × (items : List (List ItemOf)) × Shows (opening settings lists) lines items passes.items fault) }
 {
-    let book = hall.into_book();
-    book.is_told();
-    settle_book(alloc, book, passes, settings, lists)
+    match hall.into_books() {
+        Ok((book, mounts)) => settle_books(alloc, book, mounts, passes, settings, lists),
+        Err(_) => {
+            drop(passes);
+            drop(settings);
+            drop(lists);
+            Err(SettleFault::OutOfMemory)
+        }
+    }
 }

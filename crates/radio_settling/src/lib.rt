@@ -1,6 +1,6 @@
 //! All passes held against the one legal history, when nobody calls any more.
 //!
-//! - [`settle`]: those of a hall, once the threads have been joined; [`settle_book`]: those of a book.
+//! - [`settle`]: those of a hall, once the threads have been joined.
 //! - [`settle_books`]: those of a server whose mounts' parts stand apart from its control.
 //! - [`settle_family`]: those of a server that keeps a list for each mount and one for its control. Read it first.
 //! - [`SettleFault`]: what is wrong with them.
@@ -19,7 +19,7 @@ mod settling;
 pub use family::settle_books;
 pub use fault::SettleFault;
 pub use hall::settle;
-pub use settling::{settle_book, settle_family};
+pub use settling::settle_family;
 
 /// The error of a call if memory was refused.
 pub type OutOfMemory = std::alloc::AllocError;

@@ -1,9 +1,8 @@
 //! All passes held against the lists of a server.
 
-ghost use Rattle.std.specs.Prelude.{◌≡◌, ◌+◌, length, map, IfOk, IfErr, OnErr, OnOk, IsTrue, List, IsPermutation, sum_by, []};
+ghost use Rattle.std.specs.Prelude.{◌≡◌, ◌+◌, length, IfOk, IfErr, OnOk, IsTrue, IsPermutation, sum_by};
 ghost use Rattle.radio_house.specs.World.{World, opening};
 ghost use Rattle.radio_chronicle.specs.History.{IsRun};
-ghost use Rattle.radio_chronicle.specs.declared.line.ControlLine.TheVariants.{Made};
 ghost use Rattle.radio_merge.specs.declared.fault.MergeFault.{MergeFault as MergeFaultOf};
 ghost use Rattle.radio_settling.specs.Settling.{AllRise, AllStand, IsCounted, IsEachOnce, IsSettled, MergesPasses, Shows, all_places, all_stamps, of_merge};
 
@@ -11,8 +10,8 @@ use crate::passes::{find_fall, find_strange, find_twins, sorted_stamps, stamps_o
 use crate::places::all_places;
 use crate::{OutOfMemory, SettleFault};
 use radio_access::Lists;
-use radio_book::{Book, Entry, House, Kept, Pass, Stamp};
-use radio_merge::{ControlLine, Family, MergeFault, merge};
+use radio_book::{Entry, House, Kept, Pass, Stamp};
+use radio_merge::{Family, MergeFault, merge};
 use radio_settings_values::Settings;
 use std::alloc::Global;
 
@@ -22,6 +21,7 @@ use std::alloc::Global;
 /// The faults are looked for in the order in which [`SettleFault`] has them: all receipts for the first, then all for the next.
 /// `OutOfOrder` comes of one pass and one list first, and later of the merge, where it may come next to `Unlike`.
 /// `OutOfMemory` may come in place of each.
+// rule: Settled history; Faults of settling
 pub fn settle_family<H: House>(
     alloc: Global,
     settings: Settings,
@@ -176,53 +176,4 @@ fn are_same(some: &[Stamp], others: &[Stamp]) -> bool
         }
     }
     true
-}
-
-/// Holds all passes of a book against it, when nobody calls any more; the history then. A new core of these settings and lists,
-/// which are those of the book, steps through it. The faults are those of [`settle_family`]; after one the book and the passes are gone.
-pub fn settle_book<H: House>(
-    alloc: Global,
-    book: Book<Kept, H>,
-    passes: Vec<Pass<Kept, H>>,
-    settings: Settings,
-    lists: Lists,
-) -> Result<Vec<Entry>, SettleFault>
-    // it is the book's history, a run from the book's opening state, and one from that of these settings and lists
-    ensures history { IfOk result (λ history. history.items ≡ book.history) }
-    ensures run { IfOk result (λ history. ∥ IsRun H.opening history.items ∥₁) }
-    ensures replays { IfOk result (λ history. IsRun (opening settings lists) history.items) }
-    // each receipt of each pass is at its place, in the order of the pass, and nothing else is there
-    ensures settled { IfOk result (λ history. IsSettled (map Made book.history) [] passes.items history.items) }
-    ensures total { IfOk result (λ history. length history.items ≡ sum_by length passes.items) }
-    ensures fault { IfErr result (λ fault. Shows (opening settings lists) (map Made book.history) [] passes.items fault) }
-{
-    match family_of(alloc, book.into_history()) {
-        Ok(family) => {
-            let settled = settle_family(alloc, settings, lists, &family, passes.as_slice());
-            drop(family);
-            drop(passes);
-            settled
-        }
-        Err(_) => {
-            drop(passes);
-            drop(settings);
-            drop(lists);
-            Err(SettleFault::OutOfMemory)
-        }
-    }
-}
-
-/// A history as the list of the control alone. `OutOfMemory` if memory was refused.
-fn family_of(alloc: Global, history: Vec<Entry>) -> Result<Family, OutOfMemory>
-    ensures control { IfOk result (λ family. family.control.items ≡ map Made history.items) }
-    ensures mounts { IfOk result (λ family. family.mounts.items ≡ []) }
-{
-    let mut control = Vec::new(alloc);
-    for entry in history {
-        control.push(ControlLine::Made(entry))?;
-    }
-    Ok(Family {
-        control,
-        mounts: Vec::new(alloc),
-    })
 }

@@ -10,10 +10,9 @@ ghost use Rattle.radiod.specs.declared.fault.NotBound.{NotBound as NotBoundOf};
 
 use crate::fault::{Fault, NotBound};
 use crate::log::{ProgramLog, say_unknown};
-use radio_addr::AddressList;
 use radio_book::{House, PASSES, Unkept};
-use radio_hall_lock::Hall;
 use radio_listening::{BindFault, Listening, ServeFault, Service, SystemNet, WebAnswers};
+use radio_locks::Hall;
 use radio_log::Moment;
 use radio_outlet::LogQueue;
 use radio_review::UnknownKey;
@@ -127,33 +126,26 @@ fn serve_in<W: Clock + Threads + Wait + Sync, H: House + Send + Sync>(
     requires opening { H.opening ≡ opening station.settings station.lists }
     requires ledger { (blank.name ≡ H.name) × (blank.parts ≡ H.parts) × (blank.parts ≡ 2 ^ 32) }
 {
-    let (hall, answers, proxies) = open_hall::<H>(rt.alloc(), station, blank);
-    let listening = listening.behind(proxies);
-    let service = service_of(again, answers, moment_now(waits));
-    let fault = serve_through(rt, waits, &hall, again, service, listening, log);
-    drop(hall);
-    fault
-}
-
-/// Returns a house of the station's settings and lists, what they say of answers, and whose connections name their clients.
-fn open_hall<H: House>(
-    alloc: Global,
-    station: Station,
-    blank: Blank,
-) -> (Hall<Unkept, H>, AnswerSettings, Option<AddressList>)
-    requires opening { H.opening ≡ opening station.settings station.lists }
-    requires ledger { (blank.name ≡ H.name) × (blank.parts ≡ H.parts) × (blank.parts ≡ 2 ^ 32) }
-    ensures answers { result.1 ≡ station.answers }
-    ensures proxies { result.2 ≡ station.proxies }
-{
     let Station {
         settings,
         answers,
         lists,
         proxies,
     } = station;
-    let hall = Hall::new(alloc, settings, lists, blank);
-    (hall, answers, proxies)
+    let listening = listening.behind(proxies);
+    let service = service_of(again, answers, moment_now(waits));
+    match Hall::<Unkept, H>::new(rt.alloc(), settings, lists, blank) {
+        Ok(hall) => {
+            let fault = serve_through(rt, waits, &hall, again, service, listening, log);
+            drop(hall);
+            fault
+        }
+        Err(_) => {
+            drop(listening);
+            drop(log);
+            ServeFault::OutOfMemory
+        }
+    }
 }
 
 /// Serves connections in this hall, with this queue of the log.

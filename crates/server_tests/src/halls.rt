@@ -7,6 +7,7 @@ ghost use Rattle.radio_house.specs.World.{opening};
 use crate::calls::{Callee, number_given};
 use crate::house::{is_lock_free, is_title_heard};
 use crate::kept_rows::{KeptRow, is_row_played};
+use crate::moving::{Together, are_together};
 use crate::stations::settings;
 use crate::two_callers::{are_served, is_of_two};
 use crate::workers;
@@ -14,7 +15,7 @@ use crate::workers::Rush;
 use radio_access::Lists;
 use radio_book::{Entry, House, Kept, PASSES, Pass};
 use radio_events::{Event, Reply};
-use radio_hall_lock::{Caller, Hall, OutOfMemory};
+use radio_locks::{Caller, Hall, OutOfMemory};
 use radio_serving::Server;
 use radio_settings::SettingsFault;
 use radio_settings_values::Settings;
@@ -99,6 +100,8 @@ pub enum Visit {
     Row(KeptRow),
     /// Workers in threads of their own serve all who come.
     Rush(Rush),
+    /// Several callers meet.
+    Together(Together),
 }
 
 impl Visit {
@@ -135,6 +138,7 @@ impl Visit {
             Visit::Knocking => true,
             Visit::Row(kept) => kept.leaves(history),
             Visit::Rush(rush) => rush.leaves(history),
+            Visit::Together(_) => true,
         }
     }
 
@@ -159,6 +163,7 @@ fn visit_with<H: House + Send + Sync, R: Threads + Wait + Clock + Sync>(
 ) -> bool {
     match visit {
         Visit::Rush(rush) => workers::are_served(rt, alloc, hall, passes, rush),
+        Visit::Together(together) => are_together(rt, alloc, hall, passes, together),
         other => visit_by_calls(rt, alloc, hall, passes, other),
     }
 }
@@ -191,7 +196,7 @@ fn visit_alone<H: House, R: Wait>(
         Visit::Titling => is_title_heard(rt, alloc, hall, passes),
         Visit::Knocking => is_lock_free(rt, alloc, hall, passes),
         Visit::Row(kept) => is_row_played(rt, alloc, hall, passes, kept),
-        Visit::TwoCallers | Visit::LeftOut | Visit::Rush(_) => false,
+        Visit::TwoCallers | Visit::LeftOut | Visit::Rush(_) | Visit::Together(_) => false,
     }
 }
 
@@ -231,7 +236,10 @@ fn goes_well<H: House + Send + Sync, R: Threads + Wait + Clock + Sync>(
     requires opening { H.opening ≡ opening settings no_lists }
     requires ledger { (blank.name ≡ H.name) × (blank.parts ≡ H.parts) × (blank.parts ≡ 2 ^ 32) }
 {
-    let hall: Hall<Kept, H> = Hall::new(alloc, settings, Lists::new(alloc), blank);
+    let Ok(hall) = Hall::<Kept, H>::new(alloc, settings, Lists::new(alloc), blank) else {
+        drop(again);
+        return false;
+    };
     let mut passes = Vec::new(alloc);
     let went = visit_with(rt, alloc, &hall, &mut passes, visit);
     visit.settles(alloc, hall, passes, again) && went

@@ -7,7 +7,7 @@ use crate::rows::*;
 use crate::stations::Station;
 use crate::steps::Step;
 use radio_book::{House, Kept, Pass};
-use radio_hall_lock::Hall;
+use radio_locks::Hall;
 use radio_serving::{Gate, Turn};
 use std::alloc::Global;
 use std::cell::Cell;

@@ -11,7 +11,7 @@ use crate::stations::{Refusing, Station};
 use crate::steps::Step;
 use radio_book::{Entry, House, Kept, Pass};
 use radio_events::Event;
-use radio_hall_lock::Hall;
+use radio_locks::Hall;
 use radio_serving::Server;
 use std::alloc::Global;
 use std::sync::Wait;

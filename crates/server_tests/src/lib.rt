@@ -17,6 +17,8 @@
 //! - `calls`: events, and the calls of a caller who feeds a mount and listens to it.
 //! - `halls`: a hall, what is done there, and all passes settled then.
 //! - `two_callers`: two threads, with a pass each, over one hall; and what settles no history.
+//! - `moving`: threads that feed, draw and move a listener at once. `freezing`: a lock that is held while another mount's listener
+//!   draws.
 //! - `workers`: workers in threads of their own, who take lines from an intake.
 //! - `merged`: lists of two mounts and of the control, made by hand, and merged.
 //! - `unkept`: the same calls over a hall that stores nothing, beside a core.
@@ -46,6 +48,8 @@ mod events;
 #[cfg(test)]
 mod faults;
 #[cfg(test)]
+mod freezing;
+#[cfg(test)]
 mod halls;
 #[cfg(test)]
 mod house;
@@ -69,6 +73,8 @@ mod moments;
 mod mount_books;
 #[cfg(test)]
 mod mounts;
+#[cfg(test)]
+mod moving;
 #[cfg(test)]
 mod own_steps;
 #[cfg(test)]

@@ -1,29 +1,31 @@
 //! The books of mounts and of the control, each under a lock of its own: the replies are those of a core, and all passes settle.
 
+ghost use Rattle.radio_access.specs.Lists.{no_lists};
+ghost use Rattle.radio_house.specs.World.{opening};
 ghost use Rattle.std.specs.Prelude.{◌≡◌, ◌^◌};
 
 use crate::calls::{Callee, number_given, step_copy};
 use crate::mount_books::{Play, plays};
 use crate::stations::{core, settings};
 use radio_access::Lists;
-use radio_book::{ControlBook, House, Kept, MountBook, PASSES, Pass, Receipt};
+use radio_book::{House, Kept, PASSES, Pass, Receipt};
 use radio_core::Core;
 use radio_events::{Event, Reply};
-use radio_locks::Locks;
+use radio_locks::Hall;
 use radio_merge::is_same_reply;
 use radio_settings::SettingsFault;
 use radio_settings_values::Settings;
-use radio_settling::settle_books;
+use radio_settling::settle;
 use std::alloc::{AllocGlobal, Global};
 use std::marker::Brand;
 use std::sync::Wait;
 use std::sync::ledger::Blank;
 
-/// A caller of the locks, beside a core that is called alike.
+/// A caller of a hall, beside a core that is called alike.
 #[derive(Drop)]
 struct Locked<'a, R: Wait, H: House> {
     rt: &'a R,
-    locks: &'a Locks<Kept, H>,
+    hall: &'a Hall<Kept, H>,
     pass: &'a mut Pass<Kept, H>,
     core: &'a mut Core,
     /// How many calls a mount's part did by itself.
@@ -34,8 +36,8 @@ struct Locked<'a, R: Wait, H: House> {
 
 impl<R: Wait, H: House> Locked<'_, R, H> {
     /// Makes the call; the reply is counted, if it is as was wanted.
-    fn call_locks(&mut self, event: Event, want: &Reply) -> Option<u64> {
-        match self.locks.apply(self.rt, self.pass, event) {
+    fn call_hall(&mut self, event: Event, want: &Reply) -> Option<u64> {
+        match self.hall.apply(self.rt, self.pass, event) {
             Ok(receipt) => {
                 self.count(&receipt, want);
                 drop(receipt);
@@ -59,7 +61,7 @@ impl<R: Wait, H: House> Callee for Locked<'_, R, H> {
     fn call(&mut self, event: Event) -> Option<u64> {
         match step_copy(self.core, &event) {
             Ok(want) => {
-                let number = self.call_locks(event, &want);
+                let number = self.call_hall(event, &want);
                 drop(want);
                 number
             }
@@ -75,14 +77,14 @@ impl<R: Wait, H: House> Callee for Locked<'_, R, H> {
 fn goes_well<R: Wait, H: House>(
     rt: &R,
     alloc: Global,
-    locks: &Locks<Kept, H>,
+    hall: &Hall<Kept, H>,
     pass: &mut Pass<Kept, H>,
     core: &mut Core,
     play: Play,
 ) -> bool {
     let mut locked = Locked {
         rt,
-        locks,
+        hall,
         pass,
         core,
         own: 0,
@@ -91,20 +93,21 @@ fn goes_well<R: Wait, H: House>(
     plays(alloc, &mut locked, play) && locked.alike == play.calls() && locked.own == play.own()
 }
 
-/// Whether the pass settles with the books.
+/// Whether the pass settles with the hall.
 fn settles<H: House>(
     alloc: Global,
-    control: ControlBook<Kept, H>,
-    mounts: Vec<MountBook<Kept>>,
+    hall: Hall<Kept, H>,
     pass: Pass<Kept, H>,
     again: Settings,
     play: Play,
 ) -> bool {
     let mut passes = Vec::new(alloc);
     if passes.push(pass).is_err() {
+        drop(hall);
+        drop(again);
         return false;
     }
-    match settle_books(alloc, control, mounts, passes, again, Lists::new(alloc)) {
+    match settle(alloc, hall, passes, again, Lists::new(alloc)) {
         Ok(history) => history.len() == play.calls(),
         Err(_) => false,
     }
@@ -120,19 +123,20 @@ fn are_settled<R: Wait, H: House>(
     again: Settings,
     blank: Blank,
 ) -> bool
-    requires { (blank.name ≡ H.name) × (blank.parts ≡ H.parts) × (blank.parts ≡ 2 ^ 32) }
+    requires opening { H.opening ≡ opening settings no_lists }
+    requires ledger { (blank.name ≡ H.name) × (blank.parts ≡ H.parts) × (blank.parts ≡ 2 ^ 32) }
 {
-    let Ok(locks) = Locks::<Kept, H>::new(alloc, settings, Lists::new(alloc), blank) else {
+    let Ok(hall) = Hall::<Kept, H>::new(alloc, settings, Lists::new(alloc), blank) else {
+        drop(again);
         return false;
     };
-    let Some(mut pass) = locks.pass(rt) else {
+    let Some(mut pass) = hall.pass(rt) else {
+        drop(hall);
+        drop(again);
         return false;
     };
-    let went = goes_well(rt, alloc, &locks, &mut pass, core, play);
-    match locks.into_books(rt) {
-        Ok((control, mounts)) => settles(alloc, control, mounts, pass, again, play) && went,
-        Err(_) => false,
-    }
+    let went = goes_well(rt, alloc, &hall, &mut pass, core, play);
+    settles(alloc, hall, pass, again, play) && went
 }
 
 fn settled_beside<R: Wait>(

@@ -1,6 +1,8 @@
 //! Two mounts whose parts stand apart, each in a book of its own, as under locks of their own, and the book of the control,
 //! which is lent both for each event that is not one mount's. The replies are those of a core, and all passes settle.
 
+ghost use Rattle.radio_access.specs.Lists.{no_lists};
+ghost use Rattle.radio_house.specs.World.{opening};
 ghost use Rattle.std.specs.Prelude.{◌≡◌, ◌^◌};
 
 use crate::calls::{
@@ -10,7 +12,7 @@ use crate::calls::{
 use crate::merged::{SHORT_QUEUE, draw, moving};
 use crate::stations::{core, settings};
 use radio_access::Lists;
-use radio_book::{ControlBook, House, Kept, MountBook, Own, PASSES, Pass, Receipt};
+use radio_book::{Book, House, Kept, MountBook, Own, PASSES, Pass, Receipt};
 use radio_core::Core;
 use radio_events::{Event, Reply};
 use radio_merge::is_same_reply;
@@ -62,7 +64,7 @@ impl Play {
 /// The books, beside a core that is called alike.
 #[derive(Drop)]
 struct Books<'a, H: House> {
-    control: &'a mut ControlBook<Kept, H>,
+    control: &'a mut Book<Kept, H>,
     mounts: &'a mut Vec<MountBook<Kept>>,
     pass: &'a mut Pass<Kept, H>,
     core: &'a mut Core,
@@ -170,7 +172,7 @@ pub fn plays<C: Callee>(alloc: Global, callee: &mut C, play: Play) -> bool {
 /// Makes the calls, through a pass that is added. Whether all are answered alike, and so many by a mount's part.
 fn goes_well<H: House>(
     alloc: Global,
-    control: &mut ControlBook<Kept, H>,
+    control: &mut Book<Kept, H>,
     mounts: &mut Vec<MountBook<Kept>>,
     passes: &mut Vec<Pass<Kept, H>>,
     core: &mut Core,
@@ -218,24 +220,38 @@ fn are_settled<H: House>(
     again: Settings,
     blank: Blank,
 ) -> bool
-    requires { (blank.name ≡ H.name) × (blank.parts ≡ H.parts) × (blank.parts ≡ 2 ^ 32) }
+    requires opening { H.opening ≡ opening settings no_lists }
+    requires ledger { (blank.name ≡ H.name) × (blank.parts ≡ H.parts) × (blank.parts ≡ 2 ^ 32) }
 {
-    let mut control: ControlBook<Kept, H> = ControlBook::new(
-        alloc,
-        settings,
-        Lists::new(alloc),
-        blank,
-    );
+    let mut control: Book<Kept, H> = Book::new(alloc, settings, Lists::new(alloc), blank);
     let mut mounts = Vec::new(alloc);
     let mut passes = Vec::new(alloc);
     let (_, queue) = play.settings();
     let went = adds_book(alloc, &mut mounts, "/a", 1, queue)
         && adds_book(alloc, &mut mounts, "/b", 2, queue)
         && goes_well(alloc, &mut control, &mut mounts, &mut passes, core, play);
+    let Ok(mounts) = all_there(alloc, mounts) else {
+        drop(control);
+        drop(passes);
+        drop(again);
+        return false;
+    };
     match settle_books(alloc, control, mounts, passes, again, Lists::new(alloc)) {
         Ok(history) => went && history.len() == play.calls(),
         Err(_) => false,
     }
+}
+
+/// The books, each of which is there.
+fn all_there(
+    alloc: Global,
+    mounts: Vec<MountBook<Kept>>,
+) -> Result<Vec<Option<MountBook<Kept>>>, OutOfMemory> {
+    let mut books = Vec::new(alloc);
+    for book in mounts {
+        books.push(Some(book))?;
+    }
+    Ok(books)
 }
 
 fn settled_beside(alloc: Global, core: &mut Core, play: Play) -> Result<bool, SettingsFault> {

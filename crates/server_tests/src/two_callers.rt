@@ -5,7 +5,7 @@ use crate::halls::{PassCaller, Visit, is_well_visited, takes_pass};
 use crate::merged::merged_alone;
 use radio_book::{Entry, House, Kept, Pass};
 use radio_events::{Reply, Text};
-use radio_hall_lock::Hall;
+use radio_locks::Hall;
 use std::alloc::Global;
 use std::sync::Wait;
 use std::thread::Threads;

@@ -10,7 +10,7 @@ use radio_access::Lists;
 use radio_book::{House, PASSES, Pass, Receipt, Unkept};
 use radio_core::Core;
 use radio_events::{Event, Reply};
-use radio_hall_lock::Hall;
+use radio_locks::Hall;
 use radio_merge::is_same_reply;
 use radio_settings::SettingsFault;
 use radio_settings_values::Settings;
@@ -77,7 +77,9 @@ fn count_alike<H: House, R: Wait>(
     requires opening { H.opening ≡ opening settings no_lists }
     requires ledger { (blank.name ≡ H.name) × (blank.parts ≡ H.parts) × (blank.parts ≡ 2 ^ 32) }
 {
-    let hall: Hall<Unkept, H> = Hall::new(alloc, settings, Lists::new(alloc), blank);
+    let Ok(hall) = Hall::<Unkept, H>::new(alloc, settings, Lists::new(alloc), blank) else {
+        return 0;
+    };
     match hall.pass(rt) {
         Some(mut pass) => count_through(rt, alloc, core, &hall, &mut pass),
         None => 0,

@@ -6,7 +6,7 @@ ghost use Rattle.radio_hall.specs.Words.{no_lists, opening};
 use crate::stations::{arrival, settings};
 use radio_book::{Book, Entry, House, Kept, PASSES, Pass, Receipt, Stamp};
 use radio_core::{Event, Lists, OutOfMemory, Reply};
-use radio_hall::{Hall, SettleFault, settle, settle_book, settle_family};
+use radio_hall::{Hall, SettleFault, settle, settle_books, settle_family};
 use radio_merge::{ControlLine, Family, merge};
 use radio_settings::{Settings, SettingsFault, read_settings};
 use std::alloc::{AllocGlobal, Global};
@@ -106,7 +106,8 @@ fn takes_pass<H: House>(book: &mut Book<Kept, H>, passes: &mut Vec<Pass<Kept, H>
 
 /// An event is applied through a pass. Whether memory was not refused.
 fn applies<H: House>(book: &mut Book<Kept, H>, pass: &mut Pass<Kept, H>, event: Event) -> bool {
-    match book.apply(pass, event) {
+    let mut none = [];
+    match book.apply(pass, &mut none, event) {
         Ok(receipt) => {
             drop(receipt);
             true
@@ -146,15 +147,6 @@ fn are_receipts(receipts: &[Receipt]) -> bool {
     }
 }
 
-/// The entries as a list of the control.
-fn control_of(alloc: Global, history: Vec<Entry>) -> Result<Vec<ControlLine>, OutOfMemory> {
-    let mut control = Vec::new(alloc);
-    for entry in history {
-        control.push(ControlLine::Made(entry))?;
-    }
-    Ok(control)
-}
-
 /// Whether the fault is found, or none, where a history of all calls is.
 fn is_found(settled: Result<Vec<Entry>, SettleFault>, want: Option<SettleFault>) -> bool {
     match settled {
@@ -166,14 +158,11 @@ fn is_found(settled: Result<Vec<Entry>, SettleFault>, want: Option<SettleFault>)
 /// Whether that is found of entries that were spoilt so.
 fn finds<H: House>(
     alloc: Global,
-    history: Vec<Entry>,
+    mut control: Vec<ControlLine>,
     mut passes: Vec<Pass<Kept, H>>,
     spoilt: Spoilt,
     want: Option<SettleFault>,
 ) -> bool {
-    let Ok(mut control) = control_of(alloc, history) else {
-        return false;
-    };
     spoilt.spoils(&mut control, &mut passes);
     let family = Family {
         control,
@@ -213,7 +202,7 @@ fn is_settled<H: House>(
     let are_two = takes_pass(&mut book, &mut passes) && takes_pass(&mut book, &mut passes);
     let are_called = call(&mut book, passes.as_mut_slice());
     let are_noted = has_receipts(passes.as_slice());
-    let is_found = finds(alloc, book.into_history(), passes, spoilt, want);
+    let is_found = finds(alloc, book.into_lines(), passes, spoilt, want);
     are_two && are_called && are_noted && is_found
 }
 
@@ -241,7 +230,8 @@ fn is_empty_book<H: House>(alloc: Global, settings: Settings, again: Settings, b
     requires ledger { (blank.name ≡ H.name) × (blank.parts ≡ H.parts) × (blank.parts ≡ 2 ^ 32) }
 {
     let book: Book<Kept, H> = Book::new(alloc, settings, Lists::new(alloc), blank);
-    let settled = settle_book(alloc, book, Vec::new(alloc), again, Lists::new(alloc));
+    let none = Vec::new(alloc);
+    let settled = settle_books(alloc, book, none, Vec::new(alloc), again, Lists::new(alloc));
     is_empty(settled)
 }
 
@@ -250,7 +240,10 @@ fn is_empty_hall<H: House>(alloc: Global, settings: Settings, again: Settings, b
     requires opening { H.opening ≡ opening settings no_lists }
     requires ledger { (blank.name ≡ H.name) × (blank.parts ≡ H.parts) × (blank.parts ≡ 2 ^ 32) }
 {
-    let hall: Hall<Kept, H> = Hall::new(alloc, settings, Lists::new(alloc), blank);
+    let Ok(hall) = Hall::<Kept, H>::new(alloc, settings, Lists::new(alloc), blank) else {
+        drop(again);
+        return false;
+    };
     let settled = settle(alloc, hall, Vec::new(alloc), again, Lists::new(alloc));
     is_empty(settled)
 }

@@ -6,7 +6,7 @@ ghost use Rattle.radio_hall.specs.Words.{no_lists, opening};
 
 use bytes::Bytes;
 use radio_addr::Peer;
-use radio_book::{Book, House, Kept, PASSES, Pass, Unkept};
+use radio_book::{Book, House, Kept, MountBook, PASSES, Pass, Unkept};
 use radio_core::{Boxed, Core, Event, ListenRequest, Lists, OutOfMemory, Reply, Visit};
 use radio_hall::Hall;
 use radio_settings::{MountName, Settings, SettingsFault, read_settings};
@@ -52,7 +52,7 @@ trait Asked {
     fn applies(&mut self, event: Event, want: Want) -> Result<bool, OutOfMemory>;
 
     /// The mounts that are wanted.
-    fn wanted(&self) -> Result<Vec<MountName>, OutOfMemory>;
+    fn wanted(&mut self) -> Result<Vec<MountName>, OutOfMemory>;
 }
 
 /// What a reply should be.
@@ -127,7 +127,7 @@ impl Asked for Core {
         }
     }
 
-    fn wanted(&self) -> Result<Vec<MountName>, OutOfMemory> {
+    fn wanted(&mut self) -> Result<Vec<MountName>, OutOfMemory> {
         Core::wanted(self)
     }
 }
@@ -146,28 +146,29 @@ impl Asked for Thrice {
         }
     }
 
-    fn wanted(&self) -> Result<Vec<MountName>, OutOfMemory> {
+    fn wanted(&mut self) -> Result<Vec<MountName>, OutOfMemory> {
         self.core.wanted()
     }
 }
 
-/// A book, and a pass of it.
+/// A book that is lent no part, and a pass of it.
 #[derive(Drop)]
 struct OfBook<'a, H: House> {
     book: &'a mut Book<Kept, H>,
+    lent: &'a mut Vec<MountBook<Kept>>,
     pass: &'a mut Pass<Kept, H>,
 }
 
 impl<'a, H: House> Asked for OfBook<'a, H> {
     fn applies(&mut self, event: Event, want: Want) -> Result<bool, OutOfMemory> {
-        match self.book.apply(self.pass, event) {
+        match self.book.apply(self.pass, self.lent.as_mut_slice(), event) {
             Ok(receipt) => Ok(want.takes(receipt.into_reply())),
             Err(refused) => Err(refused),
         }
     }
 
-    fn wanted(&self) -> Result<Vec<MountName>, OutOfMemory> {
-        self.book.wanted()
+    fn wanted(&mut self) -> Result<Vec<MountName>, OutOfMemory> {
+        self.book.wanted(self.lent.as_mut_slice())
     }
 }
 
@@ -187,7 +188,7 @@ impl<'a, R: Wait, H: House> Asked for OfHall<'a, R, H> {
         }
     }
 
-    fn wanted(&self) -> Result<Vec<MountName>, OutOfMemory> {
+    fn wanted(&mut self) -> Result<Vec<MountName>, OutOfMemory> {
         self.hall.wanted(self.rt)
     }
 }
@@ -217,10 +218,12 @@ fn is_asked_book<H: House>(alloc: Global, settings: Settings, blank: Blank) -> b
     requires ledger { (blank.name ≡ H.name) × (blank.parts ≡ H.parts) × (blank.parts ≡ 2 ^ 32) }
 {
     let mut book: Book<Kept, H> = Book::new(alloc, settings, Lists::new(alloc), blank);
+    let mut lent = Vec::new(alloc);
     match book.pass() {
         Some(mut pass) => {
             let mut asked = OfBook {
                 book: &mut book,
+                lent: &mut lent,
                 pass: &mut pass,
             };
             goes_well(alloc, &mut asked)
@@ -234,7 +237,9 @@ fn is_asked_hall<H: House, R: Wait>(rt: &R, alloc: Global, settings: Settings, b
     requires opening { H.opening ≡ opening settings no_lists }
     requires ledger { (blank.name ≡ H.name) × (blank.parts ≡ H.parts) × (blank.parts ≡ 2 ^ 32) }
 {
-    let hall: Hall<Unkept, H> = Hall::new(alloc, settings, Lists::new(alloc), blank);
+    let Ok(hall) = Hall::<Unkept, H>::new(alloc, settings, Lists::new(alloc), blank) else {
+        return false;
+    };
     match hall.pass(rt) {
         Some(mut pass) => {
             let mut asked = OfHall {

@@ -1,6 +1,6 @@
 //! What comes of an event in the state, and the state after it.
 
-ghost use Rattle.std.specs.Prelude.{◌≡◌, true, map, IsOk, IfOk, OnOk, OnErr};
+ghost use Rattle.std.specs.Prelude.{◌≡◌, ℕ, true, map, IsOk, IfOk, OnOk, OnErr};
 ghost use Rattle.std.specs.Option.{option_copied};
 ghost use Rattle.radio_seats_rows.specs.Seats.{last_mount_of, sits_at};
 ghost use Rattle.radio_facts.specs.Wanted.{wanted};
@@ -8,10 +8,12 @@ ghost use Rattle.radio_house.specs.World.{opening, standing_of, has_relay};
 ghost use Rattle.radio_changes.specs.Changes.{NeedsNoMemory};
 ghost use Rattle.radio_changes.specs.Counts.{counted};
 ghost use Rattle.radio_changes.specs.KeptChanges.{kept_changed};
-ghost use Rattle.radio_core.specs.Draw.{draws, moves_to};
+ghost use Rattle.radio_core.specs.Common.{common_after, common_of};
+ghost use Rattle.radio_core.specs.Draw.{draws, moves_to, IsMove};
 ghost use Rattle.radio_core.specs.Planned.{planned, with_counts};
 ghost use Rattle.radio_core.specs.CanStep.{CanDraw, CanStep};
 ghost use Rattle.radio_core.specs.ControlSteps.{control_after, control_reply, three_of};
+ghost use Rattle.radio_events.specs.declared.event.Event.{Event as EventOf};
 ghost use Rattle.radio_events.specs.declared.reply.Reply.{Reply as ReplyOf};
 ghost use Rattle.radio_events.specs.Events.{TakesNoMemory};
 
@@ -103,6 +105,7 @@ impl Control {
     #[tactic(auto, unfolding(crate::specs::Step::outcome, crate::specs::Planned::planned))]
     pub(super) fn outcome(&self, event: Event) -> Result<Outcome, OutOfMemory>
         ensures value { CanStep self.now event → IfOk result (λ o. o ≡ planned self.now event) }
+        ensures drawn { (id room : ℕ) → event ≡ EventOf.Draw id room → IfOk result (λ o. IsMove id o.change) }
         ensures frees { TakesNoMemory event → IsOk result }
     {
         match event {
@@ -123,7 +126,8 @@ impl Control {
 
     /// What comes of a draw, before its change is made. `OutOfMemory` where memory was refused.
     fn drawing_outcome(&self, id: u64, room: u32) -> Result<Outcome, OutOfMemory>
-        ensures { CanDraw self.now id → IfOk result (λ outcome. outcome ≡ draws self.now id room) }
+        ensures value { CanDraw self.now id → IfOk result (λ outcome. outcome ≡ draws self.now id room) }
+        ensures drawn { IfOk result (λ outcome. IsMove id outcome.change) }
     {
         Ok(self.draw(id, room)?.outcome(id))
     }
@@ -134,6 +138,8 @@ impl Control {
         // of one who draws the client is known as a listener, and what follows its place is not forgotten
         ensures ok { CanStep self.old event → OnOk result (self.new ≡ control_after self.old event) }
         ensures told { CanStep self.old event → IfOk result (λ reply. reply ≡ control_reply self.old event) }
+        // what all mounts have in common changes by the event and its reply alone, whatever was lent
+        ensures common { IfOk result (λ reply. common_of self.new ≡ common_after (common_of self.old) event reply) }
         ensures err { OnErr result (self.new ≡ self.old) }
         ensures frees { TakesNoMemory event → IsOk result }
     {
@@ -148,7 +154,7 @@ impl Control {
     pub fn step3(&mut self, event: Event) -> Result<[Reply; 3], OutOfMemory>
         ensures ok { CanStep self.old event → OnOk result (self.new ≡ control_after self.old event) }
         ensures told { CanStep self.old event → IfOk result (λ replies. replies ≡ three_of (control_reply self.old event)) }
-        ensures alike { IfOk result (λ replies. (reply : ReplyOf) × (replies ≡ three_of reply)) }
+        ensures common { IfOk result (λ replies. (reply : ReplyOf) × (replies ≡ three_of reply) × (common_of self.new ≡ common_after (common_of self.old) event reply)) }
         ensures err { OnErr result (self.new ≡ self.old) }
         ensures frees { TakesNoMemory event → IsOk result }
     {
@@ -166,6 +172,7 @@ impl Control {
     fn step_drawing(&mut self, id: u64, room: u32) -> Result<Reply, OutOfMemory>
         ensures ok { CanDraw self.old id → OnOk result (self.new ≡ kept_changed self.old (draws self.old id room).change) }
         ensures told { CanDraw self.old id → IfOk result (λ reply. reply ≡ (draws self.old id room).reply) }
+        ensures common { common_of self.new ≡ common_of self.old }
         ensures err { OnErr result (self.new ≡ self.old) }
     {
         let Some(hearing) = self.seats().hearing(id) else {
@@ -193,6 +200,7 @@ impl Control {
     fn step_by_outcome(&mut self, event: Event) -> Result<Reply, OutOfMemory>
         ensures ok { CanStep self.old event → OnOk result (self.new ≡ kept_changed self.old (planned self.old event).change) }
         ensures told { CanStep self.old event → IfOk result (λ reply. reply ≡ with_counts (planned self.old event).reply (counted self.old (planned self.old event).change)) }
+        ensures common { IfOk result (λ reply. common_of self.new ≡ common_after (common_of self.old) event reply) }
         ensures err { OnErr result (self.new ≡ self.old) }
         ensures frees { TakesNoMemory event → IsOk result }
     {
@@ -240,14 +248,14 @@ impl Control {
 
     /// The mounts where somebody sits, which relays feed on demand, in the order of their bytes.
     /// `OutOfMemory` where memory was refused.
-    pub(super) fn wanted(&self) -> Result<Vec<MountName>, OutOfMemory>
+    pub fn wanted(&self) -> Result<Vec<MountName>, OutOfMemory>
         ensures { IfOk result (λ mounts. mounts.items ≡ wanted self.now) }
     {
         wanted(self.alloc, &self.house(), self.seats())
     }
 
     /// How the client, or the relay, of this number stands.
-    pub(super) fn standing(&self, id: u64) -> Standing
+    pub fn standing(&self, id: u64) -> Standing
         ensures { result ≡ standing_of self.now id }
     {
         self.house().standing(self.seats(), id)
@@ -255,7 +263,7 @@ impl Control {
 
     /// The mount where the listener of this number sits, or sat last; none where there is no such
     /// listener.
-    pub(super) fn last_mount(&self, id: u64) -> Option<&MountName>
+    pub fn last_mount(&self, id: u64) -> Option<&MountName>
         ensures { option_copied result ≡ last_mount_of self.now.seats id }
     {
         self.seats().last_mount(id)

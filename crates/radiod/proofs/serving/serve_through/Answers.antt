@@ -1,6 +1,6 @@
 use denote.Param.Send.{sendable}
 use Rattle.radio_book.proofs.Unkept.TheSendSync as unkept
-use Rattle.radio_hall_lock.proofs.Threads.{hall_sync}
+use Rattle.radio_locks.proofs.Threads.{hall_sync}
 use Rattle.radiod.proofs.serving.serve_through.Goals as goal
 
 -- several threads may call the hall

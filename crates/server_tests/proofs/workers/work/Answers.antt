@@ -1,6 +1,6 @@
 use denote.Param.Send.{sendable}
 use Rattle.radio_book.proofs.Kept.TheSendSync as kept
-use Rattle.radio_hall_lock.proofs.Threads.{hall_sync}
+use Rattle.radio_locks.proofs.Threads.{hall_sync}
 use Rattle.server_tests.proofs.workers.work.Goals as goal
 
 -- several threads may call the hall

@@ -1,10 +1,38 @@
-use Rattle.std.proofs.Common.{ap, ◌∙◌, arith}
-use Rattle.radio_book.specs.Receipts.{ReceiptOf}
-use Rattle.radio_book.proofs.Newcomers.{arrival_room}
+use Rattle.std.proofs.Common.{◌≡◌, ◌∙◌, ◌++◌, ◌∷◌, [], true, List, refl, ap, sym}
+use Rattle.radio_chronicle.specs.declared.line.ControlLine.{ControlLine}
+use Rattle.radio_chronicle.specs.declared.line.ControlLine.TheVariants.{Made}
+use Rattle.radio_core.specs.Common.{common_after, common_of}
+use Rattle.radio_events.specs.Events.{entry}
+use Rattle.radio_events.specs.declared.event.Event.{Event}
+use Rattle.radio_book.specs.ControlLists.{entries_in}
+use Rattle.radio_book.proofs.ToldLemmas.{as_before_common, noted_entries, stepped_common, told_more, told_still}
 use Rattle.radio_book.proofs.accounts.Accounts.note_in_room.Goals as goal
 
-pub note-requires-clause-fits : goal.note-requires-clause-fits
-note-requires-clause-fits g c arrives =
-    let same = ap (λ (s : ReceiptOf). s.event) c.new.ensures ∙ c.requires.copies.1 in
-    let room = arrival_room c.args.holdings.now.present.items c.args.event c.new.result.event same arrives in
-    omega (arith, room, c.requires.entries.1, c.requires.most)
+pub invariant_of-self-clause-by_entries : goal.invariant_of-self-clause-by_entries
+invariant_of-self-clause-by_entries g c =
+    let lines = c.args.self.now.lines in
+    let keeps : lines.keeps ≡ true = c.args.self.now.keeps ∙ c.requires.keeps in
+    let cuts = c.note_cuts.ensures.kept keeps in
+    let made = entry c.args.copies.noted c.apart-first.result.0 in
+    let noted = c.note.ensures.kept (c.note_cuts.ensures.keeps ∙ keeps) ∙ ap (λ (front : List ControlLine). front ++ Made made ∷ []) cuts.2 in
+    let step = c.in-Ok.ensures.step in
+    let replies = sym c.apart-first.ensures ∙ step.1 in
+    let first : c.apart-first.result.0 ≡ step.0 = cc in
+    let before = common_of c.args.self.now.control in
+    told_more g.C.Chronicle.KEEPS g.H.House.opening lines.items c.note.new.self.items c.args.self.now.control c.step3_over.new.control made
+    (stepped_common c.args.lent.now c.step3_over.new.lent c.args.self.now.control c.step3_over.new.control c.args.event step.0 step.2
+    ∙ ap (λ (e : Event). common_after before e step.0) (sym c.requires.copies.0) ∙ ap (common_after before c.args.copies.noted) (sym first))
+    (λ kept. ap entries_in noted ∙ noted_entries lines.items cuts.0 c.step3_over.new.lent made cuts.1) c.args.self.now.by_entries
+
+pub invariant_of-self-in-Err-1 : goal.invariant_of-self-in-Err-1
+invariant_of-self-in-Err-1 g c =
+    let before = c.args.self.now in record {
+      keeps = before.keeps;
+      room = before.room;
+      fits = before.fits;
+      left = before.left;
+      none = before.none;
+      by_entries =
+          told_still g.C.Chronicle.KEEPS g.H.House.opening before.lines.items before.lines.items before.control c.step3_over.new.control refl
+          (as_before_common c.args.lent.now c.step3_over.new.lent before.control c.step3_over.new.control c.in-Err.ensures.err) before.by_entries;
+    }

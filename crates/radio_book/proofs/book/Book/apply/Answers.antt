@@ -1,22 +1,19 @@
-use Rattle.std.proofs.Common.{rules, false, sym, ◌∙◌, ◌≡◌}
-use Rattle.std.proofs.lemmas.Bool.{false≢true}
-use Rattle.radio_book.proofs.Telling.{legal}
+use Rattle.radio_book.proofs.MountBookLemmas.{same_so}
+use Rattle.radio_book.proofs.ToldLemmas.{legal_reply}
 use Rattle.radio_book.proofs.book.Book.apply.Goals as goal
+
+pub returns-then-KEEPS-clause-same : goal.returns-then-KEEPS-clause-same
+returns-then-KEEPS-clause-same g c =
+    same_so c.args.lent.now c.note.new.lent _ _ c.args.event c.note.result c.note.ensures.step c.note.ensures.err
+
+pub returns-else-KEEPS-clause-same : goal.returns-else-KEEPS-clause-same
+returns-else-KEEPS-clause-same g c =
+    same_so c.args.lent.now c.answer.new.lent _ _ c.args.event c.answer.result c.answer.ensures.step c.answer.ensures.err
 
 pub returns-then-KEEPS-clause-legal : goal.returns-then-KEEPS-clause-legal
 returns-then-KEEPS-clause-legal g c =
-    let before = c.self.inside.accounts.story in
-    let after = c.note.new.self.story in
-    legal g.C.Chronicle.KEEPS g.H.House.opening before.entries.items
-    after.entries.items before.core after.core c.args.event
-    c.note.result c.note.ensures.step c.note.ensures.event (λ kept. c.note.ensures.history) (λ kept. c.note.ensures.place) before.told
+    legal_reply g.C.Chronicle.KEEPS g.H.House.opening _ c.args.lent.now c.note.new.lent _ _ c.args.event c.note.result c.note.ensures.step c.self.inside.accounts.by_entries
 
 pub returns-else-KEEPS-clause-legal : goal.returns-else-KEEPS-clause-legal
 returns-else-KEEPS-clause-legal g c =
-    let before = c.self.inside.accounts.story in
-    let after = c.answer.new.self.story in
-    let unkept : g.C.Chronicle.KEEPS ≡ false = sym c.if-KEEPS.ensures in
-    legal g.C.Chronicle.KEEPS g.H.House.opening before.entries.items
-    after.entries.items before.core after.core c.args.event
-    c.answer.result c.answer.ensures.step (search rules) (λ kept. absurd (false≢true (sym unkept ∙ kept))) (λ kept. absurd (false≢true (sym unkept ∙ kept)))
-    before.told
+    legal_reply g.C.Chronicle.KEEPS g.H.House.opening _ c.args.lent.now c.answer.new.lent _ _ c.args.event c.answer.result c.answer.ensures.step c.self.inside.accounts.by_entries

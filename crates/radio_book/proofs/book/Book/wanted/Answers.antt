@@ -1,8 +1,6 @@
-use Rattle.radio_book.proofs.Telling.{are_wanted}
+use Rattle.std.proofs.Common.{inr}
+use Rattle.radio_book.proofs.MountBookLemmas.{refused_same}
 use Rattle.radio_book.proofs.book.Book.wanted.Goals as goal
 
-pub returns-clause-legal : goal.returns-clause-legal
-returns-clause-legal g c =
-    let story = c.self.inside.accounts.story in
-    are_wanted (λ mounts. mounts.items) g.C.Chronicle.KEEPS g.H.House.opening story.entries.items story.core c.wanted.result
-    c.wanted.ensures story.told
+pub returns-clause-same : goal.returns-clause-same
+returns-clause-same g c = refused_same c.args.lent.now c.wanted.new.lent _ _ (inr c.wanted.ensures.lent)

@@ -4,7 +4,9 @@ use Rattle.radio_seats_rows.specs.Seats.{seat_of}
 use Rattle.radio_seats.specs.Lent.{lent_seat}
 use Rattle.radio_changes.specs.KeptChanges.{kept_changed}
 use Rattle.radio_core.specs.declared.outcome.Outcome.{Outcome}
+use Rattle.radio_core.specs.Common.{common_of}
 use Rattle.radio_core.specs.Draw.{comes_to, draws}
+use Rattle.radio_core.proofs.CommonLemmas.{common_drawn}
 use Rattle.radio_core.proofs.SeatedDraws.{draws_seated}
 use Rattle.radio_core.proofs.server.control.Control.step_drawing.Goals as goal
 
@@ -27,3 +29,7 @@ returns-clause-told c can =
     let drawn : draws w c.args.id c.args.room ≡ comes_to c.args.id c.in_ok-reply.field-0 =
     draws_seated w c.args.id c.args.room seat (can.sits seat has) has ∙ sym (c.in_ok-reply.ensures (can.kept seat has)) in
     ap (λ (o : Outcome). o.reply) (sym drawn)
+
+pub returns-clause-common : goal.returns-clause-common
+returns-clause-common c =
+    ap common_of c.advance_at.ensures ∙ common_drawn c.args.self.now c.args.id c.in_ok-reply.field-0.place

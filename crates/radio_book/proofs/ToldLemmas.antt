@@ -1,0 +1,160 @@
+-- What all mounts have in common follows from the entries of the control's list.
+use Rattle.std.proofs.Common.{◌≡◌, ℕ, Bool, true, false, Option, None, Some, inl, inr, List, [], ◌∷◌, ◌++◌, Result, Ok, Err, IfOk, OnErr, refl, ap, sym, ◌∙◌}
+use Rattle.std.specs.Prelude.{MatchOption}
+use Rattle.std.proofs.Math.Logic.{∥∥₁_map}
+use Rattle.std.proofs.lemmas.List.{append-nil}
+use Rattle.std.specs.declared.alloc.AllocError.{AllocError}
+use Rattle.radio_changes.specs.Lent.{IsLentTo}
+use Rattle.radio_chronicle.specs.declared.line.ControlLine.{ControlLine}
+use Rattle.radio_chronicle.specs.declared.line.ControlLine.TheVariants.{Cut, Made}
+use Rattle.radio_core.specs.Common.{Common, common_after, common_by, common_of}
+use Rattle.radio_events.specs.Events.{entry}
+use Rattle.radio_events.specs.declared.entry.Entry.{Entry}
+use Rattle.radio_events.specs.declared.event.Event.{Event}
+use Rattle.radio_events.specs.declared.reply.Reply.{Reply}
+use Rattle.radio_house.specs.House.{House}
+use Rattle.radio_house.specs.World.{World}
+use Rattle.radio_seats_rows.specs.Seats.{last_mount_of}
+use Rattle.radio_mount_part.specs.declared.part.MountPart.{MountPart}
+use Rattle.radio_core.specs.Lending.{IsTakenOut}
+use Rattle.radio_facts.specs.Wanted.{wanted}
+use Rattle.radio_book.specs.ControlLists.{entries_in, AreWantedThere, IsControlLent, IsControlReply, IsToldBy, WasThere}
+use Rattle.radio_book.specs.MountBooks.{AreBack, AreCuts, AreLent, BookOfMount, IsBack, IsControlAsBefore, IsControlStep, IsLent, IsRefused}
+use Rattle.radio_book.specs.Receipts.{ReceiptOf}
+
+exchanged_common : (part there : MountPart) (before after : World) → IsLentTo part there before after → common_of after ≡ common_of before
+exchanged_common part there before after is = ap (λ (house : House). common_of (record after { house = house })) is.house
+
+lent_common : (book lent : BookOfMount) (before after : World) → IsLent book lent before after → common_of after ≡ common_of before
+lent_common book lent before after (inl is) = ap common_of is.1
+lent_common book lent before after (inr is) = exchanged_common is.0 is.1 before after is.4
+
+all_lent_common : (books lent : List BookOfMount) (before after : World) → AreLent books lent before after → common_of after ≡ common_of before
+all_lent_common [] [] before after are = ap common_of are
+all_lent_common [] (one ∷ lent) before after are = absurd are
+all_lent_common (book ∷ books) [] before after are = absurd are
+all_lent_common (book ∷ books) (one ∷ lent) before after are =
+    all_lent_common books lent are.0 after are.2 ∙ lent_common book one before are.0 are.1
+
+back_common : (lent back : BookOfMount) (before after : World) → IsBack lent back before after → common_of after ≡ common_of before
+back_common lent back before after (inl is) = ap common_of is.1
+back_common lent back before after (inr is) = let out = is.2 in exchanged_common out.0 is.0 before after out.2
+
+all_back_common : (lent back : List BookOfMount) (before after : World) → AreBack lent back before after → common_of after ≡ common_of before
+all_back_common [] [] before after are = ap common_of are
+all_back_common [] (book ∷ back) before after are = absurd are
+all_back_common (one ∷ lent) [] before after are = absurd are
+all_back_common (one ∷ lent) (book ∷ back) before after are =
+    all_back_common lent back are.0 after are.2 ∙ back_common one book before are.0 are.1
+
+pub stepped_common : (books back : List BookOfMount) (before after : World) (event : Event) (reply : Reply) → IsControlStep books before event reply back after
+    → common_of after ≡ common_after (common_of before) event reply
+stepped_common books back before after event reply is =
+    all_back_common is.lent back is.later after is.takes_back
+    ∙ is.common
+    ∙ ap (λ (common : Common). common_after common event reply) (all_lent_common books is.lent before is.whole is.lends)
+
+pub as_before_common : (books back : List BookOfMount) (before after : World) → IsControlAsBefore books before back after → common_of after ≡ common_of before
+as_before_common books back before after is =
+    all_back_common is.lent back is.whole after is.takes_back ∙ all_lent_common books is.lent before is.whole is.lends
+
+refused_common : (books back : List BookOfMount) (before after : World) → IsRefused books before back after → common_of after ≡ common_of before
+refused_common books back before after (inl is) = ap common_of is.1
+refused_common books back before after (inr is) = as_before_common books back before after is
+
+one_more : (common : Common) (entries : List Entry) (last : Entry)
+    → common_by common (entries ++ last ∷ []) ≡ common_after (common_by common entries) last.event last.reply
+one_more common [] last = refl
+one_more common (first ∷ entries) last = one_more (common_after common first.event first.reply) entries last
+
+entries_append : (lines others : List ControlLine) → entries_in (lines ++ others) ≡ entries_in lines ++ entries_in others
+entries_append [] others = refl
+entries_append (Cut list from to ∷ lines) others = entries_append lines others
+entries_append (Made made ∷ lines) others = ap (λ (rest : List Entry). made ∷ rest) (entries_append lines others)
+
+no_entries : (books : List BookOfMount) (cuts : List ControlLine) → AreCuts books cuts → entries_in cuts ≡ []
+no_entries [] [] are = refl
+no_entries [] (line ∷ cuts) are = absurd are
+no_entries (book ∷ books) [] are = absurd are
+no_entries (book ∷ books) (Cut list from to ∷ cuts) are = no_entries books cuts are.1
+no_entries (book ∷ books) (Made made ∷ cuts) are = absurd are.0
+
+-- cuts were noted, and then an entry
+pub noted_entries : (lines cuts : List ControlLine) (books : List BookOfMount) (made : Entry) → AreCuts books cuts
+    → entries_in ((lines ++ cuts) ++ Made made ∷ []) ≡ entries_in lines ++ made ∷ []
+noted_entries lines cuts books made are =
+    entries_append (lines ++ cuts) (Made made ∷ [])
+    ∙ ap (λ (front : List Entry). front ++ made ∷ [])
+    (entries_append lines cuts ∙ ap (λ (rest : List Entry). entries_in lines ++ rest) (no_entries books cuts are) ∙ append-nil (entries_in lines))
+
+-- a part was taken out, or none
+pub taken_common : (mount : List ℕ) (before after : World) (result : Result (Option MountPart) AllocError)
+    → IfOk result (λ out. MatchOption out (after ≡ before) (λ part. IsTakenOut mount part before after)) → OnErr result (after ≡ before)
+    → common_of after ≡ common_of before
+taken_common mount before after (Err refused) out err = ap common_of err
+taken_common mount before after (Ok None) out err = ap common_of out
+taken_common mount before after (Ok (Some part)) out err = exchanged_common out.0 part before after out.2
+
+module _ (keeps : Bool) (opening : World) where
+  pub told_first : (control : World) → control ≡ opening → IsToldBy keeps opening [] control
+  told_first control first = record { entries = []; common = ap common_of first; kept = λ keeps_them. refl }
+
+  -- nothing was noted, and nothing has changed
+  pub told_still : (lines lines' : List ControlLine) (before after : World) → lines' ≡ lines → common_of after ≡ common_of before
+      → ∥ IsToldBy keeps opening lines before ∥₁ → ∥ IsToldBy keeps opening lines' after ∥₁
+  told_still lines lines' before after same common told =
+      ∥∥₁_map told (λ (t : IsToldBy keeps opening lines before).
+      let still : IsToldBy keeps opening lines' after = record {
+        entries = t.entries;
+        common = common ∙ t.common;
+        kept = λ kept. ap entries_in same ∙ t.kept kept;
+      } in still)
+
+  -- an entry was made
+  pub told_more : (lines lines' : List ControlLine) (before after : World) (made : Entry)
+      → common_of after ≡ common_after (common_of before) made.event made.reply → (keeps ≡ true → entries_in lines' ≡ entries_in lines ++ made ∷ [])
+      → ∥ IsToldBy keeps opening lines before ∥₁ → ∥ IsToldBy keeps opening lines' after ∥₁
+  told_more lines lines' before after made common noted told =
+      ∥∥₁_map told (λ (t : IsToldBy keeps opening lines before).
+      let more : IsToldBy keeps opening lines' after = record {
+        entries = t.entries ++ made ∷ [];
+        common = common ∙ ap (λ (c : Common). common_after c made.event made.reply) t.common ∙ sym (one_more (common_of opening) t.entries made);
+        kept = λ kept. noted kept ∙ ap (λ (front : List Entry). front ++ made ∷ []) (t.kept kept);
+      } in more)
+
+  -- an event was answered over what was lent, or memory was refused; nothing is stored
+  pub told_unkept : (lines : List ControlLine) (books back : List BookOfMount) (before after : World) (event : Event) (result : Result Reply AllocError)
+      → keeps ≡ false → IfOk result (λ reply. IsControlStep books before event reply back after) → OnErr result (IsControlAsBefore books before back after)
+      → ∥ IsToldBy keeps opening lines before ∥₁ → ∥ IsToldBy keeps opening lines after ∥₁
+  told_unkept lines books back before after event (Ok reply) unkept step err told =
+      told_more lines lines before after (entry event reply) (stepped_common books back before after event reply step)
+      (λ kept. let both : true ≡ false = sym kept ∙ unkept in cc) told
+  told_unkept lines books back before after event (Err refused) unkept step err told =
+      told_still lines lines before after refl (as_before_common books back before after err) told
+
+  -- the mounts are wanted by a control of which its list tells
+  pub legal_wanted : {A E : Type 0} (names : A → List (List ℕ)) (lines : List ControlLine) (books lent : List BookOfMount) (before whole : World) (result : Result A E)
+      → AreLent books lent before whole → IfOk result (λ mounts. names mounts ≡ wanted whole) → ∥ IsToldBy keeps opening lines before ∥₁
+      → IfOk result (λ mounts. ∥ AreWantedThere opening (names mounts) ∥₁)
+  legal_wanted names lines books lent before whole (Err refused) lends are told = tt
+  legal_wanted names lines books lent before whole (Ok mounts) lends are told =
+      ∥∥₁_map told (λ (t : IsToldBy keeps opening lines before).
+      let is : IsControlLent opening whole = record { entries = t.entries; control = before; common = t.common; books = books; lent = lent; lends = lends } in
+      let wants : AreWantedThere opening (names mounts) = record { whole = whole; is = is; are = are } in wants)
+
+  -- the reply is that of a control of which its list tells
+  pub legal_reply : (lines : List ControlLine) (books back : List BookOfMount) (before after : World) (event : Event) (result : Result ReceiptOf AllocError)
+      → IfOk result (λ receipt. IsControlStep books before event receipt.reply back after)
+      → ∥ IsToldBy keeps opening lines before ∥₁ → IfOk result (λ receipt. ∥ IsControlReply opening event receipt.reply ∥₁)
+  legal_reply lines books back before after event (Err refused) step told = tt
+  legal_reply lines books back before after event (Ok receipt) step told =
+      ∥∥₁_map told (λ (t : IsToldBy keeps opening lines before).
+      let lent : IsControlLent opening step.whole = record { entries = t.entries; control = before; common = t.common; books = books; lent = step.lent; lends = step.lends } in
+      let is : IsControlReply opening event receipt.reply = record { whole = step.whole; is = lent; replied = step.replied } in is)
+
+  -- the listener was there, as a control knows of which its list tells
+  pub legal_last : (lines : List ControlLine) (control : World) (id : ℕ) (mount : Option (List ℕ)) → mount ≡ last_mount_of control.seats id
+      → ∥ IsToldBy keeps opening lines control ∥₁ → ∥ WasThere opening id mount ∥₁
+  legal_last lines control id mount was told =
+      ∥∥₁_map told (λ (t : IsToldBy keeps opening lines control).
+      let there : WasThere opening id mount = record { entries = t.entries; control = control; common = t.common; was = was } in there)

@@ -1,0 +1,20 @@
+use Rattle.std.proofs.Common.{refl}
+use Rattle.radio_book.specs.MountBooks.{IsControlAsBefore}
+use Rattle.radio_book.proofs.ToldLemmas.{as_before_common, legal_wanted, told_still}
+use Rattle.radio_book.proofs.accounts.Accounts.wanted.Goals as goal
+
+pub invariant_of-self-clause-by_entries : goal.invariant_of-self-clause-by_entries
+invariant_of-self-clause-by_entries g c =
+    let as_before : IsControlAsBefore c.args.lent.now c.args.self.now.control c.take_back_each.new.lent c.take_back_each.new.control = record {
+      lent = c.lend_each.new.lent;
+      whole = c.lend_each.new.control;
+      lends = c.lend_each.ensures;
+      takes_back = c.take_back_each.ensures;
+    } in
+    told_still g.C.Chronicle.KEEPS g.H.House.opening c.args.self.now.lines.items c.args.self.now.lines.items c.args.self.now.control c.take_back_each.new.control refl
+    (as_before_common c.args.lent.now c.take_back_each.new.lent c.args.self.now.control c.take_back_each.new.control as_before) c.args.self.now.by_entries
+
+pub returns-clause-legal : goal.returns-clause-legal
+returns-clause-legal g c =
+    legal_wanted g.C.Chronicle.KEEPS g.H.House.opening (λ mounts. mounts.items) c.args.self.now.lines.items c.args.lent.now c.lend_each.new.lent
+    c.args.self.now.control c.lend_each.new.control c.wanted-wanted.result c.lend_each.ensures c.wanted-wanted.ensures c.args.self.now.by_entries

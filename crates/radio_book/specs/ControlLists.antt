@@ -1,0 +1,58 @@
+-- What the control's list tells of it, and whose reply the control's is.
+use Rattle.std.specs.Prelude.{◌≡◌, ℕ, Bool, true, List, [], ◌∷◌, Option}
+use Rattle.radio_chronicle.specs.declared.line.ControlLine.{ControlLine}
+use Rattle.radio_chronicle.specs.declared.line.ControlLine.TheVariants.{Cut, Made}
+use Rattle.radio_core.specs.CanStep.{CanStep}
+use Rattle.radio_core.specs.Common.{common_by, common_of}
+use Rattle.radio_core.specs.ControlSteps.{control_reply}
+use Rattle.radio_events.specs.declared.entry.Entry.{Entry}
+use Rattle.radio_events.specs.declared.event.Event.{Event}
+use Rattle.radio_events.specs.declared.reply.Reply.{Reply}
+use Rattle.radio_facts.specs.Wanted.{wanted}
+use Rattle.radio_house.specs.World.{World}
+use Rattle.radio_seats_rows.specs.Seats.{last_mount_of}
+use Rattle.radio_book.specs.MountBooks.{AreLent, BookOfMount}
+
+-- the entries among these lines
+abbrev pub entries_in : List ControlLine → List Entry
+entries_in [] = []
+entries_in (Cut list from to ∷ lines) = entries_in lines
+entries_in (Made entry ∷ lines) = entry ∷ entries_in lines
+
+-- What all mounts have in common is what these entries have made of that of the opening state. If entries are stored, they are those of the list.
+-- rule: Legal history
+pub record IsToldBy (keeps : Bool) (opening : World) (lines : List ControlLine) (control : World) : Type 0 where
+  pub entries : List Entry
+  pub common : common_of control ≡ common_by (common_of opening) entries
+  pub kept : keeps ≡ true → entries_in lines ≡ entries
+
+-- a control of which entries tell so, and which was lent these parts
+pub record IsControlLent (opening : World) (whole : World) : Type 0 where
+  pub entries : List Entry
+  pub control : World
+  pub common : common_of control ≡ common_by (common_of opening) entries
+  pub books : List BookOfMount
+  pub lent : List BookOfMount
+  pub lends : AreLent books lent control whole
+
+-- the reply is that of such a control
+-- rule: Legal history
+pub record IsControlReply (opening : World) (event : Event) (reply : Reply) : Type 0 where
+  pub whole : World
+  pub is : IsControlLent opening whole
+  pub replied : CanStep whole event → reply ≡ control_reply whole event
+
+-- these mounts are wanted by such a control
+-- rule: Pulls on demand
+pub record AreWantedThere (opening : World) (mounts : List (List ℕ)) : Type 0 where
+  pub whole : World
+  pub is : IsControlLent opening whole
+  pub are : mounts ≡ wanted whole
+
+-- the listener sits there, or sat there last, as a control knows of which entries tell so
+-- rule: Last mount
+pub record WasThere (opening : World) (id : ℕ) (mount : Option (List ℕ)) : Type 0 where
+  pub entries : List Entry
+  pub control : World
+  pub common : common_of control ≡ common_by (common_of opening) entries
+  pub was : mount ≡ last_mount_of control.seats id

@@ -1,2 +1,0 @@
-mod PassLemmas
-pub mod Threads

@@ -1,9 +1,0 @@
-//! A law on callers, which runs no code.
-
-ghost use Rattle.radio_hall_lock.specs.Callers.{PassesGainWhatWasApplied};
-
-/// Where entries are stored, a caller's pass gains the receipts of the events that were applied, with
-/// their replies, in their order, and nothing else.
-pub fn passes_gain_what_was_applied()
-    ensures { PassesGainWhatWasApplied }
-{}

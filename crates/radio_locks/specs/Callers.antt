@@ -1,0 +1,39 @@
+-- What a caller of a hall is told, and what its pass gains.
+use Rattle.std.specs.Prelude.{◌≡◌, ℕ, Bool, true, false, List, [], ◌∷◌, ◌++◌, map}
+use Rattle.radio_events.specs.declared.event.Event.{Event}
+use Rattle.radio_events.specs.declared.event.Event.TheVariants.{Leave}
+use Rattle.radio_events.specs.declared.reply.Reply.{Reply}
+use Rattle.radio_events.specs.Events.{TakesNoMemory}
+use Rattle.radio_house.specs.World.{World}
+use Rattle.radio_book.specs.declared.newcomer.Newcomer.TheVariants.{Client}
+use Rattle.radio_book.specs.Newcomers.{is_here}
+use Rattle.radio_events.specs.declared.entry.Entry.{Entry}
+use Rattle.radio_chronicle.specs.declared.stamp.Stamp.{Stamp}
+use Rattle.radio_book.specs.Receipts.{entry_of, has_fed, receipt_of, ReceiptOf}
+use Rattle.radio_locks.specs.Replies.{IsReplied}
+use Rattle.radio_events.specs.Servers.{Chain}
+
+-- the event is not the end of a client that was let in by these receipts, has not left by them and has never fed by them
+abbrev pub IsNotItsEnd : List ReceiptOf → Event → Type 0
+IsNotItsEnd receipts event = (id : ℕ) → event ≡ Leave id → is_here (Client id) receipts ≡ true → has_fed id receipts ≡ false → ⊥
+
+-- if entries are stored, the pass gains the receipt of this event with this reply
+abbrev pub Gains : Bool → List ReceiptOf → Event → Reply → List ReceiptOf → Type 0
+Gains keeps before event reply now = keeps ≡ true → (stamp : Stamp) × (now ≡ before ++ receipt_of stamp event reply ∷ [])
+
+-- Whatever is stored, the reply is a legal one; and if entries are stored, the pass gains its receipt.
+-- rule: Legal history
+pub record IsCalled (keeps : Bool) (opening : World) (before : List ReceiptOf) (event : Event) (reply : Reply) (now : List ReceiptOf) : Type 0 where
+  pub legal : ∥ IsReplied opening event reply ∥₁
+  pub gains : Gains keeps before event reply now
+
+-- Memory may be refused for it: if entries are stored, it is not the end of a client of the caller's that has never fed; if none are, it takes memory.
+-- rule: Refused memory
+pub record MayBeRefused (keeps : Bool) (before : List ReceiptOf) (event : Event) : Type 0 where
+  pub other : keeps ≡ true → IsNotItsEnd before event
+  pub takes : keeps ≡ false → TakesNoMemory event → ⊥
+
+-- If entries are stored, the pass gains the receipts of what was applied, in its order.
+abbrev pub PassesGainWhatWasApplied : Type 0
+PassesGainWhatWasApplied = (opening : World) (before after : List ReceiptOf) (entries : List Entry) → Chain (IsCalled true opening) before entries after
+    → (receipts : List ReceiptOf) × (after ≡ before ++ receipts) × (map entry_of receipts ≡ entries)

@@ -1,0 +1,42 @@
+//! A hall, as its callers ask it.
+
+use crate::{Hall, OutOfMemory};
+use radio_book::{Chronicle, House, Pass};
+use radio_events::{Event, Reply, SharedServer};
+use radio_values::MountName;
+use std::sync::Wait;
+
+impl<C: Chronicle, H: House> SharedServer for Hall<C, H> {
+    type Pass = Pass<C, H>;
+
+    ghost use Rattle.radio_locks.specs.Callers.{IsCalled, MayBeRefused};
+
+    ghost steps = { IsCalled C.KEEPS H.opening };
+
+    ghost refuses = { MayBeRefused C.KEEPS };
+
+    fn pass<R: Wait>(&self, rt: &R) -> Option<Pass<C, H>> {
+        Hall::pass(self, rt)
+    }
+
+    // rule: Legal history; Reserved ends; Order of calls
+    fn apply<R: Wait>(
+        &self,
+        rt: &R,
+        pass: &mut Pass<C, H>,
+        event: Event,
+    ) -> Result<Reply, OutOfMemory> {
+        let receipt = Hall::apply(self, rt, pass, event)?;
+        Ok(receipt.into_reply())
+    }
+
+    // rule: Last mount
+    fn last_mount<R: Wait>(&self, rt: &R, id: u64) -> Option<MountName> {
+        Hall::last_mount(self, rt, id)
+    }
+
+    // rule: Pulls on demand
+    fn wanted<R: Wait>(&self, rt: &R) -> Result<Vec<MountName>, OutOfMemory> {
+        Hall::wanted(self, rt)
+    }
+}

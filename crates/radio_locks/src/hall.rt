@@ -1,0 +1,377 @@
+//! The locks of a server.
+
+ghost use Rattle.std.specs.Prelude.{◌≡◌, ◌≤◌, ◌^◌, ◌∷◌, [], ◌++◌, ℕ, true, false, Some, IsOk, IfOk, IfSome, OnErr, vec_len};
+ghost use Rattle.radio_book.specs.ControlLists.{AreWantedThere, WasThere};
+ghost use Rattle.radio_book.specs.MountBooks.{noted_own, IsNowhere, IsOf};
+ghost use Rattle.radio_book.specs.Newcomers.{is_here, leaver_of};
+ghost use Rattle.radio_book.specs.Receipts.{has_fed};
+ghost use Rattle.radio_book.specs.declared.newcomer.Newcomer.{Newcomer};
+ghost use Rattle.radio_book.specs.declared.newcomer.Newcomer.TheVariants.{Client};
+ghost use Rattle.radio_chronicle.specs.Stamps.{stamp};
+ghost use Rattle.radio_events.specs.Events.{TakesNoMemory};
+ghost use Rattle.radio_events.specs.declared.event.Event.TheVariants.{Leave};
+ghost use Rattle.radio_house.specs.World.{opening};
+ghost use Rattle.radio_locks.specs.Replies.{IsReplied, IsTried};
+
+use crate::OutOfMemory;
+use crate::concerned::{leaver, mount_in, own_client};
+use crate::locked_control::LockedControl;
+use crate::mount_lists::MountLists;
+use crate::mount_locks::MountLock;
+use radio_access::Lists;
+use radio_book::{Book, Chronicle, House, MountBook, Own, Pass, Receipt};
+use radio_connections::Gate;
+use radio_events::Event;
+use radio_settings_values::Settings;
+use radio_values::MountName;
+use std::alloc::Global;
+use std::sync::ledger::Blank;
+use std::sync::{Mutex, MutexGuard, Wait};
+
+/// How often a caller tries to take the control's lock before it sleeps until that is free: it is held for a moment alone.
+const TRIES: u32 = 64;
+
+/// The books of a server, each under a lock of its own, so that what a mount's part does by itself waits for nobody at another
+/// mount. The lock of list n is at place n - 1.
+#[derive(Drop)]
+pub struct Hall<C: Chronicle, H: House> {
+    pub(crate) alloc: Global,
+    pub(crate) queue: u64,
+    control: Mutex<LockedControl<C, H>>,
+    pub(crate) mounts: boxcar::Vec<MountLock<C>>,
+}
+
+impl<C: Chronicle, H: House> Hall<C, H> {
+    /// Returns a server of these settings and lists, in which nothing has happened yet. `OutOfMemory` if memory was refused.
+    // rule: Legal history
+    pub fn new(
+        alloc: Global,
+        settings: Settings,
+        lists: Lists,
+        blank: Blank,
+    ) -> Result<Hall<C, H>, OutOfMemory>
+        requires opening { H.opening ≡ opening settings lists }
+        requires ledger { (blank.name ≡ H.name) × (blank.parts ≡ H.parts) × (blank.parts ≡ 2 ^ 32) }
+    {
+        let queue = queue_of(&settings);
+        let control = Book::new(alloc, settings, lists, blank);
+        match boxcar::Vec::new(alloc) {
+            Ok(mounts) => Ok(Hall {
+                alloc,
+                queue,
+                control: Mutex::new(LockedControl {
+                    control,
+                    lent: Vec::new(alloc),
+                    lists: MountLists::new(alloc),
+                }),
+                mounts,
+            }),
+            Err(refused) => {
+                drop(control);
+                Err(refused)
+            }
+        }
+    }
+
+    /// Returns a pass with no receipt yet. `None` only once [`PASSES`](radio_book::PASSES) were taken.
+    pub fn pass<R: Wait>(&self, rt: &R) -> Option<Pass<C, H>>
+        ensures { IfSome result (λ pass. pass ≡ []) }
+    {
+        self.control.lock(rt).control.pass()
+    }
+
+    /// Returns a pass, as by [`Hall::pass`], without waiting: `None` also if another caller has the control's lock, or another
+    /// thread waits for it.
+    pub fn try_pass(&self) -> Option<Pass<C, H>>
+        ensures { IfSome result (λ pass. pass ≡ []) }
+    {
+        self.control.try_lock()?.control.pass()
+    }
+
+    /// One event: by the mount's part alone, under its lock, if it is a draw of a listener that is attached there, a block or a
+    /// title of its source; else by the control, which is lent the parts that it concerns. Returns its receipt.
+    ///
+    /// `OutOfMemory` if memory was refused; the pass is unchanged then. If entries are stored, the end of a client that was let in
+    /// by this pass, has not left by it and has never fed by it, is never refused. If none are, no end is ever refused, nor
+    /// the clock.
+    pub fn apply<R: Wait>(
+        &self,
+        rt: &R,
+        pass: &mut Pass<C, H>,
+        event: Event,
+    ) -> Result<Receipt, OutOfMemory>
+        ensures event { IfOk result (λ receipt. receipt.event ≡ event) }
+        // the reply is a part's own, or that of a control of which its list tells, over the parts that it was lent
+        ensures legal { IfOk result (λ receipt. ∥ IsReplied H.opening event receipt.reply ∥₁) }
+        // if entries are stored, the pass gains the receipt; if they are not, nothing is noted
+        ensures pass { C.KEEPS ≡ true → IfOk result (λ receipt. pass.new ≡ pass.old ++ receipt ∷ []) }
+        ensures unkept { C.KEEPS ≡ false → (pass.new ≡ pass.old) × IfOk result (λ receipt. receipt.stamp ≡ stamp 0 0) }
+        ensures err { OnErr result (pass.new ≡ pass.old) }
+        // the end of a client that was let in by the receipts of this pass, has not left by them and has never fed by them is never refused
+        ensures leave { C.KEEPS ≡ true → (id : ℕ) → event ≡ Leave id → is_here (Client id) pass.old ≡ true → has_fed id pass.old ≡ false → IsOk result }
+        // if nothing is stored, the end of a session, of a connection and of a relay, and the clock, are never refused
+        ensures frees { C.KEEPS ≡ false → TakesNoMemory event → IsOk result }
+    {
+        match own_client(&event) {
+            Some(id) => self.apply_own(rt, pass, id, event),
+            None => {
+                forget_leaver(pass, &event);
+                let mut locked = self.enter(rt);
+                self.apply_by(rt, &mut locked, pass, event)
+            }
+        }
+    }
+
+    /// A block, a title or a draw of this client: first where it was attached last.
+    fn apply_own<R: Wait>(
+        &self,
+        rt: &R,
+        pass: &mut Pass<C, H>,
+        id: u64,
+        event: Event,
+    ) -> Result<Receipt, OutOfMemory>
+        ensures event { IfOk result (λ receipt. receipt.event ≡ event) }
+        ensures legal { IfOk result (λ receipt. ∥ IsReplied H.opening event receipt.reply ∥₁) }
+        ensures pass { C.KEEPS ≡ true → IfOk result (λ receipt. pass.new ≡ pass.old ++ receipt ∷ []) }
+        ensures unkept { C.KEEPS ≡ false → (pass.new ≡ pass.old) × IfOk result (λ receipt. receipt.stamp ≡ stamp 0 0) }
+        ensures err { OnErr result (pass.new ≡ pass.old) }
+    {
+        let Some(list) = pass.list_of(id) else {
+            return self.find(rt, pass, id, event);
+        };
+        match self.try_at(rt, list, pass, event)? {
+            Own::Made(receipt) => Ok(receipt),
+            Own::Elsewhere(event) => self.find(rt, pass, id, event),
+        }
+    }
+
+    /// The same while nobody else has the control: at the mount where the control knows the client, which the pass remembers, or by
+    /// the control.
+    fn find<R: Wait>(
+        &self,
+        rt: &R,
+        pass: &mut Pass<C, H>,
+        id: u64,
+        event: Event,
+    ) -> Result<Receipt, OutOfMemory>
+        ensures event { IfOk result (λ receipt. receipt.event ≡ event) }
+        ensures legal { IfOk result (λ receipt. ∥ IsReplied H.opening event receipt.reply ∥₁) }
+        ensures pass { C.KEEPS ≡ true → IfOk result (λ receipt. pass.new ≡ pass.old ++ receipt ∷ []) }
+        ensures unkept { C.KEEPS ≡ false → (pass.new ≡ pass.old) × IfOk result (λ receipt. receipt.stamp ≡ stamp 0 0) }
+        ensures err { OnErr result (pass.new ≡ pass.old) }
+    {
+        let mut locked = self.enter(rt);
+        let Some(list) = locked.list_of(id) else {
+            pass.forget(id);
+            return self.apply_by(rt, &mut locked, pass, event);
+        };
+        match self.try_at(rt, list, pass, event)? {
+            Own::Made(receipt) => {
+                pass.remember(id, list);
+                Ok(receipt)
+            }
+            Own::Elsewhere(event) => {
+                pass.forget(id);
+                self.apply_by(rt, &mut locked, pass, event)
+            }
+        }
+    }
+
+    /// Tries the event at the mount of this list.
+    fn try_at<R: Wait>(
+        &self,
+        rt: &R,
+        list: u64,
+        pass: &mut Pass<C, H>,
+        event: Event,
+    ) -> Result<Own, OutOfMemory>
+        ensures event { IfOk result (λ own. IsOf event own) }
+        ensures tried { IfOk result (λ own. ∥ IsTried H.opening event own ∥₁) }
+        ensures pass { C.KEEPS ≡ true → IfOk result (λ own. pass.new ≡ noted_own own pass.old) }
+        ensures unkept { C.KEEPS ≡ false → (pass.new ≡ pass.old) × IfOk result (λ own. IsNowhere own) }
+        ensures err { OnErr result (pass.new ≡ pass.old) }
+    {
+        let Some(lock) = self.lock_of(list) else {
+            return Ok(Own::Elsewhere(event));
+        };
+        let mut guard = lock.lock(rt);
+        match &mut *guard {
+            Some(book) => book.apply(pass, event),
+            None => Ok(Own::Elsewhere(event)),
+        }
+    }
+
+    /// An event of the control, which is lent the parts that it concerns.
+    fn apply_by<R: Wait>(
+        &self,
+        rt: &R,
+        locked: &mut LockedControl<C, H>,
+        pass: &mut Pass<C, H>,
+        event: Event,
+    ) -> Result<Receipt, OutOfMemory>
+        ensures event { IfOk result (λ receipt. receipt.event ≡ event) }
+        ensures legal { IfOk result (λ receipt. ∥ IsReplied H.opening event receipt.reply ∥₁) }
+        ensures pass { C.KEEPS ≡ true → IfOk result (λ receipt. pass.new ≡ pass.old ++ receipt ∷ []) }
+        ensures unkept { C.KEEPS ≡ false → (pass.new ≡ pass.old) × IfOk result (λ receipt. receipt.stamp ≡ stamp 0 0) }
+        ensures err { OnErr result (pass.new ≡ pass.old) }
+        ensures leave { C.KEEPS ≡ true → (id : ℕ) → event ≡ Leave id → is_here (Client id) pass.old ≡ true → has_fed id pass.old ≡ false → IsOk result }
+        ensures frees { C.KEEPS ≡ false → TakesNoMemory event → IsOk result }
+    {
+        let concerned = locked.concerned(pass, &event);
+        let LockedControl {
+            control,
+            lent,
+            lists,
+            ..
+        } = locked;
+        self.take(rt, lent, concerned);
+        let added = self.add_book(rt, lent, lists, mount_in(&event));
+        let applied = apply_lent(control, lent, added, pass, event);
+        self.put_all(rt, lent);
+        applied
+    }
+
+    /// The control, as soon as nobody else has it.
+    fn enter<R: Wait>(&self, rt: &R) -> MutexGuard<'_, LockedControl<C, H>> {
+        for _ in 0..TRIES {
+            if let Some(locked) = self.control.try_lock() {
+                return locked;
+            }
+        }
+        self.control.lock(rt)
+    }
+
+    /// Returns the mounts where somebody sits, which relays feed on demand, in the order of their bytes. It makes no entry and no
+    /// receipt. `OutOfMemory` if memory was refused.
+    pub fn wanted<R: Wait>(&self, rt: &R) -> Result<Vec<MountName>, OutOfMemory>
+        // they are wanted by a control of which its list tells, over the parts that it was lent
+        ensures { IfOk result (λ mounts. ∥ AreWantedThere H.opening mounts.items ∥₁) }
+    {
+        let mut locked = self.enter(rt);
+        let LockedControl { control, lent, .. } = &mut *locked;
+        self.take_all(rt, lent);
+        let wanted = control.wanted(lent.as_mut_slice());
+        self.put_all(rt, lent);
+        wanted
+    }
+
+    /// Returns the mount where the listener of this number sits, or sat last, if there is one. It makes no entry and no receipt, and
+    /// takes no memory.
+    pub fn last_mount<R: Wait>(&self, rt: &R, id: u64) -> Option<MountName>
+        ensures { ∥ WasThere H.opening id result ∥₁ }
+    {
+        self.enter(rt).control.last_mount(id)
+    }
+
+    /// Holds the lock of this mount, or the control's if none is named, while it calls the gate: `hold(0)`, then `let_go(0)`. It takes no
+    /// lock and calls nothing for a mount that has no book. It is for tests of what goes on meanwhile.
+    pub fn freeze<R: Wait, G: Gate>(&self, rt: &R, mount: Option<MountName>, gate: &G) {
+        match mount {
+            Some(mount) => self.freeze_mount(rt, &mount, gate),
+            None => {
+                let locked = self.enter(rt);
+                gate.hold(0);
+                gate.let_go(0);
+                drop(locked);
+            }
+        }
+    }
+
+    fn freeze_mount<R: Wait, G: Gate>(&self, rt: &R, mount: &MountName, gate: &G) {
+        let Some(list) = self.enter(rt).lists.get(mount) else {
+            return;
+        };
+        let Some(lock) = self.lock_of(list) else {
+            return;
+        };
+        let book = lock.lock(rt);
+        gate.hold(0);
+        gate.let_go(0);
+        drop(book);
+    }
+
+    /// Returns the control's book and those of the mounts, in the order of their lists, when nobody calls any more; `None` for a lock
+    /// that holds nothing. `OutOfMemory` if memory was refused.
+    pub fn into_books(self) -> Result<(Book<C, H>, Vec<Option<MountBook<C>>>), OutOfMemory> {
+        let Hall {
+            alloc,
+            queue: _,
+            control,
+            mounts,
+        } = self;
+        let LockedControl {
+            control,
+            lent,
+            lists,
+            ..
+        } = control.into_inner();
+        drop(lent);
+        drop(lists);
+        let mut books = Vec::new(alloc);
+        match take_each(&mounts, &mut books) {
+            Ok(()) => {
+                drop(mounts);
+                Ok((control, books))
+            }
+            Err(refused) => {
+                drop(mounts);
+                drop(control);
+                drop(books);
+                Err(refused)
+            }
+        }
+    }
+}
+
+/// Returns how many bytes of a stream are kept at least.
+fn queue_of(settings: &Settings) -> u64 {
+    settings.limits.queue_size.get() as u64
+}
+
+/// Takes each mount's book out of its lock, if it is there and nobody has the lock.
+fn take_each<C: Chronicle>(
+    mounts: &boxcar::Vec<MountLock<C>>,
+    books: &mut Vec<Option<MountBook<C>>>,
+) -> Result<(), OutOfMemory> {
+    books.reserve(mounts.count())?;
+    for (_, lock) in mounts {
+        let book = match lock.try_lock() {
+            Some(mut guard) => guard.take(),
+            None => None,
+        };
+        books.push(book)?;
+    }
+    Ok(())
+}
+
+/// An event of the control over what is lent, unless memory was refused for a mount's book.
+fn apply_lent<C: Chronicle, H: House>(
+    control: &mut Book<C, H>,
+    lent: &mut Vec<MountBook<C>>,
+    added: Result<(), OutOfMemory>,
+    pass: &mut Pass<C, H>,
+    event: Event,
+) -> Result<Receipt, OutOfMemory>
+    ensures event { IfOk result (λ receipt. receipt.event ≡ event) }
+    ensures legal { IfOk result (λ receipt. ∥ IsReplied H.opening event receipt.reply ∥₁) }
+    ensures pass { C.KEEPS ≡ true → IfOk result (λ receipt. pass.new ≡ pass.old ++ receipt ∷ []) }
+    ensures unkept { C.KEEPS ≡ false → (pass.new ≡ pass.old) × IfOk result (λ receipt. receipt.stamp ≡ stamp 0 0) }
+    ensures err { OnErr result (pass.new ≡ pass.old) }
+    ensures leave { IsOk added → (one : Newcomer) → leaver_of event ≡ Some one → is_here one pass.old ≡ true → vec_len lent.old ≤ 1 → IsOk result }
+    ensures frees { IsOk added → C.KEEPS ≡ false → TakesNoMemory event → IsOk result }
+{
+    if let Err(refused) = added {
+        drop(event);
+        return Err(refused);
+    }
+    control.apply(pass, lent.as_mut_slice(), event)
+}
+
+/// Forgets where the client or relay was whose connection the event closes, if it is such a one.
+fn forget_leaver<C: Chronicle, H: House>(pass: &mut Pass<C, H>, event: &Event)
+    ensures { pass.new ≡ pass.old }
+{
+    if let Some(id) = leaver(event) {
+        pass.forget(id);
+    }
+}

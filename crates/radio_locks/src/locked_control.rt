@@ -1,0 +1,69 @@
+//! What the control's lock guards.
+
+ghost use Rattle.std.specs.Prelude.{◌≡◌, ℕ, true, false, vec_len};
+ghost use Rattle.radio_book.specs.Receipts.{has_fed};
+ghost use Rattle.radio_events.specs.declared.event.Event.TheVariants.{Leave};
+ghost use Rattle.radio_locks.specs.Concerned.{IsOneAtMost};
+
+use crate::concerned::Concerned;
+use crate::mount_lists::MountLists;
+use radio_book::{Book, Chronicle, House, MountBook, Pass};
+use radio_events::Event;
+
+/// The control's book, the books that are lent, of which there is none whenever the lock is free, and the list of each mount that
+/// has a book.
+#[derive(Drop)]
+pub(crate) struct LockedControl<C: Chronicle, H: House> {
+    pub(crate) control: Book<C, H>,
+    pub(crate) lent: Vec<MountBook<C>>,
+    pub(crate) lists: MountLists,
+    pub(crate) ghost none: { vec_len lent ≡ 0 },
+}
+
+impl<C: Chronicle, H: House> LockedControl<C, H> {
+    /// Returns the list of the mount that the client or relay feeds, or where it sits, or sat last, if there is one.
+    pub(crate) fn list_of(&self, id: u64) -> Option<u64> {
+        let mount = self.control.place_of(id)?;
+        self.lists.get(&mount)
+    }
+
+    /// Returns whose parts the event has to be lent. A client that has never fed by this pass leaves with one part at most, if
+    /// entries are stored.
+    pub(crate) fn concerned(&self, pass: &Pass<C, H>, event: &Event) -> Concerned
+        ensures { (id : ℕ) → event.now ≡ Leave id → C.KEEPS ≡ true → has_fed id pass.now ≡ false → IsOneAtMost result }
+    {
+        match event {
+            Event::Arrive { .. } => Concerned::Nobody,
+            Event::Push { id, .. } | Event::Title { id, .. } | Event::Draw { id, .. } =>
+                self.concerned_by(*id),
+            Event::Leave { id } => self.concerned_by_end(pass, *id),
+            Event::Source(_)
+            | Event::SourceEnd { .. }
+            | Event::Listen(_)
+            | Event::Command(_)
+            | Event::RelayUp { .. }
+            | Event::RelayDown { .. }
+            | Event::Clock { .. } => Concerned::All,
+        }
+    }
+
+    /// The mount of a client that is looked at.
+    fn concerned_by(&self, id: u64) -> Concerned
+        ensures { IsOneAtMost result }
+    {
+        match self.list_of(id) {
+            Some(list) => Concerned::One(list),
+            None => Concerned::Nobody,
+        }
+    }
+
+    /// Each, if a session ends with the client, since its listeners go elsewhere.
+    fn concerned_by_end(&self, pass: &Pass<C, H>, id: u64) -> Concerned
+        ensures { C.KEEPS ≡ true → has_fed id pass.now ≡ false → IsOneAtMost result }
+    {
+        if self.control.feeds(id) && (!C::KEEPS || pass.has_fed(id)) {
+            return Concerned::All;
+        }
+        self.concerned_by(id)
+    }
+}

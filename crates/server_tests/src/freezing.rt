@@ -1,0 +1,119 @@
+//! A lock that is held while a listener of another mount draws.
+
+use crate::merged::draw;
+use crate::moving::{LISTENER, asks};
+use radio_book::{House, Kept, Pass};
+use radio_connections::Gate;
+use radio_events::SharedServer;
+use radio_locks::Hall;
+use radio_values::MountName;
+use std::sync::Wait;
+use std::sync::atomic::{AtomicBool, Ordering};
+use std::thread;
+use std::thread::{Threads, for_each_mut};
+use std::time::{Clock, Duration};
+
+/// How often a thread sleeps for a millisecond before it gives up.
+const MOST_SLEEPS: u32 = 10_000;
+
+/// A gate that is held until the others have let it go, or a while has passed.
+#[derive(Drop)]
+struct Frozen<'a, R: Clock> {
+    rt: &'a R,
+    is_held: AtomicBool,
+    may_go: AtomicBool,
+    has_waited: AtomicBool,
+}
+
+impl<R: Clock> Frozen<'_, R> {
+    /// Whether the flag is set before a while has passed.
+    fn waits_for(&self, flag: &AtomicBool) -> bool {
+        for _ in 0..MOST_SLEEPS {
+            if flag.load(Ordering::SeqCst) {
+                return true;
+            }
+            thread::sleep(self.rt, Duration::from_millis(1));
+        }
+        false
+    }
+}
+
+impl<R: Clock> Gate for Frozen<'_, R> {
+    fn hold(&self, _id: u64) {
+        self.is_held.store(true, Ordering::SeqCst);
+        self.has_waited
+            .store(self.waits_for(&self.may_go), Ordering::SeqCst);
+    }
+
+    fn let_go(&self, _id: u64) {}
+}
+
+/// A server of which a lock can be held meanwhile.
+trait Lockable: SharedServer {
+    /// Holds the lock of this mount, or the control's, through this gate.
+    fn hold_lock<R: Wait, G: Gate>(&self, rt: &R, mount: Option<MountName>, gate: &G);
+}
+
+impl<H: House> Lockable for Hall<Kept, H> {
+    fn hold_lock<R: Wait, G: Gate>(&self, rt: &R, mount: Option<MountName>, gate: &G) {
+        self.freeze(rt, mount, gate);
+    }
+}
+
+/// What the thread of this number does: the first holds the lock, the second draws meanwhile, and lets it go then.
+fn freeze_or_draw<S: Lockable, R: Wait + Clock>(
+    rt: &R,
+    hall: &S,
+    pass: &mut S::Pass,
+    frozen: &Frozen<'_, R>,
+    mount: Option<MountName>,
+    number: usize,
+) {
+    if number == 0 {
+        hall.hold_lock(rt, mount, frozen);
+        return;
+    }
+    if frozen.waits_for(&frozen.is_held) && asks(rt, hall, pass, Ok(draw(LISTENER))) {
+        frozen.may_go.store(true, Ordering::SeqCst);
+    }
+}
+
+/// Two threads do so. Whether the draw was answered while the lock was held.
+fn is_drawn_meanwhile<R, S>(
+    rt: &R,
+    hall: &S,
+    passes: &mut [S::Pass],
+    mount: Option<MountName>,
+) -> bool
+where
+    R: Threads + Wait + Clock + Sync,
+    S: Lockable + Sync,
+    S::Pass: Send,
+{
+    let frozen = Frozen {
+        rt,
+        is_held: AtomicBool::new(false),
+        may_go: AtomicBool::new(false),
+        has_waited: AtomicBool::new(false),
+    };
+    for_each_mut(
+        rt,
+        passes,
+        2,
+        &|number, pass| freeze_or_draw(rt, hall, pass, &frozen, mount, number),
+    );
+    frozen.has_waited.load(Ordering::SeqCst)
+}
+
+/// The listener of `/b` draws once, so that its caller knows where it is, and again while the lock is held.
+pub fn is_answered<H: House + Send + Sync, R: Threads + Wait + Clock + Sync>(
+    rt: &R,
+    hall: &Hall<Kept, H>,
+    passes: &mut [Pass<Kept, H>],
+    mount: Option<MountName>,
+) -> bool {
+    let Some(drawer) = passes.get_mut(1) else {
+        return false;
+    };
+    asks(rt, hall, drawer, Ok(draw(LISTENER))) && is_drawn_meanwhile(rt, hall, passes, mount)
+}
