@@ -9,7 +9,7 @@ A comment is a line directly above what it speaks of:
     in the settings of a case, a table of cases, a script       `# rule: NAME`
     the same, to say what of a rule no contract says            `# only tested: NAME: WORDS`
 
-In docs/PROOFS.md it is behind the words of a planted bug: `<!-- rule: NAME -->`.
+A planted bug has its rules in the column `rule` of docs/history/planted.tsv, with semicolons between them.
 """
 import re
 from collections import namedtuple
@@ -18,10 +18,9 @@ from functools import cache
 from names import CRATES, TOP, text_of
 
 PAGES = "docs/rules"
-PLANTED = "docs/PROOFS.md"
+PLANTED = "docs/history/planted.tsv"
 KINDS = ("definition", "contract", "edit", "plant", "case", "test")
 COMMENT = re.compile(r"^\s*(?:--|//|#) (rule|only tested): (.+)$")
-IN_MARKDOWN = re.compile(r"<!-- (rule|only tested): (.+?) -->")
 FUNCTION = re.compile(r"^\s*(?:pub(?:\(\w+\))? )?(?:const )?fn (\w+)")
 CONSTANT = re.compile(r"^\s*(?:pub(?:\(\w+\))? )?const (\w+):")
 DEFINITION = re.compile(r"^\s*(?:(?:unfoldable|abbrev)\s+)?pub (?:(?:record|data)\s+)?([^\s:]+)")
@@ -58,7 +57,7 @@ def key_of(name):
 def files():
     """The files in which a comment may name a rule, by their paths from the top."""
     patterns = ["crates/*/specs/**/*.antt", "crates/*/src/**/*.rt", "crates/*/must-fail/*.edit", "examples/*/settings.toml",
-                "scripts/*", "tests/**/*", "bench/*", PLANTED]
+                "scripts/*", "tests/**/*", "bench/*"]
     found = {path for pattern in patterns for path in TOP.glob(pattern)}
     named = [path for path in found if path.is_file() and "__pycache__" not in path.parts]
     return sorted(str(path.relative_to(TOP)) for path in named)
@@ -109,14 +108,18 @@ def owned(name, lines, at):
     return name
 
 
-def evidence_of_page(file, text):
-    """What the comments of a page of planted bugs show."""
-    for number, line in enumerate(text.splitlines(), 1):
-        for match in IN_MARKDOWN.finditer(line):
-            before = IN_MARKDOWN.sub("", line[: match.start()]).strip("| ").split(" | ")[0]
-            words = re.sub(r" +", " ", re.split(r"; (?![^(]*\))", before)[-1]).strip()
-            for name, untold in named_in(match.groups()):
-                yield Evidence(name, "plant", words, file, number, untold)
+def planted():
+    """The rows of planted bugs: the line and the cells of each, by the names of the columns."""
+    lines = [(number, line) for number, line in enumerate(text_of(PLANTED).splitlines(), 1) if line and not line.startswith("#")]
+    columns = lines[0][1].split("\t")
+    return [(number, dict(zip(columns, line.split("\t")))) for number, line in lines[1:]]
+
+
+def evidence_of_plants():
+    """What the planted bugs show."""
+    for number, row in planted():
+        for name in filter(None, row["rule"].split(";")):
+            yield Evidence(name.strip(), "plant", row["what is wrong"], PLANTED, number, None)
 
 
 def evidence_of_file(file, text):
@@ -133,14 +136,14 @@ def evidence_of_file(file, text):
 @cache
 def evidence():
     """All that shows rules, in the order of the kinds, then of the files."""
-    found = []
+    found = list(evidence_of_plants())
     for file in files():
         try:
             text = text_of(file)
         except UnicodeDecodeError:
             continue
-        if "rule: " in text or "only tested: " in text:
-            found += (evidence_of_page if file.endswith(".md") else evidence_of_file)(file, text)
+        if not file.endswith(".md") and ("rule: " in text or "only tested: " in text):
+            found += evidence_of_file(file, text)
     order = {kind: place for place, kind in enumerate(KINDS)}
     return sorted(found, key=lambda it: (order.get(it.kind, len(order)), it.file, it.line))
 
