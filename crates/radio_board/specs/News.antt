@@ -1,39 +1,42 @@
 -- When a worker begins a round of draws for news. Moments and times are in microseconds.
-use Rattle.std.specs.Prelude.{ℕ, Bool, true, false, ◌==◌, not, List, ◌∷◌, if◌then◌else◌, ◌+◌, ◌-◌, ◌*◌, ◌^◌, min, fold, take, replicate, nat_lt}
+use Rattle.std.specs.Prelude.{ℕ, Bool, true, false, ◌==◌, not, List, ◌∷◌, if◌then◌else◌, ◌+◌, ◌-◌, ◌*◌, ◌^◌, min, max, fold, take, replicate, nat_lt}
 use Rattle.radio_board.specs.declared.news.NewsFor.{NewsFor}
 use Rattle.radio_board.specs.declared.news.NewsFor.TheVariants.{Nobody, AllBut, All}
-
--- a round begins at the earliest so many times the shortest of the last rounds after the last one began
-abbrev pub spacing : ℕ
-spacing = 20
-
--- news waits so long at most
-abbrev pub most_wait : ℕ
-most_wait = 250000
-
--- when the last round began; how long the last eight took, the latest first; and whether the news of the last one came before its
--- pause had ended
-pub record Rounds : Type 0 where
-  pub began : ℕ
-  pub took : List ℕ
-  pub was_early : Bool
-
--- there was no round yet: a worker that has made fewer than eight has no pause
-abbrev pub no_rounds : Rounds
-no_rounds = record { began = 0; took = replicate 8 0; was_early = false }
-
--- the shortest of some times
-abbrev pub shortest : List ℕ → ℕ
-shortest times = fold min (2 ^ 64 - 1) times
 
 -- a moment has 64 bits
 abbrev pub as_moment : ℕ → ℕ
 as_moment us = min (2 ^ 64 - 1) us
 
+-- a round of one of so many workers begins at the earliest so many times the shortest of its last rounds after the last one began: 20 times, or 10 times for
+-- each worker, if that is more
+-- rule: News waits
+abbrev pub spacing_for : ℕ → ℕ
+spacing_for workers = max (as_moment (workers * 10)) 20
+
+-- news waits so long at most
+abbrev pub most_wait : ℕ
+most_wait = 250000
+
+-- when the last round began; how long the last eight took, the latest first; whether the news of the last one came before its
+-- pause had ended; and how many times the shortest passes from one to the next
+pub record Rounds : Type 0 where
+  pub began : ℕ
+  pub took : List ℕ
+  pub was_early : Bool
+  pub spacing : ℕ
+
+-- there was no round yet of one of so many workers: a worker that has made fewer than eight has no pause
+abbrev pub no_rounds : ℕ → Rounds
+no_rounds workers = record { began = 0; took = replicate 8 0; was_early = false; spacing = spacing_for workers }
+
+-- the shortest of some times
+abbrev pub shortest : List ℕ → ℕ
+shortest times = fold min (2 ^ 64 - 1) times
+
 -- when the pause ends
 -- rule: News waits
 abbrev pub pause_end : Rounds → ℕ
-pause_end rounds = as_moment (rounds.began + as_moment (shortest rounds.took * spacing))
+pause_end rounds = as_moment (rounds.began + as_moment (shortest rounds.took * rounds.spacing))
 
 -- for how long news that came at that moment waits still at this one: not at all if much has come
 -- rule: News waits

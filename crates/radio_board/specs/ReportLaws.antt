@@ -1,5 +1,5 @@
 -- What holds of what the desks of workers report.
-use Rattle.std.specs.Prelude.{◌≡◌, ◌≤◌, ◌<◌, ◌+◌, ℕ, true, false, None, Some}
+use Rattle.std.specs.Prelude.{◌≡◌, ◌≤◌, ◌<◌, ◌+◌, ℕ, true, false, None}
 use Rattle.radio_board.specs.declared.report.Report.{Report}
 use Rattle.radio_board.specs.Reports.{drawn_with, least_read, load_taken, loses_newcomers}
 use Rattle.radio_board.specs.Serving.{most_still}

@@ -128,6 +128,13 @@ impl Board {
         self.desks.get(number)
     }
 
+    /// Returns how many workers there are.
+    pub fn worker_count(&self) -> usize
+        ensures { result ≡ length self.now.desks }
+    {
+        self.desks.len()
+    }
+
     /// Returns up to which moment each worker that has begun has read its sockets, and no later one than `settled_ms`; or the one
     /// that was told before, if that is later. It never goes back. With 0 it is the one that was told before.
     pub fn moment(&self, settled_ms: u64) -> u64 {

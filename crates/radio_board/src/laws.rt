@@ -1,6 +1,6 @@
 //! Laws of news and of a worker's states. Each is a function that does nothing, and its contract is the law.
 
-ghost use Rattle.radio_board.specs.NewsLaws.{WaitsEnd, RoundsAreSpaced};
+ghost use Rattle.radio_board.specs.NewsLaws.{WaitsEnd, RoundsAreFew, RoundsAreSpaced};
 ghost use Rattle.radio_board.specs.ReportLaws.{BegunAreWaitedFor, DrawnHoldUpNobody, NewcomersAreServed, StillHoldUpNobody, UndrawnHoldUp};
 ghost use Rattle.radio_board.specs.StateLaws.{NewsIsThere, NewsStays, NewsIsTaken, RoundsDraw, NewsKeepsAwake, NewsWakes};
 
@@ -25,8 +25,10 @@ pub fn no_news_is_lost()
 pub fn rounds_are_spaced()
     // news that came so long ago waits no more
     ensures ends { WaitsEnd }
-    // what does not wait came so long ago, or follows the last round after 20 times the shortest
+    // what does not wait came so long ago, or follows the last round after so many times the shortest
     ensures spaced { RoundsAreSpaced }
+    // that is 20 times, and 10 times for each worker
+    ensures few { RoundsAreFew }
 {}
 
 /// The end of a source waits for the listeners of workers that make turns, and for no others.

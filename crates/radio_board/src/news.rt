@@ -2,15 +2,18 @@
 
 ghost use Rattle.std.specs.Prelude.{◌≡◌, if◌then◌else◌};
 ghost use Rattle.radio_board.specs.declared.news.NewsFor.TheVariants.{Nobody, All};
-ghost use Rattle.radio_board.specs.News.{is_for_some, no_rounds, shortest, pause_end, wait_left, begun, ended, is_for};
+ghost use Rattle.radio_board.specs.News.{is_for_some, no_rounds, spacing_for, shortest, pause_end, wait_left, begun, ended, is_for};
 
 use std::marker::Model;
 
 /// How many rounds are compared.
 const ROUNDS: usize = 8;
 
-/// How many times the shortest round passes from the beginning of a round to that of the next.
-const SPACING: u64 = 20;
+/// How many times the shortest round passes at least from the beginning of a round to that of the next.
+const LEAST_SPACING: u64 = 20;
+
+/// How many times the shortest round passes for each worker, so that the rounds of all workers take a tenth of a processor.
+const WORKER_SPACING: u64 = 10;
 
 /// How long news waits at most, in microseconds.
 const MOST_WAIT_US: u64 = 250_000;
@@ -71,6 +74,8 @@ pub struct NewsPause {
     began_us: u64,
     took_us: [u64; ROUNDS],
     was_early: bool,
+    /// How many times the shortest round passes from the beginning of a round to that of the next.
+    spacing: u64,
 }
 
 impl Model for NewsPause {
@@ -78,18 +83,20 @@ impl Model for NewsPause {
 
     ghost Value = { Rounds };
 
-    ghost view = { λ p. record { began = p.began_us; took = p.took_us; was_early = p.was_early } };
+    ghost view = { λ p. record { began = p.began_us; took = p.took_us; was_early = p.was_early; spacing = p.spacing } };
 }
 
 impl NewsPause {
-    /// Returns the pause of a worker that has made no round.
-    pub fn new() -> NewsPause
-        ensures { result ≡ no_rounds }
+    /// Returns the pause of one of so many workers that has made no round.
+    // rule: News waits
+    pub fn new(workers: usize) -> NewsPause
+        ensures { result ≡ no_rounds workers }
     {
         NewsPause {
             began_us: 0,
             took_us: [0; ROUNDS],
             was_early: false,
+            spacing: spacing_of(workers),
         }
     }
 
@@ -137,9 +144,18 @@ impl NewsPause {
     fn end_us(&self) -> u64
         ensures { result ≡ pause_end self.now }
     {
-        let spaced_us = shortest_of(&self.took_us).saturating_mul(SPACING);
+        let spaced_us = shortest_of(&self.took_us).saturating_mul(self.spacing);
         self.began_us.saturating_add(spaced_us)
     }
+}
+
+/// Returns how many times the shortest round passes from one round of such a worker to the next.
+fn spacing_of(workers: usize) -> u64
+    ensures { result ≡ spacing_for workers }
+{
+    (workers as u64)
+        .saturating_mul(WORKER_SPACING)
+        .max(LEAST_SPACING)
 }
 
 /// Returns the shortest of these times.

@@ -87,7 +87,7 @@ impl<'a, R: Clock + Wait> SocketPost<'a, R> {
             number,
             sockets,
             time: ServedTime::new(0, 0),
-            pause: NewsPause::new(),
+            pause: NewsPause::new(board.worker_count()),
             may_tell: false,
             is_drawing: false,
             clock_us: 0,
