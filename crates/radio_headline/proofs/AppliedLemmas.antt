@@ -82,7 +82,7 @@ noted_web says (Some closing) = by_count (closing.awaits == 0) where
   by_count true = refl
   by_count false = refl
 
-said_web : (says : Says) (reply : Reply) → (said says reply).says.web ≡ says.web
+pub said_web : (says : Says) (reply : Reply) → (said says reply).says.web ≡ says.web
 said_web says (Arrived id) = refl
 said_web says Feeding = refl
 said_web says (Seated interval head) = refl

@@ -28,11 +28,6 @@ use Rattle.radio_session.specs.Asking.{asks_by_get, asks_to_feed, asks_to_hear, 
 use Rattle.radio_session.specs.Conversation.{Conversation, asking, fresh}
 use Rattle.radio_session.specs.Framing.{is_source, framing_of, greeting_of, start_of}
 use Rattle.radio_session.specs.Hearing.{Heard, body_closes, body_heard, get_heard, greeted, refuses, request_heard, source_heard}
-use Rattle.radio_deliveries.specs.declared.delivery.Delivery.{Delivery}
-use Rattle.radio_deliveries.specs.Given.{TranscriptLine, given}
-use Rattle.radio_floor.specs.declared.labelled.Connection.{Connection}
-use Rattle.radio_floor.specs.declared.labelled.Connection.TheVariants.{Client, Relay}
-use Rattle.radio_floor.specs.ScriptState.{ScriptState, connection_of}
 use Rattle.radio_events.specs.declared.reply.Reply.{Reply}
 use Rattle.radio_events.specs.declared.reply.Reply.TheVariants.{Deny, Feeding, Finished}
 use Rattle.radio_laws.specs.Denials.{DenialsAreThePolicys}
@@ -44,19 +39,18 @@ use Rattle.radio_headline.specs.Listeners.{SourceIsAnswered}
 use Rattle.radio_headline.proofs.Greetings.{greeted_says}
 use Rattle.std.proofs.lemmas.List.{append-nil}
 use Rattle.radio_headline.specs.Course.{Happening, events_in, on}
-use Rattle.radio_headline.specs.Sources.{DeliversItsBody, IsRequest, brought, pushed}
+use Rattle.radio_headline.specs.Sources.{DeliversItsBody, IsRequest, pushed}
 use Rattle.radio_headline.proofs.Gathered.{IsOnIt}
 use Rattle.radio_headline.proofs.Logs.{Entry, entry, log_on, log_parted, Each, each_as, each_joined}
 use Rattle.radio_headline.proofs.AppliedLemmas.{IsLast, IsOrderly}
 use Rattle.radio_headline.proofs.RunLemmas.{AllNowhere, IsMoment, HasNumber, IsIdling, are_on_first, arrives_and_idles, last_stays, reached_opening, reached_after, reached_all}
 use Rattle.radio_headline.proofs.Connections.{arrival, AsksForMount, AsksNothing, ByGet, Feeds, IsIdleOrLeaving, IsBehindRequest, IsNoRequest, events_of}
-use Rattle.radio_headline.proofs.Connections.{Facts, HasAskedNothing, HasSentGet, IsSource, IsPulling, IsGreeted, IsSo, Stage, AtHead, AfterGet, AtBody, AfterBody, Refused}
-use Rattle.radio_headline.proofs.HeardLemmas.{delivers_by, more_for_get, more_for_source}
+use Rattle.radio_headline.proofs.Connections.{Facts, HasAskedNothing, HasSentGet, IsClosed, IsSource, IsPulling, IsGreeted}
+use Rattle.radio_headline.proofs.HeardLemmas.{delivers_by}
 use Rattle.radio_headline.proofs.ClientEvents.{behind_is_his, idle_asks_nothing, idle_pushes_nothing}
-use Rattle.radio_headline.proofs.Standing.{brought_joined}
 use Rattle.radio_headline.proofs.RelayWords.{OwnRelay, relay_asks_not}
 use Rattle.radio_headline.proofs.ListenerLemmas.{on_his}
-use Rattle.radio_headline.proofs.GetLogs.{Waited, waited, by_get, get_is_of, no_entry, orderly_second, parted_at_get}
+use Rattle.radio_headline.proofs.GetLogs.{Waited, waited, by_get, get_is_of, orderly_second, parted_at_get}
 use Rattle.radio_headline.proofs.SourceLemmas.{orderly_is_cut, Front, IsHisOrNotesNothing, NotesNothing, brings_front, delivered_gathered, given_before, no_block, noted, noted_of, nothing_noted}
 use Rattle.radio_headline.proofs.Partings.{Parted, none_there, parted}
 use Rattle.radio_answers.specs.declared.web_answers.WebAnswers.{WebAnswers}
@@ -135,26 +129,11 @@ module _ (web : WebAnswers) (bytes : List ℕ) (log : List Entry) (given : List 
   never : {A : Type 0} → Each FeedsNot log → A
   never h = absurd (none_there IsSourcing before behind e (subst (Each FeedsNot) parts h) feeds)
 
-  of_facts : Facts web bytes log given → FeedsGreeted
-  of_facts (HasAskedNothing h) = never (nothing_fed log h)
-  of_facts (HasSentGet g) = never (get_not web bytes log given g)
-  of_facts (IsSource f told) = (f, told)
-  of_facts (IsPulling q) = never (relay_feeds_not log q.own)
-
-  of_stage : (conversation : Conversation) → Stage web bytes log given conversation → FeedsGreeted
-  of_stage conversation (AtHead idle arrived idles hears held t) =
-      never (subst (Each FeedsNot) (sym arrived)
-      ((λ l. l), each_as (IsIdling conversation.id) FeedsNot (idle_feeds_not conversation.id) idle idles))
-  of_stage conversation (AfterGet g hears t) = never (get_not web bytes log given g)
-  of_stage conversation (AtBody f told none hears) = (f, told)
-  of_stage conversation (AfterBody f told hears) = (f, told)
-  of_stage conversation (Refused h hears) = never (nothing_fed log h)
-
-  feeds_so : (c : Option (Option Connection)) → IsSo web c bytes log given → FeedsGreeted
-  feeds_so None h = absurd (no_entry before behind e (sym h.1 ∙ parts))
-  feeds_so (Some None) h = of_facts h.facts
-  feeds_so (Some (Some (Client conversation))) h = of_stage conversation h.stage
-  feeds_so (Some (Some (Relay pulling))) h = never (relay_feeds_not log h.own)
+  feeds_so : Facts web bytes log given → FeedsGreeted
+  feeds_so (HasAskedNothing h) = never (nothing_fed log h)
+  feeds_so (HasSentGet g) = never (get_not web bytes log given g)
+  feeds_so (IsSource f told) = (f, told)
+  feeds_so (IsPulling q) = never (relay_feeds_not log q.own)
 
 -- a source's request, as it is heard with the bytes behind it
 framed_so : {F : Type 0} (start_at : F → Place) (hears : Option F → Heard) (body : Place → Heard) → ((f : F) → hears (Some f) ≡ body (start_at f))
@@ -223,8 +202,8 @@ module _ (web : WebAnswers) (settled : IsSettled ShowsRequest) (within : HeadsLi
       (fits : (events : List Event) (event : Event) → RepliesFit (run_after settings lists events) event)
       (adds : (events : List Event) (event : Event) → AddsUp (run_after settings lists events) event)
       (steps : (events : List Event) (event : Event) → ClientsStep (run_after settings lists events) event)
-      (deliveries done rest : List Delivery) (all : deliveries ≡ done ++ rest) (last : ScriptState) (course : List Happening) (lines : List TranscriptLine)
-      (each : (label : ℕ) → IsSo web (connection_of last.connections label) (brought done label) (log_on (opening settings lists) course label) (given lines label))
+      (brought given : ℕ → List ℕ) (course : List Happening)
+      (each : (label : ℕ) → IsClosed web (brought label) (log_on (opening settings lists) course label) (given label))
       (nowhere : AllNowhere (λ h. IsMoment h.event) course) where
     abbrev w0 : World
     w0 = opening settings lists
@@ -245,11 +224,10 @@ module _ (web : WebAnswers) (settled : IsSettled ShowsRequest) (within : HeadsLi
       in_order : log label ≡ before ++ entry w (Source asked) ∷ behind
       in_order = ap (λ (hs : List Happening). log_on w0 hs label) parts ∙ log_parted w0 past later label (Source asked)
 
-      feeds_greeted : (f : Feeds (brought done label) (log label)) × IsGreeted web f (given lines label)
-      feeds_greeted = feeds_so web (brought done label) (log label) (given lines label) before behind (entry w (Source asked)) in_order tt
-          (connection_of last.connections label) (each label)
+      feeds_greeted : (f : Feeds (brought label) (log label)) × IsGreeted web f (given label)
+      feeds_greeted = feeds_so web (brought label) (log label) (given label) before behind (entry w (Source asked)) in_order tt (each label).facts
 
-      abbrev f : Feeds (brought done label) (log label)
+      abbrev f : Feeds (brought label) (log label)
       f = feeds_greeted.0
 
       p : Parted before (arrival f.peer f.id ∷ f.idle) (entry w (Source asked)) (record { event = asks_to_feed f.id f.request; reply = f.reply }) behind f.behind
@@ -267,7 +245,7 @@ module _ (web : WebAnswers) (settled : IsSettled ShowsRequest) (within : HeadsLi
       has_number_before = subst (HasNumber f.id) (sym p.before) (inl refl)
 
       on_it : AllByRecursion (IsOnIt label f.id) course
-      on_it = on_his web settings lists fits adds steps done last course lines each nowhere label f.id (subst (HasNumber f.id) (sym f.in_order) (inl refl))
+      on_it = on_his web settings lists fits adds steps brought given course each nowhere label f.id (subst (HasNumber f.id) (sym f.in_order) (inl refl))
 
       on_it_later : AllByRecursion (IsOnIt label f.id) later
       on_it_later = (all_second (IsOnIt label f.id) past (on label (Source asked) ∷ later) (subst (AllByRecursion (IsOnIt label f.id)) parts on_it)).1 where
@@ -312,40 +290,33 @@ module _ (web : WebAnswers) (settled : IsSettled ShowsRequest) (within : HeadsLi
                       (each_as (IsNoRequest f.id) (IsHisOrNotesNothing f.id) (λ e h. inl (behind_is_his f.id e.event h)) f.behind f.no_more),
                 ))
 
-      abbrev whole : Feeds (brought done label ++ brought rest label) (log label)
-      whole = more_for_source settled within joined places data_joined (brought done label) (brought rest label) (log label) f
-
-      all_brought : brought done label ++ brought rest label ≡ brought deliveries label
-      all_brought = sym (brought_joined done rest label) ∙ ap (λ (ds : List Delivery). brought ds label) (sym all)
-
-      body : HeardBody (brought done label ++ brought rest label) (log label) whole
-      body = heard_body (brought done label ++ brought rest label) (log label) whole
+      body : HeardBody (brought label) (log label) f
+      body = heard_body (brought label) (log label) f
 
       -- its request is heard so
       abbrev HeardSo : List ℕ → ℕ → Event → Type 0
       HeardSo bytes n e = (r : IsRequest bytes n e body.behind) × (r.heard.conversation.says.greeting ≡ greeting_of f.request)
 
-      heard_so : HeardSo (brought deliveries label) asked.id (Source asked)
+      heard_so : HeardSo (brought label) asked.id (Source asked)
       heard_so =
-          subst (λ (bytes : List ℕ). HeardSo bytes asked.id (Source asked)) all_brought
-          (subst (HeardSo (brought done label ++ brought rest label) asked.id) (sym same_event)
-          (subst (λ (n : ℕ). HeardSo (brought done label ++ brought rest label) n (asks_to_feed f.id f.request)) (sym his_number) (body.is_request, body.greets)))
+          subst (HeardSo (brought label) asked.id) (sym same_event)
+          (subst (λ (n : ℕ). HeardSo (brought label) n (asks_to_feed f.id f.request)) (sym his_number) (body.is_request, body.greets))
 
-      pub delivers_body : DeliversItsBody settings lists deliveries course label asked
+      pub delivers_body : DeliversItsBody settings lists brought course label asked
       delivers_body = record {
         behind = body.behind;
         is_request = heard_so.0;
-        undelivered = front.rest ++ whole.rest;
+        undelivered = front.rest ++ f.rest;
         is_front =
-            body.content ∙ sym whole.front
-            ∙ ap (λ (es : List Entry). pushed (events_of es) ++ whole.rest) (sym p.behind)
-            ∙ ap (λ (xs : List ℕ). xs ++ whole.rest) (sym front.is_front)
-            ∙ append_assoc (noted behind) front.rest whole.rest
-            ∙ ap (λ (xs : List ℕ). xs ++ (front.rest ++ whole.rest)) (sym all_noted);
+            body.content ∙ sym f.front
+            ∙ ap (λ (es : List Entry). pushed (events_of es) ++ f.rest) (sym p.behind)
+            ∙ ap (λ (xs : List ℕ). xs ++ f.rest) (sym front.is_front)
+            ∙ append_assoc (noted behind) front.rest f.rest
+            ∙ ap (λ (xs : List ℕ). xs ++ (front.rest ++ f.rest)) (sym all_noted);
       }
 
       -- what it was told
-      abbrev greeted_here : IsGreeted web f (given lines label)
+      abbrev greeted_here : IsGreeted web f (given label)
       greeted_here = feeds_greeted.1
 
       mute : Waited web f.idle
@@ -355,7 +326,7 @@ module _ (web : WebAnswers) (settled : IsSettled ShowsRequest) (within : HeadsLi
           p.before f.idles).1
 
       told_as : (r : Reply) → reply_to w (Source asked) ≡ r
-          → given lines label ≡ (said (record (asking web) { greeting = greeting_of f.request; closing = greeted_here.closing }) r).bytes ++ greeted_here.rest
+          → given label ≡ (said (record (asking web) { greeting = greeting_of f.request; closing = greeted_here.closing }) r).bytes ++ greeted_here.rest
       told_as r e =
           greeted_here.is_told
           ∙ ap (λ (xs : List ℕ). xs ++ ((said (greeted_says web f.id f.idle f.request greeted_here.closing) f.reply).bytes ++ greeted_here.rest)) mute.untold
@@ -367,7 +338,7 @@ module _ (web : WebAnswers) (settled : IsSettled ShowsRequest) (within : HeadsLi
       nothing_more r e l = greeted_here.ends (subst IsLast (sym (ap (λ (x : Entry). x.reply) (sym p.here) ∙ e)) l)
 
       pub source_answered : (denied : (events : List Event) (event : Event) → DenialsAreThePolicys (run_after settings lists events) event)
-          → SourceIsAnswered settings lists deliveries course web lines label asked past
+          → SourceIsAnswered settings lists brought course web given label asked past
       source_answered denied = record {
         behind = body.behind;
         is_request = heard_so.0;
@@ -381,19 +352,16 @@ module _ (web : WebAnswers) (settled : IsSettled ShowsRequest) (within : HeadsLi
 
     -- and so is what a listener asks for heard
     module _ (label : ℕ) (asked : ListenRequest) (past later : List Happening) (parts : course ≡ past ++ on label (Listen asked) ∷ later) where
-      pub listens_so : IsRequest (brought deliveries label) asked.id (Listen asked) []
+      pub listens_so : IsRequest (brought label) asked.id (Listen asked) []
       listens_so =
           let w = run_after settings lists (events_in past) in
           let before = log_on w0 past label in
           let behind = log_on (world_after w (Listen asked)) later label in
           let in_order : log label ≡ before ++ entry w (Listen asked) ∷ behind =
           ap (λ (hs : List Happening). log_on w0 hs label) parts ∙ log_parted w0 past later label (Listen asked) in
-          let first = by_get web (brought done label) (log label) (given lines label) before behind (entry w (Listen asked)) in_order tt
-          (connection_of last.connections label) (each label) in
-          let g = more_for_get settled within joined places data_joined web (brought done label) (brought rest label) (log label) (given lines label) first in
-          let p = parted_at_get web (brought done label ++ brought rest label) (log label) (given lines label) g before behind (entry w (Listen asked)) in_order tt in
+          let g = by_get web (brought label) (log label) (given label) before behind (entry w (Listen asked)) in_order tt (each label).facts in
+          let p = parted_at_get web (brought label) (log label) (given label) g before behind (entry w (Listen asked)) in_order tt in
           let number : asked.id ≡ g.id = get_is_of web g.id g.request (sym p) in
-          subst (λ (bytes : List ℕ). IsRequest bytes asked.id (Listen asked) []) (sym (brought_joined done rest label) ∙ ap (λ (ds : List Delivery). brought ds label) (sym all))
-          (subst (λ (e : Event). IsRequest (brought done label ++ brought rest label) asked.id e []) (sym p)
-          (subst (λ (n : ℕ). IsRequest (brought done label ++ brought rest label) n (asks_by_get web g.id g.request) []) (sym number)
-          (heard_get (brought done label ++ brought rest label) (log label) (given lines label) g)))
+          subst (λ (e : Event). IsRequest (brought label) asked.id e []) (sym p)
+          (subst (λ (n : ℕ). IsRequest (brought label) n (asks_by_get web g.id g.request) []) (sym number)
+          (heard_get (brought label) (log label) (given label) g))

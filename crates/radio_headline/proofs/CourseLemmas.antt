@@ -42,7 +42,8 @@ use Rattle.radio_floor.specs.declared.labelled.Labelled.{Labelled}
 use Rattle.radio_floor.specs.ScriptState.{ScriptState, Performed, AsksOn, ComesTo, ComesToClient, ComesToRelay, IsPerformed, closes, connection_of, connection_unless}
 use Rattle.radio_floor.specs.ScriptState.{connects, exchanges, for_new_label, kept_unless, last_word, on_connection, told_lines, opens, with_connection, pulled_on, relay_named, taken_in}
 use Rattle.radio_headline.specs.Course.{ComesToNoted, Happening, Happens, HappensThere, IsAsked, Noted, and_then, applied, arrivals, events_in, noting, nothing_noted, on}
-use Rattle.radio_headline.specs.Sources.{brought, bytes_in, pushed}
+use Rattle.radio_headline.specs.Scripts.{brought, bytes_in}
+use Rattle.radio_headline.specs.Sources.{pushed}
 use Rattle.radio_headline.proofs.Logs.{Entry, entry, entries, log_on, log_joined, after_joined, events_joined}
 use Rattle.radio_headline.proofs.AppliedLemmas.{applied_lead}
 use Rattle.radio_headline.proofs.RelayLogs.{at, asks_lifts, down}

@@ -20,19 +20,15 @@ use Rattle.radio_session.specs.Conversation.{asking}
 use Rattle.radio_session.specs.Draws.{draw}
 use Rattle.radio_session.specs.Saying.{said}
 use Rattle.radio_session.specs.Told.{AdmitNobody, draws_of, told}
-use Rattle.radio_floor.specs.declared.labelled.Connection.{Connection}
-use Rattle.radio_floor.specs.declared.labelled.Connection.TheVariants.{Client, Relay}
-use Rattle.radio_deliveries.specs.Given.{given}
 use Rattle.radio_headline.specs.Course.{Happening, events_in, on}
 use Rattle.radio_headline.specs.Listeners.{draws_to}
 use Rattle.radio_headline.proofs.Gathered.{IsOnIt, brought_to, gathered}
 use Rattle.radio_headline.proofs.Logs.{Entry, entry, log_on, replies, Each, each_as, each_joined}
 use Rattle.radio_headline.proofs.AppliedLemmas.{IsLast, IsLeaving, IsOpen, IsOrderly, said_all}
-use Rattle.radio_headline.proofs.RunLemmas.{IsOwn, IsIdling}
+use Rattle.radio_headline.proofs.RunLemmas.{IsIdling}
 use Rattle.radio_headline.proofs.Connections.{arrival, AsksForMount, AsksNothing, ByGet, Feeds as IsFeeding, IsIdleOrLeaving, IsBehindRequest, IsNoRequest}
-use Rattle.radio_headline.proofs.Connections.{Facts, HasAskedNothing, HasSentGet, IsSource, IsPulling, IsSo, Stage, AtHead, AfterGet, AtBody, AfterBody, Refused}
-use Rattle.radio_headline.proofs.ClientEvents.{client_owns, idle_asks_nothing, idle_is_his}
-use Rattle.radio_headline.proofs.OwnLogs.{relay_owns}
+use Rattle.radio_headline.proofs.Connections.{Facts, HasAskedNothing, HasSentGet, IsSource, IsPulling}
+use Rattle.radio_headline.proofs.ClientEvents.{idle_asks_nothing, idle_is_his}
 use Rattle.radio_headline.proofs.RelayWords.{OwnRelay, relay_asks_not}
 use Rattle.radio_headline.proofs.Partings.{none_there, parted}
 use Rattle.radio_answers.specs.declared.web_answers.WebAnswers.{WebAnswers}
@@ -56,13 +52,6 @@ get_is_of web id request {asked} e = by_kind (is_for_commands (path_in request))
 pub orderly_second : (id : ℕ) (log more : List Entry) → IsOrderly id (log ++ more) → IsOrderly id more
 orderly_second id [] more h = h
 orderly_second id (e ∷ log) more h = orderly_second id log more h.1
-
--- whose events come on a connection
-pub so_owns : (web : WebAnswers) (c : Option (Option Connection)) (bytes : List ℕ) (log : List Entry) (given : List ℕ) → IsSo web c bytes log given → Each (IsOwn log) log
-so_owns web None bytes log given h = subst (λ (xs : List Entry). Each (IsOwn xs) xs) (sym h.1) tt
-so_owns web (Some None) bytes log given h = h.own
-so_owns web (Some (Some (Client conversation))) bytes log given h = client_owns conversation.id conversation.peer h.others log h.arrived h.his
-so_owns web (Some (Some (Relay pulling))) bytes log given h = relay_owns log h.own
 
 -- by this event a mount is asked for, to hear it
 abbrev pub IsGetting : Event → Type 0
@@ -129,25 +118,11 @@ module _ (web : WebAnswers) (bytes : List ℕ) (log : List Entry) (given : List 
   never : {A : Type 0} → Each GetsNot log → A
   never h = absurd (none_there IsGetting before behind e (subst (Each GetsNot) parts h) listens)
 
-  of_facts : Facts web bytes log given → ByGet web bytes log given
-  of_facts (HasAskedNothing h) = never (nothing_listened log h)
-  of_facts (HasSentGet g) = g
-  of_facts (IsSource f told) = never (source_not bytes log f)
-  of_facts (IsPulling q) = never (relay_listens_not log q.own)
-
-  of_stage : (conversation : _) → Stage web bytes log given conversation → ByGet web bytes log given
-  of_stage conversation (AtHead idle arrived idles hears held t) =
-      never (subst (Each GetsNot) (sym arrived) ((λ l. l), each_as (IsIdling conversation.id) GetsNot (idle_not conversation.id) idle idles))
-  of_stage conversation (AfterGet g hears t) = g
-  of_stage conversation (AtBody f told none hears) = never (source_not bytes log f)
-  of_stage conversation (AfterBody f told hears) = never (source_not bytes log f)
-  of_stage conversation (Refused h hears) = never (nothing_listened log h)
-
-  pub by_get : (c : Option (Option Connection)) → IsSo web c bytes log given → ByGet web bytes log given
-  by_get None h = absurd (no_entry before behind e (sym h.1 ∙ parts))
-  by_get (Some None) h = of_facts h.facts
-  by_get (Some (Some (Client conversation))) h = of_stage conversation h.stage
-  by_get (Some (Some (Relay pulling))) h = never (relay_listens_not log h.own)
+  pub by_get : Facts web bytes log given → ByGet web bytes log given
+  by_get (HasAskedNothing h) = never (nothing_listened log h)
+  by_get (HasSentGet g) = g
+  by_get (IsSource f told) = never (source_not bytes log f)
+  by_get (IsPulling q) = never (relay_listens_not log q.own)
 
 pub idle_or_leaving_not : (id : ℕ) (e : Entry) → IsIdleOrLeaving id e → IsGetting e.event → ⊥
 idle_or_leaving_not id e (inl h) l = idle_asks_nothing id e.event h (listening_asks e.event l)

@@ -1,4 +1,4 @@
--- What listeners hear is of sources of the script, or nothing, where they wait for one.
+-- What listeners hear is of sources of the course, or nothing, where they wait for one.
 use Rattle.std.proofs.Common.{◌≡◌, inl, inr, ℕ, Bool, true, false, List, [], ◌∷◌, ◌++◌, Option, None, Some, refl, sym, ap, subst, ◌∙◌, append_assoc}
 use Rattle.std.specs.Prelude.{if◌then◌else◌}
 use Rattle.std.specs.List.{AllByRecursion}
@@ -20,7 +20,6 @@ use Rattle.radio_house.specs.World.{World, opening}
 use Rattle.radio_core.proofs.HeardLemmas.{heard_cases}
 use Rattle.radio_laws.specs.Admission.{IsSeated}
 use Rattle.radio_laws.specs.Stretches.{SeatsKeepTheirMounts, sittings}
-use Rattle.radio_deliveries.specs.declared.delivery.Delivery.{Delivery}
 use Rattle.radio_headline.specs.Course.{Happening, events_in, on}
 use Rattle.radio_headline.specs.Listeners.{SitsWithASource}
 use Rattle.radio_headline.specs.Sources.{HasItsSource, IsAwaited, NobodyDelivers, RelaysDeliverTheirSound, SourcesDeliverTheirBodies}
@@ -33,12 +32,12 @@ module _ (settings : Settings) (lists : Lists)
     (mounts : (events : List Event) (event : Event) → SeatsKeepTheirMounts (run_after settings lists events) event)
     (keeps : (events : List Event) (event : Event) → KeepsSettings (run_after settings lists events) event)
     (nobody : (events : List Event) → NobodyDelivers settings lists events)
-    (deliveries : List Delivery) (course : List Happening)
-    (delivers : SourcesDeliverTheirBodies settings lists deliveries course)
-    (relays : RelaysDeliverTheirSound settings lists deliveries course)
+    (brought : ℕ → List ℕ) (course : List Happening)
+    (delivers : SourcesDeliverTheirBodies settings lists brought course)
+    (relays : RelaysDeliverTheirSound settings lists brought course)
     (nowhere : AllNowhere (λ h. IsMoment h.event) course) where
   abbrev ItsSource : List ℕ → Session → Type 0
-  ItsSource mount session = HasItsSource settings lists deliveries course mount session.number session.shown
+  ItsSource mount session = HasItsSource settings lists brought course mount session.number session.shown
 
   of_fed : (past later : List Happening) (mount : List ℕ) (session : Session) → course ≡ past ++ later
       → IsFed settings lists sessions mounts past mount session → ItsSource mount session
@@ -84,10 +83,10 @@ module _ (settings : Settings) (lists : Lists)
 
   -- what is heard where nobody feeds is awaited
   is_awaited : (house : House) → house.settings ≡ settings → (mount : List ℕ) (session : Session) → silence_of house mount ≡ Some session
-      → IsAwaited settings lists deliveries course mount session.number session.shown
+      → IsAwaited settings lists brought course mount session.number session.shown
   is_awaited house same mount session = by_flag (is_on_demand house.settings mount) refl where
     by_flag : (b : Bool) → is_on_demand house.settings mount ≡ b → (if b then Some (silence_at house mount) else None) ≡ Some session
-        → IsAwaited settings lists deliveries course mount session.number session.shown
+        → IsAwaited settings lists brought course mount session.number session.shown
     by_flag false e silent = cc
     by_flag true e silent =
         let it : silence_at house mount ≡ session = cc in
@@ -112,15 +111,15 @@ module _ (settings : Settings) (lists : Lists)
 
   pub shown_by_source : (past : List Happening) (interval : Option ℕ) (head : StreamHead) (asked : ListenRequest) (rest : List Happening)
       → course ≡ past ++ rest → (s : IsSeated (run_after settings lists (events_in past)) (Listen asked) interval head)
-      → HasItsSource settings lists deliveries course s.session.mount s.session.number head.shown
+      → HasItsSource settings lists brought course s.session.mount s.session.number head.shown
   shown_by_source past interval head asked rest parts s =
-      subst (λ (shown : Shown). HasItsSource settings lists deliveries course s.session.mount s.session.number shown) (sym s.shows)
+      subst (λ (shown : Shown). HasItsSource settings lists brought course s.session.mount s.session.number shown) (sym s.shows)
       (of_heard past rest s.session.mount s.session parts
       (fed_all settings lists sessions mounts [] past
       (nowhere_first past rest (subst (AllNowhere (λ h. IsMoment h.event)) parts nowhere)) (none_fed settings lists sessions mounts)) s.is_heard)
 
-  pub sit_with_sources : (id : ℕ) → AllByRecursion (SitsWithASource settings lists deliveries course) (sittings (opening settings lists) (events_in course) id)
+  pub sit_with_sources : (id : ℕ) → AllByRecursion (SitsWithASource settings lists brought course) (sittings (opening settings lists) (events_in course) id)
   sit_with_sources id =
-      sits_with settings lists sessions mounts course (SitsWithASource settings lists deliveries course)
+      sits_with settings lists sessions mounts course (SitsWithASource settings lists brought course)
       (λ past later mount session start parts fed hears. (session.shown, of_heard past later mount session parts fed hears)) [] course refl nowhere
       (none_fed settings lists sessions mounts) id

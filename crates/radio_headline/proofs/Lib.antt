@@ -1,7 +1,7 @@
-mod Logs
+pub mod Logs
 mod Gathered
 mod ReplyForms
-mod AppliedLemmas
+pub mod AppliedLemmas
 mod Greetings
 mod RelayWords
 mod RelayLogs
@@ -22,6 +22,7 @@ mod CourseLemmas
 mod RunOfCourses
 mod DrawLemmas
 mod Partings
+mod LabelFacts
 mod GetLogs
 mod ListenerLemmas
 mod SourceLemmas
@@ -29,5 +30,6 @@ mod BodyLemmas
 mod SoundLemmas
 mod SittingLemmas
 mod HeadlineLemmas
+mod OfCourses
 mod PlayedLemmas
 mod HistoryLemmas

@@ -52,20 +52,17 @@ use Rattle.radio_session.specs.declared.session.Says.{Says}
 use Rattle.radio_session.specs.Draws.{joined_draws}
 use Rattle.radio_answers.specs.Answers.{denial, head_text, text_answer}
 use Rattle.radio_session.specs.Told.{AdmitNobody, DrawsFollowTheHead, draws_of, told, PlainDrawsAreTheirData, JoinedDrawsAreWoven, DrawsAreTakenOutAgain}
-use Rattle.radio_floor.specs.ScriptState.{ScriptState, connection_of}
-use Rattle.radio_deliveries.specs.declared.delivery.Delivery.{Delivery}
-use Rattle.radio_deliveries.specs.Given.{TranscriptLine, given}
 use Rattle.radio_headline.specs.Course.{Happening, events_in, on}
 use Rattle.radio_headline.specs.Listeners.{CommandIsAnswered, DrawsAreCut, DrawsAreStretches, SitsWithASource, Hears, IsDenied, IsGiven, IsShown, IsTooLate, draws_to}
-use Rattle.radio_headline.specs.Sources.{HasItsSource, brought}
+use Rattle.radio_headline.specs.Sources.{HasItsSource}
 use Rattle.radio_headline.proofs.Gathered.{IsOnIt}
 use Rattle.radio_headline.proofs.Logs.{Entry, entry, after_joined, log_on, log_parted, replies, replies_joined, Each, each_as, each_joined, each_second, itself}
 use Rattle.radio_headline.proofs.AppliedLemmas.{IsOrderly, said_all, told_joined}
 use Rattle.radio_headline.proofs.ReplyForms.{ListenReply, IsOutOfPlace, HasFinished as IsFinishedReply, WasDenied, WasShown, WasSeated, listen_reply}
 use Rattle.radio_headline.proofs.RunLemmas.{HasNumber, IsIdling, IsNew, AllNowhere, IsMoment, moments_are_nobodys, are_on_first, arrives_and_idles, each_happening, one_owner, reached_opening}
 use Rattle.radio_headline.proofs.Connections.{arrival, AsksForMount, ByGet, IsIdleOrLeaving}
-use Rattle.radio_headline.proofs.Connections.{IsSo}
-use Rattle.radio_headline.proofs.GetLogs.{DrawsNothing, EntryFits, FitsEvent, GetsNot, IsGetting, IsHisOrDrawsNothing, IsMute, Waited, admit_nobody, by_get, calls, calls_of, draws_gathered, get_is_his, idle_not, idle_or_leaving_is_his, idle_or_leaving_not, mute_draws, no_calls, none_admitted, orderly_draws, orderly_second, so_owns, waited}
+use Rattle.radio_headline.proofs.Connections.{IsClosed}
+use Rattle.radio_headline.proofs.GetLogs.{DrawsNothing, EntryFits, FitsEvent, GetsNot, IsGetting, IsHisOrDrawsNothing, IsMute, Waited, admit_nobody, by_get, calls, calls_of, draws_gathered, get_is_his, idle_not, idle_or_leaving_is_his, idle_or_leaving_not, mute_draws, no_calls, none_admitted, orderly_draws, orderly_second, waited}
 use Rattle.radio_headline.proofs.Partings.{Parted, parted}
 use Rattle.radio_answers.specs.declared.web_answers.WebAnswers.{WebAnswers}
 
@@ -74,8 +71,8 @@ module _ (web : WebAnswers) (settings : Settings) (lists : Lists)
     (fits : (events : List Event) (event : Event) → RepliesFit (run_after settings lists events) event)
     (adds : (events : List Event) (event : Event) → AddsUp (run_after settings lists events) event)
     (steps : (events : List Event) (event : Event) → ClientsStep (run_after settings lists events) event)
-    (done : List Delivery) (last : ScriptState) (course : List Happening) (lines : List TranscriptLine)
-    (each : (label : ℕ) → IsSo web (connection_of last.connections label) (brought done label) (log_on (opening settings lists) course label) (given lines label))
+    (brought given : ℕ → List ℕ) (course : List Happening)
+    (each : (label : ℕ) → IsClosed web (brought label) (log_on (opening settings lists) course label) (given label))
     (nowhere : AllNowhere (λ h. IsMoment h.event) course) where
   -- the events of a client are on the connection on which he was given his number
   none_nowhere : (label id : ℕ) (past : List Happening) → AllNowhere (λ h. IsMoment h.event) past → AllNowhere (IsOnIt label id) past
@@ -90,7 +87,7 @@ module _ (web : WebAnswers) (settings : Settings) (lists : Lists)
       let same : other ≡ label = one_owner settings lists fits adds steps (opening settings lists) course other label id (reached_opening settings lists fits adds steps) (own id his) has in
       ap (λ (n : ℕ). n == label) same ∙ itself label)
       (opening settings lists) course
-      (λ other. so_owns web (connection_of last.connections other) (brought done other) (log_on (opening settings lists) course other) (given lines other) (each other))
+      (λ other. (each other).own)
       (none_nowhere label id course nowhere)
 
 -- who has asked for nothing yet, and asks to hear, is not out of place
@@ -186,15 +183,13 @@ module _ (web : WebAnswers) (settings : Settings) (lists : Lists)
       (stretches : (events : List Event) (id : ℕ) → DrawsAreStretches settings lists events id)
       (cut : (events : List Event) (id : ℕ) → DrawsAreCut settings lists events id)
       (follow : DrawsFollowTheHead) (plainly : PlainDrawsAreTheirData) (weave : JoinedDrawsAreWoven) (take : DrawsAreTakenOutAgain)
-      (done : List Delivery) (last : ScriptState) (course : List Happening) (lines : List TranscriptLine)
-      (world : last.world ≡ run_after settings lists (events_in course))
-      (each : (label : ℕ) → IsSo web (connection_of last.connections label) (brought done label) (log_on (opening settings lists) course label) (given lines label))
+      (brought given : ℕ → List ℕ) (course : List Happening)
+      (each : (label : ℕ) → IsClosed web (brought label) (log_on (opening settings lists) course label) (given label))
       (nowhere : AllNowhere (λ h. IsMoment h.event) course)
-      (deliveries : List Delivery)
       (shown_by_source : (past : List Happening) (interval : Option ℕ) (head : StreamHead) (asked : ListenRequest) (rest : List Happening) → course ≡ past ++ rest
       → (s : IsSeated (run_after settings lists (events_in past)) (Listen asked) interval head)
-      → HasItsSource settings lists deliveries course s.session.mount s.session.number head.shown)
-      (sit : (id : ℕ) → AllByRecursion (SitsWithASource settings lists deliveries course) (sittings (opening settings lists) (events_in course) id)) where
+      → HasItsSource settings lists brought course s.session.mount s.session.number head.shown)
+      (sit : (id : ℕ) → AllByRecursion (SitsWithASource settings lists brought course) (sittings (opening settings lists) (events_in course) id)) where
     abbrev w0 : World
     w0 = opening settings lists
 
@@ -217,9 +212,8 @@ module _ (web : WebAnswers) (settings : Settings) (lists : Lists)
       in_order : log label ≡ before ++ (entry w ask) ∷ behind
       in_order = ap (λ (hs : List Happening). log_on w0 hs label) parts ∙ log_parted w0 past later label ask
 
-      g : ByGet web (brought done label) (log label) (given lines label)
-      g = by_get web (brought done label) (log label) (given lines label) before behind (entry w ask) in_order gets
-          (connection_of last.connections label) (each label)
+      g : ByGet web (brought label) (log label) (given label)
+      g = by_get web (brought label) (log label) (given label) before behind (entry w ask) in_order gets (each label).facts
 
       p : Parted before (arrival g.peer g.id ∷ g.idle) (entry w ask) (record { event = asks_by_get web g.id g.request; reply = g.reply }) behind g.behind
       p = parted IsGetting before (arrival g.peer g.id ∷ g.idle) behind g.behind (entry w ask) _ (sym in_order ∙ g.in_order) gets
@@ -230,7 +224,7 @@ module _ (web : WebAnswers) (settings : Settings) (lists : Lists)
       has_number = subst (HasNumber g.id) (sym g.in_order) (inl refl)
 
       on_it : AllByRecursion (IsOnIt label g.id) course
-      on_it = on_his web settings lists fits adds steps done last course lines each nowhere label g.id has_number
+      on_it = on_his web settings lists fits adds steps brought given course each nowhere label g.id has_number
 
       on_it_before : AllByRecursion (IsOnIt label g.id) past
       on_it_before = are_on_first settings lists fits adds steps label g.id past (on label ask ∷ later)
@@ -247,7 +241,7 @@ module _ (web : WebAnswers) (settings : Settings) (lists : Lists)
       mute = waited web g.idle g.goes.1 waits.1
 
       -- behind his head stand the draws
-      told_behind : given lines label ≡ told (asking web) (reply ∷ replies behind)
+      told_behind : given label ≡ told (asking web) (reply ∷ replies behind)
       told_behind =
           g.is_told
           ∙ ap (λ (xs : List Entry). told (asking web) (replies xs)) (g.in_order)
@@ -291,18 +285,18 @@ module _ (web : WebAnswers) (settings : Settings) (lists : Lists)
                 (inr refl, each_as IsMute (IsHisOrDrawsNothing g.id) (λ e m. inr (mute_draws e m)) g.idle waits.1))
                 (inr none_here, each_as (IsIdleOrLeaving g.id) (IsHisOrDrawsNothing g.id) (λ e h. inl (idle_or_leaving_is_his g.id e h)) behind idle_behind))
 
-      told_as : (r : Reply) → reply ≡ r → given lines label ≡ told (asking web) (r ∷ replies behind)
+      told_as : (r : Reply) → reply ≡ r → given label ≡ told (asking web) (r ∷ replies behind)
       told_as r e = told_behind ∙ ap (λ (x : Reply). told (asking web) (x ∷ replies behind)) e
 
-      reads_denial : (rule : Rule) → reply ≡ Deny rule → Denies (rows_for w ask) rule × (given lines label ≡ denial web rule)
+      reads_denial : (rule : Rule) → reply ≡ Deny rule → Denies (rows_for w ask) rule × (given label ≡ denial web rule)
       reads_denial rule e = ((denied (events_in past) ask rule e).0, told_as (Deny rule) e ∙ append-nil (denial web rule))
 
-      reads_text : (text : CommandText) → reply ≡ Text text → given lines label ≡ text_answer web text
+      reads_text : (text : CommandText) → reply ≡ Text text → given label ≡ text_answer web text
       reads_text text e = told_as (Text text) e ∙ append-nil (text_answer web text)
 
     -- one who gives a command
     pub answered_by : (label : ℕ) (asked : CommandRequest) (past later : List Happening) → course ≡ past ++ on label (Command asked) ∷ later
-        → CommandIsAnswered settings lists deliveries course web lines label asked past
+        → CommandIsAnswered settings lists brought course web given label asked past
     answered_by label asked past later parts = record {
       denied = reads_denial label (Command asked) tt past later parts;
       told = reads_text label (Command asked) tt past later parts;
@@ -316,7 +310,7 @@ module _ (web : WebAnswers) (settings : Settings) (lists : Lists)
       abbrev answer : Reply
       answer = reply_to at (Listen asked)
 
-      abbrev his : ByGet web (brought done label) (log label) (given lines label)
+      abbrev his : ByGet web (brought label) (log label) (given label)
       his = g label (Listen asked) tt past later parts
 
       his_number : asked.id ≡ his.id
@@ -328,9 +322,9 @@ module _ (web : WebAnswers) (settings : Settings) (lists : Lists)
       abbrev later_log : List Entry
       later_log = log_on (world_after at (Listen asked)) later label
 
-      pub given_by : IsGiven settings lists deliveries course web at asked (given lines label) answer
+      pub given_by : IsGiven settings lists brought course web at asked (given label) answer
       given_by = by_reply answer refl (listen_reply at asked) where
-        by_reply : (r : Reply) → answer ≡ r → ListenReply r → IsGiven settings lists deliveries course web at asked (given lines label) r
+        by_reply : (r : Reply) → answer ≡ r → ListenReply r → IsGiven settings lists brought course web at asked (given label) r
         by_reply (Arrived him) e x = elim x [ ]
         by_reply Feeding e x = elim x [ ]
         by_reply (Drawn sound title) e x = elim x [ ]

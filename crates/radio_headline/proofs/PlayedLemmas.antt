@@ -9,7 +9,7 @@ use Rattle.radio_script.specs.Runs.{Runs}
 use Rattle.radio_floor.specs.ScriptState.{ScriptState, opening_script}
 use Rattle.radio_answers.specs.declared.web_answers.WebAnswers.{WebAnswers}
 use Rattle.radio_floor.specs.Transcript.{conduct}
-use Rattle.radio_headline.specs.Listeners.{HearsSlices, ListenersHearSlices}
+use Rattle.radio_headline.specs.Scripts.{HearsSlices, ListenersHearSlices}
 
 -- no fault came, so no delivery stopped it
 by_stop : (P : Option ℕ → Type 0) (fault : Option PlayFault) (stop : Option ℕ) → None ≡ first_fault stop fault → P stop → P None

@@ -1,8 +1,7 @@
 -- Each relay of a script delivers a front of the sound that its master's answer pulls in.
 use Rattle.std.proofs.Common.{◌≡◌, inl, inr, ℕ, Bool, true, false, List, [], ◌∷◌, ◌++◌, drop, Option, None, Some, Ok, refl, sym, ap, subst, ◌∙◌, append_assoc}
 use Rattle.std.specs.Prelude.{if◌then◌else◌}
-use Rattle.std.specs.List.{AllByRecursion, concat}
-use Rattle.radio_blocks.specs.Cutting.{blocks_of}
+use Rattle.std.specs.List.{AllByRecursion}
 use Rattle.radio_values.specs.declared.field.Shown.{Shown}
 use Rattle.radio_settings_values.specs.declared.settings.Settings.{Settings}
 use Rattle.radio_access.specs.Lists.{Lists}
@@ -20,32 +19,20 @@ use Rattle.radio_core.specs.Totals.{AddsUp}
 use Rattle.radio_house.specs.World.{World, opening}
 use Rattle.radio_heads.specs.declared.outcome.Progress.TheVariants.{Whole}
 use Rattle.radio_heads.specs.Head.{RequestParts}
-use Rattle.radio_heads.specs.Laws.{IsSettled, HeadsLieWithin}
-use Rattle.radio_heads.specs.Response.{ShowsResponse}
 use Rattle.radio_relay.specs.Answer.{shown_by}
-use Rattle.radio_relay.specs.Pulled.{IsPulled, ShownPart, pulled_by_interval, stream_parts, stream_pulled, stream_with}
-use Rattle.radio_relay.proofs.CutLemmas.{AfterPieces, HeardInPieces}
+use Rattle.radio_relay.specs.Pulled.{ShownPart, pulled_by_interval, stream_parts, stream_pulled, stream_with}
 use Rattle.radio_session.specs.Asking.{asks_by_get, asks_to_hear, gives_command, is_for_commands, path_in}
-use Rattle.radio_session.specs.Conversation.{Conversation}
-use Rattle.radio_pull.specs.Pulling.{Pulling, answered}
-use Rattle.radio_deliveries.specs.declared.delivery.Delivery.{Delivery}
-use Rattle.radio_deliveries.specs.Given.{TranscriptLine, given}
-use Rattle.radio_floor.specs.declared.labelled.Connection.{Connection}
-use Rattle.radio_floor.specs.declared.labelled.Connection.TheVariants.{Client, Relay}
-use Rattle.radio_floor.specs.ScriptState.{ScriptState, connection_of}
+use Rattle.radio_pull.specs.Pulling.{answered}
 use Rattle.radio_headline.specs.Course.{Happening, events_in, on}
-use Rattle.radio_headline.specs.Sources.{DeliversItsSound, RelaysDeliverTheirSound, brought, pushed}
+use Rattle.radio_headline.specs.Sources.{DeliversItsSound, RelaysDeliverTheirSound, pushed}
 use Rattle.radio_headline.proofs.Gathered.{IsOnIt}
 use Rattle.radio_headline.proofs.Logs.{Entry, entry, log_on, log_parted, Each, each_as, each_joined}
 use Rattle.radio_headline.proofs.RelayWords.{IsCut, IsNoUp, OfRelay, OwnRelay, number_stays}
 use Rattle.radio_headline.proofs.RunLemmas.{AllNowhere, IsMoment, HasNumber, IsIdling, Reached, given_here, reached_after, reached_all, reached_opening}
-use Rattle.radio_headline.proofs.Connections.{AsksForMount, AsksNothing, AtAnswer, ByGet, Facts, Feeds, HasAskedNothing, HasSentGet}
-use Rattle.radio_headline.proofs.Connections.{InAnswer, IsBehindRequest, IsClient, IsIdleOrLeaving, IsNoRequest, IsPulling, IsSo, IsSource, Pulls, RelayStage, events_of}
+use Rattle.radio_headline.proofs.Connections.{AsksForMount, AsksNothing, ByGet, Facts, Feeds, HasAskedNothing, HasSentGet, IsClosed}
+use Rattle.radio_headline.proofs.Connections.{IsBehindRequest, IsIdleOrLeaving, IsNoRequest, IsPulling, IsSource, Pulls, events_of}
 use Rattle.radio_headline.proofs.ClientEvents.{behind_is_his, idle_asks_nothing}
-use Rattle.radio_headline.proofs.Standing.{brought_joined}
 use Rattle.radio_headline.proofs.ListenerLemmas.{on_his}
-use Rattle.radio_headline.proofs.GetLogs.{no_entry}
-use Rattle.radio_headline.proofs.PullParts.{more_pulled}
 use Rattle.radio_headline.proofs.SourceLemmas.{Front, IsHisOrNotesNothing, brings_front, delivered_gathered, no_block, noted}
 use Rattle.radio_headline.proofs.Partings.{none_there}
 use Rattle.radio_answers.specs.declared.web_answers.WebAnswers.{WebAnswers}
@@ -119,32 +106,17 @@ source_not bytes log f =
           ((λ l. l), each_as (IsNoRequest f.id) UpNot (λ e h. his_up_not f.id e.event (behind_is_his f.id e.event h)) f.behind f.no_more),
     )
 
-client_not : (web : WebAnswers) (conversation : Conversation) (bytes : List ℕ) (log : List Entry) (given : List ℕ) → IsClient web bytes log given conversation → Each UpNot log
-client_not web conversation bytes log given c =
-    subst (Each UpNot) (sym c.arrived)
-    ((λ l. l), each_as (λ e. client_in e.event ≡ Some conversation.id) UpNot (λ e h. his_up_not conversation.id e.event h) c.others c.his)
-
 -- where a relay has come up, its master's answer was read
 module _ (web : WebAnswers) (bytes : List ℕ) (log : List Entry) (given : List ℕ) (before behind : List Entry) (e : Entry) (parts : log ≡ before ++ e ∷ behind)
     (up : IsUp e.event) where
   never : {A : Type 0} → Each UpNot log → A
   never h = absurd (none_there IsUp before behind e (subst (Each UpNot) parts h) up)
 
-  of_facts : Facts web bytes log given → Pulls bytes log
-  of_facts (HasAskedNothing h) = never (none_asked log h)
-  of_facts (HasSentGet g) = never (get_not web bytes log given g)
-  of_facts (IsSource f told) = never (source_not bytes log f)
-  of_facts (IsPulling p) = p
-
-  of_stage : (pulling : Pulling) → RelayStage bytes log pulling → Pulls bytes log
-  of_stage pulling (AtAnswer st lg) = absurd (no_entry before behind e (sym lg ∙ parts))
-  of_stage pulling (InAnswer p st whole calm) = p
-
-  pulls_so : (c : Option (Option Connection)) → IsSo web c bytes log given → Pulls bytes log
-  pulls_so None h = absurd (no_entry before behind e (sym h.1 ∙ parts))
-  pulls_so (Some None) h = of_facts h.facts
-  pulls_so (Some (Some (Client conversation))) h = never (client_not web conversation bytes log given h)
-  pulls_so (Some (Some (Relay pulling))) h = of_stage pulling h.stage
+  pulls_so : Facts web bytes log given → Pulls bytes log
+  pulls_so (HasAskedNothing h) = never (none_asked log h)
+  pulls_so (HasSentGet g) = never (get_not web bytes log given g)
+  pulls_so (IsSource f told) = never (source_not bytes log f)
+  pulls_so (IsPulling p) = p
 
 -- it is the first of its log
 record IsFirst (before : List Entry) (e a : Entry) (cs ds : List Entry) : Type 0 where
@@ -194,13 +166,12 @@ own_his number (e ∷ log) own plain =
       by_event (Draw him room) h n = cc
       by_event (RelayDown him) h n = cc
 
-module _ (web : WebAnswers) (settled : IsSettled ShowsResponse) (within : HeadsLieWithin ShowsResponse) (joined : (bytes : List ℕ) → concat (blocks_of bytes) ≡ bytes)
-    (none_blocks : blocks_of [] ≡ []) (in_pieces : HeardInPieces) (afters : AfterPieces) (settings : Settings) (lists : Lists)
+module _ (web : WebAnswers) (settings : Settings) (lists : Lists)
     (fits : (events : List Event) (event : Event) → RepliesFit (run_after settings lists events) event)
     (adds : (events : List Event) (event : Event) → AddsUp (run_after settings lists events) event)
     (steps : (events : List Event) (event : Event) → ClientsStep (run_after settings lists events) event)
-    (deliveries done rest : List Delivery) (all : deliveries ≡ done ++ rest) (last : ScriptState) (course : List Happening) (lines : List TranscriptLine)
-    (each : (label : ℕ) → IsSo web (connection_of last.connections label) (brought done label) (log_on (opening settings lists) course label) (given lines label))
+    (brought given : ℕ → List ℕ) (course : List Happening)
+    (each : (label : ℕ) → IsClosed web (brought label) (log_on (opening settings lists) course label) (given label))
     (nowhere : AllNowhere (λ h. IsMoment h.event) course) where
   abbrev w0 : World
   w0 = opening settings lists
@@ -226,12 +197,8 @@ module _ (web : WebAnswers) (settled : IsSettled ShowsResponse) (within : HeadsL
     in_order : log label ≡ before ++ entry w event ∷ behind
     in_order = ap (λ (hs : List Happening). log_on w0 hs label) parts ∙ log_parted w0 past later label event
 
-    p : Pulls (brought done label) (log label)
-    p = pulls_so web (brought done label) (log label) (given lines label) before behind (entry w event) in_order tt
-        (connection_of last.connections label) (each label)
-
-    whole : Pulls (brought done label ++ brought rest label) (log label)
-    whole = more_pulled settled within joined none_blocks in_pieces afters (brought done label) (brought rest label) (log label) p
+    whole : Pulls (brought label) (log label)
+    whole = pulls_so web (brought label) (log label) (given label) before behind (entry w event) in_order tt (each label).facts
 
     first : IsFirst before (entry w event) (record { event = RelayUp whole.mount (shown_by whole.head); reply = whole.reply }) behind whole.behind
     first = is_first before behind whole.behind (entry w event) _ (sym in_order ∙ whole.in_order) tt (no_up_not whole.behind whole.no_more)
@@ -243,7 +210,7 @@ module _ (web : WebAnswers) (settled : IsSettled ShowsResponse) (within : HeadsL
     has_number = subst (HasNumber number) (sym (in_order ∙ ap (λ (xs : List Entry). xs ++ entry w event ∷ behind) first.before_none)) (inl arrived)
 
     on_it : AllByRecursion (IsOnIt label number) course
-    on_it = on_his web settings lists fits adds steps done last course lines each nowhere label number has_number
+    on_it = on_his web settings lists fits adds steps brought given course each nowhere label number has_number
 
     all_second : (P : Happening → Type 0) (xs ys : List Happening) → AllByRecursion P (xs ++ ys) → AllByRecursion P ys
     all_second P [] ys h = h
@@ -288,19 +255,14 @@ module _ (web : WebAnswers) (settled : IsSettled ShowsResponse) (within : HeadsL
     shown_so =
         let both : RelayUp mount shown ≡ RelayUp whole.mount (shown_by whole.head) = ap (λ (x : Entry). x.event) first.here in cc
 
-    its_sound : DeliversItsSound settings lists deliveries course label number shown
+    its_sound : DeliversItsSound settings lists brought course label number shown
     its_sound =
-        let bytes = brought done label ++ brought rest label in
-        let answer = stream_pulled (ShownPart (shown_by whole.head) ∷ []) (stream_with whole.interval) (drop whole.length bytes) in
+        let answer = stream_pulled (ShownPart (shown_by whole.head) ∷ []) (stream_with whole.interval) (drop whole.length (brought label)) in
         record {
           pulled = answer;
-          is_pulled = subst (λ (bs : List ℕ). IsPulled bs answer) (sym (brought_joined done rest label) ∙ ap (λ (ds : List Delivery). brought ds label) (sym all)) (
-            Ok (Whole whole.head whole.length),
-            whole.reading,
-            ap (pulled_by_interval whole.head (drop whole.length bytes)) (sym whole.told),
-          );
-          parts = stream_parts (stream_with whole.interval) (drop whole.length bytes);
-          begins = ap (λ (s : Shown). ShownPart s ∷ stream_parts (stream_with whole.interval) (drop whole.length bytes)) (sym shown_so);
+          is_pulled = (Ok (Whole whole.head whole.length), whole.reading, ap (pulled_by_interval whole.head (drop whole.length (brought label))) (sym whole.told));
+          parts = stream_parts (stream_with whole.interval) (drop whole.length (brought label));
+          begins = ap (λ (s : Shown). ShownPart s ∷ stream_parts (stream_with whole.interval) (drop whole.length (brought label))) (sym shown_so);
           undelivered = front.rest ++ whole.rest;
           is_front =
               sym whole.front
@@ -310,5 +272,5 @@ module _ (web : WebAnswers) (settled : IsSettled ShowsResponse) (within : HeadsL
               ∙ ap (λ (xs : List ℕ). xs ++ (front.rest ++ whole.rest)) (sym all_noted);
         }
 
-  pub delivers_sound : RelaysDeliverTheirSound settings lists deliveries course
+  pub delivers_sound : RelaysDeliverTheirSound settings lists brought course
   delivers_sound label mount shown number past later parts arrived = its_sound label mount shown number past later parts arrived

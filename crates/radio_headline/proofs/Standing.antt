@@ -15,7 +15,7 @@ use Rattle.radio_deliveries.specs.Given.{TranscriptLine, given}
 use Rattle.radio_floor.specs.declared.labelled.Connection.{Connection}
 use Rattle.radio_floor.specs.ScriptState.{ScriptState, connection_of}
 use Rattle.radio_headline.specs.Course.{Happening, events_in, on}
-use Rattle.radio_headline.specs.Sources.{brought, brought_by, bytes_in}
+use Rattle.radio_headline.specs.Scripts.{brought, brought_by, bytes_in}
 use Rattle.radio_headline.proofs.Logs.{Entry, entries, log_on, log_joined, log_here, log_elsewhere, after_joined, events_joined, events_on, itself, other_number}
 use Rattle.radio_headline.proofs.RunLemmas.{AllNowhere, IsMoment}
 use Rattle.radio_headline.proofs.Connections.{IsSo}

@@ -2,4 +2,5 @@ pub mod Course
 pub mod Sources
 pub mod Lawful
 pub mod Listeners
+pub mod Scripts
 pub mod Histories

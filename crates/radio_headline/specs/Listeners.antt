@@ -1,5 +1,5 @@
--- What each listener of a script is given, from the bytes of the script to those of its transcript.
-use Rattle.std.specs.Prelude.{◌≡◌, ℕ, List, [], ◌∷◌, ◌++◌, flat_map, map, Option, None, Some, Ok}
+-- What each client is given, over any course: `brought` are the bytes that came on the connection of each label, `given` those that were given to it.
+use Rattle.std.specs.Prelude.{◌≡◌, ℕ, List, [], ◌∷◌, ◌++◌, flat_map, map, Option, None, Some}
 use Rattle.std.specs.List.{AllByRecursion}
 use Rattle.radio_values.specs.declared.field.Shown.{Shown}
 use Rattle.radio_settings_values.specs.declared.settings.Settings.{Settings}
@@ -32,14 +32,9 @@ use Rattle.radio_session.specs.Draws.{joined_draws}
 use Rattle.radio_answers.specs.Answers.{denial, head_text, interval_told, text_answer}
 use Rattle.radio_session.specs.Saying.{greeting_text}
 use Rattle.radio_session.specs.Told.{draws_of, taken_out}
-use Rattle.radio_deliveries.specs.declared.delivery.Delivery.{Delivery}
-use Rattle.radio_deliveries.specs.Given.{TranscriptLine, AreLines, given, written}
-use Rattle.radio_script.specs.Script.{deliveries_from, lines_of}
-use Rattle.radio_floor.specs.LastWords.{LastWordsAreTold}
-use Rattle.radio_floor.specs.Transcript.{IsTranscriptOf, PlaysScript}
-use Rattle.radio_headline.specs.Course.{Happening, ComesTo, events_in, on}
+use Rattle.radio_headline.specs.Course.{Happening, events_in, on}
 use Rattle.radio_headline.specs.Lawful.{IsLawful}
-use Rattle.radio_headline.specs.Sources.{HasItsSource, IsRequest, RelaysDeliverTheirSound, SourcesDeliverTheirBodies, brought}
+use Rattle.radio_headline.specs.Sources.{HasItsSource, IsRequest, RelaysDeliverTheirSound, SourcesDeliverTheirBodies}
 
 -- the draws that the events hand to the listener of this number, in their order
 abbrev pub draws_to : World → List Event → ℕ → List Call
@@ -66,15 +61,15 @@ DrawsAreCut settings lists events id =
     (sound_of_calls cut.before ≡ []) × AreSlices (delivered w events) (sittings w events id) (map sound_of_calls cut.each)
     × (cut.before ++ flat_map (λ draws. draws) cut.each ≡ draws_to w events id)
 
--- Of deliveries that come to a course.
-module _ (settings : Settings) (lists : Lists) (deliveries : List Delivery) (course : List Happening) where
+-- Of a course of which each connection brought these bytes.
+module _ (settings : Settings) (lists : Lists) (brought : ℕ → List ℕ) (course : List Happening) where
   -- the server, when this has happened
   abbrev pub server_after : List Happening → World
   server_after past = run_after settings lists (events_in past)
 
   -- he sits down in the session of a source, or where one is awaited
   abbrev pub SitsWithASource : Sitting → Type 0
-  SitsWithASource sitting = (shown : Shown) × HasItsSource settings lists deliveries course sitting.mount sitting.source shown
+  SitsWithASource sitting = (shown : Shown) × HasItsSource settings lists brought course sitting.mount sitting.source shown
 
   -- by what the settings say of answers
   module _ (web : WebAnswers) where
@@ -84,7 +79,7 @@ module _ (settings : Settings) (lists : Lists) (deliveries : List Delivery) (cou
     pub record IsHearing (w : World) (asked : ListenRequest) (interval : Option ℕ) (head : StreamHead) (bytes : List ℕ) : Type 0 where
       pub is_seated : IsSeated w (Listen asked) interval head
       pub shows_his_source :
-          HasItsSource settings lists deliveries course is_seated.session.mount is_seated.session.number head.shown
+          HasItsSource settings lists brought course is_seated.session.mount is_seated.session.number head.shown
       pub behind : List ℕ
       pub head_first : bytes ≡ head_text web interval head ++ behind
       pub are_draws : behind ≡ joined_draws interval (draws_to (opening settings lists) (events_in course) asked.id)
@@ -107,47 +102,42 @@ module _ (settings : Settings) (lists : Lists) (deliveries : List Delivery) (cou
       IsTooLate : (rule : Rule) → bytes ≡ [] → IsGiven w asked bytes (Finished rule)
 
     -- one who asks so on the connection of the label, when this had happened: that is how the bytes are heard that have come, and he is given that
-    pub record IsAnswered (lines : List TranscriptLine) (label : ℕ) (asked : ListenRequest) (past : List Happening) : Type 0 where
-      pub is_request : IsRequest (brought deliveries label) asked.id (Listen asked) []
-      pub is_given : IsGiven (server_after past) asked (given lines label) (reply_to (server_after past) (Listen asked))
+    pub record IsAnswered (given : ℕ → List ℕ) (label : ℕ) (asked : ListenRequest) (past : List Happening) : Type 0 where
+      pub is_request : IsRequest (brought label) asked.id (Listen asked) []
+      pub is_given : IsGiven (server_after past) asked (given label) (reply_to (server_after past) (Listen asked))
 
     -- one who gives a command so: he reads what is said of it, or that the policy denies it, by the first rule that held then
-    pub record CommandIsAnswered (lines : List TranscriptLine) (label : ℕ) (asked : CommandRequest) (past : List Happening) : Type 0 where
+    pub record CommandIsAnswered (given : ℕ → List ℕ) (label : ℕ) (asked : CommandRequest) (past : List Happening) : Type 0 where
       pub denied : (rule : Rule) → reply_to (server_after past) (Command asked) ≡ Deny rule
-          → Denies (rows_for (server_after past) (Command asked)) rule × (given lines label ≡ denial web rule)
-      pub told : (text : ShownText) → reply_to (server_after past) (Command asked) ≡ Text text → given lines label ≡ text_answer web text
+          → Denies (rows_for (server_after past) (Command asked)) rule × (given label ≡ denial web rule)
+      pub told : (text : ShownText) → reply_to (server_after past) (Command asked) ≡ Text text → given label ≡ text_answer web text
 
     -- one who asks to feed a mount so: that is how the bytes are heard that have come; where the policy denies it, it reads the first rule that held then,
     -- and nothing else; where it is admitted, it reads that first, or that it may go on, where it had asked for that (RFC 9110, section 10.1.1)
-    pub record SourceIsAnswered (lines : List TranscriptLine) (label : ℕ) (asked : SourceRequest) (past : List Happening) : Type 0 where
+    pub record SourceIsAnswered (given : ℕ → List ℕ) (label : ℕ) (asked : SourceRequest) (past : List Happening) : Type 0 where
       pub behind : List Event
-      pub is_request : IsRequest (brought deliveries label) asked.id (Source asked) behind
+      pub is_request : IsRequest (brought label) asked.id (Source asked) behind
       pub denied : (rule : Rule) → reply_to (server_after past) (Source asked) ≡ Deny rule
-          → Denies (rows_for (server_after past) (Source asked)) rule × (given lines label ≡ denial web rule)
+          → Denies (rows_for (server_after past) (Source asked)) rule × (given label ≡ denial web rule)
       pub feeds : reply_to (server_after past) (Source asked) ≡ Feeding
-          → (later : List ℕ) × (given lines label ≡ greeting_text web is_request.heard.conversation.says.greeting ++ later)
+          → (later : List ℕ) × (given label ≡ greeting_text web is_request.heard.conversation.says.greeting ++ later)
       -- it was finished before it had asked
-      pub too_late : (rule : Rule) → reply_to (server_after past) (Source asked) ≡ Finished rule → given lines label ≡ []
+      pub too_late : (rule : Rule) → reply_to (server_after past) (Source asked) ≡ Finished rule → given label ≡ []
 
     -- each who does
-    abbrev pub SourcesAreAnswered : List TranscriptLine → Type 0
-    SourcesAreAnswered lines = (label : ℕ) (asked : SourceRequest) (past later : List Happening) → course ≡ past ++ on label (Source asked) ∷ later
-        → SourceIsAnswered lines label asked past
+    abbrev pub SourcesAreAnswered : (ℕ → List ℕ) → Type 0
+    SourcesAreAnswered given = (label : ℕ) (asked : SourceRequest) (past later : List Happening) → course ≡ past ++ on label (Source asked) ∷ later
+        → SourceIsAnswered given label asked past
 
     -- each who gives a command
-    abbrev pub CommandsAreAnswered : List TranscriptLine → Type 0
-    CommandsAreAnswered lines = (label : ℕ) (asked : CommandRequest) (past later : List Happening) → course ≡ past ++ on label (Command asked) ∷ later
-        → CommandIsAnswered lines label asked past
+    abbrev pub CommandsAreAnswered : (ℕ → List ℕ) → Type 0
+    CommandsAreAnswered given = (label : ℕ) (asked : CommandRequest) (past later : List Happening) → course ≡ past ++ on label (Command asked) ∷ later
+        → CommandIsAnswered given label asked past
 
     -- each who asks to hear a mount
-    abbrev pub ListenersAreGiven : List TranscriptLine → Type 0
-    ListenersAreGiven lines = (label : ℕ) (asked : ListenRequest) (past later : List Happening) → course ≡ past ++ on label (Listen asked) ∷ later
-        → IsAnswered lines label asked past
-
--- The transcript is written by these lines, and by no others.
-pub record IsWrittenBy (text : List ℕ) (lines : List TranscriptLine) : Type 0 where
-  pub is_written : written lines ≡ text
-  pub by_no_others : AreLines lines → (others : List TranscriptLine) → AreLines others → written others ≡ text → others ≡ lines
+    abbrev pub ListenersAreGiven : (ℕ → List ℕ) → Type 0
+    ListenersAreGiven given = (label : ℕ) (asked : ListenRequest) (past later : List Happening) → course ≡ past ++ on label (Listen asked) ∷ later
+        → IsAnswered given label asked past
 
 -- What the data of a source's body are (RFC 9112, section 6), and nothing that frames them: all of a plain one, so many bytes of a sized one, those of
 -- the chunks of a chunked one; and one with a byte that no chunked body has there ends by that fault.
@@ -157,31 +147,16 @@ pub record BodiesAreHeard : Type 0 where
   pub chunked : ChunkedBodiesAreHeard
   pub faulty : FaultyBodiesAreHeard
 
--- A script comes to its transcript by a course of lawful events. Its sources deliver a front of the data of their bodies, and its relays of the
--- sound that they pull in; and each who asks to hear a mount is given slices of these, or reads why not.
-pub record HearsSlices (web : WebAnswers) (settings : Settings) (lists : Lists) (deliveries : List Delivery) (text : List ℕ) (stop : Option ℕ) : Type 0 where
-  pub course : List Happening
-  pub comes : ComesTo web settings lists deliveries text stop course
+-- Over a course of these settings and lists, on whose connections these bytes were brought and those given: each event is lawful. Its sources deliver a front
+-- of the data of their bodies, and its relays of the sound that they pull in. Each who asks to hear a mount is given slices of these, or reads why not.
+pub record CourseHearsSlices (web : WebAnswers) (settings : Settings) (lists : Lists) (course : List Happening) (brought given : ℕ → List ℕ) : Type 0 where
   pub lawful : (past later : List Happening) (happening : Happening) → course ≡ past ++ happening ∷ later
       → IsLawful settings lists (events_in past) happening.event
-  pub lines : List TranscriptLine
-  pub is_written : IsWrittenBy text lines
-  pub listeners : ListenersAreGiven settings lists deliveries course web lines
-  pub commands : CommandsAreAnswered settings lists deliveries course web lines
-  pub sources : SourcesDeliverTheirBodies settings lists deliveries course
+  pub listeners : ListenersAreGiven settings lists brought course web given
+  pub commands : CommandsAreAnswered settings lists brought course web given
+  pub sources : SourcesDeliverTheirBodies settings lists brought course
   pub bodies : BodiesAreHeard
   -- what a relay pulls in is its own
   pub pulls : ItemsAreOfTheirRelay
-  pub answers : SourcesAreAnswered settings lists deliveries course web lines
-  pub relays : RelaysDeliverTheirSound settings lists deliveries course
-  -- at each delivery that shuts a client's connection, the word by which it is shut, and the bytes before it
-  pub last_words : LastWordsAreTold
-
-abbrev pub ListenersHearSlices : Type 0
-ListenersHearSlices = (web : WebAnswers) (settings : Settings) (lists : Lists) (deliveries : List Delivery) (text : List ℕ) (stop : Option ℕ)
-    → IsTranscriptOf web settings lists deliveries text stop → HearsSlices web settings lists deliveries text stop
-
--- So it is with each script that is played to its end: what was written hears slices of what its lines have delivered.
-abbrev pub PlayedScriptsHearSlices : Type 0
-PlayedScriptsHearSlices = (web : WebAnswers) (settings : Settings) (lists : Lists) (script left text : List ℕ) (done : Unit {0}) (turns : ℕ)
-    → PlaysScript web settings lists script left (Ok done) text turns → HearsSlices web settings lists (deliveries_from 1 (lines_of script)) text None
+  pub answers : SourcesAreAnswered settings lists brought course web given
+  pub relays : RelaysDeliverTheirSound settings lists brought course

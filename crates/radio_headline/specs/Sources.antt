@@ -1,5 +1,5 @@
--- What sources bring.
-use Rattle.std.specs.Prelude.{◌≡◌, ◌⊎◌, ℕ, ◌==◌, true, if◌then◌else◌, List, [], ◌∷◌, ◌++◌}
+-- What sources bring, over any course: `brought` are the bytes that came on the connection of each label.
+use Rattle.std.specs.Prelude.{◌≡◌, ◌⊎◌, ℕ, true, List, [], ◌∷◌, ◌++◌}
 use Rattle.std.specs.List.{flat_map}
 use Rattle.radio_addr.specs.declared.peer.Peer.{Peer}
 use Rattle.radio_values.specs.declared.field.Shown.{Shown}
@@ -22,23 +22,7 @@ use Rattle.radio_relay.specs.Pulled.{IsPulled, Part, Pulled, ShownPart}
 use Rattle.radio_answers.specs.declared.web_answers.WebAnswers.{WebAnswers}
 use Rattle.radio_session.specs.Conversation.{fresh}
 use Rattle.radio_session.specs.Hearing.{Heard, IsHeard}
-use Rattle.radio_deliveries.specs.declared.delivery.Delivery.{Delivery}
-use Rattle.radio_deliveries.specs.declared.delivery.Delivery.TheVariants.{To}
-use Rattle.radio_deliveries.specs.declared.delivery.Input.{Input}
-use Rattle.radio_deliveries.specs.declared.delivery.Input.TheVariants.{Data}
 use Rattle.radio_headline.specs.Course.{Happening, events_in, on}
-
-abbrev pub bytes_in : Input → List ℕ
-bytes_in (Data bytes) = bytes
-bytes_in input = []
-
-abbrev pub brought_by : ℕ → Delivery → List ℕ
-brought_by label (To his input) = (if his == label then bytes_in input else [])
-brought_by label delivery = []
-
--- the bytes that come on the connection of the label, joined in their order
-abbrev pub brought : List Delivery → ℕ → List ℕ
-brought deliveries label = flat_map (brought_by label) deliveries
 
 abbrev pub pushed_by : Event → List ℕ
 pushed_by (Push id block) = block
@@ -58,19 +42,19 @@ pub record IsRequest (bytes : List ℕ) (id : ℕ) (request : Event) (behind : L
 
 -- On the connection of the label a source's request comes, and all that it delivers through the course is a front of the data behind that, as the
 -- bytes of its body are heard; what is not delivered came when it was not admitted, or had been ended, or is still to be.
-pub record DeliversItsBody (settings : Settings) (lists : Lists) (deliveries : List Delivery) (course : List Happening) (label : ℕ) (asked : SourceRequest)
+pub record DeliversItsBody (settings : Settings) (lists : Lists) (brought : ℕ → List ℕ) (course : List Happening) (label : ℕ) (asked : SourceRequest)
     : Type 0 where
   pub behind : List Event
-  pub is_request : IsRequest (brought deliveries label) asked.id (Source asked) behind
+  pub is_request : IsRequest (brought label) asked.id (Source asked) behind
   pub undelivered : List ℕ
   pub is_front : pushed behind ≡ delivered (opening settings lists) (events_in course) asked.id ++ undelivered
 
 -- On the connection of the label a master's answer comes, whose head shows this of the stream, and all that the relay delivers under this number
 -- is a front of the sound that the answer pulls in behind that.
-pub record DeliversItsSound (settings : Settings) (lists : Lists) (deliveries : List Delivery) (course : List Happening) (label number : ℕ) (shown : Shown)
+pub record DeliversItsSound (settings : Settings) (lists : Lists) (brought : ℕ → List ℕ) (course : List Happening) (label number : ℕ) (shown : Shown)
     : Type 0 where
   pub pulled : Pulled
-  pub is_pulled : IsPulled (brought deliveries label) pulled
+  pub is_pulled : IsPulled (brought label) pulled
   pub parts : List Part
   pub begins : pulled.parts ≡ ShownPart shown ∷ parts
   pub undelivered : List ℕ
@@ -82,7 +66,7 @@ NobodyDelivers settings lists events = delivered (opening settings lists) events
 
 -- This session is that of a source: one that has asked to feed its mount, or a relay that has come up there. It shows what that shows, by the settings.
 -- Or it is none, and one is awaited there.
-module _ (settings : Settings) (lists : Lists) (deliveries : List Delivery) (course : List Happening) (mount : List ℕ) (number : ℕ) where
+module _ (settings : Settings) (lists : Lists) (brought : ℕ → List ℕ) (course : List Happening) (mount : List ℕ) (number : ℕ) where
   pub record IsOfASource (shown_now : Shown) : Type 0 where
     pub label : ℕ
     pub asked : SourceRequest
@@ -94,7 +78,7 @@ module _ (settings : Settings) (lists : Lists) (deliveries : List Delivery) (cou
     pub begun : Session
     pub has_begun : HasBegun (run_after settings lists (events_in before)) mount number asked.shown begun
     pub still_shown : shown_now ≡ begun.shown
-    pub delivers : DeliversItsBody settings lists deliveries course label asked
+    pub delivers : DeliversItsBody settings lists brought course label asked
 
   pub record IsOfARelay (shown_now : Shown) : Type 0 where
     pub label : ℕ
@@ -105,7 +89,7 @@ module _ (settings : Settings) (lists : Lists) (deliveries : List Delivery) (cou
     pub begun : Session
     pub has_begun : HasBegun (run_after settings lists (events_in before)) mount number shown begun
     pub still_shown : shown_now ≡ begun.shown
-    pub delivers : DeliversItsSound settings lists deliveries course label number shown
+    pub delivers : DeliversItsSound settings lists brought course label number shown
 
   -- it is none: a relay of the settings feeds the mount on demand, and one is awaited there; its number is nobody's, who delivers nothing, and it shows what
   -- the settings say
@@ -119,13 +103,13 @@ module _ (settings : Settings) (lists : Lists) (deliveries : List Delivery) (cou
   HasItsSource shown_now = IsOfASource shown_now ⊎ IsOfARelay shown_now ⊎ IsAwaited shown_now
 
 -- each who asks to feed a mount
-abbrev pub SourcesDeliverTheirBodies : Settings → Lists → List Delivery → List Happening → Type 0
-SourcesDeliverTheirBodies settings lists deliveries course = (label : ℕ) (asked : SourceRequest) (past later : List Happening)
-    → course ≡ past ++ on label (Source asked) ∷ later → DeliversItsBody settings lists deliveries course label asked
+abbrev pub SourcesDeliverTheirBodies : Settings → Lists → (ℕ → List ℕ) → List Happening → Type 0
+SourcesDeliverTheirBodies settings lists brought course = (label : ℕ) (asked : SourceRequest) (past later : List Happening)
+    → course ≡ past ++ on label (Source asked) ∷ later → DeliversItsBody settings lists brought course label asked
 
 -- each relay that comes up, and is given this number
-abbrev pub RelaysDeliverTheirSound : Settings → Lists → List Delivery → List Happening → Type 0
-RelaysDeliverTheirSound settings lists deliveries course = (label : ℕ) (mount : List ℕ) (shown : Shown) (number : ℕ) (past later : List Happening)
+abbrev pub RelaysDeliverTheirSound : Settings → Lists → (ℕ → List ℕ) → List Happening → Type 0
+RelaysDeliverTheirSound settings lists brought course = (label : ℕ) (mount : List ℕ) (shown : Shown) (number : ℕ) (past later : List Happening)
     → course ≡ past ++ on label (RelayUp mount shown) ∷ later
     → reply_to (run_after settings lists (events_in past)) (RelayUp mount shown) ≡ Arrived number
-    → DeliversItsSound settings lists deliveries course label number shown
+    → DeliversItsSound settings lists brought course label number shown

@@ -5,7 +5,8 @@ ghost use Rattle.radio_settings_values.specs.declared.settings.Settings.{Setting
 ghost use Rattle.radio_access.specs.Lists.{Lists};
 ghost use Rattle.radio_events.specs.declared.event.Event.{Event};
 ghost use Rattle.radio_headline.specs.Lawful.{IsLawful};
-ghost use Rattle.radio_headline.specs.Listeners.{DrawsAreCut, DrawsAreStretches, ListenersHearSlices, PlayedScriptsHearSlices};
+ghost use Rattle.radio_headline.specs.Listeners.{DrawsAreCut, DrawsAreStretches};
+ghost use Rattle.radio_headline.specs.Scripts.{ListenersHearSlices, PlayedScriptsHearSlices};
 ghost use Rattle.radio_headline.specs.Histories.{HistoriesAreLawful};
 ghost use Rattle.radio_headline.specs.Sources.{NobodyDelivers};
 

@@ -5,7 +5,7 @@ ghost use Rattle.radio_script.specs.Plays.{IfKnown, Writes};
 ghost use Rattle.radio_script.specs.Script.{deliveries_from, lines_of};
 ghost use Rattle.radio_deliveries.specs.Reading.{reader_failures, writer_failures};
 ghost use Rattle.radio_floor.specs.Transcript.{PlaysScript};
-ghost use Rattle.radio_headline.specs.Listeners.{HearsSlices};
+ghost use Rattle.radio_headline.specs.Scripts.{HearsSlices};
 
 use crate::laws::played_scripts_hear_slices;
 use radio_access::Lists;

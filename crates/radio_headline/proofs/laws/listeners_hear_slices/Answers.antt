@@ -1,11 +1,16 @@
-use Rattle.std.proofs.Common.{[], sym, ◌∙◌}
-use Rattle.radio_floor.specs.ScriptState.{opening_script}
-use Rattle.radio_headline.specs.Course.{events_in}
-use Rattle.radio_headline.proofs.BodyLemmas.{delivers_body, listens_so, source_answered}
+use Rattle.std.proofs.Common.{ℕ, List, [], sym, ap, subst, ◌∙◌}
+use Rattle.radio_deliveries.specs.declared.delivery.Delivery.{Delivery}
+use Rattle.radio_deliveries.specs.Given.{given}
+use Rattle.radio_house.specs.World.{opening}
+use Rattle.radio_floor.specs.ScriptState.{connection_of, opening_script}
+use Rattle.radio_headline.specs.Scripts.{brought}
+use Rattle.radio_headline.proofs.Connections.{IsClosed}
+use Rattle.radio_headline.proofs.LabelFacts.{known_of}
+use Rattle.radio_headline.proofs.Logs.{log_on}
+use Rattle.radio_headline.proofs.OfCourses.{course_hears}
+use Rattle.radio_headline.proofs.PullSteps.{more_facts}
 use Rattle.radio_headline.proofs.RunOfCourses.{comes, nothing_stands}
-use Rattle.radio_headline.proofs.HeadlineLemmas.{shown_by_source, sit_with_sources}
-use Rattle.radio_headline.proofs.ListenerLemmas.{answered_by, given_by}
-use Rattle.radio_headline.proofs.SoundLemmas.{delivers_sound}
+use Rattle.radio_headline.proofs.Standing.{brought_joined}
 use Rattle.radio_headline.proofs.laws.listeners_hear_slices.Goals as goal
 
 pub returns : goal.returns
@@ -15,17 +20,6 @@ returns c web settings lists deliveries text stop transcript =
     let joined = c.blocks_are_the_data.ensures.joined in
     let places = c.pieces_are_joined.ensures.place in
     let found = c.pieces_are_joined.ensures.found in
-    let fits = c.events_are_of_their_clients.ensures.own settings lists in
-    let adds = c.clients_and_seats_add_up.ensures.add_up settings lists in
-    let steps = c.clients_stand_by_their_events.ensures.steps settings lists in
-    let access = c.access_is_kept.ensures.access settings lists in
-    let served = c.whoever_may_is_served.ensures.served settings lists in
-    let denied = c.denials_are_the_policys.ensures.denied settings lists in
-    let seated = c.listeners_begin_at_a_block.ensures.seated settings lists in
-    let sessions = c.sessions_are_their_sources.ensures.steps settings lists in
-    let mounts = c.stretches_are_whole.ensures.mounts settings lists in
-    let keeps = c.sessions_are_their_sources.ensures.settings settings lists in
-    let nobody = c.draws_are_stretches.ensures.nobody settings lists in
     let settled_answers = c.settled.ensures.responses in
     let within_answers = c.heads_lie_within.ensures.responses in
     let none_blocks = c.blocks_are_the_data.ensures.none in
@@ -34,48 +28,50 @@ returns c web settings lists deliveries text stop transcript =
     let came = comes web settings lists settled within settled_answers within_answers none_blocks in_pieces afters joined places found deliveries [] (opening_script settings lists) transcript.0 [] [] 1 text stop
     (nothing_stands web settings lists settled within settled_answers within_answers none_blocks in_pieces afters joined places found) transcript.1 in
     let stands = came.stands in
-    let bodies = delivers_body web settled within joined places found settings lists fits adds steps deliveries came.performed came.rest came.parts transcript.0
-    came.course came.told stands.each stands.nowhere in
-    let sounds = delivers_sound web settled_answers within_answers joined none_blocks in_pieces afters settings lists fits adds steps deliveries came.performed came.rest
-    came.parts transcript.0 came.course came.told stands.each stands.nowhere in
+    let known = λ (label : ℕ). known_of web (brought came.performed label) (log_on (opening settings lists) came.course label) (given came.told label)
+    (connection_of transcript.0.connections label) (stands.each label) in
+    let each = λ (label : ℕ). subst (λ (bytes : List ℕ). IsClosed web bytes (log_on (opening settings lists) came.course label) (given came.told label))
+    (sym (brought_joined came.performed came.rest label) ∙ ap (λ (ds : List Delivery). brought ds label) (sym came.parts))
+    (record {
+      own = (known label).own;
+      facts = more_facts web settled_answers within_answers joined none_blocks in_pieces afters settled within places found (brought came.performed label)
+          (brought came.rest label) (log_on (opening settings lists) came.course label) (given came.told label) (known label).facts;
+    }) in
     record {
       course = came.course;
       comes = (transcript.0, came.runs);
-      lawful = λ past later happening parts. c.events_are_lawful.ensures settings lists (events_in past) happening.event;
       lines = came.told;
       is_written = record {
         is_written = came.is_written;
         by_no_others = λ these others those e. c.transcripts_are_read_one_way.ensures others came.told those these (e ∙ sym came.is_written);
       };
-      listeners = λ label asked past later parts. record {
-        is_request = listens_so web settled within joined places found settings lists fits adds steps deliveries came.performed came.rest came.parts transcript.0
-            came.course came.told stands.each stands.nowhere label asked past later parts;
-        is_given = given_by web settings lists fits adds steps access served (λ rows. (c.denials_name_the_first_rule.ensures.allows rows).0) denied seated
-            (c.draws_are_stretches.ensures.slices settings lists) (c.draws_are_stretches.ensures.cut settings lists) c.listeners_are_told_what_they_draw.ensures.joined c.listeners_are_told_what_they_draw.ensures.plain
-            c.listeners_are_told_what_they_draw.ensures.woven c.listeners_are_told_what_they_draw.ensures.taken_out came.performed transcript.0 came.course came.told
-            stands.world stands.each stands.nowhere deliveries
-            (shown_by_source settings lists sessions mounts keeps nobody deliveries came.course bodies sounds stands.nowhere)
-            (sit_with_sources settings lists sessions mounts keeps nobody deliveries came.course bodies sounds stands.nowhere) label asked past later parts;
-      };
-      commands = λ label asked past later parts.
-          answered_by web settings lists fits adds steps access served (λ rows. (c.denials_name_the_first_rule.ensures.allows rows).0) denied seated
-          (c.draws_are_stretches.ensures.slices settings lists) (c.draws_are_stretches.ensures.cut settings lists) c.listeners_are_told_what_they_draw.ensures.joined c.listeners_are_told_what_they_draw.ensures.plain
-          c.listeners_are_told_what_they_draw.ensures.woven c.listeners_are_told_what_they_draw.ensures.taken_out came.performed transcript.0 came.course came.told
-          stands.world stands.each stands.nowhere deliveries
-          (shown_by_source settings lists sessions mounts keeps nobody deliveries came.course bodies sounds stands.nowhere)
-          (sit_with_sources settings lists sessions mounts keeps nobody deliveries came.course bodies sounds stands.nowhere) label asked past later parts;
-      sources = bodies;
-      bodies = record {
-        plain = c.bodies_are_heard_as_their_data.ensures.plain;
-        sized = c.bodies_are_heard_as_their_data.ensures.sized;
-        chunked = c.bodies_are_heard_as_their_data.ensures.chunked;
-        faulty = c.bodies_are_heard_as_their_data.ensures.faulty;
-      };
-      pulls = c.items_are_of_their_relay.ensures;
-      answers = λ label asked past later parts.
-          source_answered web settled within joined places found settings lists fits adds steps deliveries came.performed came.rest came.parts transcript.0
-          came.course came.told stands.each stands.nowhere label asked past later parts denied;
-      relays = sounds;
+      hears = course_hears web settings lists settled within joined places found
+          (c.events_are_of_their_clients.ensures.own settings lists)
+          (c.clients_and_seats_add_up.ensures.add_up settings lists)
+          (c.clients_stand_by_their_events.ensures.steps settings lists)
+          (c.access_is_kept.ensures.access settings lists)
+          (c.whoever_may_is_served.ensures.served settings lists)
+          (λ rows. (c.denials_name_the_first_rule.ensures.allows rows).0)
+          (c.denials_are_the_policys.ensures.denied settings lists)
+          (c.listeners_begin_at_a_block.ensures.seated settings lists)
+          (c.draws_are_stretches.ensures.slices settings lists)
+          (c.draws_are_stretches.ensures.cut settings lists)
+          c.listeners_are_told_what_they_draw.ensures.joined
+          c.listeners_are_told_what_they_draw.ensures.plain
+          c.listeners_are_told_what_they_draw.ensures.woven
+          c.listeners_are_told_what_they_draw.ensures.taken_out
+          (c.sessions_are_their_sources.ensures.steps settings lists)
+          (c.stretches_are_whole.ensures.mounts settings lists)
+          (c.sessions_are_their_sources.ensures.settings settings lists)
+          (c.draws_are_stretches.ensures.nobody settings lists)
+          (λ events event. c.events_are_lawful.ensures settings lists events event)
+          (record {
+            plain = c.bodies_are_heard_as_their_data.ensures.plain;
+            sized = c.bodies_are_heard_as_their_data.ensures.sized;
+            chunked = c.bodies_are_heard_as_their_data.ensures.chunked;
+            faulty = c.bodies_are_heard_as_their_data.ensures.faulty;
+          })
+          c.items_are_of_their_relay.ensures (brought deliveries) (given came.told) came.course each stands.nowhere;
       last_words = record {
         arrivals = c.last_words_are_told.ensures.arrivals;
         denied = c.last_words_are_told.ensures.denied;

@@ -5,7 +5,7 @@ use Rattle.radio_script.specs.Plays.{Writes}
 use Rattle.radio_script.specs.Script.{deliveries_from, lines_of}
 use Rattle.radio_floor.specs.Transcript.{PlaysScript}
 use Rattle.radio_floor.proofs.Weakened.{known-weaker, writes-weaker}
-use Rattle.radio_headline.specs.Listeners.{HearsSlices}
+use Rattle.radio_headline.specs.Scripts.{HearsSlices}
 use Rattle.radio_headline.proofs.playing.play.Goals as goal
 
 pub returns-clause-hears : goal.returns-clause-hears
