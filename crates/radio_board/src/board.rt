@@ -56,6 +56,8 @@ pub struct Board {
     acceptor_sleeps: AtomicBool,
     /// Up to which moment every worker has read its sockets, in milliseconds.
     moment_ms: AtomicU64,
+    /// The latest moment that a worker has told the server, in milliseconds.
+    server_ms: AtomicU64,
     /// How many bytes have come from sources.
     received: AtomicU64,
     /// How often workers were told of news.
@@ -102,6 +104,7 @@ impl Board {
             has_acceptor: AtomicBool::new(false),
             acceptor_sleeps: AtomicBool::new(false),
             moment_ms: AtomicU64::new(0),
+            server_ms: AtomicU64::new(0),
             received: AtomicU64::new(0),
             told: AtomicU64::new(0),
             is_over: AtomicBool::new(false),
@@ -142,19 +145,18 @@ impl Board {
         for desk in &self.desks {
             least = desk.report().least_read(least);
         }
-        self.raise(least)
+        raise(&self.moment_ms, least)
     }
 
-    /// Tells this moment, unless a later one was told. Returns the one that is told then.
-    // rule: Server time
-    fn raise(&self, ms: u64) -> u64
-        ensures { ms ≤ result }
-    {
-        let told = self.moment_ms.load(Ordering::SeqCst);
-        if ms <= told {
-            return told;
-        }
-        self.moment_ms.fetch_max(ms, Ordering::SeqCst).max(ms)
+    /// Returns the latest moment that a worker has told the server and noted here, in milliseconds; 0 if none has. By then that was
+    /// told.
+    pub fn server_time(&self) -> u64 {
+        self.server_ms.load(Ordering::SeqCst)
+    }
+
+    /// Notes that a worker has told the server this moment, in milliseconds.
+    pub fn note_server_time(&self, ms: u64) {
+        let _ = raise(&self.server_ms, ms);
     }
 
     /// Notes at `now_us`, in microseconds, that so many bytes have come from sources, and that these listeners may have news.
@@ -366,4 +368,16 @@ impl Board {
     pub fn add_lines<W: Wait>(&self, waits: &W, lines: &[u8], seconds: u64) {
         self.log.add(waits, lines, seconds);
     }
+}
+
+/// Raises it to this moment, unless it is later. Returns what it is then.
+// rule: Server time
+fn raise(latest_ms: &AtomicU64, ms: u64) -> u64
+    ensures { ms ≤ result }
+{
+    let before_ms = latest_ms.load(Ordering::SeqCst);
+    if ms <= before_ms {
+        return before_ms;
+    }
+    latest_ms.fetch_max(ms, Ordering::SeqCst).max(ms)
 }

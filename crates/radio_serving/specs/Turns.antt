@@ -1,5 +1,5 @@
 -- A worker's turn.
-use Rattle.std.specs.Prelude.{◌≡◌, ◌+◌, ◌<◌, ◌⊎◌, ℕ, Bool, true, false, List, [], ◌∷◌, filter}
+use Rattle.std.specs.Prelude.{◌≡◌, ◌-◌, ◌⊎◌, ◌&&◌, ◌||◌, ℕ, nat_lt, Bool, true, false, List, [], ◌∷◌, filter}
 use Rattle.radio_events.specs.declared.event.Event.{Event}
 use Rattle.radio_events.specs.declared.event.Event.TheVariants.{Clock}
 use Rattle.radio_events.specs.declared.reply.Reply.{Reply}
@@ -8,11 +8,18 @@ use Rattle.radio_events.specs.Servers.{Steps}
 use Rattle.radio_connections.specs.declared.conn.Fate.TheVariants.{Open}
 use Rattle.radio_connections.specs.Connections.{Connection, stays}
 use Rattle.radio_connections.specs.Serving.{Stands, ServesInTurn}
+use Rattle.radio_serving.specs.declared.turn.Turn.{Turn}
 use Rattle.radio_serving.specs.Workers.{WorkerOf}
 
 -- the session of one that stands as it must, and is open, has not failed
 abbrev pub OpenSessionsHaveNotFailed : Type 0
 OpenSessionsHaveNotFailed = (c : Connection) (entries : List Entry) → Stands c entries → c.status.fate ≡ Open → c.session.has_failed ≡ false
+
+-- whether a moment is known to the server: the worker itself told it one within the last 50 milliseconds, or somebody did, and the worker itself within
+-- the last second
+-- rule: Server time
+abbrev pub is_known : ℕ → ℕ → ℕ → Bool
+is_known ms told own = nat_lt (ms - own) 50 || (nat_lt (ms - told) 50 && nat_lt (ms - own) 1000)
 
 module _ {S : Type 0} (steps : Steps S) where
   -- each connection was served, one after another
@@ -27,21 +34,25 @@ module _ {S : Type 0} (steps : Steps S) where
   HasApplied refuses true from event to = (reply : Reply) × steps from event reply to
   HasApplied refuses false from event to = (to ≡ from) × refuses from event
 
-  -- where fifty milliseconds have passed since the worker told the server the time, he tells it, unless that is refused for want of memory
-  -- rule: Server time
-  abbrev pub Ticks : (S → Event → Type 0) → ℕ → WorkerOf S → WorkerOf S → Type 0
-  Ticks refuses ms before after =
-      ((ms < before.told_ms + 50) × (after ≡ before))
-      ⊎ (((after.told_ms ≡ ms) × (after.patience_ms ≡ before.patience_ms) × (after.web ≡ before.web) × HasApplied refuses true before.server (Clock ms) after.server)
-      ⊎ ((after ≡ before) × refuses before.server (Clock ms)))
+  -- the worker tells the server this moment, unless that is refused for want of memory; if it is known, he does not
+  abbrev pub TicksUnless : Bool → (S → Event → Type 0) → ℕ → WorkerOf S → WorkerOf S → Type 0
+  TicksUnless true refuses ms before after = after ≡ before
+  TicksUnless false refuses ms before after =
+      ((after.told_ms ≡ ms) × (after.patience_ms ≡ before.patience_ms) × (after.web ≡ before.web) × HasApplied refuses true before.server (Clock ms) after.server)
+      ⊎ ((after ≡ before) × refuses before.server (Clock ms))
 
-  -- A turn at this moment, with news or without: the server is told the time if it is due, each connection is served, and those that are over are closed.
+  -- the server is told this moment exactly if it is not known, where somebody has told it another
+  -- rule: Server time
+  abbrev pub Ticks : (S → Event → Type 0) → ℕ → ℕ → WorkerOf S → WorkerOf S → Type 0
+  Ticks refuses ms told before after = TicksUnless (is_known ms told before.told_ms) refuses ms before after
+
+  -- A turn: the server is told the time if it is due, each connection is served, and those that are over are closed.
   -- rule: Server time
   pub record IsTurn (refuses : S → Event
-      → Type 0) (ms : ℕ) (news : Bool) (before : WorkerOf S) (conns : List Connection) (after : WorkerOf S) (conns' : List Connection) : Type 0 where
+      → Type 0) (turn : Turn) (before : WorkerOf S) (conns : List Connection) (after : WorkerOf S) (conns' : List Connection) : Type 0 where
     pub mid : WorkerOf S
     pub served : List Connection
-    pub ticks : Ticks refuses ms before mid
+    pub ticks : Ticks refuses turn.ms turn.told_ms before mid
     pub same : (after.told_ms ≡ mid.told_ms) × (after.patience_ms ≡ mid.patience_ms) × (after.web ≡ mid.web)
-    pub serves : ServesEach ms mid.patience_ms news mid.server conns after.server served
+    pub serves : ServesEach turn.ms mid.patience_ms turn.news mid.server conns after.server served
     pub closes : conns' ≡ filter stays served

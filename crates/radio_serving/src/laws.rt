@@ -1,6 +1,6 @@
 //! Laws on turns and on what is found in them. Each is a function that does nothing, and its contract is the law.
 
-ghost use Rattle.radio_serving.specs.Laws.{LeaversFeedNoMore, NewsIsFound, TimeIsTold};
+ghost use Rattle.radio_serving.specs.Laws.{LeaversFeedNoMore, NewsIsFound, TimeIsTold, TimeIsToldByEach};
 ghost use Rattle.radio_serving.specs.Turns.{OpenSessionsHaveNotFailed};
 
 use crate::Server;
@@ -21,8 +21,11 @@ pub fn news_is_found()
     ensures gone { LeaversFeedNoMore }
 {}
 
-/// A server is told the time each twentieth of a second, as often as a worker makes turns.
+/// A server is told the time each twentieth of a second, as often as workers make turns, and by each of them once a second.
 // rule: Server time
 pub fn time_is_told<S: Server>()
-    ensures { TimeIsTold S.steps S.refuses }
+    // by a worker that knows of nobody who told it in the last twentieth
+    ensures alone { TimeIsTold S.steps S.refuses }
+    // and by one that itself did not for a second, whatever it knows of others
+    ensures each { TimeIsToldByEach S.steps S.refuses }
 {}

@@ -9,4 +9,6 @@ pub struct Turn {
     /// who has a seat, and to whom nothing is owed, draws; else only who is behind, or was not asked
     /// for in half a second.
     pub news: bool,
+    /// The latest moment that another worker is known to have told the server, in milliseconds; 0 if none is.
+    pub told_ms: u64,
 }

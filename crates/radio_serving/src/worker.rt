@@ -3,7 +3,7 @@
 ghost use Rattle.std.specs.Prelude.{◌≡◌, ◌*◌, IfOk, OnOk, OnErr};
 ghost use Rattle.radio_events.specs.declared.event.Event.TheVariants.{Arrive};
 ghost use Rattle.radio_events.specs.declared.reply.Reply.{Reply};
-ghost use Rattle.radio_serving.specs.Turns.{HasApplied, Ticks, IsTurn};
+ghost use Rattle.radio_serving.specs.Turns.{HasApplied, Ticks, is_known, IsTurn};
 ghost use Rattle.radio_connections.specs.Admission.{IsTakenIn};
 ghost use Rattle.radio_serving.specs.Admission.{IsAdmission, IsTurnedOff};
 
@@ -18,6 +18,9 @@ use std::marker::Model;
 
 /// After how long the server is told the time again, in milliseconds.
 const TELL_AFTER_MS: u64 = 50;
+
+/// After how long a worker tells the server the time itself, in milliseconds, though others have.
+const TELL_ITSELF_AFTER_MS: u64 = 1000;
 
 /// A worker: whom he asks, when he last told him the time, and for how long he keeps a line that
 /// takes nothing. In contracts he is these three.
@@ -65,6 +68,13 @@ impl<S: Server + Drop> Worker<S> {
         ensures { result.now ≡ self.now.server }
     {
         &self.server
+    }
+
+    /// When it told the server the time last, in milliseconds; 0 if it never did.
+    pub fn told_ms(&self) -> u64
+        ensures { result ≡ self.now.told_ms }
+    {
+        self.told_ms
     }
 
     /// The log of what he has served: whoever has him takes its lines, and tells it the time.
@@ -116,14 +126,14 @@ impl<S: Server + Drop> Worker<S> {
         Conn::admitted(self.alloc, self.web, peer, line, reply, ms)
     }
 
-    /// Serves each connection once, at the turn's moment, and closes those that are over. The server
-    /// is told the time if a twentieth of a second has passed since it last was.
+    /// Serves each connection once, at the turn's moment, and closes those that are over. The worker tells the server the time
+    /// if a twentieth of a second has passed since anybody is known to have done so, or a second since it last did.
     // rule: Finishes are silent; Pending bytes first; Reading; Drawing; Cut off; Lingering
     // rule: Closed by the peer; Unwanted bytes; Server time; Connection without memory
     pub fn serve_turn<L: Line, G: Gate>(&mut self, conns: &mut Vec<Conn<L>>, gate: &G, turn: Turn)
-        ensures { IsTurn S.steps S.refuses turn.ms turn.news self.old conns.old.items self.new conns.new.items }
+        ensures { IsTurn S.steps S.refuses turn self.old conns.old.items self.new conns.new.items }
     {
-        self.tick(turn.ms);
+        self.tick(turn.ms, turn.told_ms);
         let now = Now {
             ms: turn.ms,
             patience_ms: self.patience_ms,
@@ -134,17 +144,28 @@ impl<S: Server + Drop> Worker<S> {
         conns.retain(|conn| conn.stays());
     }
 
+    /// Tells the server that it is `ms`, unless that is known: another worker is known to have told it `told_ms`.
     // rule: Server time
-    fn tick(&mut self, ms: u64)
-        ensures { Ticks S.steps S.refuses ms self.old self.new }
+    fn tick(&mut self, ms: u64, told_ms: u64)
+        ensures { Ticks S.steps S.refuses ms told_ms self.old self.new }
     {
-        if ms.saturating_sub(self.told_ms) < TELL_AFTER_MS {
+        if is_known(ms, told_ms, self.told_ms) {
             return;
         }
         if apply_quietly(&mut self.server, Event::Clock { ms }) {
             self.told_ms = ms;
         }
     }
+}
+
+/// Returns whether the server is told `ms` by now, or nearly so: by a worker that told it `own_ms` itself, or by another that is
+/// known to have told it `told_ms`.
+fn is_known(ms: u64, told_ms: u64, own_ms: u64) -> bool
+    ensures { result ≡ is_known ms told_ms own_ms }
+{
+    let own_age_ms = ms.saturating_sub(own_ms);
+    own_age_ms < TELL_AFTER_MS
+        || (ms.saturating_sub(told_ms) < TELL_AFTER_MS && own_age_ms < TELL_ITSELF_AFTER_MS)
 }
 
 /// Applies an event whose reply tells nobody anything. Whether memory was not refused.

@@ -310,7 +310,11 @@ impl<'a, R: Clock + Wait> Post<Coming, SocketLine<TcpStream>> for SocketPost<'a,
         self.may_tell = self.left_us() == 0;
         let news = self.may_tell && self.desk.report().state.has_news();
         Some(Call {
-            turn: Turn { ms, news },
+            turn: Turn {
+                ms,
+                news,
+                told_ms: self.board.server_time(),
+            },
             comings,
         })
     }
@@ -363,6 +367,7 @@ impl<'a, R: Clock + Wait> Post<Coming, SocketLine<TcpStream>> for SocketPost<'a,
     {
         // Where the intake was empty before, others have taken them.
         self.note_taken(self.called);
+        self.board.note_server_time(seen.told_ms);
         self.has_more = seen.more;
         self.end_round(seen.more);
         self.note_listeners(seen);

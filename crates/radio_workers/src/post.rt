@@ -31,6 +31,8 @@ pub struct Seen {
     pub has_listeners: bool,
     /// Whether fewer are left than there were before the turn.
     pub has_closed: bool,
+    /// The moment that the worker told the server last, in milliseconds; 0 if it never did.
+    pub told_ms: u64,
 }
 
 /// Where a worker's turns and lines come from: of connections, that wait as `T`, each becomes an `L`.

@@ -217,17 +217,16 @@ impl<S: Server + Drop, L: Line> Shift<S, L> {
     fn serve_all<T, P: Post<T, L>, G: Gate>(&mut self, gate: &G, post: &mut P, turn: Turn)
         // the others are told of news if the turn was, or the post says so
         ensures { (news : Bool) × (between : WorkerOf (WatchedOf _))
-            × IsTurn (WatchedSteps S.steps) (λ watched event. S.refuses watched.server event) turn.ms turn.news
+            × IsTurn (WatchedSteps S.steps) (λ watched event. S.refuses watched.server event) turn
             self.old.worker self.old.sources.items between self.new.sources.items
-            × IsTurn (WatchedSteps S.steps) (λ watched event. S.refuses watched.server event) turn.ms news
+            × IsTurn (WatchedSteps S.steps) (λ watched event. S.refuses watched.server event) (record turn { news = news })
             between self.old.conns.items self.new.worker self.new.conns.items }
     {
         self.worker.serve_turn(&mut self.sources, gate, turn);
         let brings = self.worker.server().take_found(Take::News).has_news;
-        let Turn { ms, news } = turn;
-        let news = post.begins_round(news, brings);
+        let news = post.begins_round(turn.news, brings);
         self.worker
-            .serve_turn(&mut self.conns, gate, Turn { ms, news });
+            .serve_turn(&mut self.conns, gate, Turn { news, ..turn });
     }
 
     /// Returns how many connections it has.
@@ -246,6 +245,7 @@ impl<S: Server + Drop, L: Line> Shift<S, L> {
         ensures sources { result.sources ≡ length self.now.worker.server.feeding.numbers }
         ensures listeners { result.has_listeners ≡ has_listeners self.now.conns.items }
         ensures closed { result.has_closed ≡ nat_lt result.connections before }
+        ensures told { result.told_ms ≡ self.now.worker.told_ms }
     {
         let connections = self.count();
         Seen {
@@ -255,6 +255,7 @@ impl<S: Server + Drop, L: Line> Shift<S, L> {
             sources: self.worker.server().sources(),
             has_listeners: has_listeners(self.conns.as_slice()),
             has_closed: connections < before,
+            told_ms: self.worker.told_ms(),
         }
     }
 

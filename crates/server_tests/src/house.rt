@@ -138,7 +138,12 @@ fn is_free_in_turns<H: House, R: Wait>(
         was_held: Cell::new(false),
     };
     for ms in 1..5 {
-        station.turn(&gate, Turn { ms, news: true });
+        let turn = Turn {
+            ms,
+            news: true,
+            told_ms: 0,
+        };
+        station.turn(&gate, turn);
     }
     gate.knocks.get() == 4 && !gate.was_held.get()
 }

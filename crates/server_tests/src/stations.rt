@@ -202,7 +202,12 @@ impl<S: Server + Drop> Station<S> {
     pub fn turns(&mut self, from_ms: u64, step_ms: u64, count: u64, news: bool) {
         let mut ms = from_ms;
         for _ in 0..count {
-            self.turn(&OpenGate, Turn { ms, news });
+            let turn = Turn {
+                ms,
+                news,
+                told_ms: 0,
+            };
+            self.turn(&OpenGate, turn);
             ms = ms.saturating_add(step_ms);
         }
     }

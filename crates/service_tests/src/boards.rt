@@ -59,6 +59,13 @@ fn moved(board: &Board) -> Option<usize> {
     Some(board.desk(1)?.report().comings)
 }
 
+/// Up to which moment the server's time is known after one worker has noted a moment, and another an earlier one.
+fn noted(board: &Board) -> u64 {
+    board.note_server_time(70);
+    board.note_server_time(50);
+    board.server_time()
+}
+
 fn has_come<R: Net>(rt: &R) -> Option<Poll> {
     Poll::new(rt).ok()
 }
@@ -69,6 +76,14 @@ fn ten_of_two_workers_linger(rt: HostRuntime) {
     let poll = has_come(&rt).expect(&rt, "a poll");
     let board = board_of(&rt, rt.alloc(), &poll).expect(&rt, "a board");
     assert!(rt; lingering(&board) == Some([6, 4, 6]));
+}
+
+// rule: Server time
+#[test]
+fn the_latest_time_is_known(rt: HostRuntime) {
+    let poll = has_come(&rt).expect(&rt, "a poll");
+    let board = board_of(&rt, rt.alloc(), &poll).expect(&rt, "a board");
+    assert!(rt; board.server_time() == 0 && noted(&board) == 70);
 }
 
 #[test]

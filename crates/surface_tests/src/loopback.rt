@@ -167,7 +167,11 @@ impl Station {
     fn serves<C: Clock>(&mut self, clock: &C, listener: &TcpListener) -> bool {
         for ms in 0..TURNS {
             self.accept(listener, ms);
-            let turn = Turn { ms, news: true };
+            let turn = Turn {
+                ms,
+                news: true,
+                told_ms: 0,
+            };
             self.worker.serve_turn(&mut self.conns, &OpenGate, turn);
             if self.came == 2 && self.conns.is_empty() {
                 return true;

@@ -63,6 +63,7 @@ impl Post<u64, SocketLine> for Closes {
             turn: Turn {
                 ms: self.ms,
                 news: false,
+                told_ms: 0,
             },
             comings: 1,
         })

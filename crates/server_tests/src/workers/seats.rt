@@ -28,6 +28,7 @@ impl Post<Manners, MemoryLine> for MemoryPost {
             turn: Turn {
                 ms: self.ms,
                 news: true,
+                told_ms: 0,
             },
             comings: 1,
         })
