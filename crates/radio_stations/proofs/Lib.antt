@@ -1,0 +1,5 @@
+mod Alike
+mod Joined
+mod Weaving
+mod Courses
+mod TurnLemmas
