@@ -3,3 +3,5 @@ mod Joined
 mod Weaving
 mod Courses
 mod TurnLemmas
+mod WorkLemmas
+mod RoundLemmas
