@@ -1,0 +1,389 @@
+-- What has happened on the course of a connection is what its bytes mean.
+use Rattle.std.proofs.Common.{◌≡◌, ◌⊎◌, inl, inr, ℕ, true, false, List, [], ◌∷◌, ◌++◌, refl, sym, ap, subst, ◌∙◌, append_assoc}
+use Rattle.std.proofs.lemmas.List.{append-nil, map-append}
+use Rattle.std.proofs.lemmas.List.Concat.{flat_map-append}
+use Rattle.radio_addr.specs.declared.peer.Peer.{Peer}
+use Rattle.radio_answers.specs.declared.web_answers.WebAnswers.{WebAnswers}
+use Rattle.radio_events.specs.declared.entry.Entry.{Entry}
+use Rattle.radio_events.specs.declared.event.Event.{Event}
+use Rattle.radio_events.specs.declared.event.Event.TheVariants.{Arrive, Draw, Leave}
+use Rattle.radio_events.specs.declared.reply.Reply.{Reply}
+use Rattle.radio_events.specs.declared.reply.Reply.TheVariants.{Arrived}
+use Rattle.radio_events.specs.declared.state.State.{State}
+use Rattle.radio_events.specs.declared.state.State.TheVariants.{Running, Shut}
+use Rattle.radio_events.specs.Events.{entry}
+use Rattle.radio_heads.specs.Head.{ShowsRequest}
+use Rattle.radio_heads.specs.Laws.{IsSettled}
+use Rattle.radio_session.specs.Conversation.{fresh}
+use Rattle.radio_session.specs.Cuts.{Atom, PiecesAreHeardAsOne, atoms, atoms_of, unheard}
+use Rattle.radio_session.specs.Hearing.{Heard, IsHeard}
+use Rattle.radio_session.specs.Saying.{said}
+use Rattle.radio_connections.specs.declared.conn.Fate.{Fate}
+use Rattle.radio_connections.specs.declared.conn.Fate.TheVariants.{Open, Ended, Closed, Cut}
+use Rattle.radio_connections.specs.Course.{Standing, Course, IsOver, IsQuiet, answered, fate_by, pending_by, newcomer}
+use Rattle.radio_connections.specs.Course.{arrives, turned_away, hears, has_room, applies, closes, is_cut, passes_over, leaves}
+use Rattle.radio_connections.specs.Duties.{IsAtMostLeaving, events_of}
+use Rattle.radio_headline.proofs.AppliedLemmas.{said_web}
+use Rattle.radio_stations.specs.Meaning.{HasDrawsAmong, HasShut, IsHeardInOne, MeansItsBytes, nothing}
+use Rattle.radio_stations.proofs.Alike.{IsAlike, alike_self}
+use Rattle.radio_stations.proofs.Joined.{IsTogether, heard_together}
+use Rattle.radio_stations.proofs.Weaving.{asked_then, drawn_then}
+
+-- what waits to be applied is the rest of what was heard, or a draw, and then that is all
+abbrev pub Waits : ℕ → List Event → List Atom → Type 0
+Waits id pending unapplied = (unapplied ≡ atoms pending) ⊎ ((unapplied ≡ []) × (room : ℕ) × (pending ≡ Draw id room ∷ []))
+
+-- how it stands as long as it goes on
+pub record Goes (id : ℕ) (s : Standing) (unread : List ℕ) (unapplied : List Atom) (left : List Entry) (heard : Heard) : Type 0 where
+  pub all_read : unread ≡ []
+  pub here : left ≡ []
+  pub alike : IsAlike heard.conversation s.session
+  pub waits : Waits id s.pending unapplied
+
+-- what has happened on the course of a client's connection
+pub record Meant (id : ℕ) (s : Standing) : Type 0 where
+  pub peer : Peer
+  pub others : List Entry
+  pub arrived : s.entries ≡ entry (Arrive peer) (Arrived id) ∷ others
+  pub read : List ℕ
+  pub unread : List ℕ
+  pub gives : s.given ≡ read ++ unread
+  pub web : WebAnswers
+  pub heard : Heard
+  pub is_heard : IsHeardInOne (fresh web id peer) read heard
+  pub made : List Entry
+  pub left : List Entry
+  pub all : others ≡ made ++ left
+  pub at_most : IsAtMostLeaving id left
+  pub asked : List Event
+  pub draws_among : HasDrawsAmong id (events_of made) asked
+  pub unapplied : List Atom
+  pub is_front : atoms heard.events ≡ atoms asked ++ unapplied
+  pub going : s.fate ≡ Open → Goes id s unread unapplied left heard
+  pub stays : s.has_left ≡ false → left ≡ []
+  pub ended : s.fate ≡ Ended → HasShut made
+
+-- the connection of nobody, who was not let in
+pub record IsNobodys (s : Standing) : Type 0 where
+  pub none : s.entries ≡ []
+  pub gone : s.has_left ≡ true
+  pub over : s.fate ≡ Open → ⊥
+
+-- nothing waits
+pub none_waits : (id : ℕ) (pending : List Event) (unapplied : List Atom) → pending ≡ [] → Waits id pending unapplied → unapplied ≡ []
+none_waits id pending unapplied none (inl e) = e ∙ ap atoms none
+none_waits id pending unapplied none (inr (e, room, some)) = e
+
+comes : (id : ℕ) (web : WebAnswers) (peer : Peer) → Meant id (newcomer web peer id)
+comes id web peer = record {
+  peer = peer;
+  others = [];
+  arrived = refl;
+  read = [];
+  unread = [];
+  gives = refl;
+  web = web;
+  heard = unheard (fresh web id peer);
+  is_heard = inl (refl, refl);
+  made = [];
+  left = [];
+  all = refl;
+  at_most = inl refl;
+  asked = [];
+  draws_among = nothing;
+  unapplied = [];
+  is_front = refl;
+  going = λ is_open. record { all_read = refl; here = refl; alike = alike_self (fresh web id peer); waits = inl refl };
+  stays = λ here. refl;
+  ended = λ over. absurd (cc);
+}
+
+-- its line gives bytes
+module _ (settled : IsSettled ShowsRequest) (pieces : PiecesAreHeardAsOne) (id : ℕ) (s : Standing) (m : Meant id s) (quiet : IsQuiet s) (bytes : List ℕ)
+    (heard : Heard) (is : IsHeard s.session bytes heard) where
+  now : Goes id s m.unread m.unapplied m.left m.heard
+  now = m.going quiet.0
+
+  all : IsTogether (fresh m.web id m.peer) (m.read ++ bytes) m.heard heard
+  all = heard_together settled pieces (fresh m.web id m.peer) m.read bytes m.heard heard m.is_heard s.session now.alike is
+
+  hears_on : Meant id (record s { given = s.given ++ bytes; session = heard.conversation; pending = heard.events })
+  hears_on = record {
+    peer = m.peer;
+    others = m.others;
+    arrived = m.arrived;
+    read = m.read ++ bytes;
+    unread = [];
+    gives = ap (λ (xs : List ℕ). xs ++ bytes) (m.gives ∙ ap (λ (xs : List ℕ). m.read ++ xs) now.all_read ∙ append-nil m.read) ∙ sym (append-nil (m.read ++ bytes));
+    web = m.web;
+    heard = all.whole;
+    is_heard = all.is_heard;
+    made = m.made;
+    left = m.left;
+    all = m.all;
+    at_most = m.at_most;
+    asked = m.asked;
+    draws_among = m.draws_among;
+    unapplied = atoms heard.events;
+    is_front =
+        all.events ∙ ap (λ (xs : List Atom). xs ++ atoms heard.events)
+        (m.is_front ∙ ap (λ (xs : List Atom). atoms m.asked ++ xs) (none_waits id s.pending m.unapplied quiet.1 now.waits) ∙ append-nil (atoms m.asked));
+    going = λ is_open. record { all_read = refl; here = now.here; alike = all.conversation; waits = inl refl };
+    stays = m.stays;
+    ended = m.ended;
+  }
+
+-- it has room
+has_room_on : (id : ℕ) (s : Standing) → Meant id s → IsQuiet s → (room : ℕ) → Meant id (record s { pending = Draw id room ∷ [] })
+has_room_on id s m quiet room =
+    let now = m.going quiet.0 in
+    record {
+      peer = m.peer;
+      others = m.others;
+      arrived = m.arrived;
+      read = m.read;
+      unread = m.unread;
+      gives = m.gives;
+      web = m.web;
+      heard = m.heard;
+      is_heard = m.is_heard;
+      made = m.made;
+      left = m.left;
+      all = m.all;
+      at_most = m.at_most;
+      asked = m.asked;
+      draws_among = m.draws_among;
+      unapplied = m.unapplied;
+      is_front = m.is_front;
+      going = λ is_open. record {
+        all_read = now.all_read;
+        here = now.here;
+        alike = now.alike;
+        waits = inr (none_waits id s.pending m.unapplied quiet.1 now.waits, room, refl);
+      };
+      stays = m.stays;
+      ended = m.ended;
+    }
+
+-- the first of the events is applied
+module _ (id : ℕ) (s : Standing) (m : Meant id s) (goes : s.fate ≡ Open) (event : Event) (later : List Event) (some : s.pending ≡ event ∷ later) (reply : Reply) where
+  before : Goes id s m.unread m.unapplied m.left m.heard
+  before = m.going goes
+
+  abbrev one : Entry
+  one = entry event reply
+
+  abbrev then_state : State
+  then_state = (said s.session.says reply).state
+
+  -- what it is now: how far it has come, what was asked and what still waits
+  record IsOneOn : Type 0 where
+    asked : List Event
+    unapplied : List Atom
+    draws_among : HasDrawsAmong id (events_of (m.made ++ one ∷ [])) asked
+    is_front : atoms m.heard.events ≡ atoms asked ++ unapplied
+    waits : unapplied ≡ atoms later
+
+  joined : events_of (m.made ++ one ∷ []) ≡ events_of m.made ++ event ∷ []
+  joined = map-append (λ (e : Entry). e.event) m.made (one ∷ [])
+
+  was_asked : m.unapplied ≡ atoms s.pending → IsOneOn
+  was_asked e = record {
+    asked = m.asked ++ event ∷ [];
+    unapplied = atoms later;
+    draws_among = subst (λ (es : List Event). HasDrawsAmong id es (m.asked ++ event ∷ [])) (sym joined)
+        (asked_then id event (events_of m.made) m.asked m.draws_among);
+    is_front =
+        m.is_front
+        ∙ ap (λ (xs : List Atom). atoms m.asked ++ xs) (e ∙ ap atoms some ∙ flat_map-append atoms_of (event ∷ []) later)
+        ∙ sym (append_assoc (atoms m.asked) (atoms (event ∷ [])) (atoms later))
+        ∙ ap (λ (xs : List Atom). xs ++ atoms later) (sym (flat_map-append atoms_of m.asked (event ∷ [])));
+    waits = refl;
+  }
+
+  was_drawn : (room : ℕ) → m.unapplied ≡ [] → s.pending ≡ Draw id room ∷ [] → IsOneOn
+  was_drawn room none draw =
+      let both : event ∷ later ≡ Draw id room ∷ [] = sym some ∙ draw in
+      let same : event ≡ Draw id room = cc in
+      let rest : later ≡ [] = cc in
+      record {
+        asked = m.asked;
+        unapplied = m.unapplied;
+        draws_among = subst (λ (es : List Event). HasDrawsAmong id es m.asked) (ap (λ (e : Event). events_of m.made ++ e ∷ []) (sym same) ∙ sym joined)
+            (drawn_then id room (events_of m.made) m.asked m.draws_among);
+        is_front = m.is_front;
+        waits = none ∙ ap atoms (sym rest);
+      }
+
+  on : IsOneOn
+  on = elim before.waits [
+    | inl e ↦ was_asked e
+    | inr (none, room, draw) ↦ was_drawn room none draw
+  ]
+
+  still : (state : State) → then_state ≡ state → fate_by state ≡ Open → Waits id (pending_by state later) on.unapplied
+  still Running e is_open = inl on.waits
+  still (Shut ending) e is_open = absurd (cc)
+
+  shuts : (state : State) → then_state ≡ state → fate_by state ≡ Ended → HasShut (m.made ++ one ∷ [])
+  shuts Running e over = absurd (cc)
+  shuts (Shut ending) e over = record { before = m.made; last = one; in_order = refl; says = s.session.says; ending = ending; shut = e }
+
+  applies_on : Meant id (answered s event later reply)
+  applies_on = record {
+    peer = m.peer;
+    others = m.others ++ one ∷ [];
+    arrived = ap (λ (xs : List Entry). xs ++ one ∷ []) m.arrived;
+    read = m.read;
+    unread = m.unread;
+    gives = m.gives;
+    web = m.web;
+    heard = m.heard;
+    is_heard = m.is_heard;
+    made = m.made ++ one ∷ [];
+    left = [];
+    all = ap (λ (xs : List Entry). xs ++ one ∷ []) (m.all ∙ ap (λ (xs : List Entry). m.made ++ xs) before.here ∙ append-nil m.made)
+        ∙ sym (append-nil (m.made ++ one ∷ []));
+    at_most = inl refl;
+    asked = on.asked;
+    draws_among = on.draws_among;
+    unapplied = on.unapplied;
+    is_front = on.is_front;
+    going = λ is_open. record {
+      all_read = before.all_read;
+      here = refl;
+      alike = record {
+        id = before.alike.id;
+        held = before.alike.held;
+        hears = before.alike.hears;
+        web = before.alike.web ∙ sym (said_web s.session.says reply);
+      };
+      waits = still then_state refl is_open;
+    };
+    stays = λ here. refl;
+    ended = λ over. shuts then_state refl over;
+  }
+
+-- nothing more comes, or it is cut off, or it was over before
+over_on : (id : ℕ) (s : Standing) → Meant id s → (unread : List ℕ) (fate : Fate) (pending : List Event) → (fate ≡ Open → ⊥) → (fate ≡ Ended → s.fate ≡ Ended)
+    → Meant id (record s { given = s.given ++ unread; pending = pending; fate = fate })
+over_on id s m unread fate pending over ended = record {
+  peer = m.peer;
+  others = m.others;
+  arrived = m.arrived;
+  read = m.read;
+  unread = m.unread ++ unread;
+  gives = ap (λ (xs : List ℕ). xs ++ unread) m.gives ∙ append_assoc m.read m.unread unread;
+  web = m.web;
+  heard = m.heard;
+  is_heard = m.is_heard;
+  made = m.made;
+  left = m.left;
+  all = m.all;
+  at_most = m.at_most;
+  asked = m.asked;
+  draws_among = m.draws_among;
+  unapplied = m.unapplied;
+  is_front = m.is_front;
+  going = λ is_open. absurd (over is_open);
+  stays = m.stays;
+  ended = λ e. m.ended (ended e);
+}
+
+is_over : (fate : Fate) → IsOver fate → fate ≡ Open → ⊥
+is_over Open h e = h
+is_over Ended h e = cc
+is_over Closed h e = cc
+is_over Cut h e = cc
+
+-- its client leaves
+leaves_on : (id : ℕ) (s : Standing) → Meant id s → IsOver s.fate → s.has_left ≡ false → (reply : Reply)
+    → Meant id (record s { entries = s.entries ++ entry (Leave id) reply ∷ []; has_left = true })
+leaves_on id s m over here reply = record {
+  peer = m.peer;
+  others = m.others ++ entry (Leave id) reply ∷ [];
+  arrived = ap (λ (xs : List Entry). xs ++ entry (Leave id) reply ∷ []) m.arrived;
+  read = m.read;
+  unread = m.unread;
+  gives = m.gives;
+  web = m.web;
+  heard = m.heard;
+  is_heard = m.is_heard;
+  made = m.made;
+  left = entry (Leave id) reply ∷ [];
+  all = ap (λ (xs : List Entry). xs ++ entry (Leave id) reply ∷ []) (m.all ∙ ap (λ (xs : List Entry). m.made ++ xs) (m.stays here) ∙ append-nil m.made);
+  at_most = inr (reply, refl);
+  asked = m.asked;
+  draws_among = m.draws_among;
+  unapplied = m.unapplied;
+  is_front = m.is_front;
+  going = λ is_open. absurd (is_over s.fate over is_open);
+  stays = λ h. absurd (cc);
+  ended = m.ended;
+}
+
+-- the given bytes are those before, and no more
+with_none : (id : ℕ) (s : Standing) (fate : Fate) → Meant id (record s { given = s.given ++ []; pending = s.pending; fate = fate })
+    → Meant id (record s { fate = fate })
+with_none id s fate m = subst (λ (xs : List ℕ). Meant id (record s { given = xs; fate = fate })) (append-nil s.given) m
+
+abbrev Stood : ℕ → Standing → Type 0
+Stood id s = Meant id s ⊎ IsNobodys s
+
+nobody_on : (s : Standing) → IsNobodys s → (given : List ℕ) (pending : List Event) (fate : Fate) → (fate ≡ Open → ⊥)
+    → IsNobodys (record s { given = given; pending = pending; fate = fate })
+nobody_on s n given pending fate over = record { none = n.none; gone = n.gone; over = over }
+
+module _ (settled : IsSettled ShowsRequest) (pieces : PiecesAreHeardAsOne) where
+  pub stood : (id : ℕ) (s : Standing) → Course id s → Stood id s
+  stood id s (arrives web peer) = inl (comes id web peer)
+  stood id s (turned_away web peer rule) = inr (record { none = refl; gone = refl; over = λ is_open. cc })
+  stood id s (hears before course quiet bytes heard is) = elim (stood id before course) [
+    | inl m ↦ inl (hears_on settled pieces id before m quiet bytes heard is)
+    | inr n ↦ absurd (n.over quiet.0)
+  ]
+  stood id s (has_room before course quiet room) = elim (stood id before course) [
+    | inl m ↦ inl (has_room_on id before m quiet room)
+    | inr n ↦ absurd (n.over quiet.0)
+  ]
+  stood id s (applies before course goes event later some reply) = elim (stood id before course) [
+    | inl m ↦ inl (applies_on id before m goes event later some reply)
+    | inr n ↦ absurd (n.over goes)
+  ]
+  stood id s (closes before course none) = elim (stood id before course) [
+    | inl m ↦ inl (with_none id before Closed (over_on id before m [] Closed before.pending (λ e. cc) (λ e. absurd (cc))))
+    | inr n ↦ inr (nobody_on before n before.given before.pending Closed (λ e. cc))
+  ]
+  stood id s (is_cut before course unheard) = elim (stood id before course) [
+    | inl m ↦ inl (over_on id before m unheard Cut [] (λ e. cc) (λ e. absurd (cc)))
+    | inr n ↦ inr (nobody_on before n (before.given ++ unheard) [] Cut (λ e. cc))
+  ]
+  stood id s (passes_over before course ended bytes) = elim (stood id before course) [
+    | inl m ↦ inl (over_on id before m bytes before.fate before.pending (λ e. absurd (let both : Ended ≡ Open = sym ended ∙ e in cc)) (λ e. e))
+    | inr n ↦ inr (nobody_on before n (before.given ++ bytes) before.pending before.fate n.over)
+  ]
+  stood id s (leaves before course over here reply) = elim (stood id before course) [
+    | inl m ↦ inl (leaves_on id before m over here reply)
+    | inr n ↦ absurd (let both : true ≡ false = sym n.gone ∙ here in cc)
+  ]
+
+-- where nothing is still to be applied, it is what its bytes mean
+pub meant_all : (id : ℕ) (s : Standing) (m : Meant id s) → s.pending ≡ [] → MeansItsBytes m.peer id s.given s.fate m.others
+meant_all id s m none = record {
+  read = m.read;
+  unread = m.unread;
+  gives = m.gives;
+  web = m.web;
+  heard = m.heard;
+  is_heard = m.is_heard;
+  made = m.made;
+  left = m.left;
+  all = m.all;
+  leaves = m.at_most;
+  asked = m.asked;
+  draws_among = m.draws_among;
+  unapplied = m.unapplied;
+  is_front = m.is_front;
+  goes_on = λ is_open. let now = m.going is_open in (now.all_read, none_waits id s.pending m.unapplied none now.waits, now.here);
+  ends = m.ended;
+}

@@ -1,0 +1,7 @@
+mod Alike
+mod Joined
+mod Weaving
+mod Courses
+mod TurnLemmas
+mod WorkLemmas
+mod RoundLemmas

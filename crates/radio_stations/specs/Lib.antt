@@ -1,0 +1,4 @@
+pub mod Meaning
+pub mod Turns
+pub mod Work
+pub mod Rounds

@@ -1,0 +1,104 @@
+-- All that a worker did, one after another, and the receipts of its pass.
+use Rattle.std.specs.Prelude.{◌≡◌, ◌==◌, if◌then◌else◌, ℕ, Bool, true, false, List, [], ◌∷◌, ◌++◌, map, flat_map, Option, None, Some}
+use Rattle.radio_addr.specs.declared.peer.Peer.{Peer}
+use Rattle.radio_events.specs.declared.entry.Entry.{Entry}
+use Rattle.radio_events.specs.declared.event.Event.TheVariants.{Arrive, Clock, Leave}
+use Rattle.radio_events.specs.declared.reply.Reply.{Reply}
+use Rattle.radio_events.specs.declared.reply.Reply.TheVariants.{Arrived}
+use Rattle.radio_events.specs.Events.{entry}
+use Rattle.radio_events.specs.Servers.{Steps}
+use Rattle.radio_house.specs.World.{World}
+use Rattle.radio_book.specs.Receipts.{ReceiptOf, entry_of}
+use Rattle.radio_locks.specs.Callers.{IsCalled}
+use Rattle.radio_connections.specs.Admission.{IsTakenIn, LetsNobodyIn}
+use Rattle.radio_connections.specs.Connections.{Connection}
+use Rattle.radio_connections.specs.Serving.{ServesInTurn}
+use Rattle.radio_serving.specs.Watching.{WatchedOf, WatchedSteps}
+use Rattle.radio_stations.specs.Turns.{IsServedThrough}
+
+-- what a worker has under a label: nothing yet, a connection, one that it has let go, or none, since that was closed as it came
+pub data UnderLabel : Type 0 where
+  unknown : UnderLabel
+  here : Connection → UnderLabel
+  gone : Connection → UnderLabel
+  closed : UnderLabel
+
+-- under each label
+abbrev pub Roll : Type 0
+Roll = ℕ → UnderLabel
+
+abbrev pub nobody_came : Roll
+nobody_came label = unknown
+
+abbrev pub enrolled : ℕ → UnderLabel → Roll → Roll
+enrolled label place roll = λ other. if label == other then place else roll other
+
+-- an event that was applied, with its reply, and the label of the connection for which it was; a moment is told for none
+pub record Made : Type 0 where
+  pub label : Option ℕ
+  pub done : Entry
+
+abbrev pub made_on : ℕ → Entry → Made
+made_on label done = record { label = Some label; done = done }
+
+abbrev pub moment : ℕ → Reply → Made
+moment ms reply = record { label = None; done = entry (Clock ms) reply }
+
+-- all of it, in its order
+abbrev pub entries_in : List Made → List Entry
+entries_in made = map (λ (m : Made). m.done) made
+
+abbrev pub is_label : ℕ → Option ℕ → Bool
+is_label label None = false
+is_label label (Some other) = other == label
+
+abbrev pub entry_on : ℕ → Made → List Entry
+entry_on label m = if is_label label m.label then m.done ∷ [] else []
+
+-- what was made for the connection of the label
+abbrev pub entries_on : ℕ → List Made → List Entry
+entries_on label made = flat_map (entry_on label) made
+
+module _ {S : Type 0} (steps : Steps S) where
+  -- What a worker made over a server, and what it then has under each label. It told the moment; it took in a connection under a new label, or closed it as it
+  -- came; it served one of its connections in a turn; and as it stopped, it let clients go.
+  pub data HasWorked (first : S) : List Made → S → Roll → Type 0 where
+    nothing_yet : HasWorked first [] first nobody_came
+    told : (made : List Made) (from to : S) (roll : Roll) → HasWorked first made from roll → (ms : ℕ) (reply : Reply) → steps from (Clock ms) reply to
+        → HasWorked first (made ++ moment ms reply ∷ []) to roll
+    took_in : (made : List Made) (from to : S) (roll : Roll) → HasWorked first made from roll → (label : ℕ) → roll label ≡ unknown
+        → (peer : Peer) (reply : Reply) (c : Connection) → steps from (Arrive peer) reply to → IsTakenIn peer reply [] [] c
+        → HasWorked first (made ++ made_on label (entry (Arrive peer) reply) ∷ []) to (enrolled label (here c) roll)
+    turned_off : (made : List Made) (from to : S) (roll : Roll) → HasWorked first made from roll → (label : ℕ) → roll label ≡ unknown
+        → (peer : Peer) (reply : Reply) → steps from (Arrive peer) reply to → LetsNobodyIn reply
+        → HasWorked first (made ++ made_on label (entry (Arrive peer) reply) ∷ []) to (enrolled label closed roll)
+    served : (made : List Made) (from to : S) (roll : Roll) → HasWorked first made from roll → (label : ℕ) (c c' : Connection) → roll label ≡ here c
+        → (ms patience : ℕ) (news : Bool) (turn : ServesInTurn steps ms patience news from c to c')
+        → HasWorked first (made ++ map (made_on label) turn.entries) to (enrolled label (here c') roll)
+    let_go : (made : List Made) (from to : S) (roll : Roll) → HasWorked first made from roll → (label : ℕ) (c : Connection) → roll label ≡ here c
+        → (reply : Reply) → steps from (Leave c.id) reply to
+        → HasWorked first (made ++ made_on label (entry (Leave c.id) reply) ∷ []) to (enrolled label (gone c) roll)
+
+  -- Of a client that was let in: its connection is served through what was made under its label. Of another, nothing is said here.
+  abbrev pub IsServedBy : Peer → Reply → Connection → List Entry → Type 0
+  IsServedBy peer (Arrived id) c applied = IsServedThrough peer id c applied
+  IsServedBy peer reply c applied = Unit {0}
+
+  -- what was made under a label: its arrival first, and then what was applied in its turns
+  pub record IsOfItsConnection (made : List Made) (label : ℕ) (c : Connection) : Type 0 where
+    pub peer : Peer
+    pub reply : Reply
+    pub applied : List Entry
+    pub entries : entries_on label made ≡ entry (Arrive peer) reply ∷ applied
+    pub served : IsServedBy peer reply c applied
+
+  -- Whatever a worker did, what it made under the label of a connection is what the bytes of this connection mean.
+  abbrev pub LabelsAreOfTheirConnections : Type 0
+  LabelsAreOfTheirConnections = (first last : S) (made : List Made) (roll : Roll) → HasWorked first made last roll
+      → (label : ℕ) (c : Connection) → roll label ≡ here c → IsOfItsConnection made label c
+
+-- Of a hall that stores its entries: what a worker's pass gained are the receipts of all that it made, in that order, and no others.
+abbrev pub PassesAreOfTheirWork : Type 0
+PassesAreOfTheirWork = (opening : World) (first last : WatchedOf (List ReceiptOf)) (made : List Made) (roll : Roll)
+    → HasWorked (WatchedSteps (IsCalled true opening)) first made last roll
+    → (receipts : List ReceiptOf) × (last.server ≡ first.server ++ receipts) × (map entry_of receipts ≡ entries_in made)

@@ -1,0 +1,12 @@
+//! What holds of a station that is served by workers in threads: from the bytes of its connections to what was applied for them.
+//!
+//! A law is a function that runs no code: [`connections_mean_their_bytes`] is of one connection over all turns in which
+//! a worker served it, [`work_is_of_its_connections`] of all that one worker did, and [`passes_are_of_their_work`] of the
+//! receipts of its pass.
+#![tactic(auto)]
+
+mod laws;
+
+pub use laws::{
+    connections_mean_their_bytes, passes_are_of_their_work, work_is_of_its_connections,
+};
