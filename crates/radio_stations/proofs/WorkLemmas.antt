@@ -18,7 +18,7 @@ use Rattle.radio_serving.specs.Watching.{WatchedOf, WatchedSteps}
 use Rattle.radio_headline.proofs.Logs.{itself}
 use Rattle.radio_tables.proofs.KeyLaws.{by_number}
 use Rattle.radio_stations.specs.Turns.{AreTurnsOf, ConnectionTurn, ConnectionsMeanTheirBytes, applied_in}
-use Rattle.radio_stations.specs.Work.{HasWorked, IsServedBy, LabelsAreOfTheirConnections, Made, PassesAreOfTheirWork, UnderLabel, Roll}
+use Rattle.radio_stations.specs.Work.{HasWorked, IsOfItsConnection, IsServedBy, LabelsAreOfTheirConnections, Made, PassesAreOfTheirWork, UnderLabel, Roll}
 use Rattle.radio_stations.specs.Work.{closed, entries_in, entries_on, entry_on, gone, here, let_go, made_on, moment, nothing_yet, enrolled, served, told, took_in, turned_off, unknown}
 
 entries_joined : (made more : List Made) → entries_in (made ++ more) ≡ entries_in made ++ entries_in more
@@ -112,10 +112,17 @@ module _ {S : Type 0} (steps : Steps S) where
     pub are : AreTurnsOf steps first turns c
     pub all : entries ≡ entry (Arrive peer) reply ∷ applied_in steps turns
 
+  -- how the connection came that was let go
+  record Went (entries : List Entry) (c : Connection) : Type 0 where
+    pub before : List Entry
+    pub reply : Reply
+    pub came : Came before c
+    pub all : entries ≡ before ++ entry (Leave c.id) reply ∷ []
+
   abbrev IsAt : List Entry → UnderLabel → Type 0
   IsAt entries unknown = entries ≡ []
   IsAt entries (here c) = Came entries c
-  IsAt entries (gone c) = Unit {0}
+  IsAt entries (gone c) = Went entries c
   IsAt entries closed = Unit {0}
 
   abbrev IsAll : List Made → Roll → Type 0
@@ -192,7 +199,13 @@ module _ {S : Type 0} (steps : Steps S) where
       (record { ms = ms; patience = patience; news = news; from = from; to = last; before = c; after = c'; serves = turn }) refl)
   so_far first last made roll (let_go before from to was done label c there reply step) =
       under label before (made_on label (entry (Leave c.id) reply) ∷ []) (gone c) was (so_far first from before was done)
-      (λ other apart. on_elsewhere label other (entry (Leave c.id) reply) apart) tt
+      (λ other apart. on_elsewhere label other (entry (Leave c.id) reply) apart)
+      (record {
+        before = entries_on label before;
+        reply = reply;
+        came = at_place (entries_on label before) (was label) (here c) there (so_far first from before was done label);
+        all = ap (λ (es : List Entry). entries_on label before ++ es) (on_here label (entry (Leave c.id) reply));
+      })
 
   served_by : ConnectionsMeanTheirBytes steps → (peer : Peer) (reply : Reply) (first last : Connection) (turns : List (ConnectionTurn steps))
       → IsTakenIn peer reply [] [] first → AreTurnsOf steps first turns last → IsServedBy steps peer reply last (applied_in steps turns)
@@ -206,13 +219,18 @@ module _ {S : Type 0} (steps : Steps S) where
   served_by law peer (Finished rule) first last turns taken are = tt
   served_by law peer Stray first last turns taken are = tt
 
+  of_came : ConnectionsMeanTheirBytes steps → (entries : List Entry) (c : Connection) → Came entries c → IsOfItsConnection steps entries c
+  of_came law entries c came = record {
+    peer = came.peer;
+    reply = came.reply;
+    applied = applied_in steps came.turns;
+    in_order = came.all;
+    served = served_by law came.peer came.reply came.first c came.turns came.taken came.are;
+  }
+
   pub labels_of_connections : ConnectionsMeanTheirBytes steps → LabelsAreOfTheirConnections steps
-  labels_of_connections law first last made roll done label c there =
-      let came = at_place (entries_on label made) (roll label) (here c) there (so_far first last made roll done label) in
-      record {
-        peer = came.peer;
-        reply = came.reply;
-        applied = applied_in steps came.turns;
-        entries = came.all;
-        served = served_by law came.peer came.reply came.first c came.turns came.taken came.are;
-      }
+  labels_of_connections law first last made roll done label c =
+      let at = λ (place : UnderLabel) (there : roll label ≡ place). at_place (entries_on label made) (roll label) place there (so_far first last made roll done label) in (
+        (λ there. of_came law (entries_on label made) c (at (here c) there)),
+        (λ there. let went = at (gone c) there in (went.before, went.reply, went.all, of_came law went.before c went.came)),
+      )

@@ -12,15 +12,16 @@ use Rattle.radio_connections.specs.Connections.{Connection}
 use Rattle.radio_connections.specs.Serving.{ServesInTurn, Stands}
 use Rattle.radio_stations.specs.Meaning.{MeansItsBytes}
 
--- A connection was let in under this number, and these entries were applied for it since. It stands by its arrival and these: what its line took,
--- followed by what it is still owed, is what is told of the replies; of one that was cut off, the line took a front of that. And they are what its bytes mean.
+-- A connection was let in under this number, and these entries were made for it since. Its arrival and these are the course of one connection: the bytes that
+-- its line took, followed by those that still wait to be written, are the bytes of the replies. If it was cut off, its line took a front of them; if it was
+-- closed, all of them. And the entries are those that its bytes mean.
 pub record IsServedThrough (peer : Peer) (id : ℕ) (c : Connection) (applied : List Entry) : Type 0 where
   pub same : c.id ≡ id
   pub stands : Stands c (entry (Arrive peer) (Arrived id) ∷ applied)
   pub means : MeansItsBytes peer id c.given c.status.fate applied
 
 module _ {S : Type 0} (steps : Steps S) where
-  -- its part of one turn: the moment, how long its line may take nothing, whether there was news, and the server and the connection before it and after
+  -- its part of one turn: the moment, for how long its line may take nothing, whether there was news, and the server and the connection before and after it
   pub record ConnectionTurn : Type 0 where
     pub ms : ℕ
     pub patience : ℕ

@@ -84,18 +84,21 @@ module _ {S : Type 0} (steps : Steps S) where
   IsServedBy peer (Arrived id) c applied = IsServedThrough peer id c applied
   IsServedBy peer reply c applied = Unit {0}
 
-  -- what was made under a label: its arrival first, and then what was applied in its turns
-  pub record IsOfItsConnection (made : List Made) (label : ℕ) (c : Connection) : Type 0 where
+  -- these entries are the arrival of a connection, and then what was applied in its turns
+  pub record IsOfItsConnection (entries : List Entry) (c : Connection) : Type 0 where
     pub peer : Peer
     pub reply : Reply
     pub applied : List Entry
-    pub entries : entries_on label made ≡ entry (Arrive peer) reply ∷ applied
+    pub in_order : entries ≡ entry (Arrive peer) reply ∷ applied
     pub served : IsServedBy peer reply c applied
 
-  -- Whatever a worker did, what it made under the label of a connection is what the bytes of this connection mean.
+  -- Whatever a worker did, what it made under the label of a connection is what the bytes of this connection mean; under that of one that it has let go, the
+  -- leaving of its client comes behind that.
   abbrev pub LabelsAreOfTheirConnections : Type 0
-  LabelsAreOfTheirConnections = (first last : S) (made : List Made) (roll : Roll) → HasWorked first made last roll
-      → (label : ℕ) (c : Connection) → roll label ≡ here c → IsOfItsConnection made label c
+  LabelsAreOfTheirConnections = (first last : S) (made : List Made) (roll : Roll) → HasWorked first made last roll → (label : ℕ) (c : Connection)
+      → (roll label ≡ here c → IsOfItsConnection (entries_on label made) c)
+      × (roll label ≡ gone c → (entries : List Entry) × (reply : Reply) × (entries_on label made ≡ entries ++ entry (Leave c.id) reply ∷ [])
+      × IsOfItsConnection entries c)
 
 -- Of a hall that stores its entries: what a worker's pass gained are the receipts of all that it made, in that order, and no others.
 abbrev pub PassesAreOfTheirWork : Type 0

@@ -9,9 +9,9 @@ use radio_heads::settled;
 use radio_locks::passes_gain_what_was_applied;
 use radio_session::cuts_do_not_matter;
 
-/// After each turn of a connection since it was let in, what was applied for it is what the bytes of its line mean: the same events, in
-/// their order, as if the bytes had come in one piece, with its draws among them and its leaving last. What its line took, followed by
-/// what it is still owed, is what is told of the replies.
+/// After each turn since a client was let in, the events applied for its connection are those that the bytes of its line mean, in their
+/// order, as if the bytes had come in one piece. The client's draws lie among them, and its leaving comes last. The bytes that the line
+/// took, followed by those that still wait to be written, are the bytes of the replies.
 pub fn connections_mean_their_bytes<S: Server>()
     ensures { ConnectionsMeanTheirBytes S.steps }
 {
@@ -19,9 +19,8 @@ pub fn connections_mean_their_bytes<S: Server>()
     settled();
 }
 
-/// A worker that takes connections in and serves them, turn after turn, makes its events one after another: in a turn the moment first, if
-/// it is told, and then those of each connection that it has. What it makes under the label of a connection is what the bytes of that
-/// connection mean.
+/// A worker applies the arrival of each connection that it takes in. In each turn it applies the clock's event, if that is due, and then the
+/// events of one of its connections after another. The events under a connection's label are those that the bytes of this connection mean.
 pub fn work_is_of_its_connections<S: Server>()
     ensures admissions { AdmissionsAreWork S.steps S.refuses }
     ensures turns { TurnsAreWork S.steps S.refuses }
@@ -30,7 +29,7 @@ pub fn work_is_of_its_connections<S: Server>()
     connections_mean_their_bytes::<S>();
 }
 
-/// If a hall stores its entries, the receipts of a worker's pass are of all that the worker made, in that order, and no others.
+/// If a hall stores its entries, a worker's pass gains the receipts of all events that the worker applied, in that order, and no others.
 pub fn passes_are_of_their_work()
     ensures { PassesAreOfTheirWork }
 {
