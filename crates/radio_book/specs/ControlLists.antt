@@ -1,5 +1,5 @@
 -- What the control's list tells of it, and whose reply the control's is.
-use Rattle.std.specs.Prelude.{◌≡◌, ℕ, Bool, true, List, [], ◌∷◌, Option}
+use Rattle.std.specs.Prelude.{◌≡◌, ℕ, Bool, true, List, [], ◌∷◌, Option, None, Some}
 use Rattle.radio_chronicle.specs.declared.line.ControlLine.{ControlLine}
 use Rattle.radio_chronicle.specs.declared.line.ControlLine.TheVariants.{Cut, Made}
 use Rattle.radio_core.specs.CanStep.{CanStep}
@@ -10,8 +10,15 @@ use Rattle.radio_events.specs.declared.event.Event.{Event}
 use Rattle.radio_events.specs.declared.reply.Reply.{Reply}
 use Rattle.radio_facts.specs.Wanted.{wanted}
 use Rattle.radio_house.specs.World.{World}
+use Rattle.radio_house.specs.declared.standing.Standing.{Standing}
+use Rattle.radio_house.specs.declared.standing.Standing.TheVariants.{Feeds}
 use Rattle.radio_seats_rows.specs.Seats.{last_mount_of}
 use Rattle.radio_book.specs.MountBooks.{AreLent, BookOfMount}
+
+-- the mount that who stands so feeds, if he feeds one
+abbrev pub mount_fed : Standing → Option (List ℕ)
+mount_fed (Feeds mount) = Some mount
+mount_fed standing = None
 
 -- the entries among these lines
 abbrev pub entries_in : List ControlLine → List Entry

@@ -1,11 +1,11 @@
 //! The book of all that is not one mount's.
 
 ghost use Rattle.std.specs.Prelude.{◌≡◌, ◌≤◌, ◌^◌, ◌∷◌, [], ◌++◌, length, map, true, false, Some, IsOk, IfOk, IfSome, OnErr};
-ghost use Rattle.radio_house.specs.World.{opening};
+ghost use Rattle.radio_house.specs.World.{opening, standing_of};
 ghost use Rattle.radio_events.specs.Events.{TakesNoMemory};
 ghost use Rattle.radio_chronicle.specs.Stamps.{stamp};
 ghost use Rattle.radio_seats_rows.specs.Seats.{last_mount_of};
-ghost use Rattle.radio_book.specs.ControlLists.{AreWantedThere, IsControlReply, IsToldBy, WasThere};
+ghost use Rattle.radio_book.specs.ControlLists.{mount_fed, AreWantedThere, IsControlReply, IsToldBy, WasThere};
 ghost use Rattle.radio_book.specs.MountBooks.{mount_and_list, AreNoted, IsControlAsBefore, IsControlStep, IsRefused};
 ghost use Rattle.radio_book.specs.Newcomers.{is_here, leaver_of};
 ghost use Rattle.radio_book.specs.declared.newcomer.Newcomer.{Newcomer};
@@ -135,6 +135,13 @@ impl<C: Chronicle, H: House> Book<C, H> {
         self.accounts.wanted(lent)
     }
 
+    /// Returns the settings.
+    pub fn settings(&self) -> &Settings
+        ensures { result.now ≡ self.now.control.house.settings }
+    {
+        self.accounts.control.settings()
+    }
+
     /// Returns the mount where the listener of this number sits, or sat last, if there is one. It takes no memory.
     pub fn last_mount(&self, id: u64) -> Option<MountName>
         ensures control { result ≡ last_mount_of self.now.control.seats id }
@@ -142,11 +149,6 @@ impl<C: Chronicle, H: House> Book<C, H> {
         ensures legal { ∥ WasThere H.opening id result ∥₁ }
     {
         self.accounts.control.last_mount(id).copied()
-    }
-
-    /// Returns whether the client or relay of this number feeds a mount. It takes no memory.
-    pub fn feeds(&self, id: u64) -> bool {
-        self.fed_mount(id).is_some()
     }
 
     /// Returns the mount that the client or relay of this number feeds, or where it sits, or sat last, if there is one. It takes no
@@ -158,7 +160,10 @@ impl<C: Chronicle, H: House> Book<C, H> {
         }
     }
 
-    fn fed_mount(&self, id: u64) -> Option<MountName> {
+    /// Returns the mount that the client or relay of this number feeds, if it feeds one. It takes no memory.
+    pub fn fed_mount(&self, id: u64) -> Option<MountName>
+        ensures { result ≡ mount_fed (standing_of self.now.control id) }
+    {
         match self.accounts.control.standing(id) {
             Standing::Feeds(mount) => Some(mount),
             Standing::Unknown

@@ -41,7 +41,7 @@ module _ (C H : RattleType) (c : chronicle.Ghosts C.Denot) (h : house.Ghosts H.D
   locked_control_send : IsSend C → IsSend H → IsSend (locked_control.the_row C H c h l)
   locked_control_send sc sh =
       declared_send (locked_control.the_type C H c h l)
-      (book_send C H c h l sc sh, (search (sendable, crosses, mount_book_send) depth 20, (mount_lists.the_send, tt)))
+      (book_send C H c h l sc sh, (search (sendable, crosses, mount_book_send) depth 20, (mount_lists.the_send, (search sendable depth 8, tt))))
 
   mount_lock_send : IsSend C → IsSend (mutex_of.the_row (option_of.the_row (mount_book.the_row C c)))
   mount_lock_send sc = search (sendable, mutex.the_send, mount_book_send) depth 12

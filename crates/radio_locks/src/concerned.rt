@@ -3,16 +3,19 @@
 ghost use Rattle.std.specs.Prelude.{◌≡◌, None};
 ghost use Rattle.radio_events.specs.Events.{TakesNoMemory};
 
+use crate::list_numbers::ListNumbers;
 use radio_events::Event;
 use radio_values::MountName;
 
 /// The mounts whose parts an event of the control is lent.
-#[derive(Clone, Copy)]
+#[derive(Drop)]
 pub(crate) enum Concerned {
     /// None.
     Nobody,
     /// The mount of this list.
     One(u64),
+    /// The mounts of these lists.
+    Few(ListNumbers),
     /// Each.
     All,
 }

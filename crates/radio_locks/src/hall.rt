@@ -21,7 +21,7 @@ use crate::mount_locks::MountLock;
 use radio_access::Lists;
 use radio_book::{Book, Chronicle, House, MountBook, Own, Pass, Receipt};
 use radio_connections::Gate;
-use radio_events::Event;
+use radio_events::{Asked, Command, Event, Reply};
 use radio_settings_values::Settings;
 use radio_values::MountName;
 use std::alloc::Global;
@@ -63,6 +63,7 @@ impl<C: Chronicle, H: House> Hall<C, H> {
                     control,
                     lent: Vec::new(alloc),
                     lists: MountLists::new(alloc),
+                    has_set_fallback: false,
                 }),
                 mounts,
             }),
@@ -222,12 +223,14 @@ impl<C: Chronicle, H: House> Hall<C, H> {
             control,
             lent,
             lists,
+            has_set_fallback,
             ..
         } = locked;
         self.take(rt, lent, concerned);
         let added = self.add_book(rt, lent, lists, mount_in(&event));
         let applied = apply_lent(control, lent, added, pass, event);
         self.put_all(rt, lent);
+        *has_set_fallback = *has_set_fallback || is_fallback_set(&applied);
         applied
     }
 
@@ -365,6 +368,18 @@ fn apply_lent<C: Chronicle, H: House>(
         return Err(refused);
     }
     control.apply(pass, lent.as_mut_slice(), event)
+}
+
+/// Returns whether a command was done that sets the fallback of a mount.
+fn is_fallback_set(applied: &Result<Receipt, OutOfMemory>) -> bool {
+    let Ok(receipt) = applied else {
+        return false;
+    };
+    let Event::Command(asked) = receipt.event() else {
+        return false;
+    };
+    let sets = matches!(&asked.asked, Asked::Command(Command::SetFallback { .. }));
+    sets && matches!(receipt.reply(), Reply::Text(_))
 }
 
 /// Forgets where the client or relay was whose connection the event closes, if it is such a one.

@@ -12,9 +12,11 @@ mod callers;
 mod concerned;
 mod hall;
 mod laws;
+mod list_numbers;
 mod locked_control;
 mod mount_lists;
 mod mount_locks;
+mod reach;
 
 pub use hall::Hall;
 pub use laws::passes_gain_what_was_applied;

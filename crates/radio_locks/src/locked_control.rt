@@ -17,6 +17,8 @@ pub(crate) struct LockedControl<C: Chronicle, H: House> {
     pub(crate) control: Book<C, H>,
     pub(crate) lent: Vec<MountBook<C>>,
     pub(crate) lists: MountLists,
+    /// Whether a command has set the fallback of a mount.
+    pub(crate) has_set_fallback: bool,
     pub(crate) ghost none: { vec_len lent ≡ 0 },
 }
 
@@ -37,13 +39,12 @@ impl<C: Chronicle, H: House> LockedControl<C, H> {
             Event::Push { id, .. } | Event::Title { id, .. } | Event::Draw { id, .. } =>
                 self.concerned_by(*id),
             Event::Leave { id } => self.concerned_by_end(pass, *id),
-            Event::Source(_)
-            | Event::SourceEnd { .. }
-            | Event::Listen(_)
-            | Event::Command(_)
-            | Event::RelayUp { .. }
-            | Event::RelayDown { .. }
-            | Event::Clock { .. } => Concerned::All,
+            Event::SourceEnd { id } | Event::RelayDown { id } => self.reached_by_end(*id),
+            Event::Source(asked) => self.reached_by_start(asked.mount.as_slice(), Some(asked.id)),
+            Event::RelayUp { mount, .. } => self.reached_by_start(mount.as_slice(), None),
+            Event::Listen(asked) => self.reached_by_walk(asked),
+            Event::Command(asked) => self.reached_by_command(&asked.asked, asked.id),
+            Event::Clock { .. } => Concerned::All,
         }
     }
 
@@ -57,12 +58,12 @@ impl<C: Chronicle, H: House> LockedControl<C, H> {
         }
     }
 
-    /// Each, if a session ends with the client, since its listeners go elsewhere.
+    /// What the end of its session reaches, if one ends with the client.
     fn concerned_by_end(&self, pass: &Pass<C, H>, id: u64) -> Concerned
         ensures { C.KEEPS ≡ true → has_fed id pass.now ≡ false → IsOneAtMost result }
     {
-        if self.control.feeds(id) && (!C::KEEPS || pass.has_fed(id)) {
-            return Concerned::All;
+        if self.control.fed_mount(id).is_some() && (!C::KEEPS || pass.has_fed(id)) {
+            return self.reached_by_end(id);
         }
         self.concerned_by(id)
     }

@@ -4,6 +4,7 @@ ghost use Rattle.std.specs.Prelude.{◌≡◌, ◌+◌, ◌≤◌, None, IsOk, v
 ghost use Rattle.radio_locks.specs.Concerned.{IsOneAtMost};
 
 use crate::concerned::Concerned;
+use crate::list_numbers::ListNumbers;
 use crate::mount_lists::MountLists;
 use crate::{Hall, OutOfMemory};
 use radio_book::{Chronicle, House, MountBook};
@@ -29,8 +30,17 @@ impl<C: Chronicle, H: House> Hall<C, H> {
         match concerned {
             Concerned::Nobody => {}
             Concerned::One(list) => self.take_one(rt, lent, list),
+            Concerned::Few(lists) => self.take_few(rt, lent, lists),
             Concerned::All => self.take_all(rt, lent),
         }
+    }
+
+    /// Takes the books of these lists out of their locks. It takes no memory.
+    fn take_few<R: Wait>(&self, rt: &R, lent: &mut Vec<MountBook<C>>, lists: ListNumbers) {
+        for list in lists.as_slice() {
+            self.take_one(rt, lent, *list);
+        }
+        drop(lists);
     }
 
     /// Takes all books out of their locks. It takes no memory.

@@ -1,12 +1,14 @@
-//! A lock that is held while a listener of another mount draws.
+//! A lock that is held while a listener of another mount draws, or a client asks to hear that mount.
 
+use crate::calls::listen_event;
 use crate::merged::draw;
 use crate::moving::{LISTENER, asks};
-use radio_book::{House, Kept, Pass};
+use radio_book::{House, Kept, OutOfMemory, Pass};
 use radio_connections::Gate;
-use radio_events::SharedServer;
+use radio_events::{Event, SharedServer};
 use radio_locks::Hall;
 use radio_values::MountName;
+use std::alloc::Global;
 use std::sync::Wait;
 use std::sync::atomic::{AtomicBool, Ordering};
 use std::thread;
@@ -20,6 +22,8 @@ const MOST_SLEEPS: u32 = 10_000;
 #[derive(Drop)]
 struct Frozen<'a, R: Clock> {
     rt: &'a R,
+    alloc: Global,
+    meanwhile: Meanwhile,
     is_held: AtomicBool,
     may_go: AtomicBool,
     has_waited: AtomicBool,
@@ -60,8 +64,26 @@ impl<H: House> Lockable for Hall<Kept, H> {
     }
 }
 
-/// What the thread of this number does: the first holds the lock, the second draws meanwhile, and lets it go then.
-fn freeze_or_draw<S: Lockable, R: Wait + Clock>(
+/// What is done while the lock is held.
+#[derive(Clone, Copy)]
+pub enum Meanwhile {
+    /// The listener draws.
+    Draws,
+    /// The next client asks to hear `/b`.
+    Hears,
+}
+
+impl Meanwhile {
+    fn event(self, alloc: Global) -> Result<Event, OutOfMemory> {
+        match self {
+            Meanwhile::Draws => Ok(draw(LISTENER)),
+            Meanwhile::Hears => listen_event(alloc, LISTENER + 1, "/b"),
+        }
+    }
+}
+
+/// What the thread of this number does: the first holds the lock, the second does that meanwhile, and lets it go then.
+fn freeze_or_ask<S: Lockable, R: Wait + Clock>(
     rt: &R,
     hall: &S,
     pass: &mut S::Pass,
@@ -73,17 +95,20 @@ fn freeze_or_draw<S: Lockable, R: Wait + Clock>(
         hall.hold_lock(rt, mount, frozen);
         return;
     }
-    if frozen.waits_for(&frozen.is_held) && asks(rt, hall, pass, Ok(draw(LISTENER))) {
+    let event = frozen.meanwhile.event(frozen.alloc);
+    if frozen.waits_for(&frozen.is_held) && asks(rt, hall, pass, event) {
         frozen.may_go.store(true, Ordering::SeqCst);
     }
 }
 
-/// Two threads do so. Whether the draw was answered while the lock was held.
-fn is_drawn_meanwhile<R, S>(
+/// Two threads do so. Whether that was answered while the lock was held.
+fn is_answered_meanwhile<R, S>(
     rt: &R,
+    alloc: Global,
     hall: &S,
     passes: &mut [S::Pass],
     mount: Option<MountName>,
+    meanwhile: Meanwhile,
 ) -> bool
 where
     R: Threads + Wait + Clock + Sync,
@@ -92,6 +117,8 @@ where
 {
     let frozen = Frozen {
         rt,
+        alloc,
+        meanwhile,
         is_held: AtomicBool::new(false),
         may_go: AtomicBool::new(false),
         has_waited: AtomicBool::new(false),
@@ -100,20 +127,23 @@ where
         rt,
         passes,
         2,
-        &|number, pass| freeze_or_draw(rt, hall, pass, &frozen, mount, number),
+        &|number, pass| freeze_or_ask(rt, hall, pass, &frozen, mount, number),
     );
     frozen.has_waited.load(Ordering::SeqCst)
 }
 
-/// The listener of `/b` draws once, so that its caller knows where it is, and again while the lock is held.
+/// The listener of `/b` draws once, so that its caller knows where it is; then that is done while the lock is held.
 pub fn is_answered<H: House + Send + Sync, R: Threads + Wait + Clock + Sync>(
     rt: &R,
+    alloc: Global,
     hall: &Hall<Kept, H>,
     passes: &mut [Pass<Kept, H>],
     mount: Option<MountName>,
+    meanwhile: Meanwhile,
 ) -> bool {
     let Some(drawer) = passes.get_mut(1) else {
         return false;
     };
-    asks(rt, hall, drawer, Ok(draw(LISTENER))) && is_drawn_meanwhile(rt, hall, passes, mount)
+    asks(rt, hall, drawer, Ok(draw(LISTENER)))
+        && is_answered_meanwhile(rt, alloc, hall, passes, mount, meanwhile)
 }

@@ -17,8 +17,9 @@
 //! - `calls`: events, and the calls of a caller who feeds a mount and listens to it.
 //! - `halls`: a hall, what is done there, and all passes settled then.
 //! - `two_callers`: two threads, with a pass each, over one hall; and what settles no history.
-//! - `moving`: threads that feed, draw and move a listener at once. `freezing`: a lock that is held while another mount's listener
-//!   draws.
+//! - `moving`: threads that feed, draw and move a listener at once. `freezing`: a lock that is held while a listener of another mount
+//!   draws, or a client asks to hear that mount.
+//! - `scattered`: calls as dice have them, at mounts that fall back in a ring.
 //! - `workers`: workers in threads of their own, who take lines from an intake.
 //! - `merged`: lists of two mounts and of the control, made by hand, and merged.
 //! - `unkept`: the same calls over a hall that stores nothing, beside a core.
@@ -79,6 +80,8 @@ mod moving;
 mod own_steps;
 #[cfg(test)]
 mod rows;
+#[cfg(test)]
+mod scattered;
 #[cfg(test)]
 mod scripts;
 #[cfg(test)]

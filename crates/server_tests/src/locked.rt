@@ -90,7 +90,7 @@ fn goes_well<R: Wait, H: House>(
         own: 0,
         alike: 0,
     };
-    plays(alloc, &mut locked, play) && locked.alike == play.calls() && locked.own == play.own()
+    plays(alloc, &mut locked, play) && locked.alike == play.calls() && play.are_own(locked.own)
 }
 
 /// Whether the pass settles with the hall.
@@ -167,11 +167,12 @@ fn is_settled<R: Wait>(rt: &R, alloc: Global, play: Play) -> Result<bool, Settin
     settled
 }
 
-/// The calls of two callers, and those of a listener that is moved and lags, are answered under locks as by a core; then all is
-/// one history.
+/// The calls of two callers, those of a listener that is moved and lags, and calls as dice have them at mounts that fall back to
+/// one another are answered under locks as by a core; then all is one history.
 #[test]
 fn locks_of_two_mounts(rt: HostRuntime) {
     let alloc = rt.alloc();
     assert!(rt; matches!(is_settled(&rt, alloc, Play::TwoCallers), Ok(true)));
     assert!(rt; matches!(is_settled(&rt, alloc, Play::Moved), Ok(true)));
+    assert!(rt; matches!(is_settled(&rt, alloc, Play::Scattered), Ok(true)));
 }

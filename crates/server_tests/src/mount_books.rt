@@ -10,6 +10,7 @@ use crate::calls::{
     source_event, step_copy,
 };
 use crate::merged::{SHORT_QUEUE, draw, moving};
+use crate::scattered::{RING, scatter};
 use crate::stations::{core, settings};
 use radio_access::Lists;
 use radio_book::{Book, House, Kept, MountBook, Own, PASSES, Pass, Receipt};
@@ -25,6 +26,9 @@ use std::alloc::{AllocGlobal, Global};
 use std::marker::Brand;
 use std::sync::ledger::Blank;
 
+/// How many calls are made as dice have them.
+const SCATTERED: u64 = 2000;
+
 /// What is done at the books.
 #[derive(Clone, Copy)]
 pub enum Play {
@@ -33,6 +37,8 @@ pub enum Play {
     /// A listener moves from one mount to the other, where a block that is too long for the queue finishes it, right before a
     /// clock is told.
     Moved,
+    /// Calls as dice have them, at four mounts.
+    Scattered,
 }
 
 impl Play {
@@ -41,6 +47,7 @@ impl Play {
         match self {
             Play::TwoCallers => ("", 524_288),
             Play::Moved => (SHORT_QUEUE, 10),
+            Play::Scattered => (RING, 12),
         }
     }
 
@@ -49,14 +56,16 @@ impl Play {
         match self {
             Play::TwoCallers => 2 * CALLS,
             Play::Moved => 22,
+            Play::Scattered => SCATTERED as usize,
         }
     }
 
-    /// How many of them a mount's part does by itself.
-    pub fn own(self) -> usize {
+    /// Whether a mount's part does so many of them by itself.
+    pub fn are_own(self, own: usize) -> bool {
         match self {
-            Play::TwoCallers => 180,
-            Play::Moved => 9,
+            Play::TwoCallers => own == 180,
+            Play::Moved => own == 9,
+            Play::Scattered => own > 300,
         }
     }
 }
@@ -166,6 +175,7 @@ pub fn plays<C: Callee>(alloc: Global, callee: &mut C, play: Play) -> bool {
             Ok(events) => call_each(callee, events),
             Err(_) => false,
         },
+        Play::Scattered => scatter(alloc, callee, 2, SCATTERED),
     }
 }
 
@@ -191,7 +201,7 @@ fn goes_well<H: House>(
     };
     let went = plays(alloc, &mut books, play)
         && books.alike == play.calls()
-        && books.own == play.own();
+        && play.are_own(books.own);
     passes.push(pass).is_ok() && went
 }
 

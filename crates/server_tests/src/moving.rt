@@ -4,9 +4,10 @@
 use crate::calls::{
     arrival, command_event, killing, listen_event, number_given, push_event, source_event,
 };
-use crate::freezing::is_answered;
+use crate::freezing::{Meanwhile, is_answered};
 use crate::halls::{Visit, is_well_visited, takes_pass};
 use crate::merged::{SHORT_QUEUE, draw};
+use crate::scattered::{RING, scatter_together};
 use radio_book::{House, Kept, OutOfMemory, Pass, Receipt};
 use radio_events::{Asked, Command, Event, Reply, SharedServer};
 use radio_locks::Hall;
@@ -36,8 +37,14 @@ pub const LISTENER: u64 = 3;
 pub enum Together {
     /// A listener is moved while it draws and its mount is fed.
     Moves,
+    /// Calls are made as dice have them.
+    Scattered,
+    /// The same, and commands set fallbacks too.
+    ScatteredWithFallbacks,
     /// The lock of `/a` is held while a listener of `/b` draws.
     FreezesMount,
+    /// The lock of `/a` is held while a client asks to hear `/b`.
+    FreezesBesideWalk,
     /// The control's lock is held while a listener of `/b` draws.
     FreezesControl,
     /// A listener that draws is finished by another caller's command.
@@ -50,9 +57,12 @@ impl Together {
     /// How many passes there are: one of who comes first, and one for each thread or caller after that.
     fn passes(self) -> u32 {
         match self {
-            Together::Moves => 4,
-            Together::FreezesMount | Together::FreezesControl | Together::Kills | Together::Lags =>
-                3,
+            Together::Moves | Together::Scattered | Together::ScatteredWithFallbacks => 4,
+            Together::FreezesMount
+            | Together::FreezesBesideWalk
+            | Together::FreezesControl
+            | Together::Kills
+            | Together::Lags => 3,
         }
     }
 }
@@ -86,7 +96,7 @@ fn come<H: House, R: Wait>(
 }
 
 /// The command that moves the listeners of a mount to another.
-fn moving(from: &str, to: &str) -> Asked {
+pub fn moving(from: &str, to: &str) -> Asked {
     match (
         MountName::read(from.as_bytes()),
         MountName::read(to.as_bytes()),
@@ -300,12 +310,40 @@ pub fn are_together<H: House + Send + Sync, R: Threads + Wait + Clock + Sync>(
             run_three(rt, alloc, hall, others);
             come
         }
+        Together::Scattered => {
+            scatter_together(rt, alloc, hall, others, false);
+            true
+        }
+        Together::ScatteredWithFallbacks => {
+            scatter_together(rt, alloc, hall, others, true);
+            true
+        }
         Together::FreezesMount => {
             come(rt, alloc, hall, first, "/b")
-                && is_answered(rt, hall, others, MountName::read(b"/a"))
+                && is_answered(
+                    rt,
+                    alloc,
+                    hall,
+                    others,
+                    MountName::read(b"/a"),
+                    Meanwhile::Draws,
+                )
+        }
+        Together::FreezesBesideWalk => {
+            come(rt, alloc, hall, first, "/b")
+                && asks(rt, hall, first, Ok(arrival()))
+                && is_answered(
+                    rt,
+                    alloc,
+                    hall,
+                    others,
+                    MountName::read(b"/a"),
+                    Meanwhile::Hears,
+                )
         }
         Together::FreezesControl => {
-            come(rt, alloc, hall, first, "/b") && is_answered(rt, hall, others, None)
+            come(rt, alloc, hall, first, "/b")
+                && is_answered(rt, alloc, hall, others, None, Meanwhile::Draws)
         }
         Together::Kills => {
             come(rt, alloc, hall, first, "/a") && is_finished(rt, alloc, hall, others)
@@ -322,8 +360,15 @@ fn moved_between_threads(rt: HostRuntime) {
 }
 
 #[test]
+fn scattered_between_threads(rt: HostRuntime) {
+    assert!(rt; is_well_visited(&rt, RING, Visit::Together(Together::Scattered)));
+    assert!(rt; is_well_visited(&rt, RING, Visit::Together(Together::ScatteredWithFallbacks)));
+}
+
+#[test]
 fn freeze(rt: HostRuntime) {
     assert!(rt; is_well_visited(&rt, "", Visit::Together(Together::FreezesMount)));
+    assert!(rt; is_well_visited(&rt, "", Visit::Together(Together::FreezesBesideWalk)));
     assert!(rt; is_well_visited(&rt, "", Visit::Together(Together::FreezesControl)));
 }
 
