@@ -28,7 +28,8 @@ use std::sync::ledger::Blank;
 /// How many passes a book gives.
 pub const PASSES: u64 = 1 << 32;
 
-/// The control, to which mounts' parts are lent, and its list. Contracts see the control and the lines that are stored.
+/// The control, to which mounts' parts are lent, with its list. Contracts see the control and the lines that are
+/// stored.
 pub struct Book<C: Chronicle, H: House> {
     alloc: Global,
     accounts: Accounts<C, H>,
@@ -54,7 +55,7 @@ impl<C: Chronicle, H: House> Model for Book<C, H> {
 }
 
 impl<C: Chronicle, H: House> Book<C, H> {
-    /// A book in which nothing has happened yet. It takes no memory.
+    /// Returns a book in which nothing has happened yet. It takes no memory.
     pub fn new(alloc: Global, settings: Settings, lists: Lists, blank: Blank) -> Book<C, H>
         requires opening { H.opening ≡ opening settings lists }
         requires ledger { (blank.name ≡ H.name) × (blank.parts ≡ H.parts) × (blank.parts ≡ 2 ^ 32) }
@@ -72,7 +73,7 @@ impl<C: Chronicle, H: House> Book<C, H> {
         }
     }
 
-    /// A pass with no receipt yet. `None` only once [`PASSES`] were taken.
+    /// Returns a pass with no receipt yet. `None` only once [`PASSES`] were taken.
     pub fn pass(&mut self) -> Option<Pass<C, H>>
         ensures empty { IfSome result (λ pass. pass ≡ []) }
         ensures same { self.new ≡ self.old }
@@ -81,11 +82,11 @@ impl<C: Chronicle, H: House> Book<C, H> {
         Some(Pass::new(self.alloc, holdings))
     }
 
-    /// One event over the parts that are lent: each is put in the place of that which the control has, and taken out again. If
-    /// entries are stored, a cut of each list and the entry are. Returns the receipt.
+    /// Applies one event over the parts that are lent, and returns its receipt. Each part is put in the place of the
+    /// one that the control has, and taken out again. If entries are stored, a cut of each list and the entry are.
     ///
-    /// `OutOfMemory` if memory was refused; the control and the parts are as before then, but that who had lagged out of a part
-    /// has lost its seat, and the list and the pass are unchanged.
+    /// `OutOfMemory` if memory was refused. The list and the pass are unchanged then, and so are the control and the
+    /// parts, except that a listener that had lagged out of a part has lost its seat.
     // rule: Legal history; Receipts; Reserved ends
     pub fn apply(
         &mut self,
@@ -174,8 +175,8 @@ impl<C: Chronicle, H: House> Book<C, H> {
         }
     }
 
-    /// Whatever was called, there are entries by which what all mounts have in common has become what it is; if entries are
-    /// stored, they are those of the list.
+    /// Some entries have made what all mounts have in common what it is, whatever was called; if entries are stored,
+    /// they are those of the list. Runs no code.
     // rule: Legal history
     pub fn is_told(&self)
         ensures { ∥ IsToldBy C.KEEPS H.opening self.now.lines self.now.control ∥₁ }
@@ -185,8 +186,9 @@ impl<C: Chronicle, H: House> Book<C, H> {
 }
 
 impl<H: House> Book<Kept, H> {
-    /// Returns the items of the mount's list, when nobody calls any more; none if nothing has happened at the mount. `OutOfMemory`
-    /// if memory was refused, now or for the list.
+    /// Returns the items of the mount's list, when nobody calls any more; none if nothing has happened at the mount.
+    ///
+    /// `OutOfMemory` if memory was refused, now or earlier for the list.
     pub fn items_of(&mut self, book: MountBook<Kept>) -> Result<Vec<MountItem>, OutOfMemory>
         ensures same { self.new.lines ≡ self.old.lines }
     {

@@ -10,12 +10,13 @@ ghost use Rattle.radio_book.specs.Totals.{AddsUp};
 
 use radio_core::{clients_and_seats_add_up, events_are_of_their_clients};
 
-/// The law of totals, for whoever has a history, as the settling of all passes gives one.
+/// In every history that is a run from an opening state, as `settle` gives one, each client, relay and seat whose
+/// number was given is there or has gone.
 // rule: History adds up
 pub fn histories_add_up()
-    // in every run from an opening state, the numbers that were given are those of the clients and of
-    // the relays that have come; of each the ones are there that have not gone, and the seats that
-    // were made are those that are there and those that have ended
+    // in every run from an opening state, the numbers that were given are those of the clients and of the relays that have
+    // come; of each those are there that have not gone, and the seats that were made are those that are there and those that
+    // have ended
     ensures add_up { (settings : Settings) (lists : Lists) (history : List Entry) → IsRun (opening settings lists) history
         → AddsUp (opening settings lists) history }
 {

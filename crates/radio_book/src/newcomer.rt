@@ -3,7 +3,7 @@
 ghost use Rattle.std.specs.Prelude.{◌≡◌};
 ghost use Rattle.radio_book.specs.Newcomers.{is_same};
 
-/// Who has come, by its number.
+/// A client or a relay that has come, by its number.
 #[derive(Clone, Copy, Debug, PartialEq, Eq)]
 pub enum Newcomer {
     /// A client, whose end is that he leaves.

@@ -9,8 +9,8 @@ use std::alloc::Global;
 use std::collections::BTreeMap;
 use std::marker::{Model, PhantomData};
 
-/// What a caller of a house has: the receipts of his calls, in their order, if the house stores
-/// entries; and for each client and each relay that he has let in the right to see it off.
+/// What a caller of a house has: the receipts of its calls, in their order, if the house stores entries; and the right
+/// to end each client and each relay that it has let in.
 pub struct Pass<C: Chronicle, H: House> {
     pub(crate) holdings: Holdings<H>,
     /// Of a client or a relay by its number: the list of the mount where it was attached last. It may be somewhere else by now.
@@ -50,7 +50,7 @@ impl<C: Chronicle, H: House> Pass<C, H> {
         }
     }
 
-    /// The receipts of the calls through this pass, in their order; none where nothing is stored.
+    /// Returns the receipts of the calls through this pass, in their order; none if nothing is stored.
     pub fn receipts(&self) -> &[Receipt]
         ensures { result.now ≡ self.now }
     {

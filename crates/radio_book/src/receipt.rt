@@ -57,14 +57,14 @@ impl Receipt {
         self.stamp
     }
 
-    /// What happened.
+    /// Returns the event of its entry.
     pub fn event(&self) -> &Event
         ensures { result.now ≡ self.now.event }
     {
         &self.event
     }
 
-    /// What the server replied.
+    /// Returns the server's reply.
     pub fn reply(&self) -> &Reply
         ensures { result.now ≡ self.now.reply }
     {
@@ -91,7 +91,7 @@ impl Receipt {
         }
     }
 
-    /// What the server replied; the rest is gone.
+    /// Returns the server's reply, and drops the rest.
     pub fn into_reply(self) -> Reply
         ensures { result ≡ self.reply }
     {

@@ -35,5 +35,5 @@ pub use radio_mounts::MountParts;
 pub use server::{Control, Core};
 pub use totals::clients_and_seats_add_up;
 
-/// What a call answers where memory was refused. Nothing has changed then, unless it is said.
+/// The error of a call if memory was refused. Nothing has changed then, unless the call says otherwise.
 pub type OutOfMemory = std::alloc::AllocError;

@@ -4,7 +4,7 @@ use radio_changes::Change;
 use radio_events::Reply;
 use radio_policy::Rule;
 
-/// What comes of an event.
+/// The reply to an event and the change that it makes, before the change is made.
 #[derive(Drop)]
 pub struct Outcome {
     pub reply: Reply,

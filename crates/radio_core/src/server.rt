@@ -36,8 +36,8 @@ mod source_end;
 mod telling;
 mod title;
 
-/// The server's state, seen as a `World` in which of each stream the last blocks are kept. There is
-/// always a state of a server that keeps whole streams for which it stands.
+/// The server's state. Contracts see a `World` that has only the last blocks of each stream; a core always represents
+/// some state that has whole streams.
 pub struct Core {
     control: Control,
 }
@@ -65,7 +65,7 @@ impl Model for Core {
 }
 
 impl Core {
-    /// A server to which nothing has happened yet. It takes no memory.
+    /// Returns a server to which nothing has happened yet. It takes no memory.
     #[tactic(auto, using(crate::proofs::StepLemmas::opening_represents))]
     pub fn new(alloc: Global, settings: Settings, lists: Lists) -> Core
         // it stands for the opening state of these settings and lists
@@ -76,7 +76,7 @@ impl Core {
         }
     }
 
-    /// There is a state for which it stands, whatever has happened.
+    /// A core represents some state, whatever has happened. Runs no code.
     // rule: Kept stream
     pub fn stands(&self)
         ensures { StandsForSome self.now }
@@ -84,7 +84,7 @@ impl Core {
         let _ = &self.control;
     }
 
-    /// The settings that it was given.
+    /// Returns the settings that it was given.
     pub fn settings(&self) -> &Settings
         // they are those of whatever state it stands for
         ensures { (w : World) → Represents self.now w → result.now ≡ w.house.settings }
@@ -92,8 +92,8 @@ impl Core {
         self.control.settings()
     }
 
-    /// The mounts where somebody sits, which relays feed on demand, in the order of their bytes.
-    /// `OutOfMemory` where memory was refused.
+    /// Returns the mounts where somebody sits and that relays feed on demand, in the order of their bytes.
+    /// `OutOfMemory` if memory was refused.
     // rule: Pulls on demand
     pub fn wanted(&self) -> Result<Vec<MountName>, OutOfMemory>
         // they are those of whatever state it stands for
@@ -102,8 +102,8 @@ impl Core {
         self.control.wanted()
     }
 
-    /// The mount where the listener of this number sits, or sat last if he has finished; none where
-    /// there is no such listener.
+    /// Returns the mount where the listener of this number sits, or sat last if it was finished; `None` if there is no
+    /// such listener.
     // rule: Last mount
     pub fn last_mount(&self, id: u64) -> Option<&MountName>
         // it is that of whatever state it stands for
@@ -112,7 +112,7 @@ impl Core {
         self.control.last_mount(id)
     }
 
-    /// One event. `OutOfMemory` where memory was refused; nothing has changed then.
+    /// Applies one event and returns its reply. `OutOfMemory` if memory was refused; nothing has changed then.
     // rule: Client numbers; Out of place; Leaving; Refused memory; Lagged; The clock; One moment; Blocks of a source
     // rule: Draws; Kept stream; Relay comes up; Relay goes down
     pub fn step(&mut self, event: Event) -> Result<Reply, OutOfMemory>
@@ -125,8 +125,8 @@ impl Core {
         self.control.step(event)
     }
 
-    /// One event, with its reply three times, as a record of it, its client and its caller keep it.
-    /// `OutOfMemory` where memory was refused; nothing has changed then.
+    /// Applies one event and returns its reply three times: for the record, for the client and for the caller.
+    /// `OutOfMemory` if memory was refused; nothing has changed then.
     pub fn step3(&mut self, event: Event) -> Result<[Reply; 3], OutOfMemory>
         // whatever state the core stands for, the replies are that of a step from it, and the core stands for the state after it
         ensures step { (w : World) → Represents self.old w

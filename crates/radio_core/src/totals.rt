@@ -7,10 +7,10 @@ ghost use Rattle.radio_events.specs.declared.event.Event.{Event};
 ghost use Rattle.radio_core.specs.Run.{run_after};
 ghost use Rattle.radio_core.specs.Totals.{AddsUp};
 
-/// The law of totals.
+/// An event leaves as many clients, relays and listeners as before, plus those that came by it, less those that left.
 // rule: Client numbers; History adds up; Relay is no client
 pub fn clients_and_seats_add_up()
-    // whatever has happened, clients and listeners are there after an event who were there before
-    // it or came by it, and did not leave by it, as many as they are
+    // after any events, an event leaves as many clients and listeners as before, plus those that came by it, less those that
+    // left by it
     ensures add_up { (settings : Settings) (lists : Lists) (events : List Event) (event : Event) → AddsUp (run_after settings lists events) event }
 {}

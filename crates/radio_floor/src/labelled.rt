@@ -16,8 +16,7 @@ pub enum Connection {
     Relay(RelayPull),
 }
 
-/// A label that was opened, and its connection until that is shut. What a draw reads of both lies
-/// together.
+/// A label that was opened, and its connection until that is shut. What a draw reads of both is stored together.
 #[derive(Drop)]
 pub struct Labelled {
     /// The number by which the script names it.

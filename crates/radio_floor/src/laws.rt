@@ -9,8 +9,8 @@ ghost use Rattle.radio_floor.specs.ScriptEvents.{ScriptsComeToEvents};
 use radio_exchanges::pulling_is_one;
 use radio_session::{hearing_is_one, last_words_name_the_rule};
 
-/// The server does one thing at each delivery. So a script has one transcript, and what the whole
-/// lines at its front come to is a front of it, whatever lines are behind them.
+/// A script has one transcript, and the transcript of the whole lines at its front is a front of it, whatever lines are
+/// behind them.
 // rule: Line of a script
 pub fn the_transcript_is_one()
     ensures determined { (web : WebAnswers) → IsDetermined (conduct web) }
@@ -21,10 +21,9 @@ pub fn the_transcript_is_one()
     pulling_is_one();
 }
 
-/// A connection that is shut shows the word of the rule by which it is, `bad-body` for a fault in its body, or
-/// `done` where its peer has closed it, its command was done or its body is whole. A denial of its arrival or of
-/// what it asked, and the connection's own refusal, show the answer that names the rule, if the rule has a status;
-/// a command that was done shows the answer that says so.
+/// A connection that is shut has the word of the rule that shut it, `bad-body` for a fault in its body, or `done` if
+/// its peer closed it, its command was done or its body is whole. A denial, and the connection's own refusal, have the
+/// answer that names the rule, if the rule has a status; a done command has the answer that says so.
 // rule: Finishes are silent; Answer to a denial; Commands by GET; Last word; Greeting of a source
 pub fn last_words_are_told()
     ensures arrivals { DeniedArrivalsAreTold }
@@ -39,7 +38,7 @@ pub fn last_words_are_told()
     last_words_name_the_rule();
 }
 
-/// The events of a script.
+/// A script yields its transcript by a course of events, each asked for by a delivery on its connection.
 pub fn scripts_come_to_events()
     // a script that comes to a transcript comes to events: delivery by delivery the first of those
     // that are asked on its connection, or all, which lead the server from its state to the next

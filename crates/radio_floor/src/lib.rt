@@ -26,5 +26,5 @@ pub use radio_script::{
 };
 pub use scripts::{Transcript, play, run};
 
-/// Memory ran out.
+/// The error of a call if memory was refused.
 pub type OutOfMemory = std::alloc::AllocError;

@@ -12,14 +12,13 @@ use radio_session::WebAnswers;
 use radio_settings_values::Settings;
 use std::alloc::Global;
 
-/// The lines `out` and `shut` that deliveries come to.
+/// The lines `out` and `shut` that deliveries yield.
 pub type Transcript = Vec<u8>;
 
-/// Runs deliveries through a server of these settings and lists, to which nothing has happened yet, and answers their
+/// Runs deliveries through a server of these settings and lists, to which nothing has happened yet, and returns their
 /// transcript. `web` is what the settings say of answers.
 ///
-/// - `Delivery`: at the first delivery, counted from 1, whose label was not opened or is opened
-///   twice.
+/// - `Delivery`: at the first delivery, counted from 1, whose label was not opened or is opened twice.
 /// - `OutOfMemory`: memory was refused.
 // rule: Line of a script
 pub fn run(
@@ -41,11 +40,10 @@ pub fn run(
     transcript
 }
 
-/// Plays a script: reads it line by line, runs each delivery through a server of these settings and lists,
-/// and writes what it comes to before it reads on. `web` is what the settings say of answers.
+/// Plays a script: reads it line by line, runs each delivery through a server of these settings and lists, and writes
+/// its lines before it reads on. `web` is what the settings say of answers.
 ///
-/// - `Read`, `Write`: that device failed; an interrupted call, and a write that takes nothing, are
-///   failures too.
+/// - `Read`, `Write`: that device failed; an interrupted call, and a write that takes nothing, are failures too.
 /// - `Line`: that line of the script, counted from 1, is no delivery, or its label is at fault.
 /// - `TooMuch`: the script has more than 1,000,000 lines, or one of more than 65,536 bytes.
 /// - `OutOfMemory`: memory was refused.

@@ -30,21 +30,22 @@ use radio_script::transcripts_are_read_one_way;
 use radio_session::{bodies_are_heard_as_their_data, listeners_are_told_what_they_draw};
 use radio_source::laws::pieces_are_joined;
 
-/// The draws of a listener.
+/// After any events, the data that a listener draws are slices of what the sources of its sessions delivered, one for
+/// each time that it sat down.
 pub fn draws_are_stretches()
-    // over every run, the data in the draws that a listener is handed are slices, one for each of his
-    // sittings, of what the source delivered in whose session he sat
+    // over every run, the data in a listener's draws are slices, one for each of its sittings, of what the source delivered
+    // in whose session it sat
     ensures slices { (settings : Settings) (lists : Lists) (events : List Event) (id : ℕ) → DrawsAreStretches settings lists events id }
-    // and they are cut where he sits down: from one sitting to the next, or to the end, they are one slice
+    // they are cut at the sittings: from one sitting to the next, or to the end, they are one slice
     ensures cut { (settings : Settings) (lists : Lists) (events : List Event) (id : ℕ) → DrawsAreCut settings lists events id }
-    // and under the number of nobody, in whose session who waits for one sits, nothing is delivered
+    // under the number of nobody, in whose session a listener that waits for one sits, nothing is delivered
     ensures nobody { (settings : Settings) (lists : Lists) (events : List Event) → NobodyDelivers settings lists events }
 {
     stretches_are_whole();
     who_left_is_gone();
 }
 
-/// The laws of every run, at one event, in one place.
+/// The laws of every run hold at one event after any others.
 pub fn events_are_lawful()
     ensures { (settings : Settings) (lists : Lists) (events : List Event) (event : Event) → IsLawful settings lists events event }
 {
@@ -64,9 +65,9 @@ pub fn events_are_lawful()
     whoever_may_is_served();
 }
 
-/// The same for a history that is a run from an opening state, as `settle` of `radio_settling` gives one
-/// where it ends well: at each of its entries the laws of every run hold, and what was noted of a
-/// listener's draws is, joined, slices of what his sources delivered.
+/// In every history that is a run from an opening state, the laws of every run hold at each entry, and a listener's
+/// draws, joined, are slices of what its sources delivered. `settle` of `radio_settling` gives such a history if it
+/// ends well.
 // rule: Without gap or repeat
 pub fn histories_are_lawful()
     ensures { HistoriesAreLawful }
@@ -75,11 +76,9 @@ pub fn histories_are_lawful()
     draws_are_stretches();
 }
 
-/// The law of scripts, from their bytes to those of their transcripts. Over every script, what each
-/// listener is given behind his head is, with the metadata taken out, slices of what was brought on
-/// the connections of the sources in whose sessions he sat, in the order in which he sat, with a
-/// metadata block after each interval if he asked, and nothing of the time in which he waited for a
-/// session; and whoever is denied reads the first rule that denied him.
+/// The law from bytes to bytes, over every script. Behind its head each listener is given slices of what came on the
+/// connections of the sources in whose sessions it sat, in that order, with a metadata block after each interval if it
+/// asked for metadata. A client that is denied reads the first rule that denied it.
 // rule: Without gap or repeat
 pub fn listeners_hear_slices()
     ensures { ListenersHearSlices }
@@ -108,7 +107,7 @@ pub fn listeners_hear_slices()
     events_are_lawful();
 }
 
-/// The same of a script that is played: what [`play`](radio_floor::play) writes where it ends well.
+/// The law from bytes to bytes, of what [`play`](radio_floor::play) writes if it ends well.
 // rule: Line of a script
 pub fn played_scripts_hear_slices()
     ensures { PlayedScriptsHearSlices }

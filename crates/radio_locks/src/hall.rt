@@ -31,8 +31,8 @@ use std::sync::{Mutex, MutexGuard, Wait};
 /// How often a caller tries to take the control's lock before it sleeps until that is free: it is held for a moment alone.
 const TRIES: u32 = 64;
 
-/// The books of a server, each under a lock of its own, so that what a mount's part does by itself waits for nobody at another
-/// mount. The lock of list n is at place n - 1.
+/// The server that threads call: the book of the control and the book of each mount, each under a lock of its own. What
+/// a mount's part does by itself waits for nobody at another mount. The lock of list n is at place n - 1.
 #[derive(Drop)]
 pub struct Hall<C: Chronicle, H: House> {
     pub(crate) alloc: Global,
@@ -89,12 +89,13 @@ impl<C: Chronicle, H: House> Hall<C, H> {
         self.control.try_lock()?.control.pass()
     }
 
-    /// One event: by the mount's part alone, under its lock, if it is a draw of a listener that is attached there, a block or a
-    /// title of its source; else by the control, which is lent the parts that it concerns. Returns its receipt.
+    /// Applies one event and returns its receipt. A draw of a listener that is attached to a mount, and a block or a
+    /// title of a mount's source, are applied by the mount's part alone, under its lock. Each other event is applied by
+    /// the control, which is lent the parts that it concerns.
     ///
-    /// `OutOfMemory` if memory was refused; the pass is unchanged then. If entries are stored, the end of a client that was let in
-    /// by this pass, has not left by it and has never fed by it, is never refused. If none are, no end is ever refused, nor
-    /// the clock.
+    /// `OutOfMemory` if memory was refused; the pass is unchanged then. If entries are stored, the end of a client that
+    /// was let in by this pass, has not left by it and has never fed by it, is never refused. If none are, no end is
+    /// ever refused, nor the clock.
     pub fn apply<R: Wait>(
         &self,
         rt: &R,

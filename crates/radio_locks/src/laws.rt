@@ -2,8 +2,8 @@
 
 ghost use Rattle.radio_locks.specs.Callers.{PassesGainWhatWasApplied};
 
-/// Where entries are stored, a caller's pass gains the receipts of the events that were applied, with
-/// their replies, in their order, and nothing else.
+/// If entries are stored, a caller's pass gains the receipts of the events that were applied, with their replies, in
+/// their order, and nothing else.
 pub fn passes_gain_what_was_applied()
     ensures { PassesGainWhatWasApplied }
 {}

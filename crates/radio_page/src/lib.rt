@@ -4,7 +4,7 @@
 //! the name of the first mount at its top, and for each mount its name, its title, its genre, how many listen, and a player.
 //! It says so if nothing is on air, or the server does not answer. Its icon is a part of its text.
 //!
-//! `scripts/try_page` opens it in a browser.
+//! `tests/live/try_page` opens it in a browser.
 #![tactic(auto)]
 
 ghost use Rattle.std.specs.Prelude.{◌≡◌, ℕ, List, Option};

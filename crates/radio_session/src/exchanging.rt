@@ -10,12 +10,10 @@ use crate::OutOfMemory;
 use crate::session::Session;
 use radio_events::{Event, Reply, Server, State};
 
-/// Applies the events of the connection's client, one after another, and tells each reply behind the
-/// bytes of `out`. Where the connection ends, the others are not applied, and the client leaves. It
-/// answers whether the connection goes on.
+/// Applies the events of the connection's client, one after another, and appends the bytes of each reply to `out`. Once
+/// the connection ends, the others are not applied, and the client leaves. Returns whether the connection goes on.
 ///
-/// `OutOfMemory`: memory was refused; nothing is said of the server then, and the connection is to
-/// be shut.
+/// `OutOfMemory` if memory was refused; nothing is said of the server then, and the connection is to be shut.
 pub fn exchange<S: Server>(
     server: &mut S,
     session: &mut Session,

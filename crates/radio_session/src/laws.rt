@@ -21,8 +21,8 @@ use radio_source::laws::{
     pieces_are_joined, plain_bodies, sized_bodies, whole_bodies_are_complete,
 };
 
-/// A source's whole body behind its head is heard as its data, and where it has an end, as that end
-/// (RFC 9112, section 6): nothing of what frames it is data. A faulty one ends by its fault.
+/// A source's whole body behind its head means its data and, if it has an end, that end (RFC 9112, section 6). Nothing
+/// of its framing is data, and a faulty body ends by its fault.
 // rule: Framing; End of a body
 pub fn bodies_are_heard_as_their_data()
     ensures plain { PlainBodiesAreHeard }
@@ -37,16 +37,16 @@ pub fn bodies_are_heard_as_their_data()
     whole_bodies_are_complete();
 }
 
-/// A source that is admitted is told to go on where it waits for that (RFC 9110, section 10.1.1), and
-/// else that it was admitted.
+/// An admitted source that waits for `100 Continue` gets that first (RFC 9110, section 10.1.1); each other one gets
+/// that it was admitted.
 // rule: Greeting of a source
 pub fn who_waits_is_told_to_go_on()
     ensures waits { WhoWaitsIsToldToGoOn }
     ensures other { NobodyElseIsToldToGoOn }
 {}
 
-/// What comes on a connection is heard alike, however it is cut into pieces: the same head, the same
-/// data and the same events, but for where blocks are cut, and what follows is heard alike.
+/// However a connection's bytes are cut into pieces, they mean the same head, the same data and the same events, except
+/// where blocks are cut.
 // rule: Cuts do not matter
 pub fn cuts_do_not_matter()
     // in two cuttings of the same bytes
@@ -61,9 +61,9 @@ pub fn cuts_do_not_matter()
     pieces_are_joined();
 }
 
-/// What is told on a connection, and how it is shut, do not depend on how the bytes are cut into
-/// pieces that come on it, where the server goes by a source's data and not by how they are cut into
-/// blocks. Nothing else happens between the pieces, and none is taken once the connection is shut.
+/// However a connection's bytes are cut into pieces, the same is written to it and the same word shuts it, if nothing
+/// else happens between the pieces and the server goes by a source's data, not by how they are cut into blocks. No
+/// piece is taken once the connection is shut.
 // rule: Cuts do not matter
 pub fn cuts_are_told_alike<S: Server>()
     // in two cuttings of the same bytes
@@ -78,58 +78,57 @@ pub fn cuts_are_told_alike<S: Server>()
     pieces_are_joined();
 }
 
-/// Bytes that come on a connection are heard as one thing.
+/// The bytes of a connection mean one thing: they have one list of events.
 pub fn hearing_is_one()
     ensures { HearingIsOne }
 {
     readings_agree();
 }
 
-/// A session fails by a call that is refused memory alone: what bytes are heard as leaves it as it was in
-/// that, and so does each reply that is told.
+/// A session fails only by a call that is refused memory.
 pub fn only_refused_calls_fail()
     ensures heard { HearingFailsNothing }
     ensures told { TellingFailsNothing }
 {}
 
-/// The last word of a connection is that of the rule that ended it, or `done` where none did; and
-/// the answer before it, where there is one, has the rule's status and names the rule.
+/// The word that shuts a connection is that of the rule that ended it, or `done` if none did; the answer before it, if
+/// there is one, names the rule and has its status.
 // rule: Bad head; Bad method; Finishes are silent; Answer to a denial; Commands by GET; Greeting of a source
 // rule: End of a body
 pub fn last_words_name_the_rule()
     // what was asked is denied: an answer that names the rule
     ensures denied { DenialsNameTheirRule }
-    // there is none where the rule has no status
+    // there is none if the rule has no status
     ensures no_status { RulesWithoutStatusAreSilent }
-    // or where a source or a listener was admitted before
+    // or if a source or a listener was admitted before
     ensures denied_late { LateDenialsAreSilent }
-    // who was finished is told nothing
+    // a finished client reads nothing
     ensures finished { FinishesAreSilent }
-    // a command was done: an answer of its text, and the word is `done`
+    // a done command: an answer of its text, and the word is `done`
     ensures command { CommandsAreAnswered }
     // the connection's own refusal: an answer that names the rule
     ensures refused { RefusalsNameTheirRule }
     // the body is whole, or there is a fault in it
     ensures whole { WholeBodiesAreDone }
     ensures faulty { FaultyBodiesAreSilent }
-    // and where no rule ended it
+    // no rule ended it
     ensures done { ending_word Done ≡ codes "done" }
 {}
 
-/// What follows a listener's head on his connection is what he has drawn: the data alone, or, where
-/// the head tells an interval, the data with a metadata block after each interval of them.
+/// Behind a listener's head come the data of its draws: alone, or with a metadata block after each interval if the head
+/// has an interval.
 // rule: Metadata interval; Metadata count
 pub fn listeners_are_told_what_they_draw()
     // the joined data of the draws follow the head
     ensures joined { DrawsFollowTheHead }
-    // they stand alone where no interval was told
+    // they are alone if no interval was sent
     ensures plain { PlainDrawsAreTheirData }
-    // and are woven where one was, each block with the title of the draw that ended its interval
+    // and are woven if one was, each block with the title of the draw that ended its interval
     ensures woven { JoinedDrawsAreWoven }
     // that title is then the last one sent, and none is sent twice in a row
     ensures in_time { TitlesAreSentInTime }
     ensures not_repeated { NoTitleIsRepeated }
-    // who takes the metadata out again has the data, and the texts of the titles sent
+    // without the metadata they are the data, and the texts of the titles sent
     ensures taken_out { DrawsAreTakenOutAgain }
 {
     woven_streams();

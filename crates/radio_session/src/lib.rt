@@ -26,5 +26,5 @@ pub use radio_answers::WebAnswers;
 pub use radio_events::{Ending, Server, State};
 pub use session::Session;
 
-/// What a call answers where memory was refused.
+/// The error of a call if memory was refused.
 pub type OutOfMemory = std::alloc::AllocError;

@@ -72,17 +72,17 @@ pub(crate) struct Says {
     pub(crate) greeting: Greeting,
 }
 
-/// One connection: the number of its client, its peer, the bytes of an unfinished head, and how it
-/// goes on in both directions.
+/// One connection: the number of its client, its peer, the bytes of an unfinished head, and how it goes on in both
+/// directions.
 ///
-/// Its caller applies the events that [`Session::take`] answers one after another, and gives each
-/// reply to [`Session::give`], as [`exchange`](crate::exchange) does. Once that answers `Shut`, the
-/// other events are not applied, and the client leaves, unless a `Leave` was the last event.
+/// Its caller applies the events that [`Session::take`] returns, one after another, and gives each reply to
+/// [`Session::give`], as [`exchange`](crate::exchange) does. Once that returns `Shut`, the other events are not
+/// applied, and the client leaves, unless a `Leave` was the last event.
 ///
-/// It keeps at most the 8192 bytes of a head, and nothing of a body. A call that was refused memory
-/// fails the session: each later call is refused too, and its connection is to be shut.
+/// It keeps at most the 8192 bytes of a head, and nothing of a body. A call that was refused memory fails the session:
+/// each later call is refused too, and its connection is to be shut.
 ///
-/// In contracts it is a `Conversation`.
+/// Contracts see a `Conversation`.
 pub struct Session {
     // what a listener's draw reads comes first, and lies together
     alloc: Global,
@@ -131,9 +131,9 @@ impl Model for Session {
 }
 
 impl Session {
-    /// The session of the client of this number, whose connection comes from this peer, with what the settings say of its
-    /// answers. It takes no memory now, and keeps `alloc` for later. Where the server takes a connection not in, its
-    /// denial is given to a session of number 0.
+    /// Returns the session of the client of this number, whose connection comes from this peer, with what the settings
+    /// say of its answers. It takes no memory now, and keeps `alloc` for later. If the server does not admit a
+    /// connection, its denial is given to a session of number 0.
     pub fn new(alloc: Global, web: WebAnswers, id: u64, peer: Peer) -> Session
         ensures { result ≡ fresh web id peer }
     {
@@ -154,14 +154,14 @@ impl Session {
         }
     }
 
-    /// The number of its client.
+    /// Returns the number of its client.
     pub fn id(&self) -> u64
         ensures { result ≡ self.now.id }
     {
         self.id
     }
 
-    /// The peer that its connection comes from.
+    /// Returns the peer that its connection comes from.
     pub fn peer(&self) -> Peer
         ensures { result ≡ self.now.peer }
     {

@@ -1,6 +1,6 @@
 //! Tests of the server, of book and hall and of a worker's turn as their callers see them: what no clause says. Each
 //! call succeeds with ample memory, and the definitions mean what the rules say, on rows that were worked out by hand.
-//! What a script can show is a case of `scripts/run`, and what clients do to a running station is in `scripts/serve`.
+//! What a script can show is a case of `tests/run`, and what clients do to a running station is in `tests/live/serve`.
 //! They stand in one crate, since what a crate of tests costs to link is the same for a few tests as for many.
 //!
 //! Of the server:

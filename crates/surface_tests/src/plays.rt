@@ -176,7 +176,7 @@ fn a_run_with_memory(rt: HostRuntime) {
     assert!(rt; is_script_run(rt.alloc()) == Some(true));
 }
 
-/// `scripts/refuse_memory` refuses each allocation of this test in its turn.
+/// `tests/refuse_memory` refuses each allocation of this test in its turn.
 #[test]
 fn a_run_without_memory(rt: HostRuntime) {
     assert!(rt; is_script_run(rt.alloc()) != Some(false));

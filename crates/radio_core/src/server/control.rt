@@ -34,9 +34,11 @@ use radio_values::MountName;
 use std::alloc::Global;
 use std::marker::Model;
 
-/// What is kept of all mounts together, and the listeners, with the parts of the mounts that are here:
-/// all of them, or those that were lent (`Control::exchange`), each other mount having a part without
-/// data in its place. Contracts see it as a `World` in which of each stream the last blocks are kept.
+/// What all mounts share, the table of listeners, and the parts of the mounts that are here. These are all parts, or
+/// those that were lent by [`Control::exchange`](Control::exchange); each other mount has a part without data in its
+/// place.
+///
+/// Contracts see it as a `World` that has only the last blocks of each stream.
 pub struct Control {
     pub(super) alloc: Global,
     pub(super) state: TimedState,
@@ -62,7 +64,7 @@ impl Model for Control {
 }
 
 impl Control {
-    /// Nothing has happened yet. It takes no memory.
+    /// Returns a control to which nothing has happened yet. It takes no memory.
     pub fn new(alloc: Global, settings: Settings, lists: Lists) -> Control
         ensures { result ≡ opening settings lists }
     {
@@ -87,14 +89,14 @@ impl Control {
         self.state.seats()
     }
 
-    /// The settings.
+    /// Returns the settings.
     pub fn settings(&self) -> &Settings
         ensures { result.now ≡ self.now.house.settings }
     {
         self.house().settings()
     }
 
-    /// The time that was told last, in milliseconds.
+    /// Returns the moment of the last clock event, in milliseconds.
     pub fn time(&self) -> u64
         ensures { result ≡ self.now.house.time }
     {
@@ -132,8 +134,9 @@ impl Control {
         Ok(self.draw(id, room)?.outcome(id))
     }
 
-    /// One event: what comes of it is worked out, and its change is made. `OutOfMemory` if memory was
-    /// refused; nothing has changed then.
+    /// Applies one event and returns its reply.
+    ///
+    /// `OutOfMemory` if memory was refused; nothing has changed then.
     pub fn step(&mut self, event: Event) -> Result<Reply, OutOfMemory>
         // of one who draws the client is known as a listener, and what follows its place is not forgotten
         ensures ok { CanStep self.old event → OnOk result (self.new ≡ control_after self.old event) }
@@ -149,7 +152,9 @@ impl Control {
         }
     }
 
-    /// One event, as by `step`, with its reply three times, as a record of it, its client and its caller keep it.
+    /// Applies one event as `step` does, and returns its reply three times: for the record, for the client and for the
+    /// caller.
+    ///
     /// `OutOfMemory` if memory was refused; nothing has changed then.
     pub fn step3(&mut self, event: Event) -> Result<[Reply; 3], OutOfMemory>
         ensures ok { CanStep self.old event → OnOk result (self.new ≡ control_after self.old event) }
@@ -246,23 +251,22 @@ impl Control {
         }
     }
 
-    /// The mounts where somebody sits, which relays feed on demand, in the order of their bytes.
-    /// `OutOfMemory` where memory was refused.
+    /// Returns the mounts where somebody sits and that relays feed on demand, in the order of their bytes.
+    /// `OutOfMemory` if memory was refused.
     pub fn wanted(&self) -> Result<Vec<MountName>, OutOfMemory>
         ensures { IfOk result (λ mounts. mounts.items ≡ wanted self.now) }
     {
         wanted(self.alloc, &self.house(), self.seats())
     }
 
-    /// How the client, or the relay, of this number stands.
+    /// Returns the standing of the client or relay of this number, if there is one.
     pub fn standing(&self, id: u64) -> Standing
         ensures { result ≡ standing_of self.now id }
     {
         self.house().standing(self.seats(), id)
     }
 
-    /// The mount where the listener of this number sits, or sat last; none where there is no such
-    /// listener.
+    /// Returns the mount where the listener of this number sits, or sat last, if there is such a listener.
     pub fn last_mount(&self, id: u64) -> Option<&MountName>
         ensures { option_copied result ≡ last_mount_of self.now.seats id }
     {

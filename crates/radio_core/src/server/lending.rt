@@ -11,17 +11,18 @@ use radio_parts::Session;
 use radio_values::{MountName, Shown};
 
 impl Control {
-    /// Each mount's part that is made from now on keeps a list of what happens to it.
+    /// Makes each part that is created from now on keep a list of what happens to it.
     pub fn keep_lists(&mut self)
         ensures { self.new ≡ self.old }
     {
         self.state.keep_lists();
     }
 
-    /// Puts a mount's part in the place of the one that is here, which it returns. Whoever has lagged
-    /// out there, and still has its seat, loses it. A part that nobody feeds can only take the place of
-    /// such a one, and one that a source feeds that of one which the same source feeds; else nothing
-    /// changes, and `Err` has the part itself. It takes no memory.
+    /// Puts a mount's part in the place of the one that is here, and returns that one. A listener that lagged out
+    /// there, and still has its seat, loses it. It takes no memory.
+    ///
+    /// `Err` has the part itself, and nothing has changed, if the two parts have not the same source, or one has a
+    /// source and the other none.
     pub fn exchange(&mut self, part: ListedPart) -> Result<ListedPart, ListedPart>
         ensures ok { IfOk result (λ there. IsLentTo part there self.old self.new) }
         ensures back { OnErr result (result ≡ Err part) }
@@ -30,8 +31,9 @@ impl Control {
         self.state.exchange(part)
     }
 
-    /// Takes out the mount's part, and leaves one without data in its place, which the same source
-    /// feeds, if one does. Returns `None` if the mount has no part; nothing has changed then.
+    /// Takes out the mount's part, and leaves one without data in its place, with the same source. Returns `None` if
+    /// the mount has no part; nothing has changed then.
+    ///
     /// `OutOfMemory` if memory was refused; nothing has changed then.
     pub fn take_out(&mut self, mount: &MountName) -> Result<Option<ListedPart>, OutOfMemory>
         ensures out { IfOk result (λ out. MatchOption out (self.new ≡ self.old) (λ part. IsTakenOut mount.now part self.old self.new)) }

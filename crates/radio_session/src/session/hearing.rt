@@ -17,10 +17,10 @@ use std::alloc::{AllocError, Global};
 use std::mem;
 
 impl Session {
-    /// Takes bytes that have come, and answers the events that they mean, in order.
+    /// Takes bytes that have come, and returns the events that they mean, in order.
     ///
-    /// `OutOfMemory`: memory was refused, now or to an earlier call; there are no events then, and
-    /// the session has failed.
+    /// `OutOfMemory` if memory was refused, now or to an earlier call; the session has failed then, and there are no
+    /// events.
     // rule: Bad head; Bad method; Commands by GET; Commands by a browser; Source request; Framing; Two lengths
     // rule: Bad framing; Listen request
     pub fn take(&mut self, bytes: &[u8]) -> Result<Vec<Event>, OutOfMemory>

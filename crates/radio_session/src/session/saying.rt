@@ -19,11 +19,11 @@ use radio_policy::Rule;
 use std::alloc::{AllocError, Global};
 
 impl Session {
-    /// Is given the reply to an event of the client, appends the bytes by which it is told, and
-    /// answers whether the connection goes on.
+    /// Takes the reply to an event of the client, appends its bytes to `out`, and returns whether the connection goes
+    /// on.
     ///
-    /// `OutOfMemory`: memory was refused, now or to an earlier call; nothing was appended then, and
-    /// the session has failed.
+    /// `OutOfMemory` if memory was refused, now or to an earlier call; the session has failed then, and nothing was
+    /// appended.
     // rule: Bad head; Cache control; Sandboxed streams; Answer to a denial
     pub fn give(&mut self, reply: Reply, out: &mut Vec<u8>) -> Result<State, OutOfMemory>
         ensures bytes { IfOk result (λ _. out.new.items ≡ out.old.items ++ (said self.old.says reply).bytes) }
