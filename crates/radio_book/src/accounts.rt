@@ -10,7 +10,9 @@ ghost use Rattle.radio_book.specs.Newcomers.{is_arrival, room_for};
 use crate::copies::{Copies, thrice};
 use crate::debt::Debt;
 use crate::holdings::Holdings;
-use crate::lending::{apart, lend_each, note_cuts, step_over, step3_over, take_back_each};
+use crate::lending::{
+    apart, has_time_limit, lend_each, note_cuts, step_over, step3_over, take_back_each,
+};
 use crate::receipt::NOWHERE;
 use crate::{Chronicle, Entry, House, MountBook, OutOfMemory, Receipt, Stamp};
 use radio_chronicle::{ControlLine, Notes};
@@ -30,6 +32,8 @@ pub(crate) struct Accounts<C: Chronicle, H: House> {
     debt: Debt<H>,
     spare: Share<H>,
     passes_left: u64,
+    /// Whether a mount limits how long its listeners hear.
+    limits_time: bool,
     of: PhantomData<C>,
     ghost keeps: { lines.keeps ≡ C.KEEPS },
     ghost room: { debt.owed + debt.owed ≤ lines.room },
@@ -53,12 +57,14 @@ impl<C: Chronicle, H: House> Accounts<C, H> {
         ensures control { result.control ≡ control }
         ensures lines { result.lines.items ≡ [] }
     {
+        let limits_time = has_time_limit(control.settings());
         Accounts {
             control,
             lines: Notes::new(alloc, C::KEEPS),
             debt,
             spare,
             passes_left,
+            limits_time,
             of: PhantomData,
         }
     }
@@ -97,7 +103,7 @@ impl<C: Chronicle, H: House> Accounts<C, H> {
         ensures lent { IsControlAsBefore lent.old self.old.control lent.new self.new.control }
         ensures lines { self.new.lines.items ≡ self.old.lines.items }
     {
-        lend_each(&mut self.control, lent);
+        lend_each(&mut self.control, lent, true);
         let wanted = self.control.wanted();
         take_back_each(&mut self.control, lent);
         wanted
@@ -135,7 +141,7 @@ impl<C: Chronicle, H: House> Accounts<C, H> {
         ensures frees { TakesNoMemory event → IsOk result }
     {
         match event.again() {
-            Ok(told) => match step_over(&mut self.control, lent, event) {
+            Ok(told) => match step_over(&mut self.control, lent, self.limits_time, event) {
                 Ok(reply) => Ok(Receipt::new(NOWHERE, told, reply)),
                 Err(refused) => {
                     drop(told);
@@ -252,7 +258,7 @@ impl<C: Chronicle, H: House> Accounts<C, H> {
         ensures err_lines { OnErr result ((self.new.lines.items ≡ self.old.lines.items) × (holdings.new.receipts.items ≡ holdings.old.receipts.items)) }
         ensures frees { TakesNoMemory event → IsOk result }
     {
-        match step3_over(&mut self.control, lent, event) {
+        match step3_over(&mut self.control, lent, self.limits_time, event) {
             Ok(replies) => {
                 let Copies { noted, held, told } = copies;
                 let (first, second, third) = apart(replies);

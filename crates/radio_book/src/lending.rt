@@ -11,13 +11,47 @@ use crate::{Chronicle, MountBook, OutOfMemory};
 use radio_chronicle::{ControlLine, Notes};
 use radio_core::Control;
 use radio_events::{Event, Reply};
+use radio_settings_values::Settings;
 
-/// Puts each part, if it is with its book, in the place of that which the control has.
-pub(crate) fn lend_each<C: Chronicle>(control: &mut Control, lent: &mut [MountBook<C>])
+/// Returns whether the event can reach what is in these parts. A clock can't if no mount limits how long its listeners hear, and no
+/// session is due, as far as the control knows.
+fn reaches_parts<C: Chronicle>(
+    control: &Control,
+    lent: &[MountBook<C>],
+    limits_time: bool,
+    event: &Event,
+) -> bool {
+    let Event::Clock { ms } = event else {
+        return true;
+    };
+    let timeout = control.settings().limits.source_timeout.get();
+    limits_time || lent.iter().any(|book| book.may_be_due(timeout, *ms))
+}
+
+/// Returns whether a mount limits how long its listeners hear.
+pub(crate) fn has_time_limit(settings: &Settings) -> bool {
+    for mount in settings.mounts.as_slice() {
+        if mount.options.listeners.max_listener_duration.is_some() {
+            return true;
+        }
+    }
+    settings
+        .other_mounts
+        .listeners
+        .max_listener_duration
+        .is_some()
+}
+
+/// Puts each part, if it is with its book and the event reaches it, in the place of that which the control has.
+pub(crate) fn lend_each<C: Chronicle>(
+    control: &mut Control,
+    lent: &mut [MountBook<C>],
+    is_reached: bool,
+)
     ensures { AreLent lent.old lent.new control.old control.new }
 {
     for book in lent.iter_mut() {
-        book.lend(control);
+        book.lend(control, is_reached);
     }
 }
 
@@ -30,18 +64,21 @@ pub(crate) fn take_back_each<C: Chronicle>(control: &mut Control, lent: &mut [Mo
     }
 }
 
-/// The control's step over the parts that are lent. `OutOfMemory` if memory was refused; the parts were lent and taken back then.
+/// The control's step over the parts that are lent; whether a mount limits how long its listeners hear is given. `OutOfMemory` if
+/// memory was refused; the parts were lent and taken back then.
 // rule: Legal history
 pub(crate) fn step_over<C: Chronicle>(
     control: &mut Control,
     lent: &mut [MountBook<C>],
+    limits_time: bool,
     event: Event,
 ) -> Result<Reply, OutOfMemory>
     ensures step { IfOk result (λ reply. IsControlStep lent.old control.old event reply lent.new control.new) }
     ensures err { OnErr result (IsControlAsBefore lent.old control.old lent.new control.new) }
     ensures frees { TakesNoMemory event → IsOk result }
 {
-    lend_each(control, lent);
+    let is_reached = reaches_parts(control, lent, limits_time, &event);
+    lend_each(control, lent, is_reached);
     let stepped = control.step(event);
     take_back_each(control, lent);
     stepped
@@ -52,6 +89,7 @@ pub(crate) fn step_over<C: Chronicle>(
 pub(crate) fn step3_over<C: Chronicle>(
     control: &mut Control,
     lent: &mut [MountBook<C>],
+    limits_time: bool,
     event: Event,
 ) -> Result<[Reply; 3], OutOfMemory>
     ensures step { IfOk result (λ replies. (reply : ReplyOf) × (replies ≡ three_of reply)
@@ -59,7 +97,8 @@ pub(crate) fn step3_over<C: Chronicle>(
     ensures err { OnErr result (IsControlAsBefore lent.old control.old lent.new control.new) }
     ensures frees { TakesNoMemory event → IsOk result }
 {
-    lend_each(control, lent);
+    let is_reached = reaches_parts(control, lent, limits_time, &event);
+    lend_each(control, lent, is_reached);
     let stepped = control.step3(event);
     take_back_each(control, lent);
     stepped

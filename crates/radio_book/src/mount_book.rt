@@ -9,11 +9,12 @@ use crate::copies::twice;
 use crate::holdings::Holdings;
 use crate::own_steps::{Twice, is_own, items_here, step_here, step_twice_here};
 use crate::receipt::NOWHERE;
-use crate::stand_ins::take_out;
+use crate::stand_ins::{drop_old, last_block, last_block_of, take_out};
 use crate::{Chronicle, House, OutOfMemory, Pass, Receipt, Stamp};
 use radio_chronicle::ControlLine;
 use radio_core::{Control, ListedPart, PartAnswer};
 use radio_events::Event;
+use radio_parts::{LAST_MOMENT, due_at};
 use radio_values::MountName;
 use std::alloc::Global;
 use std::marker::{Model, PhantomData};
@@ -37,8 +38,12 @@ pub struct MountBook<C: Chronicle> {
     queue: u64,
     /// How many items its list had when the part was lent last.
     items: u64,
+    /// When the last block of its session had come when the part was put in the control last, in milliseconds.
+    last_block: u64,
     /// What the control had in the place of the part that is lent: it goes back there, so that nothing has to be made anew.
     stand_in: Option<ListedPart>,
+    /// What the control has in the place of the part that is here knows of a block that came then or later, in milliseconds.
+    known_block: u64,
     of: PhantomData<C>,
 }
 
@@ -52,7 +57,9 @@ impl<C: Chronicle> Drop for MountBook<C> {
             moment: _,
             queue: _,
             items: _,
+            last_block: _,
             stand_in,
+            known_block: _,
             of: _,
         } = self;
         drop(part);
@@ -82,7 +89,9 @@ impl<C: Chronicle> MountBook<C> {
             moment: 0,
             queue,
             items: 0,
+            last_block: LAST_MOMENT,
             stand_in: None,
+            known_block: LAST_MOMENT,
             of: PhantomData,
         }
     }
@@ -140,45 +149,62 @@ impl<C: Chronicle> MountBook<C> {
         }
     }
 
-    /// Puts the part, if it is here, in the place of that which the control has. It takes no memory.
-    pub(crate) fn lend(&mut self, control: &mut Control)
+    /// Puts the part, if it is here and the event reaches it, in the place of that which the control has. It takes no memory.
+    pub(crate) fn lend(&mut self, control: &mut Control, is_reached: bool)
         ensures { IsLent self.old self.new control.old control.new }
     {
+        self.items = self.item_count();
+        if !is_reached {
+            return;
+        }
         let Some(part) = self.part.take() else {
             return;
         };
-        self.items = part.item_count();
+        self.last_block = last_block(&part);
         match control.exchange(part) {
             Ok(there) => self.stand_in = Some(there),
             Err(part) => self.part = Some(part),
         }
     }
 
-    /// Takes the part out of the control. If memory is refused the control keeps it, until it is lent again.
+    /// Takes the part out of the control, unless it is here. If memory is refused the control keeps it, until it is lent again.
     pub(crate) fn take_back(&mut self, control: &mut Control)
         ensures { IsBack self.old self.new control.old control.new }
     {
         self.moment = control.time();
-        let stand_in = self.stand_in.take();
         if self.part.is_some() {
-            drop(stand_in);
             return;
         }
+        let timeout = control.settings().limits.source_timeout.get();
+        drop_old(&mut self.stand_in, self.last_block, self.moment, timeout);
+        let stand_in = self.stand_in.take();
+        let known = last_block_of(&stand_in);
         self.part = take_out(control, &self.mount, stand_in);
+        self.known_block = known.min(last_block_of(&self.part));
+    }
+
+    /// Returns whether the session may be due at this moment, in milliseconds, as the control knows it while the part is here. Sources
+    /// have so many seconds.
+    pub(crate) fn may_be_due(&self, timeout: u32, ms: u64) -> bool {
+        self.part.is_some() && due_at(timeout, self.known_block) <= ms
+    }
+
+    /// Returns how many items its list has, or had when the part was lent.
+    fn item_count(&self) -> u64 {
+        match &self.part {
+            Some(part) => part.item_count(),
+            None => self.items,
+        }
     }
 
     /// Returns the line of what a control entry has made in the list.
     pub(crate) fn cut(&self) -> ControlLine
         ensures { IsCut self.now.list result }
     {
-        let to = match &self.part {
-            Some(part) => part.item_count(),
-            None => self.items,
-        };
         ControlLine::Cut {
             list: self.list,
             from: self.items,
-            to,
+            to: self.item_count(),
         }
     }
 
@@ -194,7 +220,9 @@ impl<C: Chronicle> MountBook<C> {
             moment: _,
             queue: _,
             items: _,
+            last_block: _,
             stand_in,
+            known_block: _,
             of: _,
         } = self;
         drop(stand_in);

@@ -4,6 +4,7 @@ ghost use Rattle.std.specs.Prelude.{◌≡◌, IsTrue, MatchOption};
 ghost use Rattle.radio_core.specs.Lending.{IsTakenOut, StandsIn};
 
 use radio_core::{Control, ListedPart};
+use radio_parts::LAST_MOMENT;
 use radio_values::MountName;
 
 /// Takes the mount's part out of the control, and leaves this in its place, if it is one without data; else one is made. Returns
@@ -60,4 +61,30 @@ fn is_stand_in(part: &ListedPart, mount: &MountName) -> bool
 {
     let part = part.part();
     part.mount == *mount && part.attachments.is_empty() && part.lagged.is_empty()
+}
+
+/// Drops the part without data if it knows of no block of the second half of the time that sources have, in seconds, but one has
+/// come. Another is made then, so that a clock need not look at the mount's part for a while. Moments are in milliseconds.
+pub(crate) fn drop_old(stand_in: &mut Option<ListedPart>, last_block: u64, now: u64, timeout: u32) {
+    let known = last_block_of(stand_in);
+    let half = u64::from(timeout).saturating_mul(500);
+    if known < last_block && known.saturating_add(half) < now {
+        *stand_in = None;
+    }
+}
+
+/// Returns when the last block of the part's session had come, in milliseconds; the last moment if there is no part, or it is not live.
+pub(crate) fn last_block_of(part: &Option<ListedPart>) -> u64 {
+    match part {
+        Some(part) => last_block(part),
+        None => LAST_MOMENT,
+    }
+}
+
+/// Returns when the last block of the part's session had come, in milliseconds; the last moment if it is not live.
+pub(crate) fn last_block(part: &ListedPart) -> u64 {
+    match part.session() {
+        Some(session) => session.last_block,
+        None => LAST_MOMENT,
+    }
 }
