@@ -41,7 +41,7 @@ module _ {S : Type 0} (steps : Steps S) where
     chain = chain_one from to (entry (Leave c.id) r.0) r.1;
     served = record {
       same = same.id;
-      stands = λ past st. left_on c c' past r.0 same.id (over_from c.status.fate over) here same.given same.taken same.owed same.session fate sits left st;
+      stands = λ arrival past st. left_on c c' past r.0 same.id (over_from c.status.fate over) here same.given same.taken same.owed same.session fate sits left st;
       later = later_same calls same.taken refused;
     };
     alone = λ goes. absurd (not_over c.status.fate over goes);
@@ -61,7 +61,7 @@ module _ {S : Type 0} (steps : Steps S) where
   leaves_nothing {from} {to} {c} e left = record {
     entries = [];
     chain = e;
-    served = served_by_none c c refl (later_none c) (λ past st. st);
+    served = served_by_none c c refl (later_none c) (λ arrival past st. st);
     alone = λ goes. refl;
     leaving = inl refl;
     again = λ gone. refl;
@@ -150,7 +150,7 @@ module _ {S : Type 0} (steps : Steps S) where
   draws_nothing ms news from c idle asked = record {
     entries = [];
     chain = refl;
-    served = served_by_none c c refl (later_none c) (λ past st. st);
+    served = served_by_none c c refl (later_none c) (λ arrival past st. st);
     goes = λ e. e;
     drawn = λ new sits goes. absurd (idle new sits goes);
     asked_for = λ long goes none. asked long goes;

@@ -14,7 +14,7 @@ use Rattle.radio_connections.specs.Lines.{HasGiven}
 use Rattle.radio_connections.specs.Connections.{Connection, is_open}
 use Rattle.radio_connections.specs.declared.conn.Fate.{Fate}
 use Rattle.radio_connections.specs.declared.conn.Fate.TheVariants.{Open, Ended, Closed, Cut}
-use Rattle.radio_connections.specs.Course.{IsOver}
+use Rattle.radio_connections.specs.Course.{Arrival, IsOver}
 use Rattle.radio_connections.specs.Duties.{IsWritten, IsLater}
 use Rattle.radio_connections.specs.Serving.{StandsBefore, Stands, IsServed}
 use Rattle.radio_connections.specs.Answering.{later_by, IsUnwritten, IsSpared, IsAnswered, AreAnswered, IsHeardOn}
@@ -106,14 +106,20 @@ takes_some (suc n) (x ∷ xs) some more e = cc
 pub served_then : (a b c : Connection) (xs ys : List Entry) → IsServed a xs b → IsServed b ys c → IsServed a (xs ++ ys) c
 served_then a b c xs ys f g = record {
   same = g.same ∙ f.same;
-  stands = λ past st. subst (λ (zs : List Entry). Stands c zs) (append_assoc past xs ys) (g.stands (past ++ xs) (f.stands past st));
+  stands = λ arrival past st.
+      subst (λ (zs : List Entry). Stands arrival c zs) (append_assoc past xs ys) (g.stands arrival (past ++ xs) (f.stands arrival past st));
   later = later_then a b c f.later g.later;
 }
 
 -- no entry was made
-pub served_by_none : (a b : Connection) → b.id ≡ a.id → IsLater a b → ((past : List Entry) → Stands a past → Stands b past) → IsServed a [] b
+pub served_by_none : (a b : Connection) → b.id ≡ a.id → IsLater a b → ((arrival : Arrival) (past : List Entry) → Stands arrival a past → Stands arrival b past)
+    → IsServed a [] b
 served_by_none a b same later keeps =
-    record { same = same; stands = λ past st. subst (λ (zs : List Entry). Stands b zs) (sym (append-nil past)) (keeps past st); later = later }
+    record {
+      same = same;
+      stands = λ arrival past st. subst (λ (zs : List Entry). Stands arrival b zs) (sym (append-nil past)) (keeps arrival past st);
+      later = later;
+    }
 
 -- the same, told of an equal connection
 
@@ -132,7 +138,7 @@ answered_as_one {a} {b} {c} {event} {xs} e = subst (λ (o : Connection). IsAnswe
 -- it is cut off
 pub served_by_cut : (c c' : Connection) → IsOne c c' → IsLater c c' → c'.given ≡ c.given → c'.taken ≡ c.taken → c'.status.fate ≡ Cut → IsServed c [] c'
 served_by_cut c c' one calls given taken fate =
-    served_by_none c c' one.id calls (λ past st. cut_off c c' [] past one st [] (given ∙ sym (append-nil c.given)) taken fate)
+    served_by_none c c' one.id calls (λ arrival past st. cut_off c c' [] past one st [] (given ∙ sym (append-nil c.given)) taken fate)
 
 -- or was cut off with an event
 pub answered_by_cut : (c c' : Connection) (event : Event) → IsOne c c' → IsLater c c' → IsSpared c c' → c'.taken ≡ c.taken
@@ -142,9 +148,9 @@ answered_by_cut c c' event one calls spared taken asked fate = record {
   once = inl refl;
   made = λ goes. absurd (not_cut (sym fate ∙ goes));
   seat = λ other. one.sits;
-  stands = λ later past st.
-      subst (λ (es : List Event). StandsBefore es c' (past ++ [])) (ap (λ (f : Fate). later_by f later) (sym fate))
-      (subst (λ (es : List Entry). Stands c' es) (sym (append-nil past))
+  stands = λ arrival later past st.
+      subst (λ (es : List Event). StandsBefore arrival es c' (past ++ [])) (ap (λ (f : Fate). later_by f later) (sym fate))
+      (subst (λ (es : List Entry). Stands arrival c' es) (sym (append-nil past))
       (cut_off c c' (event ∷ later) past one st [] (spared.given ∙ sym (append-nil c.given)) taken fate));
   later = calls;
   spared = spared;
@@ -177,13 +183,13 @@ pub served_by_write : (c c' : Connection) (n : ℕ) → IsOne c c' → IsLater c
     → c'.status.fate ≡ c.status.fate → IsServed c [] c'
 served_by_write c c' n one calls goes owed given taken session fate =
     served_by_none c c' one.id calls
-    (λ past st. taken_on c c' past one st goes (take n c.owed) (sym (take-append-drop n c.owed)
+    (λ arrival past st. taken_on c c' past one st goes (take n c.owed) (sym (take-append-drop n c.owed)
     ∙ ap (λ (xs : List ℕ). take n c.owed ++ xs) (sym owed)) given taken session fate)
 
 -- other things are noted
 pub served_by_note : (c c' : Connection) → IsOne c c' → IsLater c c' → IsSame c c' → c'.status.fate ≡ c.status.fate → IsServed c [] c'
 served_by_note c c' one calls same fate =
-    served_by_none c c' one.id calls (λ past st. still c c' [] past one st same.given same.taken same.owed same.session fate)
+    served_by_none c c' one.id calls (λ arrival past st. still c c' [] past one st same.given same.taken same.owed same.session fate)
 
 -- a draw is answered
 pub served_by_draw : (c c' : Connection) (room : ℕ) (entries : List Entry) → c.status.fate ≡ Open → IsAnswered (Draw c.id room) c entries c'
@@ -191,8 +197,8 @@ pub served_by_draw : (c c' : Connection) (room : ℕ) (entries : List Entry) →
 served_by_draw c c' room entries goes a = record {
   same = a.same;
   stands =
-      λ past st. subst (λ (es : List Event). StandsBefore es c' (past ++ entries)) (later_by_nil c'.status.fate)
-      (a.stands [] past (room_on c past goes room st));
+      λ arrival past st. subst (λ (es : List Event). StandsBefore arrival es c' (past ++ entries)) (later_by_nil c'.status.fate)
+      (a.stands arrival [] past (room_on c past goes room st));
   later = a.later;
 }
 
@@ -206,8 +212,8 @@ heard_so ms c m c' bytes heard entries goes is one calls same given unwritten as
   same = a.same ∙ one.id;
   heard = inr (record { heard = heard; is = is; first = a.first });
   asking = notes_asking ms c c' heard.events entries a.all (a.asked ∙ asked);
-  stands = λ before past now st.
-      a.stands past
+  stands = λ arrival before past now st.
+      a.stands arrival past
       (heard_on (record c { given = before }) m past (record { id = one.id; sits = one.sits; left = one.left }) st goes bytes heard is (given
       ∙ now) unwritten.taken owed session fate);
   later = later_then c m c' calls a.later;
@@ -221,8 +227,8 @@ heard_by_cut ms c c' bytes one calls spared taken fate = record {
   same = one.id;
   heard = inl refl;
   asking = record { some = λ goes. absurd (not_cut (sym fate ∙ goes)); none = λ goes. absurd (not_cut (sym fate ∙ goes)) };
-  stands = λ before past now st.
-      subst (λ (es : List Entry). Stands c' es) (sym (append-nil past))
+  stands = λ arrival before past now st.
+      subst (λ (es : List Entry). Stands arrival c' es) (sym (append-nil past))
       (cut_off (record c { given = before }) c' [] past (record { id = one.id; sits = one.sits; left = one.left }) st bytes (spared.given ∙ now) taken fate);
   later = calls;
   spared = spared;
@@ -237,8 +243,8 @@ pub served_by_hearing : {ms : ℕ} (c m c' : Connection) (bytes : List ℕ) (ent
     → m.status.fate ≡ c.status.fate → IsHeardOn ms bytes m entries c' → IsServed c entries c'
 served_by_hearing {ms} c m c' bytes entries one calls given taken owed session fate h = record {
   same = h.same ∙ one.id;
-  stands = λ past st.
-      h.stands c.given past given
+  stands = λ arrival past st.
+      h.stands arrival c.given past given
       (still c (record m { given = c.given }) [] past (record { id = one.id; sits = one.sits; left = one.left }) st refl taken owed session fate);
   later = later_then c m c' calls h.later;
 }
@@ -246,13 +252,13 @@ served_by_hearing {ms} c m c' bytes entries one calls given taken owed session f
 -- its line has closed
 pub served_by_close : (c c' : Connection) → IsOne c c' → IsLater c c' → IsWritten c.status.fate → c.owed ≡ [] → c'.given ≡ c.given → c'.taken ≡ c.taken
     → c'.status.fate ≡ Closed → IsServed c [] c'
-served_by_close c c' one calls goes owed given taken fate = served_by_none c c' one.id calls (λ past st. closed_out c c' past one st goes owed given taken fate)
+served_by_close c c' one calls goes owed given taken fate = served_by_none c c' one.id calls (λ arrival past st. closed_out c c' past one st goes owed given taken fate)
 
 -- what came after its end is passed over
 pub served_by_passing : (c c' : Connection) (bytes : List ℕ) → IsOne c c' → IsLater c c' → c.status.fate ≡ Ended → c'.given ≡ c.given ++ bytes
     → c'.taken ≡ c.taken → c'.owed ≡ c.owed → c'.status.fate ≡ Ended → IsServed c [] c'
 served_by_passing c c' bytes one calls ended given taken owed fate =
-    served_by_none c c' one.id calls (λ past st. passed_over c c' past one st ended bytes given taken owed fate)
+    served_by_none c c' one.id calls (λ arrival past st. passed_over c c' past one st ended bytes given taken owed fate)
 
 pub served_by_read_on : (c c' : Connection) (answer : Received) (buffer : List ℕ) → IsOne c c' → IsLater c c' → c.status.fate ≡ Ended
     → HasGiven answer buffer c.given c'.given → c'.taken ≡ c.taken → c'.owed ≡ c.owed

@@ -14,7 +14,7 @@ use Rattle.radio_session.specs.Saying.{said}
 use Rattle.radio_connections.specs.declared.conn.Fate.{Fate}
 use Rattle.radio_connections.specs.declared.conn.Fate.TheVariants.{Open, Ended, Closed, Cut}
 use Rattle.radio_connections.specs.Connections.{Connection}
-use Rattle.radio_connections.specs.Course.{Standing, Course, IsOver, fate_by, pending_by, answered, is_seat, hears, has_room, applies, closes, is_cut}
+use Rattle.radio_connections.specs.Course.{Arrival, Standing, Course, IsOver, fate_by, pending_by, answered, is_seat, hears, has_room, applies, closes, is_cut}
 use Rattle.radio_connections.specs.Course.{passes_over, leaves}
 use Rattle.radio_connections.specs.Duties.{IsWritten}
 use Rattle.radio_connections.specs.Serving.{IsHanded, StandsBefore, Stands}
@@ -49,10 +49,10 @@ begun_text Ended text taken owed h = (owed, h)
 begun_text Closed text taken owed h = ([], h ∙ sym (append-nil taken))
 begun_text Cut text taken owed h = h
 
-module _ (c' : Connection) (pending : List Event) (entries : List Entry) (t : Standing) (f : Fate) where
+module _ {arrival : Arrival} (c' : Connection) (pending : List Event) (entries : List Entry) (t : Standing) (f : Fate) where
   -- a connection of this fate stands so
-  pub stands_so : Course c'.id t → t.given ≡ c'.given → t.entries ≡ entries → t.pending ≡ pending → t.sits ≡ c'.status.sits → t.has_left ≡ c'.status.has_left
-      → c'.status.fate ≡ f → t.fate ≡ f → (f ≡ Open → t.session ≡ c'.session) → IsHanded f t.text c'.taken c'.owed → StandsBefore pending c' entries
+  pub stands_so : Course arrival c'.id t → t.given ≡ c'.given → t.entries ≡ entries → t.pending ≡ pending → t.sits ≡ c'.status.sits → t.has_left ≡ c'.status.has_left
+      → c'.status.fate ≡ f → t.fate ≡ f → (f ≡ Open → t.session ≡ c'.session) → IsHanded f t.text c'.taken c'.owed → StandsBefore arrival pending c' entries
   stands_so course given same_entries same_pending sits left fate same_fate session handed = record {
     standing = t;
     course = course;
@@ -66,13 +66,13 @@ module _ (c' : Connection) (pending : List Event) (entries : List Entry) (t : St
     handed = subst (λ (x : Fate). IsHanded x t.text c'.taken c'.owed) (sym fate) handed;
   }
 
-module _ (c c' : Connection) (pending : List Event) (past : List Entry) (one : IsOne c c') (st : StandsBefore pending c past) where
-  private_course : Course c'.id st.standing
-  private_course = subst (λ (n : ℕ). Course n st.standing) (sym one.id) st.course
+module _ {arrival : Arrival} (c c' : Connection) (pending : List Event) (past : List Entry) (one : IsOne c c') (st : StandsBefore arrival pending c past) where
+  private_course : Course arrival c'.id st.standing
+  private_course = subst (λ (n : ℕ). Course arrival n st.standing) (sym one.id) st.course
 
   -- nothing has happened but that other things were noted
   pub still : c'.given ≡ c.given → c'.taken ≡ c.taken → c'.owed ≡ c.owed → c'.session ≡ c.session → c'.status.fate ≡ c.status.fate
-      → StandsBefore pending c' past
+      → StandsBefore arrival pending c' past
   still given taken owed session fate =
       stands_so c' pending past st.standing c.status.fate private_course (st.same_given ∙ sym given) st.same_entries st.same_pending (st.same_sits
       ∙ sym one.sits) (st.same_left ∙ sym one.left)
@@ -81,7 +81,7 @@ module _ (c c' : Connection) (pending : List Event) (past : List Entry) (one : I
       (subst (λ (xs : List ℕ). IsHanded c.status.fate st.standing.text c.taken xs) (sym owed) st.handed))
 
   -- it is cut off, with bytes that were not heard
-  pub cut_off : (unheard : List ℕ) → c'.given ≡ c.given ++ unheard → c'.taken ≡ c.taken → c'.status.fate ≡ Cut → Stands c' past
+  pub cut_off : (unheard : List ℕ) → c'.given ≡ c.given ++ unheard → c'.taken ≡ c.taken → c'.status.fate ≡ Cut → Stands arrival c' past
   cut_off unheard given taken fate =
       let s = st.standing in
       let begun = begun_text c.status.fate s.text c.taken c.owed st.handed in
@@ -90,15 +90,15 @@ module _ (c c' : Connection) (pending : List Event) (past : List Entry) (one : I
       ∙ sym one.left) fate refl (λ o. absurd (cc))
       (begun.0, begun.1 ∙ ap (λ (xs : List ℕ). xs ++ begun.0) (sym taken))
 
-module _ (c c' : Connection) (past : List Entry) (one : IsOne c c') (st : Stands c past) where
-  quiet_course : Course c'.id st.standing
-  quiet_course = subst (λ (n : ℕ). Course n st.standing) (sym one.id) st.course
+module _ {arrival : Arrival} (c c' : Connection) (past : List Entry) (one : IsOne c c') (st : Stands arrival c past) where
+  quiet_course : Course arrival c'.id st.standing
+  quiet_course = subst (λ (n : ℕ). Course arrival n st.standing) (sym one.id) st.course
 
   -- it is closed, and has taken all
-  pub closed_out : (text : IsWritten c.status.fate) → c.owed ≡ [] → c'.given ≡ c.given → c'.taken ≡ c.taken → c'.status.fate ≡ Closed → Stands c' past
+  pub closed_out : (text : IsWritten c.status.fate) → c.owed ≡ [] → c'.given ≡ c.given → c'.taken ≡ c.taken → c'.status.fate ≡ Closed → Stands arrival c' past
   closed_out goes owed given taken fate =
       let s = st.standing in
-      stands_so c' [] past (record s { fate = Closed }) Closed (closes s quiet_course st.same_pending) (st.same_given
+      stands_so c' [] past (record s { fate = Closed }) Closed (closes s quiet_course (subst IsWritten (sym st.same_fate) goes) st.same_pending) (st.same_given
       ∙ sym given) st.same_entries st.same_pending
       (st.same_sits ∙ sym one.sits) (st.same_left ∙ sym one.left) fate refl (λ o. absurd (cc))
       (written_text c.status.fate goes s.text c.taken c.owed st.handed ∙ ap (λ (xs : List ℕ). c.taken ++ xs) owed ∙ append-nil c.taken ∙ sym taken)
@@ -106,7 +106,7 @@ module _ (c c' : Connection) (past : List Entry) (one : IsOne c c') (st : Stands
   -- bytes come, and are heard
   pub heard_on : c.status.fate ≡ Open → (bytes : List ℕ) (heard : Heard) → IsHeard c.session bytes heard → c'.given ≡ c.given ++ bytes → c'.taken ≡ c.taken
       → c'.owed ≡ c.owed
-      → c'.session ≡ heard.conversation → c'.status.fate ≡ c.status.fate → StandsBefore heard.events c' past
+      → c'.session ≡ heard.conversation → c'.status.fate ≡ c.status.fate → StandsBefore arrival heard.events c' past
   heard_on goes bytes heard is given taken owed session fate =
       let s = st.standing in
       stands_so c' heard.events past (record s { given = s.given ++ bytes; session = heard.conversation; pending = heard.events }) Open
@@ -118,7 +118,7 @@ module _ (c c' : Connection) (past : List Entry) (one : IsOne c c') (st : Stands
 
   -- bytes come after its end
   pub passed_over : c.status.fate ≡ Ended → (bytes : List ℕ) → c'.given ≡ c.given ++ bytes → c'.taken ≡ c.taken → c'.owed ≡ c.owed → c'.status.fate ≡ Ended
-      → Stands c' past
+      → Stands arrival c' past
   passed_over ended bytes given taken owed fate =
       let s = st.standing in
       stands_so c' [] past (record s { given = s.given ++ bytes }) Ended (passes_over s quiet_course (st.same_fate ∙ ended) bytes)
@@ -130,7 +130,7 @@ module _ (c c' : Connection) (past : List Entry) (one : IsOne c c') (st : Stands
   -- its line takes some of what is owed
   pub taken_on : (goes : IsWritten c.status.fate) (part : List ℕ) → c.owed ≡ part ++ c'.owed → c'.given ≡ c.given → c'.taken ≡ c.taken ++ part
       → c'.session ≡ c.session
-      → c'.status.fate ≡ c.status.fate → Stands c' past
+      → c'.status.fate ≡ c.status.fate → Stands arrival c' past
   taken_on goes part owed given taken session fate =
       let s = st.standing in
       stands_so c' [] past s c.status.fate quiet_course (st.same_given ∙ sym given) st.same_entries st.same_pending (st.same_sits ∙ sym one.sits) (st.same_left
@@ -140,25 +140,25 @@ module _ (c c' : Connection) (past : List Entry) (one : IsOne c c') (st : Stands
       (written_text c.status.fate goes s.text c.taken c.owed st.handed ∙ ap (λ (xs : List ℕ). c.taken ++ xs) owed ∙ sym (append_assoc c.taken part c'.owed)
       ∙ ap (λ (xs : List ℕ). xs ++ c'.owed) (sym taken)))
 
-module _ (c : Connection) (past : List Entry) where
+module _ {arrival : Arrival} (c : Connection) (past : List Entry) where
   -- there is room for some data
-  pub room_on : c.status.fate ≡ Open → (room : ℕ) → Stands c past → StandsBefore (Draw c.id room ∷ []) c past
+  pub room_on : c.status.fate ≡ Open → (room : ℕ) → Stands arrival c past → StandsBefore arrival (Draw c.id room ∷ []) c past
   room_on goes room st =
       let s = st.standing in
       stands_so c (Draw c.id room ∷ []) past (record s { pending = Draw c.id room ∷ [] }) c.status.fate
       (has_room s st.course (st.same_fate ∙ goes, st.same_pending) room)
       st.same_given st.same_entries refl st.same_sits st.same_left refl st.same_fate st.same_session st.handed
 
-module _ (c c' : Connection) (past : List Entry) (reply : Reply) where
+module _ {arrival : Arrival} (c c' : Connection) (past : List Entry) (reply : Reply) where
   -- its client leaves
   pub left_on : c'.id ≡ c.id → IsOver c.status.fate → c.status.has_left ≡ false → c'.given ≡ c.given → c'.taken ≡ c.taken → c'.owed ≡ c.owed
       → c'.session ≡ c.session
-      → c'.status.fate ≡ c.status.fate → c'.status.sits ≡ c.status.sits → c'.status.has_left ≡ true → Stands c past
-      → Stands c' (past ++ entry (Leave c.id) reply ∷ [])
+      → c'.status.fate ≡ c.status.fate → c'.status.sits ≡ c.status.sits → c'.status.has_left ≡ true → Stands arrival c past
+      → Stands arrival c' (past ++ entry (Leave c.id) reply ∷ [])
   left_on id over here given taken owed session fate sits left st =
       let s = st.standing in
       stands_so c' [] (past ++ entry (Leave c.id) reply ∷ []) (record s { entries = s.entries ++ entry (Leave c.id) reply ∷ []; has_left = true }) c.status.fate
-      (subst (λ (n : ℕ). Course n (record s { entries = s.entries ++ entry (Leave c.id) reply ∷ []; has_left = true })) (sym id)
+      (subst (λ (n : ℕ). Course arrival n (record s { entries = s.entries ++ entry (Leave c.id) reply ∷ []; has_left = true })) (sym id)
       (leaves s st.course (subst IsOver (sym st.same_fate) over) (st.same_left ∙ here) reply))
       (st.same_given ∙ sym given) (ap (λ (xs : List Entry). xs ++ entry (Leave c.id) reply ∷ []) st.same_entries) st.same_pending (st.same_sits
       ∙ sym sits) (sym left) fate st.same_fate
@@ -176,18 +176,18 @@ told_on : (state : State) (text taken owed told : List ℕ) → text ≡ taken +
 told_on Running text taken owed told h = ap (λ (xs : List ℕ). xs ++ told) h ∙ append_assoc taken owed told
 told_on (Shut ending) text taken owed told h = ap (λ (xs : List ℕ). xs ++ told) h ∙ append_assoc taken owed told
 
-module _ (c c' : Connection) (event : Event) (later : List Event) (past : List Entry) (reply : Reply) (goes : c.status.fate ≡ Open)
+module _ {arrival : Arrival} (c c' : Connection) (event : Event) (later : List Event) (past : List Entry) (reply : Reply) (goes : c.status.fate ≡ Open)
     (id : c'.id ≡ c.id) (given : c'.given ≡ c.given) (taken : c'.taken ≡ c.taken)
     (sits : c'.status.sits ≡ (is_seat event reply || c.status.sits)) (left : c'.status.has_left ≡ (is_leave event || c.status.has_left))
-    (st : StandsBefore (event ∷ later) c past) where
+    (st : StandsBefore arrival (event ∷ later) c past) where
   abbrev s : Standing
   s = st.standing
 
   abbrev t : Standing
   t = answered s event later reply
 
-  after : Course c'.id t
-  after = subst (λ (n : ℕ). Course n t) (sym id) (applies s st.course (st.same_fate ∙ goes) event later st.same_pending reply)
+  after : Course arrival c'.id t
+  after = subst (λ (n : ℕ). Course arrival n t) (sym id) (applies s st.course (st.same_fate ∙ goes) event later st.same_pending reply)
 
   all_entries : t.entries ≡ past ++ entry event reply ∷ []
   all_entries = ap (λ (xs : List Entry). xs ++ entry event reply ∷ []) st.same_entries
@@ -206,7 +206,7 @@ module _ (c c' : Connection) (event : Event) (later : List Event) (past : List E
 
   -- it is told, and goes on or has ended
   told_so : c'.status.fate ≡ fate_by (said c.session.says reply).state → c'.session ≡ saying_now c.session (said c.session.says reply).says
-      → c'.owed ≡ c.owed ++ (said c.session.says reply).bytes → StandsBefore (later_by c'.status.fate later) c' (past ++ entry event reply ∷ [])
+      → c'.owed ≡ c.owed ++ (said c.session.says reply).bytes → StandsBefore arrival (later_by c'.status.fate later) c' (past ++ entry event reply ∷ [])
   told_so fate session owed =
       let u = said c.session.says reply in
       stands_so c' (later_by c'.status.fate later) (past ++ entry event reply ∷ []) t (fate_by u.state) after (st.same_given ∙ sym given) all_entries
@@ -220,7 +220,7 @@ module _ (c c' : Connection) (event : Event) (later : List Event) (past : List E
       (told_on u.state s.text c.taken c.owed u.bytes text_is))))
 
   -- or it is cut off
-  cut_so : c'.status.fate ≡ Cut → StandsBefore (later_by c'.status.fate later) c' (past ++ entry event reply ∷ [])
+  cut_so : c'.status.fate ≡ Cut → StandsBefore arrival (later_by c'.status.fate later) c' (past ++ entry event reply ∷ [])
   cut_so fate =
       let told = (said s.session.says reply).bytes in
       stands_so c' (later_by c'.status.fate later) (past ++ entry event reply ∷ []) (record t { given = t.given ++ []; pending = []; fate = Cut }) Cut
@@ -230,7 +230,7 @@ module _ (c c' : Connection) (event : Event) (later : List Event) (past : List E
       (c.owed ++ told, ap (λ (xs : List ℕ). xs ++ told) text_is ∙ append_assoc c.taken c.owed told ∙ ap (λ (xs : List ℕ). xs ++ (c.owed ++ told)) (sym taken))
 
   pub answered_as : (f : Fate) → c'.status.fate ≡ f → IsToldAs f reply c.session c.owed c'.session c'.owed
-      → StandsBefore (later_by c'.status.fate later) c' (past ++ entry event reply ∷ [])
+      → StandsBefore arrival (later_by c'.status.fate later) c' (past ++ entry event reply ∷ [])
   answered_as Open fate told = told_so (fate ∙ told.0) told.1 told.2
   answered_as Ended fate told = told_so (fate ∙ told.0) told.1 told.2
   answered_as Closed fate told = told_so (fate ∙ told.0) told.1 told.2

@@ -123,7 +123,7 @@ module _ {S : Type 0} (steps : Steps S) where
   rests_in_turn {ms} {news} from c rests over = record {
     entries = [];
     chain = refl;
-    served = served_by_none c c refl (later_none c) (λ past st. st);
+    served = served_by_none c c refl (later_none c) (λ arrival past st. st);
     drawn = λ new none goes sits. absurd (rests goes);
     asked = λ goes. absurd (rests goes);
     once = inl (unread_same refl);

@@ -9,7 +9,7 @@ use Rattle.radio_session.specs.Saying.{said}
 use Rattle.radio_connections.specs.declared.conn.Fate.{Fate}
 use Rattle.radio_connections.specs.declared.conn.Fate.TheVariants.{Open, Closed, Cut}
 use Rattle.radio_connections.specs.Connections.{Connection}
-use Rattle.radio_connections.specs.Course.{fate_by, is_listen}
+use Rattle.radio_connections.specs.Course.{Arrival, fate_by, is_listen}
 use Rattle.radio_session.specs.Hearing.{Heard, IsHeard}
 use Rattle.radio_connections.specs.Duties.{IsLater, LacksMemory, AreFirstOf, events_of, NotesAsking}
 use Rattle.radio_connections.specs.Serving.{StandsBefore, Stands}
@@ -50,8 +50,8 @@ pub record IsAnswered (event : Event) (c : Connection) (entries : List Entry) (c
   pub once : (entries ≡ []) ⊎ ((reply : Reply) × (entries ≡ entry event reply ∷ []))
   pub made : c'.status.fate ≡ Open → (reply : Reply) × (entries ≡ entry event reply ∷ [])
   pub seat : is_listen event ≡ false → c'.status.sits ≡ c.status.sits
-  pub stands : (later : List Event) (past : List Entry) → StandsBefore (event ∷ later) c past
-      → StandsBefore (later_by c'.status.fate later) c' (past ++ entries)
+  pub stands : (arrival : Arrival) (later : List Event) (past : List Entry) → StandsBefore arrival (event ∷ later) c past
+      → StandsBefore arrival (later_by c'.status.fate later) c' (past ++ entries)
   pub later : IsLater c c'
   pub spared : IsSpared c c'
   pub asked : c'.status.asked_ms ≡ c.status.asked_ms
@@ -62,7 +62,7 @@ pub record AreAnswered (events : List Event) (c : Connection) (entries : List En
   -- the first of them, and all where it goes on
   pub first : AreFirstOf entries events
   pub all : c'.status.fate ≡ Open → events ≡ events_of entries
-  pub stands : (past : List Entry) → StandsBefore events c past → Stands c' (past ++ entries)
+  pub stands : (arrival : Arrival) (past : List Entry) → StandsBefore arrival events c past → Stands arrival c' (past ++ entries)
   pub later : IsLater c c'
   pub spared : IsSpared c c'
   pub asked : c'.status.asked_ms ≡ c.status.asked_ms
@@ -78,6 +78,7 @@ pub record IsHeardOn (ms : ℕ) (bytes : List ℕ) (c : Connection) (entries : L
   pub same : c'.id ≡ c.id
   pub heard : (entries ≡ []) ⊎ AreOf c bytes entries
   pub asking : NotesAsking ms c entries c'
-  pub stands : (given : List ℕ) (past : List Entry) → c.given ≡ given ++ bytes → Stands (record c { given = given }) past → Stands c' (past ++ entries)
+  pub stands : (arrival : Arrival) (given : List ℕ) (past : List Entry) → c.given ≡ given ++ bytes → Stands arrival (record c { given = given }) past
+      → Stands arrival c' (past ++ entries)
   pub later : IsLater c c'
   pub spared : IsSpared c c'

@@ -1,11 +1,10 @@
 -- The course of a connection: all that happens on it, in order, from its arrival to its end.
 use Rattle.std.specs.Prelude.{◌≡◌, ℕ, Bool, true, false, ◌&&◌, ◌||◌, List, [], ◌∷◌, ◌++◌}
-use Rattle.radio_policy.specs.declared.rule.Rule.{Rule}
 use Rattle.radio_addr.specs.declared.peer.Peer.{Peer}
 use Rattle.radio_events.specs.declared.event.Event.{Event}
 use Rattle.radio_events.specs.declared.event.Event.TheVariants.{Arrive, Listen, Draw, Leave}
 use Rattle.radio_events.specs.declared.reply.Reply.{Reply}
-use Rattle.radio_events.specs.declared.reply.Reply.TheVariants.{Arrived, Seated, Deny}
+use Rattle.radio_events.specs.declared.reply.Reply.TheVariants.{Arrived, Seated}
 use Rattle.radio_events.specs.declared.entry.Entry.{Entry}
 use Rattle.radio_events.specs.Events.{entry}
 use Rattle.radio_events.specs.declared.state.State.{State}
@@ -17,6 +16,18 @@ use Rattle.radio_session.specs.Saying.{said}
 use Rattle.radio_session.specs.Exchanges.{is_leave}
 use Rattle.radio_connections.specs.declared.conn.Fate.{Fate}
 use Rattle.radio_connections.specs.declared.conn.Fate.TheVariants.{Open, Ended, Closed, Cut}
+use Rattle.radio_connections.specs.Duties.{IsWritten}
+
+-- how a connection came: by what the settings say its client is answered, from which peer it came, and the reply to that
+pub record Arrival : Type 0 where
+  pub web : WebAnswers
+  pub peer : Peer
+  pub reply : Reply
+
+-- the reply lets nobody in
+abbrev pub LetsNobodyIn : Reply → Type 0
+LetsNobodyIn (Arrived id) = ⊥
+LetsNobodyIn reply = Unit {0}
 
 -- how far a connection has come
 pub record Standing : Type 0 where
@@ -51,14 +62,14 @@ newcomer web peer id =
       has_left = false;
     }
 
--- one whose connection is not taken in: it is told of the denial, and is nobody's client
-abbrev pub stranger : WebAnswers → Peer → Rule → Standing
-stranger web peer rule =
+-- a connection whose client was not let in: it is told the reply, and is nobody's
+abbrev pub stranger : Arrival → Standing
+stranger arrival =
     record {
       given = [];
       entries = [];
-      text = (said (asking web) (Deny rule)).bytes;
-      session = fresh web 0 peer;
+      text = (said (asking arrival.web) arrival.reply).bytes;
+      session = fresh arrival.web 0 arrival.peer;
       pending = [];
       sits = false;
       fate = Ended;
@@ -109,26 +120,26 @@ IsOver fate = Unit {0}
 abbrev pub IsQuiet : Standing → Type 0
 IsQuiet s = (s.fate ≡ Open) × (s.pending ≡ [])
 
--- What can have happened on the connection of this client, up to now.
+-- What can have happened on the connection of this client, which came so, up to now.
 -- rule: Reading
-pub data Course (id : ℕ) : Standing → Type 0 where
-  -- it comes, and is taken in, or not
-  arrives : (web : WebAnswers) (peer : Peer) → Course id (newcomer web peer id)
-  turned_away : (web : WebAnswers) (peer : Peer) (rule : Rule) → Course id (stranger web peer rule)
+pub data Course (arrival : Arrival) (id : ℕ) : Standing → Type 0 where
+  -- it comes, and is let in, or not
+  arrives : arrival.reply ≡ Arrived id → Course arrival id (newcomer arrival.web arrival.peer id)
+  turned_away : LetsNobodyIn arrival.reply → Course arrival id (stranger arrival)
   -- its line gives bytes, and they are heard as these events
-  hears : (s : Standing) → Course id s → IsQuiet s → (bytes : List ℕ) (heard : Heard) → IsHeard s.session bytes heard
-      → Course id (record s { given = s.given ++ bytes; session = heard.conversation; pending = heard.events })
+  hears : (s : Standing) → Course arrival id s → IsQuiet s → (bytes : List ℕ) (heard : Heard) → IsHeard s.session bytes heard
+      → Course arrival id (record s { given = s.given ++ bytes; session = heard.conversation; pending = heard.events })
   -- it has room for so many bytes of data
-  has_room : (s : Standing) → Course id s → IsQuiet s → (room : ℕ) → Course id (record s { pending = Draw id room ∷ [] })
+  has_room : (s : Standing) → Course arrival id s → IsQuiet s → (room : ℕ) → Course arrival id (record s { pending = Draw id room ∷ [] })
   -- the first of the events is applied
-  applies : (s : Standing) → Course id s → s.fate ≡ Open → (event : Event) (later : List Event) → s.pending ≡ event ∷ later → (reply : Reply)
-      → Course id (answered s event later reply)
-  -- nothing more comes on its line, or nothing more is told on it
-  closes : (s : Standing) → Course id s → s.pending ≡ [] → Course id (record s { fate = Closed })
+  applies : (s : Standing) → Course arrival id s → s.fate ≡ Open → (event : Event) (later : List Event) → s.pending ≡ event ∷ later → (reply : Reply)
+      → Course arrival id (answered s event later reply)
+  -- nothing more comes on its line, or nothing more is told on it; one that was cut off is not closed
+  closes : (s : Standing) → Course arrival id s → IsWritten s.fate → s.pending ≡ [] → Course arrival id (record s { fate = Closed })
   -- it is cut off: bytes that came are not heard, events are not applied, or it is not told all
-  is_cut : (s : Standing) → Course id s → (unheard : List ℕ) → Course id (record s { given = s.given ++ unheard; pending = []; fate = Cut })
+  is_cut : (s : Standing) → Course arrival id s → (unheard : List ℕ) → Course arrival id (record s { given = s.given ++ unheard; pending = []; fate = Cut })
   -- what comes after its end is passed over
-  passes_over : (s : Standing) → Course id s → s.fate ≡ Ended → (bytes : List ℕ) → Course id (record s { given = s.given ++ bytes })
+  passes_over : (s : Standing) → Course arrival id s → s.fate ≡ Ended → (bytes : List ℕ) → Course arrival id (record s { given = s.given ++ bytes })
   -- its client leaves, once it is over
-  leaves : (s : Standing) → Course id s → IsOver s.fate → s.has_left ≡ false → (reply : Reply)
-      → Course id (record s { entries = s.entries ++ entry (Leave id) reply ∷ []; has_left = true })
+  leaves : (s : Standing) → Course arrival id s → IsOver s.fate → s.has_left ≡ false → (reply : Reply)
+      → Course arrival id (record s { entries = s.entries ++ entry (Leave id) reply ∷ []; has_left = true })

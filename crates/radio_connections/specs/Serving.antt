@@ -9,7 +9,7 @@ use Rattle.radio_events.specs.Servers.{Steps, Chain}
 use Rattle.radio_connections.specs.declared.conn.Fate.{Fate}
 use Rattle.radio_connections.specs.declared.conn.Fate.TheVariants.{Open, Closed, Cut}
 use Rattle.radio_connections.specs.Connections.{Connection}
-use Rattle.radio_connections.specs.Course.{Standing, Course}
+use Rattle.radio_connections.specs.Course.{Arrival, Standing, Course}
 use Rattle.radio_connections.specs.Duties.{IsLater, IsAsked, IsAskedOnce, IsGiven, HasWaited, IsCutFor, IsInTime, HasMoved, HasNotMoved, NotesTaking, IsClosedFor}
 use Rattle.radio_connections.specs.Duties.{IsLetGo, IsFinishedFor, HasLeft, IsOneTurn, IsAskedFor, NotesAsking}
 use Rattle.radio_connections.specs.Rooms.{draw_room}
@@ -21,11 +21,11 @@ IsHanded Cut text taken owed = (lost : List ℕ) × (text ≡ taken ++ lost)
 IsHanded Closed text taken owed = text ≡ taken
 IsHanded fate text taken owed = text ≡ taken ++ owed
 
--- The connection stands as it must where these entries were made for it, and these events are still to be applied:
+-- The connection stands as it must where it came so, these entries were made for it, and these events are still to be applied:
 -- there is a course of its client by which its line gave what it gave, and was handed what was told.
-pub record StandsBefore (pending : List Event) (c : Connection) (entries : List Entry) : Type 0 where
+pub record StandsBefore (arrival : Arrival) (pending : List Event) (c : Connection) (entries : List Entry) : Type 0 where
   pub standing : Standing
-  pub course : Course c.id standing
+  pub course : Course arrival c.id standing
   pub same_given : standing.given ≡ c.given
   pub same_entries : standing.entries ≡ entries
   pub same_pending : standing.pending ≡ pending
@@ -37,14 +37,14 @@ pub record StandsBefore (pending : List Event) (c : Connection) (entries : List 
 
 -- and nothing is still to be applied
 -- rule: Reading
-abbrev pub Stands : Connection → List Entry → Type 0
-Stands c entries = StandsBefore [] c entries
+abbrev pub Stands : Arrival → Connection → List Entry → Type 0
+Stands arrival c entries = StandsBefore arrival [] c entries
 
--- These entries were made for the connection: whatever was made for it before, it stands with both.
+-- These entries were made for the connection: however it came, and whatever was made for it before, it stands with both.
 -- rule: Reading
 pub record IsServed (c : Connection) (entries : List Entry) (c' : Connection) : Type 0 where
   pub same : c'.id ≡ c.id
-  pub stands : (past : List Entry) → Stands c past → Stands c' (past ++ entries)
+  pub stands : (arrival : Arrival) (past : List Entry) → Stands arrival c past → Stands arrival c' (past ++ entries)
   pub later : IsLater c c'
 
 -- where the connection goes on, its one entry is this draw

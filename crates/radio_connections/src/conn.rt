@@ -121,7 +121,8 @@ impl<L: Line> Model for Conn<L> {
 impl<L: Line> Conn<L> {
     ghost use Rattle.radio_connections.specs.Connections.{newly_come, newly_ended, stays, lingers, IsTurnedAway};
     ghost use Rattle.std.specs.Prelude.{OnErr};
-    ghost use Rattle.radio_connections.specs.Admission.{IsTakenIn, LetsNobodyIn};
+    ghost use Rattle.radio_connections.specs.Admission.{IsTakenIn};
+    ghost use Rattle.radio_connections.specs.Course.{LetsNobodyIn};
 
     /// The connection of a client who was let in under this number.
     fn new(alloc: Global, web: WebAnswers, id: u64, peer: Peer, line: L, ms: u64) -> Conn<L>
@@ -188,7 +189,7 @@ impl<L: Line> Conn<L> {
         reply: Reply,
         ms: u64,
     ) -> Result<Conn<L>, OutOfMemory>
-        ensures taken_in { IfOk result (λ c. IsTakenIn peer reply (L.given line) (L.taken line) c) }
+        ensures taken_in { IfOk result (λ c. IsTakenIn (record { web = web; peer = peer; reply = reply }) (L.given line) (L.taken line) c) }
         ensures answers { IfOk result (λ c. c.session.says.web ≡ web) }
         ensures denial { IfOk result (λ c. (rule : Rule) → reply ≡ Deny rule → c.owed ≡ (said (asking web) (Deny rule)).bytes) }
         // memory is wanted only for one who was not let in

@@ -2,6 +2,7 @@
 use Rattle.std.proofs.Common.{◌≡◌, ◌==◌, ℕ, Bool, true, false, List, [], ◌∷◌, ◌++◌, Option, None, Some, refl, sym, ap, ◌∙◌, append_assoc}
 use Rattle.std.specs.Prelude.{if◌then◌else◌, option_map}
 use Rattle.std.proofs.lemmas.List.{append-nil}
+use Rattle.radio_events.specs.declared.entry.Entry.{Entry}
 use Rattle.radio_events.specs.declared.event.Event.{Event}
 use Rattle.radio_events.specs.declared.event.Event.TheVariants.{Leave}
 use Rattle.radio_events.specs.declared.reply.Reply.{Reply}
@@ -18,7 +19,7 @@ use Rattle.radio_session.specs.declared.session.Closing.{Closing}
 use Rattle.radio_session.specs.Saying.{Said, counted, ends, last_ending, last_text, noted, one_less, said, tells}
 use Rattle.radio_session.specs.Told.{told, while_open}
 use Rattle.radio_headline.specs.Course.{and_then, applied}
-use Rattle.radio_headline.proofs.Logs.{Entry, entries, replies, Each}
+use Rattle.radio_headline.proofs.Logs.{entries, replies, Each}
 use Rattle.radio_headline.proofs.ReplyForms.{LeaveReply, WasNotThere, HadFinished, IsNoted}
 
 -- they lead on
@@ -266,7 +267,7 @@ noted_silently : (says : Says) (closing : Option Closing) → closing ≡ None �
 noted_silently says None e = refl
 noted_silently says (Some closing) e = cc
 
-nothing_later : (state : State) → while_open state [] ≡ []
+pub nothing_later : (state : State) → while_open state [] ≡ []
 nothing_later Running = refl
 nothing_later (Shut ending) = refl
 

@@ -8,6 +8,7 @@ use Rattle.radio_blocks.specs.Cutting.{blocks_of}
 use Rattle.radio_settings_values.specs.declared.settings.Settings.{Settings}
 use Rattle.radio_access.specs.Lists.{Lists}
 use Rattle.radio_policy.specs.declared.rule.Rule.TheVariants.{BadMethod}
+use Rattle.radio_events.specs.declared.entry.Entry.{Entry}
 use Rattle.radio_events.specs.declared.event.Event.{Event}
 use Rattle.radio_events.specs.declared.event.Event.TheVariants.{Arrive, Source, Push, SourceEnd, Title, Listen, Draw, Command, Leave, RelayUp, RelayDown, Clock}
 use Rattle.radio_events.specs.declared.event.ListenRequest.{ListenRequest}
@@ -38,10 +39,10 @@ use Rattle.radio_session.specs.Saying.{greeting_text, said}
 use Rattle.radio_headline.specs.Listeners.{SourceIsAnswered}
 use Rattle.radio_headline.proofs.Greetings.{greeted_says}
 use Rattle.std.proofs.lemmas.List.{append-nil}
-use Rattle.radio_headline.specs.Course.{Happening, events_in, on}
+use Rattle.radio_headline.specs.Course.{Happening, events_in, on, entry, log_on}
 use Rattle.radio_headline.specs.Sources.{DeliversItsBody, IsRequest, pushed}
 use Rattle.radio_headline.proofs.Gathered.{IsOnIt}
-use Rattle.radio_headline.proofs.Logs.{Entry, entry, log_on, log_parted, Each, each_as, each_joined}
+use Rattle.radio_headline.proofs.Logs.{log_parted, Each, each_as, each_joined}
 use Rattle.radio_headline.proofs.AppliedLemmas.{IsLast, IsOrderly}
 use Rattle.radio_headline.proofs.RunLemmas.{AllNowhere, IsMoment, HasNumber, IsIdling, are_on_first, arrives_and_idles, last_stays, reached_opening, reached_after, reached_all}
 use Rattle.radio_headline.proofs.Connections.{arrival, AsksForMount, AsksNothing, ByGet, Feeds, IsIdleOrLeaving, IsBehindRequest, IsNoRequest, events_of}

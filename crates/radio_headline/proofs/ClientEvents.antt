@@ -4,6 +4,7 @@ use Rattle.std.specs.Prelude.{if◌then◌else◌}
 use Rattle.std.proofs.lemmas.List.{append-nil}
 use Rattle.std.proofs.lemmas.List.Concat.{flat_map-append}
 use Rattle.radio_addr.specs.declared.peer.Peer.{Peer}
+use Rattle.radio_events.specs.declared.entry.Entry.{Entry}
 use Rattle.radio_events.specs.declared.event.Event.{Event}
 use Rattle.radio_events.specs.declared.event.Event.TheVariants.{Arrive, Source, Push, SourceEnd, Title, Listen, Draw, Command, Leave, RelayUp, RelayDown, Clock}
 use Rattle.radio_events.specs.declared.reply.Reply.{Reply}
@@ -26,9 +27,9 @@ use Rattle.radio_session.specs.Saying.{said}
 use Rattle.radio_session.specs.Told.{told}
 use Rattle.radio_floor.specs.declared.labelled.Connection.TheVariants.{Client}
 use Rattle.radio_floor.specs.ScriptState.{connection_unless}
-use Rattle.radio_headline.specs.Course.{and_then, applied}
+use Rattle.radio_headline.specs.Course.{and_then, applied, entry}
 use Rattle.radio_headline.specs.Sources.{pushed, pushed_by}
-use Rattle.radio_headline.proofs.Logs.{Entry, entry, entries, replies, replies_joined, Each, each_as, each_joined}
+use Rattle.radio_headline.proofs.Logs.{entries, replies, replies_joined, Each, each_as, each_joined}
 use Rattle.radio_headline.proofs.AppliedLemmas.{EachAsked, applied_each, applied_tell, goes_on, IsNotLast, IsOpen, IsOrderly, none_last}
 use Rattle.radio_headline.proofs.AppliedLemmas.{open_joined, said_all, said_joined, told_joined}
 use Rattle.radio_headline.proofs.ReplyForms.{IsIdle}

@@ -4,6 +4,7 @@ use Rattle.std.specs.List.{concat}
 use Rattle.std.proofs.lemmas.List.{append-nil}
 use Rattle.radio_addr.specs.declared.peer.Peer.{Peer}
 use Rattle.radio_blocks.specs.Cutting.{blocks_of}
+use Rattle.radio_events.specs.declared.entry.Entry.{Entry}
 use Rattle.radio_events.specs.declared.event.Event.{Event}
 use Rattle.radio_events.specs.declared.event.Event.TheVariants.{Leave}
 use Rattle.radio_events.specs.declared.reply.Reply.{Reply}
@@ -24,9 +25,9 @@ use Rattle.radio_session.specs.Conversation.{Conversation, asking, saying_now}
 use Rattle.radio_exchanges.specs.Exchanges.{exchanged}
 use Rattle.radio_session.specs.Hearing.{Heard, HearsAs, body_closes, head_heard, nothing_held}
 use Rattle.radio_session.specs.Told.{told}
-use Rattle.radio_headline.specs.Course.{applied}
+use Rattle.radio_headline.specs.Course.{applied, entry}
 use Rattle.radio_headline.specs.Sources.{pushed}
-use Rattle.radio_headline.proofs.Logs.{Entry, entry, entries, replies, replies_joined, Each, each_joined, each_second}
+use Rattle.radio_headline.proofs.Logs.{entries, replies, replies_joined, Each, each_joined, each_second}
 use Rattle.radio_headline.proofs.AppliedLemmas.{EachAsked, applied_each, applied_orderly, IsLast, IsNotLast, IsOrderly}
 use Rattle.radio_headline.proofs.AppliedLemmas.{all_close_nothing, leaves_silently, orderly_joined, said_all, told_joined}
 use Rattle.radio_headline.proofs.ReplyForms.{IsIdle, leave_reply}

@@ -3,6 +3,7 @@ use Rattle.std.proofs.Common.{◌≡◌, ◌⊎◌, ℕ, true, false, List, [], 
 use Rattle.std.specs.Prelude.{map, codes, option_map}
 use Rattle.std.specs.Str.{bytes_eq}
 use Rattle.radio_addr.specs.declared.peer.Peer.{Peer}
+use Rattle.radio_events.specs.declared.entry.Entry.{Entry}
 use Rattle.radio_events.specs.declared.event.Event.{Event}
 use Rattle.radio_events.specs.declared.event.Event.TheVariants.{Arrive, Source, Push, SourceEnd, Title, Listen, Draw, Command, Leave, RelayUp, RelayDown}
 use Rattle.radio_events.specs.declared.reply.Reply.{Reply}
@@ -28,7 +29,7 @@ use Rattle.radio_pull.specs.Pulling.{Pulling}
 use Rattle.radio_floor.specs.declared.labelled.Connection.{Connection}
 use Rattle.radio_floor.specs.declared.labelled.Connection.TheVariants.{Client, Relay}
 use Rattle.radio_headline.specs.Sources.{pushed}
-use Rattle.radio_headline.proofs.Logs.{Entry, replies, Each}
+use Rattle.radio_headline.proofs.Logs.{replies, Each}
 use Rattle.radio_headline.proofs.AppliedLemmas.{said_all, IsOpen, IsNotLast, IsOrderly}
 use Rattle.radio_headline.proofs.Greetings.{Greeted}
 use Rattle.radio_headline.proofs.RelayWords.{IsCut, IsNotRefused, IsNoUp, OwnRelay, number_after}

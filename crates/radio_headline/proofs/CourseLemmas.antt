@@ -11,6 +11,7 @@ use Rattle.radio_values.specs.Limits.{max_title}
 use Rattle.radio_settings_values.specs.declared.settings.Settings.{Settings}
 use Rattle.radio_settings_values.specs.declared.settings.RelaySetting.{RelaySetting}
 use Rattle.radio_access.specs.Lists.{Lists}
+use Rattle.radio_events.specs.declared.entry.Entry.{Entry}
 use Rattle.radio_events.specs.declared.event.Event.{Event}
 use Rattle.radio_events.specs.declared.event.Event.TheVariants.{Arrive, Title, Draw, Leave, Clock}
 use Rattle.radio_events.specs.declared.reply.Reply.{Reply}
@@ -41,10 +42,10 @@ use Rattle.radio_floor.specs.declared.labelled.Connection.TheVariants.{Client, R
 use Rattle.radio_floor.specs.declared.labelled.Labelled.{Labelled}
 use Rattle.radio_floor.specs.ScriptState.{ScriptState, Performed, AsksOn, ComesTo, ComesToClient, ComesToRelay, IsPerformed, closes, connection_of, connection_unless}
 use Rattle.radio_floor.specs.ScriptState.{connects, exchanges, for_new_label, kept_unless, last_word, on_connection, told_lines, opens, with_connection, pulled_on, relay_named, taken_in}
-use Rattle.radio_headline.specs.Course.{ComesToNoted, Happening, Happens, HappensThere, IsAsked, Noted, and_then, applied, arrivals, events_in, noting, nothing_noted, on}
+use Rattle.radio_headline.specs.Course.{ComesToNoted, Happening, Happens, HappensThere, IsAsked, Noted, and_then, applied, arrivals, events_in, noting, nothing_noted, on, entry, log_on}
 use Rattle.radio_headline.specs.Scripts.{brought, bytes_in}
 use Rattle.radio_headline.specs.Sources.{pushed}
-use Rattle.radio_headline.proofs.Logs.{Entry, entry, entries, log_on, log_joined, after_joined, events_joined}
+use Rattle.radio_headline.proofs.Logs.{entries, log_joined, after_joined, events_joined}
 use Rattle.radio_headline.proofs.AppliedLemmas.{applied_lead}
 use Rattle.radio_headline.proofs.RelayLogs.{at, asks_lifts, down}
 use Rattle.radio_headline.proofs.RelayWords.{IsNoUp, OfRelay}

@@ -3,13 +3,14 @@ use Rattle.std.proofs.Common.{◌≡◌, ◌⊎◌, inl, inr, ℕ, ◌==◌, Boo
 use Rattle.std.specs.Prelude.{flat_map, if◌then◌else◌}
 use Rattle.std.specs.List.{AllByRecursion}
 use Rattle.std.proofs.lemmas.Bool.Decides.{nat_tests}
+use Rattle.radio_events.specs.declared.entry.Entry.{Entry}
 use Rattle.radio_events.specs.declared.event.Event.{Event}
 use Rattle.radio_events.specs.Events.{client_in}
 use Rattle.radio_core.specs.Handing.{is_number}
 use Rattle.radio_core.specs.Step.{world_after}
 use Rattle.radio_house.specs.World.{World}
-use Rattle.radio_headline.specs.Course.{Happening}
-use Rattle.radio_headline.proofs.Logs.{Each, Entry, entry, itself, log_on}
+use Rattle.radio_headline.specs.Course.{Happening, entry, log_on}
+use Rattle.radio_headline.proofs.Logs.{Each, itself}
 
 -- the events of the client are those on his connection
 counts_as : (id : ℕ) (event : Event) → is_number id (client_in event) ≡ true → client_in event ≡ Some id

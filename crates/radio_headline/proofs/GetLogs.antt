@@ -3,6 +3,7 @@ use Rattle.std.proofs.Common.{◌≡◌, ◌⊎◌, inl, inr, ℕ, Bool, true, f
 use Rattle.std.specs.Prelude.{if◌then◌else◌}
 use Rattle.std.specs.List.{AllByRecursion, flat_map}
 use Rattle.radio_policy.specs.declared.rule.Rule.{Rule}
+use Rattle.radio_events.specs.declared.entry.Entry.{Entry}
 use Rattle.radio_events.specs.declared.event.Event.{Event}
 use Rattle.radio_events.specs.declared.event.Event.TheVariants.{Arrive, Source, Push, SourceEnd, Title, Listen, Draw, Command, Leave, RelayUp, RelayDown, Clock}
 use Rattle.radio_events.specs.declared.event.ListenRequest.{ListenRequest}
@@ -20,10 +21,10 @@ use Rattle.radio_session.specs.Conversation.{asking}
 use Rattle.radio_session.specs.Draws.{draw}
 use Rattle.radio_session.specs.Saying.{said}
 use Rattle.radio_session.specs.Told.{AdmitNobody, draws_of, told}
-use Rattle.radio_headline.specs.Course.{Happening, events_in, on}
+use Rattle.radio_headline.specs.Course.{Happening, events_in, on, entry, log_on}
 use Rattle.radio_headline.specs.Listeners.{draws_to}
 use Rattle.radio_headline.proofs.Gathered.{IsOnIt, brought_to, gathered}
-use Rattle.radio_headline.proofs.Logs.{Entry, entry, log_on, replies, Each, each_as, each_joined}
+use Rattle.radio_headline.proofs.Logs.{replies, Each, each_as, each_joined}
 use Rattle.radio_headline.proofs.AppliedLemmas.{IsLast, IsLeaving, IsOpen, IsOrderly, said_all}
 use Rattle.radio_headline.proofs.RunLemmas.{IsIdling}
 use Rattle.radio_headline.proofs.Connections.{arrival, AsksForMount, AsksNothing, ByGet, Feeds as IsFeeding, IsIdleOrLeaving, IsBehindRequest, IsNoRequest}

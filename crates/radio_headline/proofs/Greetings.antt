@@ -1,6 +1,7 @@
 -- What a source is told of its request.
 use Rattle.std.proofs.Common.{◌≡◌, ℕ, List, [], ◌∷◌, ◌++◌, Option, refl, sym, ap, ◌∙◌, append_assoc}
 use Rattle.std.proofs.lemmas.List.{append-nil}
+use Rattle.radio_events.specs.declared.entry.Entry.{Entry}
 use Rattle.radio_events.specs.declared.event.Event.{Event}
 use Rattle.radio_events.specs.declared.reply.Reply.{Reply}
 use Rattle.radio_events.specs.declared.reply.Reply.TheVariants.{Arrived}
@@ -16,7 +17,7 @@ use Rattle.radio_exchanges.specs.Exchanges.{WorldExchange, exchanged, then_excha
 use Rattle.radio_session.specs.Framing.{greeting_of}
 use Rattle.radio_session.specs.Saying.{said}
 use Rattle.radio_session.specs.Told.{told}
-use Rattle.radio_headline.proofs.Logs.{Entry, replies}
+use Rattle.radio_headline.proofs.Logs.{replies}
 use Rattle.radio_headline.proofs.AppliedLemmas.{IsLast, IsOpen, last_shuts, said_all}
 use Rattle.radio_answers.specs.declared.web_answers.WebAnswers.{WebAnswers}
 

@@ -6,6 +6,7 @@ use Rattle.std.specs.Str.{bytes_eq}
 use Rattle.radio_addr.specs.declared.peer.Peer.{Peer}
 use Rattle.radio_blocks.specs.Cutting.{blocks_of}
 use Rattle.radio_policy.specs.declared.rule.Rule.{Rule}
+use Rattle.radio_events.specs.declared.entry.Entry.{Entry}
 use Rattle.radio_events.specs.declared.event.Event.{Event}
 use Rattle.radio_events.specs.declared.event.Event.TheVariants.{Leave}
 use Rattle.radio_events.specs.declared.reply.Reply.TheVariants.{Arrived}
@@ -28,9 +29,9 @@ use Rattle.radio_session.specs.Framing.{is_source, framing_of, greeting_of, star
 use Rattle.radio_session.specs.Saying.{said}
 use Rattle.radio_session.specs.Hearing.{Heard, body_closes, get_heard, greeted, nothing_held, refuses}
 use Rattle.radio_session.specs.Told.{told}
-use Rattle.radio_headline.specs.Course.{applied}
+use Rattle.radio_headline.specs.Course.{applied, entry}
 use Rattle.radio_headline.specs.Sources.{pushed}
-use Rattle.radio_headline.proofs.Logs.{Entry, entry, entries, replies, Each, each_as, each_joined}
+use Rattle.radio_headline.proofs.Logs.{entries, replies, Each, each_as, each_joined}
 use Rattle.radio_headline.proofs.AppliedLemmas.{EachAsked, applied_each, applied_orderly, goes_on, IsOpen, IsOrderly}
 use Rattle.radio_headline.proofs.AppliedLemmas.{orderly_joined, said_all, web_stays}
 use Rattle.radio_headline.proofs.ReplyForms.{IsIdle}

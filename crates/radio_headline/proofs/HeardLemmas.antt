@@ -7,6 +7,7 @@ use Rattle.std.proofs.lemmas.List.{append-nil, drop-append-le}
 use Rattle.radio_blocks.specs.Cutting.{blocks_of}
 use Rattle.radio_policy.specs.declared.rule.Rule.{Rule}
 use Rattle.radio_policy.specs.declared.rule.Rule.TheVariants.{BadHead, BadMethod}
+use Rattle.radio_events.specs.declared.entry.Entry.{Entry}
 use Rattle.radio_events.specs.declared.event.Event.{Event}
 use Rattle.radio_events.specs.declared.event.Event.TheVariants.{Push, SourceEnd}
 use Rattle.radio_heads.specs.declared.outcome.Progress.{Progress}
@@ -27,7 +28,6 @@ use Rattle.radio_session.specs.Framing.{is_source, framing_of, start_of}
 use Rattle.radio_session.specs.Hearing.{Heard, body_heard, delivered, get_heard, greeted, head_heard, nothing_held, refuses, source_heard}
 use Rattle.radio_session.specs.Pushes.{pushes}
 use Rattle.radio_headline.specs.Sources.{pushed}
-use Rattle.radio_headline.proofs.Logs.{Entry}
 use Rattle.radio_headline.proofs.AppliedLemmas.{EachAsked}
 use Rattle.radio_headline.proofs.Connections.{events_of, IsBehindRequest, ByGet, Feeds}
 use Rattle.radio_headline.proofs.ClientEvents.{asked_joined, feeds_with, get_with, pushed_joined}

@@ -5,7 +5,8 @@ use Rattle.radio_answers.specs.declared.web_answers.WebAnswers.{WebAnswers}
 use Rattle.radio_session.specs.Conversation.{Conversation}
 use Rattle.radio_floor.specs.declared.labelled.Connection.{Connection}
 use Rattle.radio_floor.specs.declared.labelled.Connection.TheVariants.{Client, Relay}
-use Rattle.radio_headline.proofs.Logs.{Entry, Each, each_as}
+use Rattle.radio_events.specs.declared.entry.Entry.{Entry}
+use Rattle.radio_headline.proofs.Logs.{Each, each_as}
 use Rattle.radio_headline.proofs.RunLemmas.{IsOwn, IsIdling}
 use Rattle.radio_headline.proofs.Connections.{AsksNothing, Facts, HasAskedNothing, HasSentGet, IsSource, IsPulling, IsClosed, IsSo}
 use Rattle.radio_headline.proofs.Connections.{Stage, AtHead, AfterGet, AtBody, AfterBody, Refused, RelayStage, AtAnswer, InAnswer}

@@ -31,5 +31,8 @@ mod SoundLemmas
 mod SittingLemmas
 mod HeadlineLemmas
 mod OfCourses
+mod ServedStages
+mod ServedHearing
+mod ServedLemmas
 mod PlayedLemmas
 mod HistoryLemmas

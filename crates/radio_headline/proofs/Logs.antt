@@ -4,20 +4,13 @@ use Rattle.std.specs.Prelude.{if◌then◌else◌, map}
 use Rattle.std.specs.List.{AllByRecursion}
 use Rattle.std.proofs.lemmas.Bool.Decides.{nat_tests}
 use Rattle.std.proofs.lemmas.List.{map-append}
+use Rattle.radio_events.specs.declared.entry.Entry.{Entry}
 use Rattle.radio_events.specs.declared.event.Event.{Event}
 use Rattle.radio_events.specs.declared.reply.Reply.{Reply}
-use Rattle.radio_core.specs.Handing.{is_number}
 use Rattle.radio_core.specs.Run.{world_after_all}
-use Rattle.radio_core.specs.Step.{reply_to, world_after}
+use Rattle.radio_core.specs.Step.{world_after}
 use Rattle.radio_house.specs.World.{World}
-use Rattle.radio_headline.specs.Course.{Happening, on, events_in}
-
-pub record Entry : Type 0 where
-  pub event : Event
-  pub reply : Reply
-
-abbrev pub entry : World → Event → Entry
-entry w event = record { event = event; reply = reply_to w event }
+use Rattle.radio_headline.specs.Course.{Happening, entry, entry_on, events_in, log_on, on}
 
 -- events, with the replies to them
 abbrev pub entries : World → List Event → List Entry
@@ -26,14 +19,6 @@ entries w (event ∷ events) = entry w event ∷ entries (world_after w event) e
 
 abbrev pub replies : List Entry → List Reply
 replies log = map (λ e. e.reply) log
-
-abbrev pub entry_on : World → Happening → ℕ → List Entry
-entry_on w happening label = (if is_number label happening.label then entry w happening.event ∷ [] else [])
-
--- those on the connection of the label
-abbrev pub log_on : World → List Happening → ℕ → List Entry
-log_on w [] label = []
-log_on w (happening ∷ happenings) label = entry_on w happening label ++ log_on (world_after w happening.event) happenings label
 
 pub itself : (n : ℕ) → (n == n) ≡ true
 itself n = grind (arith, nat_tests)

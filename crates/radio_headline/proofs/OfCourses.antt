@@ -25,7 +25,7 @@ use Rattle.radio_laws.specs.Service.{Serves}
 use Rattle.radio_laws.specs.Stretches.{SeatsKeepTheirMounts}
 use Rattle.radio_pull.specs.Laws.{ItemsAreOfTheirRelay}
 use Rattle.radio_session.specs.Told.{DrawsFollowTheHead, PlainDrawsAreTheirData, JoinedDrawsAreWoven, DrawsAreTakenOutAgain}
-use Rattle.radio_headline.specs.Course.{Happening, events_in}
+use Rattle.radio_headline.specs.Course.{Happening, events_in, log_on}
 use Rattle.radio_headline.specs.Lawful.{IsLawful}
 use Rattle.radio_headline.specs.Listeners.{BodiesAreHeard, CourseHearsSlices, DrawsAreCut, DrawsAreStretches}
 use Rattle.radio_headline.specs.Sources.{NobodyDelivers, RelaysDeliverTheirSound, SourcesDeliverTheirBodies}
@@ -33,7 +33,6 @@ use Rattle.radio_headline.proofs.BodyLemmas.{delivers_body, listens_so, source_a
 use Rattle.radio_headline.proofs.Connections.{IsClosed}
 use Rattle.radio_headline.proofs.HeadlineLemmas.{shown_by_source, sit_with_sources}
 use Rattle.radio_headline.proofs.ListenerLemmas.{answered_by, given_by}
-use Rattle.radio_headline.proofs.Logs.{log_on}
 use Rattle.radio_headline.proofs.RunLemmas.{AllNowhere, IsMoment}
 use Rattle.radio_headline.proofs.SoundLemmas.{delivers_sound}
 

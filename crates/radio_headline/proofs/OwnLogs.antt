@@ -1,12 +1,13 @@
 -- Whose numbers a relay's events have.
 use Rattle.std.proofs.Common.{◌≡◌, inl, ℕ, List, [], ◌∷◌, ◌++◌, Option, None, Some, sym, ap, subst, ◌∙◌, append_assoc}
+use Rattle.radio_events.specs.declared.entry.Entry.{Entry}
 use Rattle.radio_events.specs.declared.event.Event.{Event}
 use Rattle.radio_events.specs.declared.event.Event.TheVariants.{Arrive, Source, Push, SourceEnd, Title, Listen, Draw, Command, Leave, RelayUp, RelayDown, Clock}
 use Rattle.radio_events.specs.declared.reply.Reply.{Reply}
 use Rattle.radio_events.specs.declared.reply.Reply.TheVariants.{Arrived, Feeding, Seated, Drawn, Noted as WasNoted, Text, Deny, Finished, Stray}
 use Rattle.radio_events.specs.Events.{client_in}
 use Rattle.radio_pull.specs.Pulling.{answered}
-use Rattle.radio_headline.proofs.Logs.{Entry, Each}
+use Rattle.radio_headline.proofs.Logs.{Each}
 use Rattle.radio_headline.proofs.RelayWords.{OfRelay, OwnRelay, number_stays}
 use Rattle.radio_headline.proofs.RunLemmas.{HasNumber, IsOwn, number_before, number_behind}
 

@@ -1,7 +1,8 @@
 -- Where in a log the one entry stands that is of a kind.
 use Rattle.std.proofs.Common.{◌≡◌, List, [], ◌∷◌, ◌++◌, refl, sym, ap, subst, ◌∙◌}
+use Rattle.radio_events.specs.declared.entry.Entry.{Entry}
 use Rattle.radio_events.specs.declared.event.Event.{Event}
-use Rattle.radio_headline.proofs.Logs.{Entry, Each, each_second}
+use Rattle.radio_headline.proofs.Logs.{Each, each_second}
 
 -- a log is parted at it in one way
 pub record Parted (xs ys : List Entry) (e a : Entry) (cs ds : List Entry) : Type 0 where

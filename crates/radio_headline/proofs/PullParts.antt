@@ -8,6 +8,7 @@ use Rattle.radio_blocks.specs.Cutting.{blocks_of}
 use Rattle.radio_values.specs.declared.field.Shown.{Shown}
 use Rattle.radio_icy.specs.Unweaving.{Atom, SoundByte, WholeText, heard}
 use Rattle.radio_icy.specs.Titles.{title_of}
+use Rattle.radio_events.specs.declared.entry.Entry.{Entry}
 use Rattle.radio_events.specs.declared.event.Event.{Event}
 use Rattle.radio_events.specs.declared.event.Event.TheVariants.{Arrive, Source, Push, SourceEnd, Title, Listen, Draw, Command, Leave, RelayUp, RelayDown, Clock}
 use Rattle.radio_house.specs.World.{World}
@@ -26,7 +27,7 @@ use Rattle.radio_relay.specs.declared.stream.Stream.{Stream}
 use Rattle.radio_relay.specs.declared.stream.Stream.TheVariants.{Plain, Woven}
 use Rattle.radio_relay.proofs.CutLemmas.{AfterPieces, HeardInPieces, parts-cut}
 use Rattle.radio_headline.specs.Sources.{pushed}
-use Rattle.radio_headline.proofs.Logs.{Entry, entries, Each}
+use Rattle.radio_headline.proofs.Logs.{entries, Each}
 use Rattle.radio_headline.proofs.AppliedLemmas.{EachAsked}
 use Rattle.radio_headline.proofs.RelayWords.{AreNoUps, IsCut, IsNoUp, OwnRelay}
 use Rattle.radio_headline.proofs.RelayLogs.{sound_of_item, sound_of_items}

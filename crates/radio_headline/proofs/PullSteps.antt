@@ -3,6 +3,7 @@ use Rattle.std.proofs.Common.{◌≡◌, ◌⊎◌, inl, inr, ℕ, List, [], ◌
 use Rattle.std.specs.List.{concat}
 use Rattle.std.proofs.lemmas.List.{append-nil}
 use Rattle.radio_blocks.specs.Cutting.{blocks_of}
+use Rattle.radio_events.specs.declared.entry.Entry.{Entry}
 use Rattle.radio_events.specs.declared.event.Event.{Event}
 use Rattle.radio_events.specs.declared.event.Event.TheVariants.{RelayUp}
 use Rattle.radio_core.specs.Run.{world_after_all}
@@ -36,9 +37,9 @@ use Rattle.radio_deliveries.specs.declared.delivery.Input.TheVariants.{Data}
 use Rattle.radio_floor.specs.declared.labelled.Connection.TheVariants.{Relay}
 use Rattle.radio_floor.specs.ScriptState.{connection_unless}
 use Rattle.radio_source.specs.Place.{Place, after, data_of}
-use Rattle.radio_headline.specs.Course.{ComesToNoted, noting, nothing_noted}
+use Rattle.radio_headline.specs.Course.{ComesToNoted, noting, nothing_noted, entry}
 use Rattle.radio_headline.specs.Sources.{pushed}
-use Rattle.radio_headline.proofs.Logs.{Entry, entry, entries, Each, each_joined}
+use Rattle.radio_headline.proofs.Logs.{entries, Each, each_joined}
 use Rattle.radio_headline.proofs.AppliedLemmas.{EachAsked}
 use Rattle.radio_headline.proofs.RelayLogs.{Lifts, at, brings_lifts, down}
 use Rattle.radio_headline.proofs.RelayWords.{IsCut, IsNoUp, IsNotRefused, OwnRelay, Ups, cut_joined}

@@ -17,10 +17,10 @@ use Rattle.radio_events.specs.declared.state.State.TheVariants.{Running, Shut}
 use Rattle.radio_events.specs.declared.state.Ending.{Ending}
 use Rattle.radio_pull.specs.Pulling.{Standing, answered, event_of, going_on}
 use Rattle.radio_pull.specs.Course.{Asks, AsksIf, Brings, Follows, GoesDown, GoesDownIfShut}
-use Rattle.radio_headline.specs.Course.{Noted, noting}
+use Rattle.radio_headline.specs.Course.{Noted, noting, entry}
 use Rattle.radio_headline.specs.Sources.{pushed, pushed_by}
 use Rattle.radio_values.specs.declared.field.Shown.{Shown}
-use Rattle.radio_headline.proofs.Logs.{Each, entry, entries}
+use Rattle.radio_headline.proofs.Logs.{Each, entries}
 use Rattle.radio_headline.proofs.AppliedLemmas.{EachAsked}
 use Rattle.radio_headline.proofs.RelayWords.{IsCut, IsGoing, IsNoUp, IsNotRefused, OfRelay, OwnRelay, Ups, number_after, plain_ups, refused_shuts}
 

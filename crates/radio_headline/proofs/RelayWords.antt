@@ -1,6 +1,7 @@
 -- Words of what a relay asks for.
 use Rattle.std.proofs.Common.{◌≡◌, ℕ, List, [], ◌∷◌, ◌++◌, Option, None, Some, refl, sym, subst}
 use Rattle.radio_values.specs.declared.field.Shown.{Shown}
+use Rattle.radio_events.specs.declared.entry.Entry.{Entry}
 use Rattle.radio_events.specs.declared.event.Event.{Event}
 use Rattle.radio_events.specs.declared.event.Event.TheVariants.{Arrive, Source, Push, SourceEnd, Title, Listen, Draw, Command, Leave, RelayUp, RelayDown, Clock}
 use Rattle.radio_events.specs.declared.reply.Reply.{Reply}
@@ -9,7 +10,7 @@ use Rattle.radio_relay.specs.declared.items.PullItem.{PullItem}
 use Rattle.radio_relay.specs.declared.items.PullItem.TheVariants.{Up, Sound, Title as Named}
 use Rattle.radio_events.specs.declared.state.State.TheVariants.{Running}
 use Rattle.radio_pull.specs.Pulling.{answered}
-use Rattle.radio_headline.proofs.Logs.{Each, Entry}
+use Rattle.radio_headline.proofs.Logs.{Each}
 use Rattle.radio_headline.proofs.AppliedLemmas.{EachAsked}
 
 -- an event is of the relay of this number, or asks for one

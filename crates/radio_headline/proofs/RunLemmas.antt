@@ -7,6 +7,7 @@ use Rattle.radio_addr.specs.declared.peer.Peer.{Peer}
 use Rattle.radio_settings_values.specs.declared.settings.Settings.{Settings}
 use Rattle.radio_access.specs.Lists.{Lists}
 use Rattle.radio_policy.specs.declared.rule.Rule.{Rule}
+use Rattle.radio_events.specs.declared.entry.Entry.{Entry}
 use Rattle.radio_events.specs.declared.event.Event.{Event}
 use Rattle.radio_events.specs.declared.event.Event.TheVariants.{Arrive, Source, Push, SourceEnd, Title, Listen, Draw, Command, Leave, RelayUp, RelayDown, Clock}
 use Rattle.radio_events.specs.declared.reply.Reply.{Reply}
@@ -25,8 +26,8 @@ use Rattle.radio_core.specs.Run.{run_after, world_after_all}
 use Rattle.radio_core.specs.Step.{reply_to, world_after}
 use Rattle.radio_core.specs.Totals.{AddsUp, numbers_given}
 use Rattle.radio_house.specs.World.{World, opening, standing_of}
-use Rattle.radio_headline.specs.Course.{Happening, on, events_in}
-use Rattle.radio_headline.proofs.Logs.{Entry, entry, entry_on, log_on, Each, each_second, itself, after_joined}
+use Rattle.radio_headline.specs.Course.{Happening, on, events_in, entry, entry_on, log_on}
+use Rattle.radio_headline.proofs.Logs.{Each, each_second, itself, after_joined}
 use Rattle.radio_headline.proofs.ReplyForms.{next_number, IsIdle, IdleReply, IsStray, WasFinished, Sitting, Sourcing, idle_reply}
 
 -- the number was given on the connection of the log

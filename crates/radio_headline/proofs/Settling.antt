@@ -1,6 +1,7 @@
 -- Events of a client's connection are exchanged.
 use Rattle.std.proofs.Common.{◌≡◌, ℕ, List, ◌∷◌, ◌++◌, Some, sym, ap, subst, ◌∙◌, append_assoc}
 use Rattle.radio_addr.specs.declared.peer.Peer.{Peer}
+use Rattle.radio_events.specs.declared.entry.Entry.{Entry}
 use Rattle.radio_events.specs.declared.event.Event.{Event}
 use Rattle.radio_events.specs.Events.{client_in}
 use Rattle.radio_house.specs.World.{World}
@@ -10,7 +11,7 @@ use Rattle.radio_exchanges.specs.Exchanges.{exchanged}
 use Rattle.radio_floor.specs.declared.labelled.Connection.TheVariants.{Client}
 use Rattle.radio_floor.specs.ScriptState.{connection_unless}
 use Rattle.radio_headline.specs.Course.{applied}
-use Rattle.radio_headline.proofs.Logs.{Entry, entries, Each}
+use Rattle.radio_headline.proofs.Logs.{entries, Each}
 use Rattle.radio_headline.proofs.AppliedLemmas.{EachAsked}
 use Rattle.radio_headline.proofs.Connections.{arrival}
 use Rattle.radio_headline.proofs.Connections.{Facts, Stage}

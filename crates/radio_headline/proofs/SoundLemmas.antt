@@ -5,6 +5,7 @@ use Rattle.std.specs.List.{AllByRecursion}
 use Rattle.radio_values.specs.declared.field.Shown.{Shown}
 use Rattle.radio_settings_values.specs.declared.settings.Settings.{Settings}
 use Rattle.radio_access.specs.Lists.{Lists}
+use Rattle.radio_events.specs.declared.entry.Entry.{Entry}
 use Rattle.radio_events.specs.declared.event.Event.{Event}
 use Rattle.radio_events.specs.declared.event.Event.TheVariants.{Arrive, Source, Push, SourceEnd, Title, Listen, Draw, Command, Leave, RelayUp, RelayDown, Clock}
 use Rattle.radio_events.specs.declared.reply.Reply.{Reply}
@@ -23,10 +24,10 @@ use Rattle.radio_relay.specs.Answer.{shown_by}
 use Rattle.radio_relay.specs.Pulled.{ShownPart, pulled_by_interval, stream_parts, stream_pulled, stream_with}
 use Rattle.radio_session.specs.Asking.{asks_by_get, asks_to_hear, gives_command, is_for_commands, path_in}
 use Rattle.radio_pull.specs.Pulling.{answered}
-use Rattle.radio_headline.specs.Course.{Happening, events_in, on}
+use Rattle.radio_headline.specs.Course.{Happening, events_in, on, entry, log_on}
 use Rattle.radio_headline.specs.Sources.{DeliversItsSound, RelaysDeliverTheirSound, pushed}
 use Rattle.radio_headline.proofs.Gathered.{IsOnIt}
-use Rattle.radio_headline.proofs.Logs.{Entry, entry, log_on, log_parted, Each, each_as, each_joined}
+use Rattle.radio_headline.proofs.Logs.{log_parted, Each, each_as, each_joined}
 use Rattle.radio_headline.proofs.RelayWords.{IsCut, IsNoUp, OfRelay, OwnRelay, number_stays}
 use Rattle.radio_headline.proofs.RunLemmas.{AllNowhere, IsMoment, HasNumber, IsIdling, Reached, given_here, reached_after, reached_all, reached_opening}
 use Rattle.radio_headline.proofs.Connections.{AsksForMount, AsksNothing, ByGet, Facts, Feeds, HasAskedNothing, HasSentGet, IsClosed}

@@ -5,6 +5,7 @@ use Rattle.std.specs.List.{AllByRecursion, flat_map}
 use Rattle.radio_settings_values.specs.declared.settings.Settings.{Settings}
 use Rattle.radio_access.specs.Lists.{Lists}
 use Rattle.radio_policy.specs.declared.rule.Rule.{Rule}
+use Rattle.radio_events.specs.declared.entry.Entry.{Entry}
 use Rattle.radio_events.specs.declared.event.Event.{Event}
 use Rattle.radio_events.specs.declared.event.Event.TheVariants.{Arrive, Source, Push, SourceEnd, Title, Listen, Draw, Command, Leave, RelayUp, RelayDown, Clock}
 use Rattle.radio_events.specs.declared.reply.Reply.{Reply}
@@ -21,9 +22,9 @@ use Rattle.radio_core.specs.Run.{run_after, world_after_all}
 use Rattle.radio_core.specs.Step.{reply_to, world_after}
 use Rattle.radio_core.specs.Totals.{AddsUp}
 use Rattle.radio_house.specs.World.{World, standing_of}
-use Rattle.radio_headline.specs.Course.{Happening, events_in, on}
+use Rattle.radio_headline.specs.Course.{Happening, events_in, on, entry, log_on}
 use Rattle.radio_headline.specs.Sources.{pushed, pushed_by}
-use Rattle.radio_headline.proofs.Logs.{Entry, entry, log_on, Each}
+use Rattle.radio_headline.proofs.Logs.{Each}
 use Rattle.radio_headline.proofs.AppliedLemmas.{IsLast, IsLeaving, IsOrderly}
 use Rattle.radio_headline.proofs.ReplyForms.{noted_block, brings_noted, PushReply, PushIsStray, PushIsLast, PushIsDenied, PushIsNoted, push_reply, feeds_push}
 use Rattle.radio_headline.proofs.RelayWords.{IsCut, IsGoing, IsRefusal}

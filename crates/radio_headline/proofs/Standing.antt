@@ -5,6 +5,7 @@ use Rattle.std.proofs.lemmas.List.{append-nil}
 use Rattle.std.proofs.lemmas.List.Concat.{flat_map-append}
 use Rattle.radio_settings_values.specs.declared.settings.Settings.{Settings}
 use Rattle.radio_access.specs.Lists.{Lists}
+use Rattle.radio_events.specs.declared.entry.Entry.{Entry}
 use Rattle.radio_events.specs.declared.event.Event.{Event}
 use Rattle.radio_core.specs.Run.{run_after, world_after_all}
 use Rattle.radio_house.specs.World.{World, opening}
@@ -14,9 +15,9 @@ use Rattle.radio_deliveries.specs.declared.delivery.Input.{Input}
 use Rattle.radio_deliveries.specs.Given.{TranscriptLine, given}
 use Rattle.radio_floor.specs.declared.labelled.Connection.{Connection}
 use Rattle.radio_floor.specs.ScriptState.{ScriptState, connection_of}
-use Rattle.radio_headline.specs.Course.{Happening, events_in, on}
+use Rattle.radio_headline.specs.Course.{Happening, events_in, on, log_on}
 use Rattle.radio_headline.specs.Scripts.{brought, brought_by, bytes_in}
-use Rattle.radio_headline.proofs.Logs.{Entry, entries, log_on, log_joined, log_here, log_elsewhere, after_joined, events_joined, events_on, itself, other_number}
+use Rattle.radio_headline.proofs.Logs.{entries, log_joined, log_here, log_elsewhere, after_joined, events_joined, events_on, itself, other_number}
 use Rattle.radio_headline.proofs.RunLemmas.{AllNowhere, IsMoment}
 use Rattle.radio_headline.proofs.Connections.{IsSo}
 use Rattle.radio_headline.proofs.LabelLemmas.{given_joined}

@@ -6,9 +6,11 @@ use Rattle.radio_values.specs.Cleaning.{cleaned}
 use Rattle.radio_values.specs.Limits.{max_title}
 use Rattle.radio_settings_values.specs.declared.settings.Settings.{Settings}
 use Rattle.radio_access.specs.Lists.{Lists}
+use Rattle.radio_events.specs.declared.entry.Entry.{Entry}
 use Rattle.radio_events.specs.declared.event.Event.{Event}
 use Rattle.radio_events.specs.declared.event.Event.TheVariants.{Arrive, Draw, Title, Leave, Clock}
 use Rattle.radio_house.specs.World.{World}
+use Rattle.radio_core.specs.Handing.{is_number}
 use Rattle.radio_core.specs.Step.{Step, reply_to, world_after}
 use Rattle.radio_pull.specs.Pulling.{Pulling, Standing}
 use Rattle.radio_pull.specs.Course.{AsksIf, GoesDown, Takes}
@@ -41,6 +43,17 @@ on label event = record { label = Some label; event = event }
 
 abbrev pub events_in : List Happening → List Event
 events_in course = map (λ h. h.event) course
+
+abbrev pub entry : World → Event → Entry
+entry w event = record { event = event; reply = reply_to w event }
+
+abbrev pub entry_on : World → Happening → ℕ → List Entry
+entry_on w happening label = (if is_number label happening.label then entry w happening.event ∷ [] else [])
+
+-- from this state: what is applied on the connection of the label, with the replies
+abbrev pub log_on : World → List Happening → ℕ → List Entry
+log_on w [] label = []
+log_on w (happening ∷ happenings) label = entry_on w happening label ++ log_on (world_after w happening.event) happenings label
 
 -- Of the events that a client's connection asks for.
 

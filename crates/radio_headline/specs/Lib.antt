@@ -3,4 +3,5 @@ pub mod Sources
 pub mod Lawful
 pub mod Listeners
 pub mod Scripts
+pub mod Served
 pub mod Histories

@@ -7,6 +7,7 @@ ghost use Rattle.radio_events.specs.declared.event.Event.{Event};
 ghost use Rattle.radio_headline.specs.Lawful.{IsLawful};
 ghost use Rattle.radio_headline.specs.Listeners.{DrawsAreCut, DrawsAreStretches};
 ghost use Rattle.radio_headline.specs.Scripts.{ListenersHearSlices, PlayedScriptsHearSlices};
+ghost use Rattle.radio_headline.specs.Served.{ServedCoursesHearSlices};
 ghost use Rattle.radio_headline.specs.Histories.{HistoriesAreLawful};
 ghost use Rattle.radio_headline.specs.Sources.{NobodyDelivers};
 
@@ -76,12 +77,14 @@ pub fn histories_are_lawful()
     draws_are_stretches();
 }
 
-/// The law from bytes to bytes, over every script. Behind its head each listener is given slices of what came on the
-/// connections of the sources in whose sessions it sat, in that order, with a metadata block after each interval if it
-/// asked for metadata. A client that is denied reads the first rule that denied it.
+/// The law from bytes to bytes, over every script and over every course whose connections are served event by event. Behind
+/// its head each listener is given slices of what came on the connections of the sources in whose sessions it sat, in that
+/// order, with a metadata block after each interval if it asked for metadata. A client that is denied reads the first rule
+/// that denied it.
 // rule: Without gap or repeat
 pub fn listeners_hear_slices()
-    ensures { ListenersHearSlices }
+    ensures scripts { ListenersHearSlices }
+    ensures served { ServedCoursesHearSlices }
 {
     blocks_are_the_data();
     bodies_are_heard_as_their_data();

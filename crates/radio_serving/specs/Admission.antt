@@ -6,7 +6,8 @@ use Rattle.radio_events.specs.declared.reply.Reply.{Reply}
 use Rattle.radio_events.specs.Servers.{Steps}
 use Rattle.radio_answers.specs.declared.web_answers.WebAnswers.{WebAnswers}
 use Rattle.radio_connections.specs.Connections.{Connection}
-use Rattle.radio_connections.specs.Admission.{IsTakenIn, LetsNobodyIn}
+use Rattle.radio_connections.specs.Course.{LetsNobodyIn}
+use Rattle.radio_connections.specs.Admission.{IsTakenIn}
 
 -- the arrival was applied, and the connection is added behind the others
 -- rule: Newcomers
@@ -16,7 +17,7 @@ pub record IsAdmission {S : Type 0} (steps : Steps S) (web : WebAnswers) (peer :
   pub newcomer : Connection
   pub step : steps from (Arrive peer) reply to
   pub added : conns' ≡ conns ++ newcomer ∷ []
-  pub taken_in : IsTakenIn peer reply given taken newcomer
+  pub taken_in : IsTakenIn (record { web = web; peer = peer; reply = reply }) given taken newcomer
   pub answers : newcomer.session.says.web ≡ web
 
 -- the arrival was not applied, or its reply let nobody in

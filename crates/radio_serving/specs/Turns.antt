@@ -7,13 +7,14 @@ use Rattle.radio_events.specs.declared.entry.Entry.{Entry}
 use Rattle.radio_events.specs.Servers.{Steps}
 use Rattle.radio_connections.specs.declared.conn.Fate.TheVariants.{Open}
 use Rattle.radio_connections.specs.Connections.{Connection, stays}
+use Rattle.radio_connections.specs.Course.{Arrival}
 use Rattle.radio_connections.specs.Serving.{Stands, ServesInTurn}
 use Rattle.radio_serving.specs.declared.turn.Turn.{Turn}
 use Rattle.radio_serving.specs.Workers.{WorkerOf}
 
 -- the session of one that stands as it must, and is open, has not failed
 abbrev pub OpenSessionsHaveNotFailed : Type 0
-OpenSessionsHaveNotFailed = (c : Connection) (entries : List Entry) → Stands c entries → c.status.fate ≡ Open → c.session.has_failed ≡ false
+OpenSessionsHaveNotFailed = (arrival : Arrival) (c : Connection) (entries : List Entry) → Stands arrival c entries → c.status.fate ≡ Open → c.session.has_failed ≡ false
 
 -- whether a moment is known to the server: the worker itself told it one within the last 50 milliseconds, or somebody did, and the worker itself within
 -- the last second

@@ -117,7 +117,8 @@ impl<S: Server + Drop> Worker<S> {
     /// The connection of a peer who has come, as the server replies to his arrival.
     fn arrival<L: Line>(&mut self, line: L, peer: Peer, ms: u64) -> Result<Conn<L>, OutOfMemory>
         ensures applied { IfOk result (λ conn. (reply : Reply) × S.steps self.old.server (Arrive peer) reply self.new.server
-            × IsTakenIn peer reply (L.given line) (L.taken line) conn × (conn.session.says.web ≡ self.old.web)) }
+            × IsTakenIn (record { web = self.old.web; peer = peer; reply = reply }) (L.given line) (L.taken line) conn
+            × (conn.session.says.web ≡ self.old.web)) }
         ensures nobody { OnErr result (IsTurnedOff S.steps peer self.old.server self.new.server) }
         ensures told { (self.new.told_ms ≡ self.old.told_ms) × (self.new.patience_ms ≡ self.old.patience_ms) }
         ensures web { self.new.web ≡ self.old.web }

@@ -2,8 +2,6 @@
 use Rattle.std.proofs.Common.{◌≡◌, ◌⊎◌, inl, inr, ℕ, true, false, List, [], ◌∷◌, ◌++◌, refl, sym, ap, subst, ◌∙◌, append_assoc}
 use Rattle.std.proofs.lemmas.List.{append-nil, map-append}
 use Rattle.std.proofs.lemmas.List.Concat.{flat_map-append}
-use Rattle.radio_addr.specs.declared.peer.Peer.{Peer}
-use Rattle.radio_answers.specs.declared.web_answers.WebAnswers.{WebAnswers}
 use Rattle.radio_events.specs.declared.entry.Entry.{Entry}
 use Rattle.radio_events.specs.declared.event.Event.{Event}
 use Rattle.radio_events.specs.declared.event.Event.TheVariants.{Arrive, Draw, Leave}
@@ -20,9 +18,9 @@ use Rattle.radio_session.specs.Hearing.{Heard, IsHeard}
 use Rattle.radio_session.specs.Saying.{said}
 use Rattle.radio_connections.specs.declared.conn.Fate.{Fate}
 use Rattle.radio_connections.specs.declared.conn.Fate.TheVariants.{Open, Ended, Closed, Cut}
-use Rattle.radio_connections.specs.Course.{Standing, Course, IsOver, IsQuiet, answered, fate_by, pending_by, newcomer}
+use Rattle.radio_connections.specs.Course.{Arrival, LetsNobodyIn, Standing, Course, IsOver, IsQuiet, answered, fate_by, pending_by, newcomer}
 use Rattle.radio_connections.specs.Course.{arrives, turned_away, hears, has_room, applies, closes, is_cut, passes_over, leaves}
-use Rattle.radio_connections.specs.Duties.{IsAtMostLeaving, events_of}
+use Rattle.radio_connections.specs.Duties.{IsAtMostLeaving, IsWritten, events_of}
 use Rattle.radio_headline.proofs.AppliedLemmas.{said_web}
 use Rattle.radio_stations.specs.Meaning.{HasDrawsAmong, HasShut, IsHeardInOne, MeansItsBytes, nothing}
 use Rattle.radio_stations.proofs.Alike.{IsAlike, alike_self}
@@ -41,16 +39,14 @@ pub record Goes (id : ℕ) (s : Standing) (unread : List ℕ) (unapplied : List 
   pub waits : Waits id s.pending unapplied
 
 -- what has happened on the course of a client's connection
-pub record Meant (id : ℕ) (s : Standing) : Type 0 where
-  pub peer : Peer
+pub record Meant (arrival : Arrival) (id : ℕ) (s : Standing) : Type 0 where
   pub others : List Entry
-  pub arrived : s.entries ≡ entry (Arrive peer) (Arrived id) ∷ others
+  pub arrived : s.entries ≡ entry (Arrive arrival.peer) (Arrived id) ∷ others
   pub read : List ℕ
   pub unread : List ℕ
   pub gives : s.given ≡ read ++ unread
-  pub web : WebAnswers
   pub heard : Heard
-  pub is_heard : IsHeardInOne (fresh web id peer) read heard
+  pub is_heard : IsHeardInOne (fresh arrival.web id arrival.peer) read heard
   pub made : List Entry
   pub left : List Entry
   pub all : others ≡ made ++ left
@@ -62,28 +58,21 @@ pub record Meant (id : ℕ) (s : Standing) : Type 0 where
   pub going : s.fate ≡ Open → Goes id s unread unapplied left heard
   pub stays : s.has_left ≡ false → left ≡ []
   pub ended : s.fate ≡ Ended → HasShut made
-
--- the connection of nobody, who was not let in
-pub record IsNobodys (s : Standing) : Type 0 where
-  pub none : s.entries ≡ []
-  pub gone : s.has_left ≡ true
-  pub over : s.fate ≡ Open → ⊥
+  pub closed : s.fate ≡ Closed → ((unread ≡ []) × (unapplied ≡ [])) ⊎ HasShut made
 
 -- nothing waits
 pub none_waits : (id : ℕ) (pending : List Event) (unapplied : List Atom) → pending ≡ [] → Waits id pending unapplied → unapplied ≡ []
 none_waits id pending unapplied none (inl e) = e ∙ ap atoms none
 none_waits id pending unapplied none (inr (e, room, some)) = e
 
-comes : (id : ℕ) (web : WebAnswers) (peer : Peer) → Meant id (newcomer web peer id)
-comes id web peer = record {
-  peer = peer;
+comes : (arrival : Arrival) (id : ℕ) → Meant arrival id (newcomer arrival.web arrival.peer id)
+comes arrival id = record {
   others = [];
   arrived = refl;
   read = [];
   unread = [];
   gives = refl;
-  web = web;
-  heard = unheard (fresh web id peer);
+  heard = unheard (fresh arrival.web id arrival.peer);
   is_heard = inl (refl, refl);
   made = [];
   left = [];
@@ -93,29 +82,31 @@ comes id web peer = record {
   draws_among = nothing;
   unapplied = [];
   is_front = refl;
-  going = λ is_open. record { all_read = refl; here = refl; alike = alike_self (fresh web id peer); waits = inl refl };
+  going = λ is_open. record { all_read = refl; here = refl; alike = alike_self (fresh arrival.web id arrival.peer); waits = inl refl };
   stays = λ here. refl;
   ended = λ over. absurd (cc);
+  closed = λ over. absurd (cc);
 }
 
+still_open : {fate : Fate} → fate ≡ Open → fate ≡ Closed → ⊥
+still_open goes over = let both : Open ≡ Closed = sym goes ∙ over in cc
+
 -- its line gives bytes
-module _ (settled : IsSettled ShowsRequest) (pieces : PiecesAreHeardAsOne) (id : ℕ) (s : Standing) (m : Meant id s) (quiet : IsQuiet s) (bytes : List ℕ)
+module _ (settled : IsSettled ShowsRequest) (pieces : PiecesAreHeardAsOne) (arrival : Arrival) (id : ℕ) (s : Standing) (m : Meant arrival id s) (quiet : IsQuiet s) (bytes : List ℕ)
     (heard : Heard) (is : IsHeard s.session bytes heard) where
   now : Goes id s m.unread m.unapplied m.left m.heard
   now = m.going quiet.0
 
-  all : IsTogether (fresh m.web id m.peer) (m.read ++ bytes) m.heard heard
-  all = heard_together settled pieces (fresh m.web id m.peer) m.read bytes m.heard heard m.is_heard s.session now.alike is
+  all : IsTogether (fresh arrival.web id arrival.peer) (m.read ++ bytes) m.heard heard
+  all = heard_together settled pieces (fresh arrival.web id arrival.peer) m.read bytes m.heard heard m.is_heard s.session now.alike is
 
-  hears_on : Meant id (record s { given = s.given ++ bytes; session = heard.conversation; pending = heard.events })
+  hears_on : Meant arrival id (record s { given = s.given ++ bytes; session = heard.conversation; pending = heard.events })
   hears_on = record {
-    peer = m.peer;
     others = m.others;
     arrived = m.arrived;
     read = m.read ++ bytes;
     unread = [];
     gives = ap (λ (xs : List ℕ). xs ++ bytes) (m.gives ∙ ap (λ (xs : List ℕ). m.read ++ xs) now.all_read ∙ append-nil m.read) ∙ sym (append-nil (m.read ++ bytes));
-    web = m.web;
     heard = all.whole;
     is_heard = all.is_heard;
     made = m.made;
@@ -131,20 +122,19 @@ module _ (settled : IsSettled ShowsRequest) (pieces : PiecesAreHeardAsOne) (id :
     going = λ is_open. record { all_read = refl; here = now.here; alike = all.conversation; waits = inl refl };
     stays = m.stays;
     ended = m.ended;
+    closed = λ over. absurd (still_open quiet.0 over);
   }
 
 -- it has room
-has_room_on : (id : ℕ) (s : Standing) → Meant id s → IsQuiet s → (room : ℕ) → Meant id (record s { pending = Draw id room ∷ [] })
-has_room_on id s m quiet room =
+has_room_on : (arrival : Arrival) (id : ℕ) (s : Standing) → Meant arrival id s → IsQuiet s → (room : ℕ) → Meant arrival id (record s { pending = Draw id room ∷ [] })
+has_room_on arrival id s m quiet room =
     let now = m.going quiet.0 in
     record {
-      peer = m.peer;
       others = m.others;
       arrived = m.arrived;
       read = m.read;
       unread = m.unread;
       gives = m.gives;
-      web = m.web;
       heard = m.heard;
       is_heard = m.is_heard;
       made = m.made;
@@ -163,10 +153,11 @@ has_room_on id s m quiet room =
       };
       stays = m.stays;
       ended = m.ended;
+      closed = m.closed;
     }
 
 -- the first of the events is applied
-module _ (id : ℕ) (s : Standing) (m : Meant id s) (goes : s.fate ≡ Open) (event : Event) (later : List Event) (some : s.pending ≡ event ∷ later) (reply : Reply) where
+module _ (arrival : Arrival) (id : ℕ) (s : Standing) (m : Meant arrival id s) (goes : s.fate ≡ Open) (event : Event) (later : List Event) (some : s.pending ≡ event ∷ later) (reply : Reply) where
   before : Goes id s m.unread m.unapplied m.left m.heard
   before = m.going goes
 
@@ -225,19 +216,21 @@ module _ (id : ℕ) (s : Standing) (m : Meant id s) (goes : s.fate ≡ Open) (ev
   still Running e is_open = inl on.waits
   still (Shut ending) e is_open = absurd (cc)
 
+  unclosed : (state : State) → fate_by state ≡ Closed → ⊥
+  unclosed Running e = cc
+  unclosed (Shut ending) e = cc
+
   shuts : (state : State) → then_state ≡ state → fate_by state ≡ Ended → HasShut (m.made ++ one ∷ [])
   shuts Running e over = absurd (cc)
   shuts (Shut ending) e over = record { before = m.made; last = one; in_order = refl; says = s.session.says; ending = ending; shut = e }
 
-  applies_on : Meant id (answered s event later reply)
+  applies_on : Meant arrival id (answered s event later reply)
   applies_on = record {
-    peer = m.peer;
     others = m.others ++ one ∷ [];
     arrived = ap (λ (xs : List Entry). xs ++ one ∷ []) m.arrived;
     read = m.read;
     unread = m.unread;
     gives = m.gives;
-    web = m.web;
     heard = m.heard;
     is_heard = m.is_heard;
     made = m.made ++ one ∷ [];
@@ -262,19 +255,19 @@ module _ (id : ℕ) (s : Standing) (m : Meant id s) (goes : s.fate ≡ Open) (ev
     };
     stays = λ here. refl;
     ended = λ over. shuts then_state refl over;
+    closed = λ over. absurd (unclosed then_state over);
   }
 
 -- nothing more comes, or it is cut off, or it was over before
-over_on : (id : ℕ) (s : Standing) → Meant id s → (unread : List ℕ) (fate : Fate) (pending : List Event) → (fate ≡ Open → ⊥) → (fate ≡ Ended → s.fate ≡ Ended)
-    → Meant id (record s { given = s.given ++ unread; pending = pending; fate = fate })
-over_on id s m unread fate pending over ended = record {
-  peer = m.peer;
+over_on : (arrival : Arrival) (id : ℕ) (s : Standing) (m : Meant arrival id s) (unread : List ℕ) (fate : Fate) (pending : List Event) → (fate ≡ Open → ⊥)
+    → (fate ≡ Ended → s.fate ≡ Ended) → (fate ≡ Closed → ((m.unread ++ unread ≡ []) × (m.unapplied ≡ [])) ⊎ HasShut m.made)
+    → Meant arrival id (record s { given = s.given ++ unread; pending = pending; fate = fate })
+over_on arrival id s m unread fate pending over ended closed = record {
   others = m.others;
   arrived = m.arrived;
   read = m.read;
   unread = m.unread ++ unread;
   gives = ap (λ (xs : List ℕ). xs ++ unread) m.gives ∙ append_assoc m.read m.unread unread;
-  web = m.web;
   heard = m.heard;
   is_heard = m.is_heard;
   made = m.made;
@@ -288,6 +281,7 @@ over_on id s m unread fate pending over ended = record {
   going = λ is_open. absurd (over is_open);
   stays = m.stays;
   ended = λ e. m.ended (ended e);
+  closed = closed;
 }
 
 is_over : (fate : Fate) → IsOver fate → fate ≡ Open → ⊥
@@ -297,16 +291,14 @@ is_over Closed h e = cc
 is_over Cut h e = cc
 
 -- its client leaves
-leaves_on : (id : ℕ) (s : Standing) → Meant id s → IsOver s.fate → s.has_left ≡ false → (reply : Reply)
-    → Meant id (record s { entries = s.entries ++ entry (Leave id) reply ∷ []; has_left = true })
-leaves_on id s m over here reply = record {
-  peer = m.peer;
+leaves_on : (arrival : Arrival) (id : ℕ) (s : Standing) → Meant arrival id s → IsOver s.fate → s.has_left ≡ false → (reply : Reply)
+    → Meant arrival id (record s { entries = s.entries ++ entry (Leave id) reply ∷ []; has_left = true })
+leaves_on arrival id s m over here reply = record {
   others = m.others ++ entry (Leave id) reply ∷ [];
   arrived = ap (λ (xs : List Entry). xs ++ entry (Leave id) reply ∷ []) m.arrived;
   read = m.read;
   unread = m.unread;
   gives = m.gives;
-  web = m.web;
   heard = m.heard;
   is_heard = m.is_heard;
   made = m.made;
@@ -320,60 +312,48 @@ leaves_on id s m over here reply = record {
   going = λ is_open. absurd (is_over s.fate over is_open);
   stays = λ h. absurd (cc);
   ended = m.ended;
+  closed = m.closed;
 }
 
 -- the given bytes are those before, and no more
-with_none : (id : ℕ) (s : Standing) (fate : Fate) → Meant id (record s { given = s.given ++ []; pending = s.pending; fate = fate })
-    → Meant id (record s { fate = fate })
-with_none id s fate m = subst (λ (xs : List ℕ). Meant id (record s { given = xs; fate = fate })) (append-nil s.given) m
+with_none : (arrival : Arrival) (id : ℕ) (s : Standing) (fate : Fate) → Meant arrival id (record s { given = s.given ++ []; pending = s.pending; fate = fate })
+    → Meant arrival id (record s { fate = fate })
+with_none arrival id s fate m = subst (λ (xs : List ℕ). Meant arrival id (record s { given = xs; fate = fate })) (append-nil s.given) m
 
-abbrev Stood : ℕ → Standing → Type 0
-Stood id s = Meant id s ⊎ IsNobodys s
+-- it is closed when nothing waits to be applied
+closes_on : (arrival : Arrival) (id : ℕ) (s : Standing) (m : Meant arrival id s) → (fate : Fate) → s.fate ≡ fate → IsWritten fate → s.pending ≡ []
+    → ((m.unread ++ [] ≡ []) × (m.unapplied ≡ [])) ⊎ HasShut m.made
+closes_on arrival id s m Open e w none =
+    let now = m.going e in inl (append-nil m.unread ∙ now.all_read, none_waits id s.pending m.unapplied none now.waits)
+closes_on arrival id s m Ended e w none = inr (m.ended e)
+closes_on arrival id s m Closed e w none = absurd w
+closes_on arrival id s m Cut e w none = absurd w
 
-nobody_on : (s : Standing) → IsNobodys s → (given : List ℕ) (pending : List Event) (fate : Fate) → (fate ≡ Open → ⊥)
-    → IsNobodys (record s { given = given; pending = pending; fate = fate })
-nobody_on s n given pending fate over = record { none = n.none; gone = n.gone; over = over }
-
-module _ (settled : IsSettled ShowsRequest) (pieces : PiecesAreHeardAsOne) where
-  pub stood : (id : ℕ) (s : Standing) → Course id s → Stood id s
-  stood id s (arrives web peer) = inl (comes id web peer)
-  stood id s (turned_away web peer rule) = inr (record { none = refl; gone = refl; over = λ is_open. cc })
-  stood id s (hears before course quiet bytes heard is) = elim (stood id before course) [
-    | inl m ↦ inl (hears_on settled pieces id before m quiet bytes heard is)
-    | inr n ↦ absurd (n.over quiet.0)
-  ]
-  stood id s (has_room before course quiet room) = elim (stood id before course) [
-    | inl m ↦ inl (has_room_on id before m quiet room)
-    | inr n ↦ absurd (n.over quiet.0)
-  ]
-  stood id s (applies before course goes event later some reply) = elim (stood id before course) [
-    | inl m ↦ inl (applies_on id before m goes event later some reply)
-    | inr n ↦ absurd (n.over goes)
-  ]
-  stood id s (closes before course none) = elim (stood id before course) [
-    | inl m ↦ inl (with_none id before Closed (over_on id before m [] Closed before.pending (λ e. cc) (λ e. absurd (cc))))
-    | inr n ↦ inr (nobody_on before n before.given before.pending Closed (λ e. cc))
-  ]
-  stood id s (is_cut before course unheard) = elim (stood id before course) [
-    | inl m ↦ inl (over_on id before m unheard Cut [] (λ e. cc) (λ e. absurd (cc)))
-    | inr n ↦ inr (nobody_on before n (before.given ++ unheard) [] Cut (λ e. cc))
-  ]
-  stood id s (passes_over before course ended bytes) = elim (stood id before course) [
-    | inl m ↦ inl (over_on id before m bytes before.fate before.pending (λ e. absurd (let both : Ended ≡ Open = sym ended ∙ e in cc)) (λ e. e))
-    | inr n ↦ inr (nobody_on before n (before.given ++ bytes) before.pending before.fate n.over)
-  ]
-  stood id s (leaves before course over here reply) = elim (stood id before course) [
-    | inl m ↦ inl (leaves_on id before m over here reply)
-    | inr n ↦ absurd (let both : true ≡ false = sym n.gone ∙ here in cc)
-  ]
+module _ (settled : IsSettled ShowsRequest) (pieces : PiecesAreHeardAsOne) (arrival : Arrival) (id : ℕ) (let_in : arrival.reply ≡ Arrived id) where
+  pub meant_so : (s : Standing) → Course arrival id s → Meant arrival id s
+  meant_so s (arrives came) = comes arrival id
+  meant_so s (turned_away nobody) = absurd (subst LetsNobodyIn let_in nobody)
+  meant_so s (hears before course quiet bytes heard is) = hears_on settled pieces arrival id before (meant_so before course) quiet bytes heard is
+  meant_so s (has_room before course quiet room) = has_room_on arrival id before (meant_so before course) quiet room
+  meant_so s (applies before course goes event later some reply) = applies_on arrival id before (meant_so before course) goes event later some reply
+  meant_so s (closes before course goes none) =
+      let m = meant_so before course in
+      with_none arrival id before Closed
+      (over_on arrival id before m [] Closed before.pending (λ e. cc) (λ e. absurd (cc)) (λ e. closes_on arrival id before m before.fate refl goes none))
+  meant_so s (is_cut before course unheard) =
+      over_on arrival id before (meant_so before course) unheard Cut [] (λ e. cc) (λ e. absurd (cc)) (λ e. absurd (cc))
+  meant_so s (passes_over before course ended bytes) =
+      over_on arrival id before (meant_so before course) bytes before.fate before.pending (λ e. absurd (let both : Ended ≡ Open = sym ended ∙ e in cc)) (λ e. e)
+      (λ e. absurd (let both : Ended ≡ Closed = sym ended ∙ e in cc))
+  meant_so s (leaves before course over here reply) = leaves_on arrival id before (meant_so before course) over here reply
 
 -- where nothing is still to be applied, it is what its bytes mean
-pub meant_all : (id : ℕ) (s : Standing) (m : Meant id s) → s.pending ≡ [] → MeansItsBytes m.peer id s.given s.fate m.others
-meant_all id s m none = record {
+pub meant_all : (arrival : Arrival) (id : ℕ) (s : Standing) (m : Meant arrival id s) → s.pending ≡ []
+    → MeansItsBytes arrival.web arrival.peer id s.given s.fate m.others
+meant_all arrival id s m none = record {
   read = m.read;
   unread = m.unread;
   gives = m.gives;
-  web = m.web;
   heard = m.heard;
   is_heard = m.is_heard;
   made = m.made;
@@ -386,4 +366,5 @@ meant_all id s m none = record {
   is_front = m.is_front;
   goes_on = λ is_open. let now = m.going is_open in (now.all_read, none_waits id s.pending m.unapplied none now.waits, now.here);
   ends = m.ended;
+  closes = m.closed;
 }

@@ -2,6 +2,8 @@ mod Alike
 mod Joined
 mod Weaving
 mod Courses
+mod Strangers
 mod TurnLemmas
 mod WorkLemmas
 mod RoundLemmas
+mod StationLemmas

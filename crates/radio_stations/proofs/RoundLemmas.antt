@@ -2,6 +2,7 @@
 use Rattle.std.proofs.Common.{◌≡◌, inl, inr, ℕ, ◌==◌, Bool, true, false, List, [], ◌∷◌, ◌++◌, refl, sym, ap, subst, ◌∙◌, append_assoc}
 use Rattle.std.specs.Prelude.{map, filter, if◌then◌else◌}
 use Rattle.std.proofs.lemmas.List.{append-nil, map-append}
+use Rattle.radio_answers.specs.declared.web_answers.WebAnswers.{WebAnswers}
 use Rattle.radio_events.specs.declared.event.Event.{Event}
 use Rattle.radio_events.specs.declared.event.Event.TheVariants.{Arrive}
 use Rattle.radio_events.specs.Events.{entry}
@@ -69,17 +70,17 @@ conns_stay (one ∷ held) = by_test (conns_stay held) (stays one.connection) whe
   by_test same true = ap (λ (cs : List Connection). one.connection ∷ cs) same
   by_test same false = same
 
-module _ {S : Type 0} (steps : Steps S) (refuses : S → Event → Type 0) (first : S) where
+module _ {S : Type 0} (steps : Steps S) (web : WebAnswers) (refuses : S → Event → Type 0) (first : S) where
   -- nothing more was made
-  as_before : (made : List Made) (from to : S) (roll : Roll) → HasWorked steps first made from roll → to ≡ from → HasWorked steps first (made ++ []) to roll
+  as_before : (made : List Made) (from to : S) (roll : Roll) → HasWorked steps web first made from roll → to ≡ from → HasWorked steps web first (made ++ []) to roll
   as_before made from to roll was same =
-      subst (λ (ms : List Made). HasWorked steps first ms to roll) (sym (append-nil made)) (subst (λ (s : S). HasWorked steps first made s roll) (sym same) was)
+      subst (λ (ms : List Made). HasWorked steps web first ms to roll) (sym (append-nil made)) (subst (λ (s : S). HasWorked steps web first made s roll) (sym same) was)
 
   record HasTold (made : List Made) (to : S) (roll : Roll) : Type 0 where
     pub more : List Made
-    pub worked : HasWorked steps first (made ++ more) to roll
+    pub worked : HasWorked steps web first (made ++ more) to roll
 
-  tells_unless : (known : Bool) (ms : ℕ) (w mid : WorkerOf S) (made : List Made) (roll : Roll) → HasWorked steps first made w.server roll
+  tells_unless : (known : Bool) (ms : ℕ) (w mid : WorkerOf S) (made : List Made) (roll : Roll) → HasWorked steps web first made w.server roll
       → TicksUnless steps known refuses ms w mid → HasTold made mid.server roll
   tells_unless true ms w mid made roll was same =
       record { more = []; worked = as_before made w.server mid.server roll was (ap (λ (x : WorkerOf S). x.server) same) }
@@ -92,7 +93,7 @@ module _ {S : Type 0} (steps : Steps S) (refuses : S → Event → Type 0) (firs
   record HasServed (made : List Made) (to : S) (roll : Roll) (held : List Held) (conns : List Connection) : Type 0 where
     pub more : List Made
     pub after : Roll
-    pub worked : HasWorked steps first (made ++ more) to after
+    pub worked : HasWorked steps web first (made ++ more) to after
     pub now : List Held
     pub are_held : AreHeld now after
     pub same : connections now ≡ conns
@@ -100,7 +101,7 @@ module _ {S : Type 0} (steps : Steps S) (refuses : S → Event → Type 0) (firs
     pub apart : (label : ℕ) → IsOther label held → IsOther label now
 
   serves : (ms patience : ℕ) (news : Bool) (held : List Held) (made : List Made) (from to : S) (roll : Roll) (conns : List Connection)
-      → HasWorked steps first made from roll → AreHeld held roll → ServesEach steps ms patience news from (connections held) to conns
+      → HasWorked steps web first made from roll → AreHeld held roll → ServesEach steps ms patience news from (connections held) to conns
       → HasServed made to roll held conns
   serves ms patience news [] made from to roll conns was are each = record {
     more = [];
@@ -122,7 +123,7 @@ module _ {S : Type 0} (steps : Steps S) (refuses : S → Event → Type 0) (firs
       record {
         more = map here_now turn.entries ++ rest.more;
         after = rest.after;
-        worked = subst (λ (ms : List Made). HasWorked steps first ms to rest.after) (append_assoc made (map here_now turn.entries) rest.more) rest.worked;
+        worked = subst (λ (ms : List Made). HasWorked steps web first ms to rest.after) (append_assoc made (map here_now turn.entries) rest.more) rest.worked;
         now = held_at one.label each.1 ∷ rest.now;
         are_held = (rest.others one.label are.1 ∙ enrolled_here one.label (here each.1) roll, rest.apart one.label are.1, rest.are_held);
         same = ap (λ (cs : List Connection). each.1 ∷ cs) rest.same ∙ sym each.5;
@@ -130,9 +131,9 @@ module _ {S : Type 0} (steps : Steps S) (refuses : S → Event → Type 0) (firs
         apart = λ label h. (h.0, rest.apart label h.1);
       }
 
-module _ {S : Type 0} (steps : Steps S) (refuses : S → Event → Type 0) where
-  pub admissions_are_work : AdmissionsAreWork steps refuses
-  admissions_are_work first from to made roll held web peer label conns was are other new admission = record {
+module _ {S : Type 0} (steps : Steps S) (web : WebAnswers) (refuses : S → Event → Type 0) where
+  pub admissions_are_work : AdmissionsAreWork steps web refuses
+  admissions_are_work first from to made roll held peer label conns was are other new admission = record {
     more = made_on label (entry (Arrive peer) admission.reply) ∷ [];
     roll = enrolled label (here admission.newcomer) roll;
     worked = took_in made from to roll was label new peer admission.reply admission.newcomer admission.step admission.taken_in;
@@ -141,14 +142,14 @@ module _ {S : Type 0} (steps : Steps S) (refuses : S → Event → Type 0) where
     same = map-append (λ (one : Held). one.connection) held (held_at label admission.newcomer ∷ []) ∙ sym admission.added;
   }
 
-  pub turns_are_work : TurnsAreWork steps refuses
+  pub turns_are_work : TurnsAreWork steps web refuses
   turns_are_work first w after made roll held at conns was are turn =
-      let clock = tells_unless steps refuses first (is_known at.ms at.told_ms w.told_ms) at.ms w turn.mid made roll was turn.ticks in
-      let done = serves steps refuses first at.ms turn.mid.patience_ms at.news held (made ++ clock.more) turn.mid.server after.server roll turn.served clock.worked are turn.serves in
+      let clock = tells_unless steps web refuses first (is_known at.ms at.told_ms w.told_ms) at.ms w turn.mid made roll was turn.ticks in
+      let done = serves steps web refuses first at.ms turn.mid.patience_ms at.news held (made ++ clock.more) turn.mid.server after.server roll turn.served clock.worked are turn.serves in
       record {
         more = clock.more ++ done.more;
         roll = done.after;
-        worked = subst (λ (ms : List Made). HasWorked steps first ms after.server done.after) (append_assoc made clock.more done.more) done.worked;
+        worked = subst (λ (ms : List Made). HasWorked steps web first ms after.server done.after) (append_assoc made clock.more done.more) done.worked;
         held = stay done.now;
         are_held = held_stay done.now done.after done.are_held;
         same = conns_stay done.now ∙ ap (filter stays) done.same ∙ sym turn.closes;

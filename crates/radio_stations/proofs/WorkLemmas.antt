@@ -1,9 +1,11 @@
 -- What a worker made, as a chain of its server's steps, and label by label.
 use Rattle.std.proofs.Common.{◌≡◌, ℕ, ◌==◌, Bool, true, false, List, [], ◌∷◌, ◌++◌, refl, sym, ap, subst, ◌∙◌}
 use Rattle.std.specs.Prelude.{map, if◌then◌else◌}
+use Rattle.std.specs.List.{AllByRecursion}
 use Rattle.std.proofs.lemmas.List.{append-nil, map-append}
 use Rattle.std.proofs.lemmas.List.Concat.{flat_map-append}
 use Rattle.radio_addr.specs.declared.peer.Peer.{Peer}
+use Rattle.radio_answers.specs.declared.web_answers.WebAnswers.{WebAnswers}
 use Rattle.radio_events.specs.declared.entry.Entry.{Entry}
 use Rattle.radio_events.specs.declared.event.Event.TheVariants.{Arrive, Leave}
 use Rattle.radio_events.specs.declared.reply.Reply.{Reply}
@@ -13,13 +15,15 @@ use Rattle.radio_events.specs.Servers.{Steps, Chain}
 use Rattle.radio_locks.specs.Callers.{IsCalled, PassesGainWhatWasApplied}
 use Rattle.radio_connections.specs.Admission.{IsTakenIn}
 use Rattle.radio_connections.specs.Connections.{Connection}
+use Rattle.radio_connections.specs.Course.{LetsNobodyIn}
 use Rattle.radio_connections.proofs.DeedChains.{chain_one, chain_then}
 use Rattle.radio_serving.specs.Watching.{WatchedOf, WatchedSteps}
+use Rattle.radio_headline.specs.Served.{HasLabelOrMoment}
 use Rattle.radio_headline.proofs.Logs.{itself}
 use Rattle.radio_tables.proofs.KeyLaws.{by_number}
-use Rattle.radio_stations.specs.Turns.{AreTurnsOf, ConnectionTurn, ConnectionsMeanTheirBytes, applied_in}
-use Rattle.radio_stations.specs.Work.{HasWorked, IsOfItsConnection, IsServedBy, LabelsAreOfTheirConnections, Made, PassesAreOfTheirWork, UnderLabel, Roll}
-use Rattle.radio_stations.specs.Work.{closed, entries_in, entries_on, entry_on, gone, here, let_go, made_on, moment, nothing_yet, enrolled, served, told, took_in, turned_off, unknown}
+use Rattle.radio_stations.specs.Turns.{AreTurnsOf, ConnectionTurn, ConnectionsMeanTheirBytes, StrangersAreOnlyAnswered, applied_in}
+use Rattle.radio_stations.specs.Work.{HasWorked, IsOfItsConnection, IsServedBy, IsUnder, Made, PassesAreOfTheirWork, UnderLabel, Roll, WorkIsOfItsConnections}
+use Rattle.radio_stations.specs.Work.{closed, entries_in, entries_on, entry_on, gone, happening, here, let_go, made_on, moment, nothing_yet, enrolled, served, told, took_in, turned_off, unknown}
 
 entries_joined : (made more : List Made) → entries_in (made ++ more) ≡ entries_in made ++ entries_in more
 entries_joined made more = map-append (λ (m : Made). m.done) made more
@@ -28,7 +32,7 @@ entries_of : (label : ℕ) (entries : List Entry) → entries_in (map (made_on l
 entries_of label [] = refl
 entries_of label (e ∷ entries) = ap (λ (xs : List Entry). e ∷ xs) (entries_of label entries)
 
-module _ {S : Type 0} (steps : Steps S) where
+module _ {S : Type 0} (steps : Steps S) (web : WebAnswers) where
   abbrev Leads : S → List Made → S → Type 0
   Leads from made to = Chain steps from (entries_in made) to
 
@@ -41,7 +45,7 @@ module _ {S : Type 0} (steps : Steps S) where
       → Leads first (made ++ m ∷ []) to
   leads_one first from to made m before step = leads_then first from to made (m ∷ []) before (chain_one steps from to m.done step)
 
-  worked : (first last : S) (made : List Made) (roll : Roll) → HasWorked steps first made last roll → Leads first made last
+  worked : (first last : S) (made : List Made) (roll : Roll) → HasWorked steps web first made last roll → Leads first made last
   worked first last made roll nothing_yet = refl
   worked first last made roll (told before from to was done ms reply step) =
       leads_one first from last before (moment ms reply) (worked first from before was done) step
@@ -52,7 +56,7 @@ module _ {S : Type 0} (steps : Steps S) where
   worked first last made roll (served before from to was done label c c' there ms patience news turn) =
       leads_then first from last before (map (made_on label) turn.entries) (worked first from before was done)
       (subst (λ (es : List Entry). Chain steps from es last) (sym (entries_of label turn.entries)) turn.chain)
-  worked first last made roll (let_go before from to was done label c there reply step) =
+  worked first last made roll (let_go before from to was done label c there stayed reply step) =
       leads_one first from last before (made_on label (entry (Leave c.id) reply)) (worked first from before was done) step
 
 -- a watched server steps as it does unwatched
@@ -62,10 +66,35 @@ module _ {S : Type 0} (steps : Steps S) where
   unwatched from to (e ∷ entries) (mid, step, others) = (mid.server, step.0, unwatched mid to entries others)
 
 pub passes_of_work : PassesGainWhatWasApplied → PassesAreOfTheirWork
-passes_of_work gain opening first last made roll done =
+passes_of_work gain opening web first last made roll done =
     gain opening first.server last.server (entries_in made)
     (unwatched (IsCalled true opening) first last (entries_in made)
-    (worked (WatchedSteps (IsCalled true opening)) first last made roll done))
+    (worked (WatchedSteps (IsCalled true opening)) web first last made roll done))
+
+abbrev IsPlaced : Made → Type 0
+IsPlaced m = HasLabelOrMoment (happening m)
+
+all_placed : (made more : List Made) → AllByRecursion IsPlaced made → AllByRecursion IsPlaced more → AllByRecursion IsPlaced (made ++ more)
+all_placed [] more h k = k
+all_placed (m ∷ made) more h k = (h.0, all_placed made more h.1 k)
+
+labelled : (label : ℕ) (entries : List Entry) → AllByRecursion IsPlaced (map (made_on label) entries)
+labelled label [] = tt
+labelled label (e ∷ entries) = ((λ none. cc), labelled label entries)
+
+module _ {S : Type 0} (steps : Steps S) (web : WebAnswers) where
+  are_moments : (first last : S) (made : List Made) (roll : Roll) → HasWorked steps web first made last roll → AllByRecursion IsPlaced made
+  are_moments first last made roll nothing_yet = tt
+  are_moments first last made roll (told before from to was done ms reply step) =
+      all_placed before (moment ms reply ∷ []) (are_moments first from before was done) ((λ none. (ms, refl)), tt)
+  are_moments first last made roll (took_in before from to was done label new peer reply c step taken) =
+      all_placed before (made_on label (entry (Arrive peer) reply) ∷ []) (are_moments first from before was done) (labelled label (entry (Arrive peer) reply ∷ []))
+  are_moments first last made roll (turned_off before from to was done label new peer reply step nobody) =
+      all_placed before (made_on label (entry (Arrive peer) reply) ∷ []) (are_moments first from before was done) (labelled label (entry (Arrive peer) reply ∷ []))
+  are_moments first last made roll (served before from to was done label c c' there ms patience news turn) =
+      all_placed before (map (made_on label) turn.entries) (are_moments first from before was done) (labelled label turn.entries)
+  are_moments first last made roll (let_go before from to was done label c there stayed reply step) =
+      all_placed before (made_on label (entry (Leave c.id) reply) ∷ []) (are_moments first from before was done) (labelled label (entry (Leave c.id) reply ∷ []))
 
 -- what is under one label
 on_joined : (label : ℕ) (made more : List Made) → entries_on label (made ++ more) ≡ entries_on label made ++ entries_on label more
@@ -95,7 +124,7 @@ enrolled_here label place roll = ap (λ (b : Bool). if b then place else roll la
 pub enrolled_elsewhere : (label other : ℕ) (place : UnderLabel) (roll : Roll) → (label == other) ≡ false → enrolled label place roll other ≡ roll other
 enrolled_elsewhere label other place roll apart = ap (λ (b : Bool). if b then place else roll other) apart
 
-module _ {S : Type 0} (steps : Steps S) where
+module _ {S : Type 0} (steps : Steps S) (web : WebAnswers) where
   -- one more turn
   turns_then : (c mid c' : Connection) (turns : List (ConnectionTurn steps)) (turn : ConnectionTurn steps) → AreTurnsOf steps c turns mid
       → turn.before ≡ mid → turn.after ≡ c' → AreTurnsOf steps c (turns ++ turn ∷ []) c'
@@ -108,7 +137,7 @@ module _ {S : Type 0} (steps : Steps S) where
     pub reply : Reply
     pub first : Connection
     pub turns : List (ConnectionTurn steps)
-    pub taken : IsTakenIn peer reply [] [] first
+    pub taken : IsTakenIn (record { web = web; peer = peer; reply = reply }) [] [] first
     pub are : AreTurnsOf steps first turns c
     pub all : entries ≡ entry (Arrive peer) reply ∷ applied_in steps turns
 
@@ -116,6 +145,7 @@ module _ {S : Type 0} (steps : Steps S) where
   record Went (entries : List Entry) (c : Connection) : Type 0 where
     pub before : List Entry
     pub reply : Reply
+    pub stayed : c.status.has_left ≡ false
     pub came : Came before c
     pub all : entries ≡ before ++ entry (Leave c.id) reply ∷ []
 
@@ -123,7 +153,7 @@ module _ {S : Type 0} (steps : Steps S) where
   IsAt entries unknown = entries ≡ []
   IsAt entries (here c) = Came entries c
   IsAt entries (gone c) = Went entries c
-  IsAt entries closed = Unit {0}
+  IsAt entries closed = (peer : Peer) × (reply : Reply) × LetsNobodyIn reply × (entries ≡ entry (Arrive peer) reply ∷ [])
 
   abbrev IsAll : List Made → Roll → Type 0
   IsAll made roll = (label : ℕ) → IsAt (entries_on label made) (roll label)
@@ -145,7 +175,8 @@ module _ {S : Type 0} (steps : Steps S) where
             (sym (on_joined other made more ∙ ap (λ (es : List Entry). entries_on other made ++ es) (silent other apart) ∙ append-nil (entries_on other made))) (all other))
 
   -- nothing was under it before
-  arrived : (entries : List Entry) (label : ℕ) (peer : Peer) (reply : Reply) (c : Connection) → entries ≡ [] → IsTakenIn peer reply [] [] c
+  arrived : (entries : List Entry) (label : ℕ) (peer : Peer) (reply : Reply) (c : Connection) → entries ≡ []
+      → IsTakenIn (record { web = web; peer = peer; reply = reply }) [] [] c
       → Came (entries ++ entries_on label (made_on label (entry (Arrive peer) reply) ∷ [])) c
   arrived entries label peer reply c none taken = record {
     peer = peer;
@@ -179,7 +210,7 @@ module _ {S : Type 0} (steps : Steps S) where
   at_place : (entries : List Entry) (place other : UnderLabel) → place ≡ other → IsAt entries place → IsAt entries other
   at_place entries place other e at = subst (IsAt entries) e at
 
-  so_far : (first last : S) (made : List Made) (roll : Roll) → HasWorked steps first made last roll → IsAll made roll
+  so_far : (first last : S) (made : List Made) (roll : Roll) → HasWorked steps web first made last roll → IsAll made roll
   so_far first last made roll nothing_yet = λ label. refl
   so_far first last made roll (told before from to was done ms reply step) = λ label.
       subst (λ (es : List Entry). IsAt es (roll label)) (sym (on_joined label before (moment ms reply ∷ []) ∙ append-nil (entries_on label before)))
@@ -191,46 +222,61 @@ module _ {S : Type 0} (steps : Steps S) where
       (at_place (entries_on label before) (was label) unknown new (so_far first from before was done label)) taken)
   so_far first last made roll (turned_off before from to was done label new peer reply step nobody) =
       under label before (made_on label (entry (Arrive peer) reply) ∷ []) closed was (so_far first from before was done)
-      (λ other apart. on_elsewhere label other (entry (Arrive peer) reply) apart) tt
+      (λ other apart. on_elsewhere label other (entry (Arrive peer) reply) apart) (
+        peer,
+        reply,
+        nobody,
+        ap (λ (es : List Entry). es ++ entries_on label (made_on label (entry (Arrive peer) reply) ∷ []))
+            (at_place (entries_on label before) (was label) unknown new (so_far first from before was done label))
+            ∙ on_here label (entry (Arrive peer) reply),
+      )
   so_far first last made roll (served before from to was done label c c' there ms patience news turn) =
       under label before (map (made_on label) turn.entries) (here c') was (so_far first from before was done)
       (λ other apart. all_elsewhere label other turn.entries apart)
       (turned (entries_on label before) label c (at_place (entries_on label before) (was label) (here c) there (so_far first from before was done label))
       (record { ms = ms; patience = patience; news = news; from = from; to = last; before = c; after = c'; serves = turn }) refl)
-  so_far first last made roll (let_go before from to was done label c there reply step) =
+  so_far first last made roll (let_go before from to was done label c there stayed reply step) =
       under label before (made_on label (entry (Leave c.id) reply) ∷ []) (gone c) was (so_far first from before was done)
       (λ other apart. on_elsewhere label other (entry (Leave c.id) reply) apart)
       (record {
         before = entries_on label before;
         reply = reply;
+        stayed = stayed;
         came = at_place (entries_on label before) (was label) (here c) there (so_far first from before was done label);
         all = ap (λ (es : List Entry). entries_on label before ++ es) (on_here label (entry (Leave c.id) reply));
       })
 
-  served_by : ConnectionsMeanTheirBytes steps → (peer : Peer) (reply : Reply) (first last : Connection) (turns : List (ConnectionTurn steps))
-      → IsTakenIn peer reply [] [] first → AreTurnsOf steps first turns last → IsServedBy steps peer reply last (applied_in steps turns)
-  served_by law peer (Arrived id) first last turns taken are = law peer id first last turns taken are
-  served_by law peer Feeding first last turns taken are = tt
-  served_by law peer (Seated interval head) first last turns taken are = tt
-  served_by law peer (Drawn bytes title) first last turns taken are = tt
-  served_by law peer Noted first last turns taken are = tt
-  served_by law peer (Text text) first last turns taken are = tt
-  served_by law peer (Deny rule) first last turns taken are = tt
-  served_by law peer (Finished rule) first last turns taken are = tt
-  served_by law peer Stray first last turns taken are = tt
+  module _ (clients : ConnectionsMeanTheirBytes steps) (strangers : StrangersAreOnlyAnswered steps) where
+    served_by : (peer : Peer) (reply : Reply) (first last : Connection) (turns : List (ConnectionTurn steps))
+        → IsTakenIn (record { web = web; peer = peer; reply = reply }) [] [] first → AreTurnsOf steps first turns last
+        → IsServedBy web peer reply last (applied_in steps turns)
+    served_by peer (Arrived id) first last turns taken are = clients web peer id first last turns taken are
+    served_by peer Feeding first last turns taken are = strangers web peer Feeding first last turns tt taken are
+    served_by peer (Seated interval head) first last turns taken are = strangers web peer (Seated interval head) first last turns tt taken are
+    served_by peer (Drawn bytes title) first last turns taken are = strangers web peer (Drawn bytes title) first last turns tt taken are
+    served_by peer Noted first last turns taken are = strangers web peer Noted first last turns tt taken are
+    served_by peer (Text text) first last turns taken are = strangers web peer (Text text) first last turns tt taken are
+    served_by peer (Deny rule) first last turns taken are = strangers web peer (Deny rule) first last turns tt taken are
+    served_by peer (Finished rule) first last turns taken are = strangers web peer (Finished rule) first last turns tt taken are
+    served_by peer Stray first last turns taken are = strangers web peer Stray first last turns tt taken are
 
-  of_came : ConnectionsMeanTheirBytes steps → (entries : List Entry) (c : Connection) → Came entries c → IsOfItsConnection steps entries c
-  of_came law entries c came = record {
-    peer = came.peer;
-    reply = came.reply;
-    applied = applied_in steps came.turns;
-    in_order = came.all;
-    served = served_by law came.peer came.reply came.first c came.turns came.taken came.are;
-  }
+    of_came : (entries : List Entry) (c : Connection) → Came entries c → IsOfItsConnection web entries c
+    of_came entries c came = record {
+      peer = came.peer;
+      reply = came.reply;
+      applied = applied_in steps came.turns;
+      in_order = came.all;
+      served = served_by came.peer came.reply came.first c came.turns came.taken came.are;
+    }
 
-  pub labels_of_connections : ConnectionsMeanTheirBytes steps → LabelsAreOfTheirConnections steps
-  labels_of_connections law first last made roll done label c =
-      let at = λ (place : UnderLabel) (there : roll label ≡ place). at_place (entries_on label made) (roll label) place there (so_far first last made roll done label) in (
-        (λ there. of_came law (entries_on label made) c (at (here c) there)),
-        (λ there. let went = at (gone c) there in (went.before, went.reply, went.all, of_came law went.before c went.came)),
-      )
+    of_place : (entries : List Entry) (place : UnderLabel) → IsAt entries place → IsUnder web place entries
+    of_place entries unknown none = none
+    of_place entries (here c) came = of_came entries c came
+    of_place entries (gone c) went = (went.before, went.reply, went.stayed, went.all, of_came went.before c went.came)
+    of_place entries closed at = at
+
+    pub work_of_connections : WorkIsOfItsConnections steps web
+    work_of_connections first last made roll done = record {
+      labels = λ label. of_place (entries_on label made) (roll label) (so_far first last made roll done label);
+      moments = are_moments steps web first last made roll done;
+    }

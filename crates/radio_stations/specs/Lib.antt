@@ -2,3 +2,4 @@ pub mod Meaning
 pub mod Turns
 pub mod Work
 pub mod Rounds
+pub mod Stations

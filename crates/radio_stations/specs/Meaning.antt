@@ -13,7 +13,7 @@ use Rattle.radio_session.specs.Cuts.{Atom, atoms, unheard}
 use Rattle.radio_session.specs.Hearing.{Heard, IsHeard}
 use Rattle.radio_session.specs.Saying.{said}
 use Rattle.radio_connections.specs.declared.conn.Fate.{Fate}
-use Rattle.radio_connections.specs.declared.conn.Fate.TheVariants.{Open, Ended}
+use Rattle.radio_connections.specs.declared.conn.Fate.TheVariants.{Open, Ended, Closed}
 use Rattle.radio_connections.specs.Duties.{IsAtMostLeaving, events_of}
 
 -- These events are those that were asked, each once and in their order, with draws of this client among them.
@@ -35,14 +35,13 @@ pub record HasShut (entries : List Entry) : Type 0 where
   pub ending : Ending
   pub shut : (said says last.reply).state ≡ Shut ending
 
--- Since a client arrived from this peer, and was given this number, its line gave these bytes, and these entries were applied for it. They are, in order, the
--- events that the bytes mean, in one piece, with its draws among them, and its leaving at the end.
-pub record MeansItsBytes (peer : Peer) (id : ℕ) (given : List ℕ) (fate : Fate) (applied : List Entry) : Type 0 where
+-- Since a client arrived from this peer, to be answered by these settings, and was given this number, its line gave these bytes, and these entries were applied
+-- for it. They are, in order, the events that the bytes mean, in one piece, with its draws among them, and its leaving at the end.
+pub record MeansItsBytes (web : WebAnswers) (peer : Peer) (id : ℕ) (given : List ℕ) (fate : Fate) (applied : List Entry) : Type 0 where
   -- what was read, and what came after the end of the conversation, or as it was cut off
   pub read : List ℕ
   pub unread : List ℕ
   pub gives : given ≡ read ++ unread
-  pub web : WebAnswers
   pub heard : Heard
   pub is_heard : IsHeardInOne (fresh web id peer) read heard
   -- what was applied while it went on, and its leaving
@@ -59,3 +58,5 @@ pub record MeansItsBytes (peer : Peer) (id : ℕ) (given : List ℕ) (fate : Fat
   pub goes_on : fate ≡ Open → (unread ≡ []) × (unapplied ≡ []) × (left ≡ [])
   -- it ends by the reply to the last of them
   pub ends : fate ≡ Ended → HasShut made
+  -- it is closed when all was applied, or after its end
+  pub closes : fate ≡ Closed → ((unread ≡ []) × (unapplied ≡ [])) ⊎ HasShut made

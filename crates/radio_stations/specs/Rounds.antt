@@ -32,24 +32,24 @@ abbrev pub AreHeld : List Held → Roll → Type 0
 AreHeld [] roll = Unit {0}
 AreHeld (one ∷ held) roll = (roll one.label ≡ here one.connection) × IsOther one.label held × AreHeld held roll
 
-module _ {S : Type 0} (steps : Steps S) (refuses : S → Event → Type 0) where
+module _ {S : Type 0} (steps : Steps S) (web : WebAnswers) (refuses : S → Event → Type 0) where
   -- it did more, and serves these now
   pub record WorksOn (first : S) (made : List Made) (to : S) (conns : List Connection) : Type 0 where
     pub more : List Made
     pub roll : Roll
-    pub worked : HasWorked steps first (made ++ more) to roll
+    pub worked : HasWorked steps web first (made ++ more) to roll
     pub held : List Held
     pub are_held : AreHeld held roll
     pub same : connections held ≡ conns
 
   -- a worker that takes a connection in under a new label has worked on
   abbrev pub AdmissionsAreWork : Type 0
-  AdmissionsAreWork = (first from to : S) (made : List Made) (roll : Roll) (held : List Held) (web : WebAnswers) (peer : Peer) (label : ℕ) (conns : List Connection)
-      → HasWorked steps first made from roll → AreHeld held roll → IsOther label held → roll label ≡ unknown
+  AdmissionsAreWork = (first from to : S) (made : List Made) (roll : Roll) (held : List Held) (peer : Peer) (label : ℕ) (conns : List Connection)
+      → HasWorked steps web first made from roll → AreHeld held roll → IsOther label held → roll label ≡ unknown
       → IsAdmission steps web peer [] [] from (connections held) to conns → WorksOn first made to conns
 
   -- a worker that has served its connections in a turn has worked on
   abbrev pub TurnsAreWork : Type 0
   TurnsAreWork = (first : S) (w after : WorkerOf S) (made : List Made) (roll : Roll) (held : List Held) (turn : Turn) (conns : List Connection)
-      → HasWorked steps first made w.server roll → AreHeld held roll → IsTurn steps refuses turn w (connections held) after conns
+      → HasWorked steps web first made w.server roll → AreHeld held roll → IsTurn steps refuses turn w (connections held) after conns
       → WorksOn first made after.server conns

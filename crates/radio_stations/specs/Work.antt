@@ -1,6 +1,9 @@
 -- All that a worker did, one after another, and the receipts of its pass.
 use Rattle.std.specs.Prelude.{◌≡◌, ◌==◌, if◌then◌else◌, ℕ, Bool, true, false, List, [], ◌∷◌, ◌++◌, map, flat_map, Option, None, Some}
+use Rattle.std.specs.List.{AllByRecursion}
 use Rattle.radio_addr.specs.declared.peer.Peer.{Peer}
+use Rattle.radio_answers.specs.declared.web_answers.WebAnswers.{WebAnswers}
+use Rattle.radio_core.specs.Handing.{is_number}
 use Rattle.radio_events.specs.declared.entry.Entry.{Entry}
 use Rattle.radio_events.specs.declared.event.Event.TheVariants.{Arrive, Clock, Leave}
 use Rattle.radio_events.specs.declared.reply.Reply.{Reply}
@@ -10,11 +13,14 @@ use Rattle.radio_events.specs.Servers.{Steps}
 use Rattle.radio_house.specs.World.{World}
 use Rattle.radio_book.specs.Receipts.{ReceiptOf, entry_of}
 use Rattle.radio_locks.specs.Callers.{IsCalled}
-use Rattle.radio_connections.specs.Admission.{IsTakenIn, LetsNobodyIn}
+use Rattle.radio_connections.specs.Admission.{IsTakenIn}
 use Rattle.radio_connections.specs.Connections.{Connection}
+use Rattle.radio_connections.specs.Course.{LetsNobodyIn}
 use Rattle.radio_connections.specs.Serving.{ServesInTurn}
 use Rattle.radio_serving.specs.Watching.{WatchedOf, WatchedSteps}
-use Rattle.radio_stations.specs.Turns.{IsServedThrough}
+use Rattle.radio_headline.specs.Course.{Happening}
+use Rattle.radio_headline.specs.Served.{HasLabelOrMoment}
+use Rattle.radio_stations.specs.Turns.{IsServedThrough, IsOnlyAnswered}
 
 -- what a worker has under a label: nothing yet, a connection, one that it has let go, or none, since that was closed as it came
 pub data UnderLabel : Type 0 where
@@ -48,26 +54,55 @@ moment ms reply = record { label = None; done = entry (Clock ms) reply }
 abbrev pub entries_in : List Made → List Entry
 entries_in made = map (λ (m : Made). m.done) made
 
-abbrev pub is_label : ℕ → Option ℕ → Bool
-is_label label None = false
-is_label label (Some other) = other == label
-
 abbrev pub entry_on : ℕ → Made → List Entry
-entry_on label m = if is_label label m.label then m.done ∷ [] else []
+entry_on label m = if is_number label m.label then m.done ∷ [] else []
 
 -- what was made for the connection of the label
 abbrev pub entries_on : ℕ → List Made → List Entry
 entries_on label made = flat_map (entry_on label) made
 
-module _ {S : Type 0} (steps : Steps S) where
-  -- What a worker made over a server, and what it then has under each label. It told the moment; it took in a connection under a new label, or closed it as it
-  -- came; it served one of its connections in a turn; and as it stopped, it let clients go.
+-- a connection that came so is served through these entries, if its client was let in, and is only answered if not
+abbrev pub IsServedBy : WebAnswers → Peer → Reply → Connection → List Entry → Type 0
+IsServedBy web peer (Arrived id) c applied = IsServedThrough web peer id c applied
+IsServedBy web peer reply c applied = IsOnlyAnswered web reply c applied
+
+-- by these settings of answers, these entries are the arrival of a connection, and then what was applied in its turns
+pub record IsOfItsConnection (web : WebAnswers) (entries : List Entry) (c : Connection) : Type 0 where
+  pub peer : Peer
+  pub reply : Reply
+  pub applied : List Entry
+  pub in_order : entries ≡ entry (Arrive peer) reply ∷ applied
+  pub served : IsServedBy web peer reply c applied
+
+-- These entries are those under a label: none where nobody came; those of its connection; behind them the leaving of its client, if that was let go; the
+-- arrival alone, if the connection was closed as it came.
+abbrev pub IsUnder : WebAnswers → UnderLabel → List Entry → Type 0
+IsUnder web unknown entries = entries ≡ []
+IsUnder web (here c) entries = IsOfItsConnection web entries c
+IsUnder web (gone c) entries =
+    (before : List Entry) × (reply : Reply) × (c.status.has_left ≡ false) × (entries ≡ before ++ entry (Leave c.id) reply ∷ []) × IsOfItsConnection web before c
+IsUnder web closed entries = (peer : Peer) × (reply : Reply) × LetsNobodyIn reply × (entries ≡ entry (Arrive peer) reply ∷ [])
+
+abbrev pub happening : Made → Happening
+happening m = record { label = m.label; event = m.done.event }
+
+-- Of connections that are answered by these settings: what was made under each label is that of the connection there, and what was made under none tells
+-- moments.
+pub record IsOfConnections (web : WebAnswers) (made : List Made) (roll : Roll) : Type 0 where
+  pub labels : (label : ℕ) → IsUnder web (roll label) (entries_on label made)
+  pub moments : AllByRecursion (λ m. HasLabelOrMoment (happening m)) made
+
+module _ {S : Type 0} (steps : Steps S) (web : WebAnswers) where
+  -- What a worker made over a server, by these settings of answers, and what it then has under each label. It told the moment; it took in a connection under a
+  -- new label, or closed it as it came; it served one of its connections in a turn; and as it stopped, it let clients go that
+  -- had not left.
   pub data HasWorked (first : S) : List Made → S → Roll → Type 0 where
     nothing_yet : HasWorked first [] first nobody_came
     told : (made : List Made) (from to : S) (roll : Roll) → HasWorked first made from roll → (ms : ℕ) (reply : Reply) → steps from (Clock ms) reply to
         → HasWorked first (made ++ moment ms reply ∷ []) to roll
     took_in : (made : List Made) (from to : S) (roll : Roll) → HasWorked first made from roll → (label : ℕ) → roll label ≡ unknown
-        → (peer : Peer) (reply : Reply) (c : Connection) → steps from (Arrive peer) reply to → IsTakenIn peer reply [] [] c
+        → (peer : Peer) (reply : Reply) (c : Connection) → steps from (Arrive peer) reply to
+        → IsTakenIn (record { web = web; peer = peer; reply = reply }) [] [] c
         → HasWorked first (made ++ made_on label (entry (Arrive peer) reply) ∷ []) to (enrolled label (here c) roll)
     turned_off : (made : List Made) (from to : S) (roll : Roll) → HasWorked first made from roll → (label : ℕ) → roll label ≡ unknown
         → (peer : Peer) (reply : Reply) → steps from (Arrive peer) reply to → LetsNobodyIn reply
@@ -76,32 +111,15 @@ module _ {S : Type 0} (steps : Steps S) where
         → (ms patience : ℕ) (news : Bool) (turn : ServesInTurn steps ms patience news from c to c')
         → HasWorked first (made ++ map (made_on label) turn.entries) to (enrolled label (here c') roll)
     let_go : (made : List Made) (from to : S) (roll : Roll) → HasWorked first made from roll → (label : ℕ) (c : Connection) → roll label ≡ here c
-        → (reply : Reply) → steps from (Leave c.id) reply to
+        → c.status.has_left ≡ false → (reply : Reply) → steps from (Leave c.id) reply to
         → HasWorked first (made ++ made_on label (entry (Leave c.id) reply) ∷ []) to (enrolled label (gone c) roll)
 
-  -- Of a client that was let in: its connection is served through what was made under its label. Of another, nothing is said here.
-  abbrev pub IsServedBy : Peer → Reply → Connection → List Entry → Type 0
-  IsServedBy peer (Arrived id) c applied = IsServedThrough peer id c applied
-  IsServedBy peer reply c applied = Unit {0}
-
-  -- these entries are the arrival of a connection, and then what was applied in its turns
-  pub record IsOfItsConnection (entries : List Entry) (c : Connection) : Type 0 where
-    pub peer : Peer
-    pub reply : Reply
-    pub applied : List Entry
-    pub in_order : entries ≡ entry (Arrive peer) reply ∷ applied
-    pub served : IsServedBy peer reply c applied
-
-  -- Whatever a worker did, what it made under the label of a connection is what the bytes of this connection mean; under that of one that it has let go, the
-  -- leaving of its client comes behind that.
-  abbrev pub LabelsAreOfTheirConnections : Type 0
-  LabelsAreOfTheirConnections = (first last : S) (made : List Made) (roll : Roll) → HasWorked first made last roll → (label : ℕ) (c : Connection)
-      → (roll label ≡ here c → IsOfItsConnection (entries_on label made) c)
-      × (roll label ≡ gone c → (entries : List Entry) × (reply : Reply) × (entries_on label made ≡ entries ++ entry (Leave c.id) reply ∷ [])
-      × IsOfItsConnection entries c)
+  -- Whatever a worker did, what it made is of the connections that it then has.
+  abbrev pub WorkIsOfItsConnections : Type 0
+  WorkIsOfItsConnections = (first last : S) (made : List Made) (roll : Roll) → HasWorked first made last roll → IsOfConnections web made roll
 
 -- Of a hall that stores its entries: what a worker's pass gained are the receipts of all that it made, in that order, and no others.
 abbrev pub PassesAreOfTheirWork : Type 0
-PassesAreOfTheirWork = (opening : World) (first last : WatchedOf (List ReceiptOf)) (made : List Made) (roll : Roll)
-    → HasWorked (WatchedSteps (IsCalled true opening)) first made last roll
+PassesAreOfTheirWork = (opening : World) (web : WebAnswers) (first last : WatchedOf (List ReceiptOf)) (made : List Made) (roll : Roll)
+    → HasWorked (WatchedSteps (IsCalled true opening)) web first made last roll
     → (receipts : List ReceiptOf) × (last.server ≡ first.server ++ receipts) × (map entry_of receipts ≡ entries_in made)

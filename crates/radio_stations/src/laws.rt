@@ -1,19 +1,24 @@
 //! Laws on connections over all their turns, and on workers' passes. Each is a function that does nothing, and its contract is the law.
 
 ghost use Rattle.radio_stations.specs.Rounds.{AdmissionsAreWork, TurnsAreWork};
-ghost use Rattle.radio_stations.specs.Turns.{ConnectionsMeanTheirBytes};
-ghost use Rattle.radio_stations.specs.Work.{LabelsAreOfTheirConnections, PassesAreOfTheirWork};
+ghost use Rattle.radio_stations.specs.Stations.{StationsAddUp, StationsHearSlices};
+ghost use Rattle.radio_answers.specs.declared.web_answers.WebAnswers.{WebAnswers};
+ghost use Rattle.radio_stations.specs.Turns.{ConnectionsMeanTheirBytes, StrangersAreOnlyAnswered};
+ghost use Rattle.radio_stations.specs.Work.{PassesAreOfTheirWork, WorkIsOfItsConnections};
 
 use radio_events::Server;
+use radio_headline::listeners_hear_slices;
 use radio_heads::settled;
 use radio_locks::passes_gain_what_was_applied;
 use radio_session::cuts_do_not_matter;
 
 /// After each turn since a client was let in, the events applied for its connection are those that the bytes of its line mean, in their
 /// order, as if the bytes had come in one piece. The client's draws lie among them, and its leaving comes last. The bytes that the line
-/// took, followed by those that still wait to be written, are the bytes of the replies.
+/// took, followed by those that still wait to be written, are the bytes of the replies. For a client that was not let in nothing is
+/// applied: its line takes the bytes of the reply to its arrival.
 pub fn connections_mean_their_bytes<S: Server>()
-    ensures { ConnectionsMeanTheirBytes S.steps }
+    ensures clients { ConnectionsMeanTheirBytes S.steps }
+    ensures strangers { StrangersAreOnlyAnswered S.steps }
 {
     cuts_do_not_matter();
     settled();
@@ -22,9 +27,9 @@ pub fn connections_mean_their_bytes<S: Server>()
 /// A worker applies the arrival of each connection that it takes in. In each turn it applies the clock's event, if that is due, and then the
 /// events of one of its connections after another. The events under a connection's label are those that the bytes of this connection mean.
 pub fn work_is_of_its_connections<S: Server>()
-    ensures admissions { AdmissionsAreWork S.steps S.refuses }
-    ensures turns { TurnsAreWork S.steps S.refuses }
-    ensures labels { LabelsAreOfTheirConnections S.steps }
+    ensures admissions { (web : WebAnswers) → AdmissionsAreWork S.steps web S.refuses }
+    ensures turns { (web : WebAnswers) → TurnsAreWork S.steps web S.refuses }
+    ensures labels { (web : WebAnswers) → WorkIsOfItsConnections S.steps web }
 {
     connections_mean_their_bytes::<S>();
 }
@@ -34,4 +39,14 @@ pub fn passes_are_of_their_work()
     ensures { PassesAreOfTheirWork }
 {
     passes_gain_what_was_applied();
+}
+
+/// In a history that is a run from the opening state, whose entries under each label are those of the connection there, each listener is
+/// given slices of what the lines of its sources' connections brought. Each line takes what the replies say, or a front of it. What two
+/// workers made is such a list however it is woven, if each has labels of its own.
+pub fn stations_hear_slices()
+    ensures slices { StationsHearSlices }
+    ensures woven { StationsAddUp }
+{
+    listeners_hear_slices();
 }

@@ -2,11 +2,12 @@
 //!
 //! A law is a function that runs no code: [`connections_mean_their_bytes`] is of one connection over all turns in which
 //! a worker served it, [`work_is_of_its_connections`] of all that one worker did, and [`passes_are_of_their_work`] of the
-//! receipts of its pass.
+//! receipts of its pass. [`stations_hear_slices`] is of a history and what the listeners in it are given.
 #![tactic(auto)]
 
 mod laws;
 
 pub use laws::{
-    connections_mean_their_bytes, passes_are_of_their_work, work_is_of_its_connections,
+    connections_mean_their_bytes, passes_are_of_their_work, stations_hear_slices,
+    work_is_of_its_connections,
 };

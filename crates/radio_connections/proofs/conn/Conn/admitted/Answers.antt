@@ -5,8 +5,9 @@ use Rattle.radio_policy.specs.declared.rule.Rule.{Rule}
 use Rattle.radio_session.specs.Conversation.{asking}
 use Rattle.radio_session.specs.Saying.{said}
 use Rattle.radio_connections.specs.Connections.{Connection, IsTurnedAway}
+use Rattle.radio_connections.specs.Course.{Arrival}
 use Rattle.radio_connections.specs.Admission.{IsTakenIn}
-use Rattle.radio_connections.proofs.Comings.{comes_in, is_told_away, lets_nobody_in}
+use Rattle.radio_connections.proofs.Comings.{comes_in, is_turned_away, lets_nobody_in}
 use Rattle.radio_connections.proofs.conn.Conn.admitted.Goals as goal
 
 if_ok_more : {A E : Type 0} (P Q : A → Type 0) → ((x : A) → P x → Q x) → (r : Result A E) → IfOk r P → IfOk r Q
@@ -21,16 +22,18 @@ pub returns-in-Arrived-clause-taken_in : goal.returns-in-Arrived-clause-taken_in
 returns-in-Arrived-clause-taken_in g c =
     let given = g.L.Line.given c.args.line in
     let taken = g.L.Line.taken c.args.line in
-    subst (λ (r : Reply). IsTakenIn c.args.peer r given taken c.new.result) (sym c.in-Arrived.is)
-    (subst (λ (x : Connection). IsTakenIn c.args.peer (Arrived c.in-Arrived.id) given taken x) (sym c.new.ensures)
+    subst (λ (r : Reply). IsTakenIn (record { web = c.args.web; peer = c.args.peer; reply = r }) given taken c.new.result) (sym c.in-Arrived.is)
+    (subst (λ (x : Connection). IsTakenIn (record { web = c.args.web; peer = c.args.peer; reply = Arrived c.in-Arrived.id }) given taken x) (sym c.new.ensures)
     (comes_in c.args.web c.args.peer c.in-Arrived.id given taken (g.L.Line.calls c.args.line) c.args.ms))
 
 pub returns-in_default-clause-taken_in : goal.returns-in_default-clause-taken_in
 returns-in_default-clause-taken_in g c =
     let given = g.L.Line.given c.args.line in
     let taken = g.L.Line.taken c.args.line in
-    if_ok_more (λ (x : Connection). IsTurnedAway c.args.web c.args.reply given taken c.args.ms x) (λ (x : Connection). IsTakenIn c.args.peer c.args.reply given taken x)
-    (λ x away. is_told_away c.args.web c.args.peer given taken c.args.ms x c.args.reply c.in_default.not-Arrived away) c.turned_away.result c.turned_away.ensures
+    let arrival : Arrival = record { web = c.args.web; peer = c.args.peer; reply = c.args.reply } in
+    if_ok_more (λ (x : Connection). IsTurnedAway c.args.web c.args.reply given taken c.args.ms x) (λ (x : Connection). IsTakenIn arrival given taken x)
+    (λ x away. is_turned_away arrival given taken c.args.ms x (lets_nobody_in c.args.reply c.in_default.not-Arrived) away)
+    c.turned_away.result c.turned_away.ensures
 
 pub returns-in_default-clause-err : goal.returns-in_default-clause-err
 returns-in_default-clause-err g c = on_err_by _ (lets_nobody_in c.args.reply c.in_default.not-Arrived) c.turned_away.result

@@ -28,7 +28,7 @@ returns-in-Ok g c =
         made = λ goes. (c.in-Ok.reply, refl);
         seat = λ other. sits ∙ ap (λ (b : Bool). (b && is_seated c.in-Ok.reply) || before.sits) other;
         stands =
-            λ later past st. answered_as _ _ c.args.event later past c.in-Ok.reply goes refl over.given over.taken sits left st c.tell-conn-inside.result refl
+            λ arrival later past st. answered_as _ _ c.args.event later past c.in-Ok.reply goes refl over.given over.taken sits left st c.tell-conn-inside.result refl
             c.tell-conn-inside.ensures.told;
         later = later_same over.calls over.taken c.in-Ok.ensures.none;
         spared = record {

@@ -6,6 +6,7 @@ use Rattle.radio_events.specs.declared.entry.Entry.{Entry}
 use Rattle.radio_connections.specs.declared.conn.Fate.{Fate}
 use Rattle.radio_connections.specs.declared.conn.Fate.TheVariants.{Open}
 use Rattle.radio_connections.specs.Connections.{Connection, is_open}
+use Rattle.radio_connections.specs.Course.{Arrival}
 use Rattle.radio_connections.specs.Serving.{StandsBefore}
 use Rattle.radio_connections.specs.Answering.{IsAnswered, later_by}
 use Rattle.radio_connections.proofs.Calling.{later_none, later_then}
@@ -18,11 +19,12 @@ use Rattle.radio_connections.proofs.serving.answering.answer_all.Goals as goal
 -- one more event is applied
 one_more : (start before now : Connection) (event : Event) (events rest all : List Event) (so_far made : List Entry) → events ≡ event ∷ rest
     → IsAnswered event before made now
-    → ((past : List Entry) → StandsBefore all start past → StandsBefore events before (past ++ so_far))
-    → (past : List Entry) → StandsBefore all start past → StandsBefore (later_by now.status.fate rest) now (past ++ (so_far ++ made))
-one_more start before now event events rest all so_far made left a stands past st =
-    subst (λ (es : List Entry). StandsBefore (later_by now.status.fate rest) now es) (append_assoc past so_far made)
-    (a.stands rest (past ++ so_far) (subst (λ (es : List Event). StandsBefore es before (past ++ so_far)) left (stands past st)))
+    → ((arrival : Arrival) (past : List Entry) → StandsBefore arrival all start past → StandsBefore arrival events before (past ++ so_far))
+    → (arrival : Arrival) (past : List Entry) → StandsBefore arrival all start past
+    → StandsBefore arrival (later_by now.status.fate rest) now (past ++ (so_far ++ made))
+one_more start before now event events rest all so_far made left a stands arrival past st =
+    subst (λ (es : List Entry). StandsBefore arrival (later_by now.status.fate rest) now es) (append_assoc past so_far made)
+    (a.stands arrival rest (past ++ so_far) (subst (λ (es : List Event). StandsBefore arrival es before (past ++ so_far)) left (stands arrival past st)))
 
 pub loop-event-init : goal.loop-event-init
 loop-event-init g c = record {
@@ -36,9 +38,9 @@ loop-event-init g c = record {
   unwritten = unwritten_none c.args.conn.now;
   asked = refl;
   made = sym c.into_iter-event-iterator.ensures.into_iter_gives.0;
-  stands = λ past st.
-      subst (λ (es : List Entry). StandsBefore (into_iter_items c.into_iter-event-iterator.result) c.args.conn.now es) (sym (append-nil past))
-      (subst (λ (es : List Event). StandsBefore es c.args.conn.now past) (sym c.into_iter-event-iterator.ensures.into_iter_gives.0) st);
+  stands = λ arrival past st.
+      subst (λ (es : List Entry). StandsBefore arrival (into_iter_items c.into_iter-event-iterator.result) c.args.conn.now es) (sym (append-nil past))
+      (subst (λ (es : List Event). StandsBefore arrival es c.args.conn.now past) (sym c.into_iter-event-iterator.ensures.into_iter_gives.0) st);
 }
 
 pub returns-then-not-is_open : goal.returns-then-not-is_open
@@ -54,11 +56,11 @@ returns-then-not-is_open g c =
         first = first_then inv.entries a.0 _ _ inv.made
             (subst (λ (es : List Event). AreFirstOf a.0 es) (sym c.in-Some.ensures.steps.0) (first_of_one c.in-Some.event _ a.0 a.2.once));
         all = λ goes. absurd (not_over c.answer.new.conn.status.fate over goes);
-        stands = λ past st.
-            subst (λ (es : List Event). StandsBefore es c.answer.new.conn (past ++ (inv.entries ++ a.0)))
+        stands = λ arrival past st.
+            subst (λ (es : List Event). StandsBefore arrival es c.answer.new.conn (past ++ (inv.entries ++ a.0)))
             (later_by_over c.answer.new.conn.status.fate (into_iter_items c.next.new.self) over)
             (one_more _ _ _ c.in-Some.event (into_iter_items c.loop-event.event-iterator)
-            (into_iter_items c.next.new.self) _ inv.entries a.0 c.in-Some.ensures.steps.0 a.2 inv.stands past st);
+            (into_iter_items c.next.new.self) _ inv.entries a.0 c.in-Some.ensures.steps.0 a.2 inv.stands arrival past st);
         later = later_then _ _ _ inv.later a.2.later;
         spared = spared_then _ _ _ inv.later inv.calls inv.given inv.unwritten a.2.spared;
         asked = a.2.asked ∙ inv.asked;
@@ -84,10 +86,10 @@ loop-event-preserved g c =
       made = inv.made
           ∙ ap (λ (es : List Event). events_of inv.entries ++ es) c.in-Some.ensures.steps.0
           ∙ made_on inv.entries a.0 c.in-Some.event (into_iter_items c.next.new.self) (a.2.made goes);
-      stands = λ past st.
-          subst (λ (f : Fate). StandsBefore (later_by f (into_iter_items c.next.new.self)) c.answer.new.conn (past ++ (inv.entries ++ a.0))) goes
+      stands = λ arrival past st.
+          subst (λ (f : Fate). StandsBefore arrival (later_by f (into_iter_items c.next.new.self)) c.answer.new.conn (past ++ (inv.entries ++ a.0))) goes
           (one_more _ _ _ c.in-Some.event (into_iter_items c.loop-event.event-iterator)
-          (into_iter_items c.next.new.self) _ inv.entries a.0 c.in-Some.ensures.steps.0 a.2 inv.stands past st);
+          (into_iter_items c.next.new.self) _ inv.entries a.0 c.in-Some.ensures.steps.0 a.2 inv.stands arrival past st);
     }
 
 pub returns : goal.returns
@@ -102,7 +104,7 @@ returns g c =
         first = (into_iter_items c.loop-event.event-iterator, inv.made);
         all = λ goes. inv.made ∙ ap (λ (es : List Event). events_of inv.entries ++ es) none ∙ append-nil (events_of inv.entries);
         stands =
-            λ past st. subst (λ (es : List Event). StandsBefore es c.loop-event.conn (past ++ inv.entries)) none (inv.stands past st);
+            λ arrival past st. subst (λ (es : List Event). StandsBefore arrival es c.loop-event.conn (past ++ inv.entries)) none (inv.stands arrival past st);
         later = inv.later;
         spared = spared_open _ _ inv.calls inv.given inv.unwritten inv.goes;
         asked = inv.asked;

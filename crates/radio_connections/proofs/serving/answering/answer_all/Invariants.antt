@@ -2,6 +2,7 @@ use Rattle.std.proofs.Common.{◌≡◌, List, ◌++◌}
 use Rattle.std.specs.Vec.Iter.{into_iter_items}
 use Rattle.radio_events.specs.declared.entry.Entry.{Entry}
 use Rattle.radio_connections.specs.declared.conn.Fate.TheVariants.{Open}
+use Rattle.radio_connections.specs.Course.{Arrival}
 use Rattle.radio_connections.specs.Duties.{IsLater, events_of}
 use Rattle.radio_connections.specs.Answering.{IsUnwritten}
 use Rattle.radio_events.specs.Servers.{Chain}
@@ -21,5 +22,6 @@ invariant-loop-event g l = record {
   unwritten : IsUnwritten l.initial.conn l.conn;
   asked : l.conn.status.asked_ms ≡ l.initial.conn.status.asked_ms;
   made : l.fn.events.items ≡ events_of entries ++ into_iter_items l.event-iterator;
-  stands : (past : List Entry) → StandsBefore l.fn.events.items l.initial.conn past → StandsBefore (into_iter_items l.event-iterator) l.conn (past ++ entries);
+  stands : (arrival : Arrival) (past : List Entry) → StandsBefore arrival l.fn.events.items l.initial.conn past
+      → StandsBefore arrival (into_iter_items l.event-iterator) l.conn (past ++ entries);
 }
