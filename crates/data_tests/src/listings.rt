@@ -2,7 +2,7 @@
 
 use radio_addr::Peer;
 use radio_listing::{
-    AboutRow, ListenerRow, MountRow, OutOfMemory, PublicRow, Server, Text, base_url,
+    AboutRow, ListedListener, ListedServer, ListedText, MountRow, OutOfMemory, PublicRow, base_url,
     icecast_status, list_clients, list_mounts, stats, status, stream_list,
 };
 use std::alloc::Global;
@@ -14,10 +14,10 @@ fn about<'a>(
     audio_info: &'a [u8],
 ) -> AboutRow<'a> {
     AboutRow {
-        description: Text::of(description),
-        url: Text::of(url),
-        bitrate: Text::of(bitrate),
-        audio_info: Text::of(audio_info),
+        description: ListedText::of(description),
+        url: ListedText::of(url),
+        bitrate: ListedText::of(bitrate),
+        audio_info: ListedText::of(audio_info),
     }
 }
 
@@ -33,11 +33,11 @@ fn mount_with<'a>(
     about: AboutRow<'a>,
 ) -> MountRow<'a> {
     let public = PublicRow {
-        mount: Text::of(name),
-        name: Text::of(b""),
-        genre: Text::of(b""),
-        content_type: Text::of(b"audio/mpeg"),
-        title: Text::of(title),
+        mount: ListedText::of(name),
+        name: ListedText::of(b""),
+        genre: ListedText::of(b""),
+        content_type: ListedText::of(b"audio/mpeg"),
+        title: ListedText::of(title),
         listeners: 1,
         about,
     };
@@ -102,29 +102,29 @@ const LISTENERS: &[u8] =
 
 #[test]
 fn listeners_are_written(rt: HostRuntime) {
-    let quad = ListenerRow {
-        home: Text::of(b"/a"),
+    let quad = ListedListener {
+        home: ListedText::of(b"/a"),
         id: 3,
         peer: Peer::of_v4(0x0a00_0003),
         seconds: 0,
         user: None,
     };
-    let groups = ListenerRow {
-        home: Text::of(b"/b"),
+    let groups = ListedListener {
+        home: ListedText::of(b"/b"),
         id: 4,
         peer: Peer::of_v6(1),
         seconds: 9,
-        user: Some(Text::of(b"\xff")),
+        user: Some(ListedText::of(b"\xff")),
     };
-    let listing = list_clients(rt.alloc(), &Text::of(b"/a"), &[quad, groups]);
+    let listing = list_clients(rt.alloc(), &ListedText::of(b"/a"), &[quad, groups]);
     assert!(rt; is_written(listing, LISTENERS));
 }
 
-fn server<'a>(base_url: &'a [u8], start: &'a [u8]) -> Server<'a> {
-    Server {
-        name: Text::of(b"radiod"),
-        base_url: Text::of(base_url),
-        start: Text::of(start),
+fn server<'a>(base_url: &'a [u8], start: &'a [u8]) -> ListedServer<'a> {
+    ListedServer {
+        name: ListedText::of(b"radiod"),
+        base_url: ListedText::of(base_url),
+        start: ListedText::of(start),
     }
 }
 

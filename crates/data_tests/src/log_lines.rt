@@ -2,7 +2,7 @@
 //! `urllib.parse.quote`.
 
 use radio_addr::Peer;
-use radio_log::{ClientEnded, Fact, LAST_SECOND, Moment, Note, Text, line};
+use radio_log::{ClientEnded, Fact, LAST_SECOND, Moment, Note, QuotedText, line};
 use std::alloc::Global;
 
 /// Seconds since 1970, and the front of the line of that moment.
@@ -58,15 +58,15 @@ fn is_told(alloc: Global, fact: Fact<'_>, told: &str) -> bool {
 fn client<'a>(user: &'a [u8], agent: &'a [u8]) -> Fact<'a> {
     Fact::ClientEnded(ClientEnded {
         peer: Peer::of_v4(0x0a00_0003),
-        method: Text::of(b"GET"),
-        path: Text::of(b"/live"),
-        mount: Text::of(b"/live"),
+        method: QuotedText::of(b"GET"),
+        path: QuotedText::of(b"/live"),
+        mount: QuotedText::of(b"/live"),
         status: 200,
-        why: Text::of(b"left"),
-        user: Text::of(user),
+        why: QuotedText::of(b"left"),
+        user: QuotedText::of(user),
         seconds: 12,
         bytes: 38_400,
-        agent: Text::of(agent),
+        agent: QuotedText::of(agent),
     })
 }
 

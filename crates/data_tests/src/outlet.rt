@@ -2,7 +2,7 @@
 
 ghost use Rattle.std.specs.Prelude.{◌≤◌, length, IfOk};
 
-use radio_outlet::{Waiting, start_log};
+use radio_outlet::{WaitingLines, start_log};
 use std::alloc::Global;
 use std::io;
 use std::io::Write;
@@ -87,7 +87,7 @@ where
 
 // Whether lines wait, as many as there is room for, and the others are counted.
 fn is_bounded(alloc: Global) -> bool {
-    let mut waiting = Waiting::new(alloc);
+    let mut waiting = WaitingLines::new(alloc);
     let mut added = 0usize;
     for _ in 0..5000 {
         if waiting.add(b"0123456789 abcd\n", 7) {

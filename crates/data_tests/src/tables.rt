@@ -4,7 +4,7 @@ ghost use Rattle.std.specs.Prelude.{◌≡◌, ◌==◌, List, ℕ, find};
 ghost use Rattle.std.specs.Option.{option_copied};
 ghost use Rattle.radio_tables.specs.Lists.{update_first};
 
-use radio_tables::{Change, OutOfMemory, Row, Table};
+use radio_tables::{OutOfMemory, Row, RowChange, Table};
 
 #[derive(Clone, Copy)]
 struct Listener {
@@ -32,7 +32,7 @@ impl Row for Listener {
 #[derive(Drop)]
 struct Seconds(u32);
 
-impl Change<Listener> for Seconds {
+impl RowChange<Listener> for Seconds {
     ghost use Rattle.std.specs.Prelude.{refl};
 
     ghost gives = { λ change listener. record listener { seconds = change.0 } };

@@ -80,7 +80,7 @@ found_by : (pair : Credentials) (name : List ℕ) (b : Bool) → bytes_eq pair.u
 found_by pair name b e = is_eq-slice_cmp pair.user name ∙ e
 
 module _ (users : UserList) (name password : List ℕ) (pair : Credentials) where
-  -- his own password is the one that was set
+  -- its own password is the one that was set
   pub accepted_set : bytes_eq pair.user name ≡ true → accepts (with_user users name password) (Some pair) ≡ bytes_eq (md5 password) (md5 pair.password)
   accepted_set e =
       ap (is_digest_of pair.password) (get-insert nat_list_cmp_total users name (md5 password) pair.user

@@ -6,7 +6,7 @@ ghost use Rattle.radio_access.specs.Lists.{no_lists, is_denied, is_allowed, user
 use crate::OutOfMemory;
 use radio_addr::{AddressList, Peer};
 use radio_creds::{Pair, Users};
-use radio_tables::{Change, Row, Table, TryChange};
+use radio_tables::{Row, RowChange, Table, TryChange};
 use radio_values::MountName;
 use std::alloc::Global;
 use std::marker::Model;
@@ -70,7 +70,7 @@ struct RemoveUser<'a> {
     user: &'a [u8],
 }
 
-impl Change<MountUsers> for RemoveUser<'_> {
+impl RowChange<MountUsers> for RemoveUser<'_> {
     ghost use Rattle.std.specs.Prelude.{refl};
     ghost use Rattle.radio_access.specs.Lists.{unlisting};
 
@@ -220,7 +220,7 @@ impl Lists {
         }
     }
 
-    /// Whether the mount is open to one who sends this pair, or none: it has no user list, or the list accepts his pair.
+    /// Whether the mount is open to one who sends this pair, or none: it has no user list, or the list accepts its pair.
     ///
     /// One digest is made if the mount has users and a pair was sent, whether its user is listed or not.
     // rule: Listener password

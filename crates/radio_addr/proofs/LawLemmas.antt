@@ -10,8 +10,8 @@ use Rattle.radio_addr.specs.Lists.{line_of, lines_after, list_of, part_range, ra
 use Rattle.radio_addr.specs.Laws.{AreRanges, IsFirstBad, ListsRange, Whole, Part, is_bad, range_on, slash}
 use Rattle.radio_addr.specs.declared.address.Address.{Address}
 use Rattle.radio_addr.specs.declared.lines.AddressRange.{AddressRange}
-use Rattle.radio_addr.specs.declared.lines.Line.{Line}
-use Rattle.radio_addr.specs.declared.lines.Line.TheVariants.{Passed, Listed, Bad}
+use Rattle.radio_addr.specs.declared.lines.ListLine.{ListLine}
+use Rattle.radio_addr.specs.declared.lines.ListLine.TheVariants.{Passed, Listed, Bad}
 
 -- ---- what a line lists
 
@@ -106,7 +106,7 @@ later_bad k n line lines good f = record {
   counted = omega (arith, f.counted);
 }
 
-says_more : (k : ℕ) (line : List ℕ) (lines : List (List ℕ)) (l : Line) (later : Result (List AddressRange) ℕ) → line_of line ≡ l
+says_more : (k : ℕ) (line : List ℕ) (lines : List (List ℕ)) (l : ListLine) (later : Result (List AddressRange) ℕ) → line_of line ≡ l
     → Says (k + 1) lines later → Says k (line ∷ lines) (with_line k l later)
 says_more k line lines Passed (Ok ranges) is says = record { none_bad = rw is says.none_bad; listed = rw is says.listed }
 says_more k line lines Passed (Err n) is says = later_bad k n line lines (rw is refl) says
@@ -120,7 +120,7 @@ says_all k [] = record { none_bad = refl; listed = refl }
 says_all k (line ∷ lines) = says_more k line lines (line_of line) (lines_after (k + 1) lines) refl (says_all (k + 1) lines)
 
 -- what is said of them tells what they are
-bad_is : (line : List ℕ) (l : Line) → line_of line ≡ l → is_bad line ≡ true → l ≡ Bad
+bad_is : (line : List ℕ) (l : ListLine) → line_of line ≡ l → is_bad line ≡ true → l ≡ Bad
 bad_is line Passed is bad = let no : is_bad line ≡ false = rw is refl in cc
 bad_is line (Listed range) is bad = let no : is_bad line ≡ false = rw is refl in cc
 bad_is line Bad is bad = refl
@@ -130,7 +130,7 @@ good_any : (line : List ℕ) (lines : List (List ℕ)) (b : Bool) → is_bad lin
 good_any line lines true is none = let no : list_any is_bad (line ∷ lines) ≡ true = rw is refl in cc
 good_any line lines false is none = (refl, rw is at none)
 
-told : (k : ℕ) (line : List ℕ) (lines after : List (List ℕ)) (l : Line) (n : ℕ) → line_of line ≡ l → is_bad line ≡ false
+told : (k : ℕ) (line : List ℕ) (lines after : List (List ℕ)) (l : ListLine) (n : ℕ) → line_of line ≡ l → is_bad line ≡ false
     → lines_after (k + 1) lines ≡ Err n → with_line k l (lines_after (k + 1) lines) ≡ Err n
 told k line lines after Passed n is good e = e
 told k line lines after (Listed range) n is good e = rw e refl
@@ -147,7 +147,7 @@ bad_told k (first ∷ before) line after n none bad counted =
     told k first (before ++ line ∷ after) after (line_of first) n refl good.0
     (bad_told (k + 1) before line after n good.1 bad (omega arith))
 
-listed_told : (k : ℕ) (line : List ℕ) (lines : List (List ℕ)) (l : Line) → line_of line ≡ l → is_bad line ≡ false
+listed_told : (k : ℕ) (line : List ℕ) (lines : List (List ℕ)) (l : ListLine) → line_of line ≡ l → is_bad line ≡ false
     → lines_after (k + 1) lines ≡ Ok (filter_map range_on lines) → with_line k l (lines_after (k + 1) lines) ≡ Ok (filter_map range_on (line ∷ lines))
 listed_told k line lines Passed is good e = rw (is, e) refl
 listed_told k line lines (Listed range) is good e = rw (is, e) refl

@@ -6,7 +6,7 @@ use Rattle.radio_texts.specs.Cuts.{fields_at}
 use Rattle.radio_texts.specs.Blanks.{without_blanks}
 use Rattle.radio_addr.specs.Lists.{line_of, lines_after, with_line, after_ranges, Explains, FaultsLine, AddsLine}
 use Rattle.radio_addr.specs.declared.lines.AddressRange.{AddressRange}
-use Rattle.radio_addr.specs.declared.lines.Line.TheVariants.{Passed, Bad}
+use Rattle.radio_addr.specs.declared.lines.ListLine.TheVariants.{Passed, Bad}
 use Rattle.radio_addr.specs.declared.lists.ListFault.{ListFault}
 
 line_of-nil : line_of [] ≡ Passed

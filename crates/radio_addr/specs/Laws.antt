@@ -6,8 +6,8 @@ use Rattle.radio_addr.specs.Addresses.{address_of}
 use Rattle.radio_addr.specs.Lists.{line_of, range_from, whole_range, width_of}
 use Rattle.radio_addr.specs.declared.address.Address.{Address}
 use Rattle.radio_addr.specs.declared.lines.AddressRange.{AddressRange}
-use Rattle.radio_addr.specs.declared.lines.Line.{Line}
-use Rattle.radio_addr.specs.declared.lines.Line.TheVariants.{Passed, Listed, Bad}
+use Rattle.radio_addr.specs.declared.lines.ListLine.{ListLine}
+use Rattle.radio_addr.specs.declared.lines.ListLine.TheVariants.{Passed, Listed, Bad}
 
 abbrev pub slash : ℕ
 slash = 47
@@ -22,7 +22,7 @@ pub data ListsRange (text : List ℕ) : AddressRange → Type 0 where
 abbrev pub is_bad : List ℕ → Bool
 is_bad line = says_nothing (line_of line)
   where
-    says_nothing : Line → Bool
+    says_nothing : ListLine → Bool
     says_nothing Passed = false
     says_nothing (Listed range) = false
     says_nothing Bad = true
@@ -42,7 +42,7 @@ pub record IsFirstBad (lines : List (List ℕ)) (n : ℕ) : Type 0 where
 abbrev pub range_on : List ℕ → Option AddressRange
 range_on line = range_said (line_of line)
   where
-    range_said : Line → Option AddressRange
+    range_said : ListLine → Option AddressRange
     range_said Passed = None
     range_said (Listed range) = Some range
     range_said Bad = None

@@ -14,8 +14,8 @@ use Rattle.radio_addr.specs.declared.address.Address.TheVariants.{V4, V6}
 use Rattle.radio_addr.specs.declared.lines.AddressRange.{AddressRange}
 use Rattle.radio_addr.specs.declared.lists.ListFault.{ListFault}
 use Rattle.radio_addr.specs.declared.lists.ListFault.TheVariants.{LineFault, OutOfMemory}
-use Rattle.radio_addr.specs.declared.lines.Line.{Line}
-use Rattle.radio_addr.specs.declared.lines.Line.TheVariants.{Passed, Listed, Bad}
+use Rattle.radio_addr.specs.declared.lines.ListLine.{ListLine}
+use Rattle.radio_addr.specs.declared.lines.ListLine.TheVariants.{Passed, Listed, Bad}
 
 -- how many bits an address has
 abbrev pub width_of : Address → ℕ
@@ -47,19 +47,19 @@ abbrev pub is_passed : List ℕ → Bool
 is_passed text = length text == 0 || slice_index text 0 == 35
 
 -- what a line lists, once it is trimmed
-abbrev pub listed : Option AddressRange → Line
+abbrev pub listed : Option AddressRange → ListLine
 listed None = Bad
 listed (Some range) = Listed range
 
-abbrev pub text_line : List ℕ → Line
+abbrev pub text_line : List ℕ → ListLine
 text_line text = if is_passed text then Passed else listed (range_of text)
 
 -- rule: Address list
-unfoldable pub line_of : List ℕ → Line
+unfoldable pub line_of : List ℕ → ListLine
 line_of line = text_line (without_blanks (without_return line))
 
 -- one line before what later lines list; a bad line is counted from 1
-abbrev pub with_line : ℕ → Line → Result (List AddressRange) ℕ → Result (List AddressRange) ℕ
+abbrev pub with_line : ℕ → ListLine → Result (List AddressRange) ℕ → Result (List AddressRange) ℕ
 with_line before Passed later = later
 with_line before (Listed range) (Ok ranges) = Ok (range ∷ ranges)
 with_line before (Listed range) (Err line) = Err line

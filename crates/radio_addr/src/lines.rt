@@ -17,7 +17,7 @@ pub struct AddressRange {
 
 /// What a line of an address list says.
 #[derive(Clone, Copy)]
-pub enum Line {
+pub enum ListLine {
     /// Nothing: it is empty, or a comment.
     Passed,
     /// That these addresses are listed.
@@ -28,16 +28,16 @@ pub enum Line {
 
 /// What a line says.
 #[tactic(auto, unfolding(crate::specs::Lists::line_of))]
-pub fn read_line(line: &[u8]) -> Line
+pub fn read_line(line: &[u8]) -> ListLine
     ensures { result ≡ line_of line.now }
 {
     let text = without_blanks(without_return(line));
     if text.is_empty() || text[0] == b'#' {
-        return Line::Passed;
+        return ListLine::Passed;
     }
     match read_range(text) {
-        Some(range) => Line::Listed(range),
-        None => Line::Bad,
+        Some(range) => ListLine::Listed(range),
+        None => ListLine::Bad,
     }
 }
 

@@ -3,7 +3,7 @@ ghost use Rattle.std.specs.Prelude.{◌≡◌, ◌+◌, ◌/◌, ◌-◌, ◌^�
 ghost use Rattle.radio_addr.specs.Lists.{is_in, AddsLine, FaultsLine};
 
 use crate::address::Address;
-use crate::lines::{AddressRange, Line, read_line};
+use crate::lines::{AddressRange, ListLine, read_line};
 use crate::peer::Peer;
 use radio_texts::cut;
 use std::alloc::Global;
@@ -98,9 +98,9 @@ fn add_line(ranges: &mut Vec<AddressRange>, line: &[u8], passed: usize) -> Resul
     ensures fault { IfErr result (λ fault. FaultsLine passed line.now fault) }
 {
     match read_line(line) {
-        Line::Passed => Ok(()),
-        Line::Bad => Err(ListFault::LineFault { line: passed + 1 }),
-        Line::Listed(range) => match ranges.push(range) {
+        ListLine::Passed => Ok(()),
+        ListLine::Bad => Err(ListFault::LineFault { line: passed + 1 }),
+        ListLine::Listed(range) => match ranges.push(range) {
             Ok(()) => Ok(()),
             Err(_) => Err(ListFault::OutOfMemory),
         },

@@ -18,7 +18,7 @@ pub enum Command {
     /// Asks for the listeners of this mount.
     ListClients(MountName),
     /// Moves the listeners of a mount to another.
-    MoveClients(Move),
+    MoveClients(MoveArguments),
     /// Finishes one listener.
     KillClient(Kill),
     /// Ends the session of this mount.
@@ -37,7 +37,7 @@ pub enum Command {
 
 /// The listeners of `mount` go to `destination`.
 #[derive(Clone, Copy)]
-pub struct Move {
+pub struct MoveArguments {
     pub mount: MountName,
     pub destination: MountName,
 }

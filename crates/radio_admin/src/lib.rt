@@ -16,7 +16,7 @@ pub mod laws;
 mod query;
 mod reading;
 
-pub use command::{Command, Kill, Move, NewFallback, NewTitle, NewUser, OldUser, RawText};
+pub use command::{Command, Kill, MoveArguments, NewFallback, NewTitle, NewUser, OldUser, RawText};
 pub use fault::AdminFault;
 pub use kind::CommandKind;
 pub use reading::{read_command, read_path};

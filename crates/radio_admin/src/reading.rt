@@ -8,7 +8,7 @@ ghost use Rattle.radio_admin.specs.Arguments.{argument, both, user_in};
 use crate::arguments::{fallback_in, mount_in, number_in, title_in, user_in};
 use crate::query::argument;
 use crate::{
-    AdminFault, Command, CommandKind, Kill, Move, NewFallback, NewTitle, NewUser, OldUser,
+    AdminFault, Command, CommandKind, Kill, MoveArguments, NewFallback, NewTitle, NewUser, OldUser,
     OutOfMemory, RawText,
 };
 use percent_encoding::percent_decode;
@@ -109,7 +109,7 @@ fn move_clients(
     ensures { IfOk result (λ command. command ≡ command_of CommandKind.MoveClients mount query.now) }
 {
     match (mount, mount_in(alloc, "destination", query)?) {
-        (Some(mount), Some(destination)) => Ok(Some(Command::MoveClients(Move {
+        (Some(mount), Some(destination)) => Ok(Some(Command::MoveClients(MoveArguments {
             mount,
             destination,
         }))),

@@ -3,8 +3,8 @@ use Rattle.std.specs.Prelude.{ℕ, zero, suc, Bool, true, false, List, [], ◌++
 use Rattle.radio_policy.specs.declared.rule.Rule.{Rule}
 use Rattle.radio_policy.specs.declared.rule.Status.{Status}
 use Rattle.radio_policy.specs.Words.{word_of, status_of}
-use Rattle.radio_events.specs.declared.text.Text.{Text as CommandText}
-use Rattle.radio_events.specs.declared.text.Text.TheVariants.{Done as CommandDone, Moved, Ended as ListenersEnded, Json, Streams, Public, Page}
+use Rattle.radio_events.specs.declared.text.ReplyText.{ReplyText as CommandText}
+use Rattle.radio_events.specs.declared.text.ReplyText.TheVariants.{Done as CommandDone, Moved, Ended as ListenersEnded, Json, Streams, Public, Page}
 use Rattle.radio_events.specs.Texts.{done_line, moved_line, ended_line}
 use Rattle.radio_events.specs.declared.reply.StreamHead.{StreamHead}
 use Rattle.radio_values.specs.declared.about.About.{About}

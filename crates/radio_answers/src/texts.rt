@@ -10,7 +10,7 @@ ghost use Rattle.radio_answers.specs.WebAnswers.{answered_by};
 
 use crate::answers::{append_answer, append_shared};
 use crate::{OutOfMemory, WebAnswers};
-use radio_events::Text;
+use radio_events::ReplyText;
 use radio_heads::{Answer, TextKind, WebAnswer};
 use radio_page::page;
 use radio_values::AllowedOrigin;
@@ -20,23 +20,29 @@ use std::alloc::Global;
 pub fn append_text(
     alloc: Global,
     web: WebAnswers,
-    text: &Text,
+    text: &ReplyText,
     out: &mut Vec<u8>,
 ) -> Result<(), OutOfMemory>
     ensures ok { OnOk result (out.new.items ≡ out.old.items ++ text_answer web text.now) }
     ensures err { OnErr result (out.new.items ≡ out.old.items) }
 {
     match text {
-        Text::Done => append_body(alloc, web, TextKind::Plain, b"done\n", out),
-        Text::Moved(count) => append_count(alloc, web, "moved", *count, out),
-        Text::Ended(count) => append_count(alloc, web, "ended", *count, out),
-        Text::Json(bytes) => append_body(alloc, web, TextKind::Json, bytes.as_slice(), out),
-        Text::Streams(bytes) => append_body(alloc, web, TextKind::Plain, bytes.as_slice(), out),
-        Text::Public {
+        ReplyText::Done => append_body(alloc, web, TextKind::Plain, b"done\n", out),
+        ReplyText::Moved(count) => append_count(alloc, web, "moved", *count, out),
+        ReplyText::Ended(count) => append_count(alloc, web, "ended", *count, out),
+        ReplyText::Json(bytes) => append_body(alloc, web, TextKind::Json, bytes.as_slice(), out),
+        ReplyText::Streams(bytes) => append_body(
+            alloc,
+            web,
+            TextKind::Plain,
+            bytes.as_slice(),
+            out,
+        ),
+        ReplyText::Public {
             bytes,
             allow_origin,
         } => append_status(alloc, web, bytes.as_slice(), allow_origin, out),
-        Text::Page { allow_origin } => append_page(alloc, web, allow_origin, out),
+        ReplyText::Page { allow_origin } => append_page(alloc, web, allow_origin, out),
     }
 }
 

@@ -86,7 +86,7 @@ module _ (f : Heard) (id : ℕ) (seat : Seat) where
   seated_heard [] = refl
   seated_heard (l ∷ seats) = placed_by l seats (by_listener (seated id seat) l) (seated_heard seats)
 
--- one has heard more: the seats are the same, and he is attached there at another place
+-- one has heard more: the seats are the same, and it is attached there at another place
 module _ (f g : Heard) (id : ℕ) (stay : OthersStay f g id) (place : ℕ) where
   his_place : (n : ℕ) → (n == id) ≡ true → (seating : Seating)
       → ((seat : Seat) → seat_held seating ≡ Some seat → g seat.mount id ≡ Some place) → heard_seating g n seating ≡ heard_to place (heard_seating f n seating)

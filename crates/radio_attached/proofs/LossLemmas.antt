@@ -21,7 +21,7 @@ use Rattle.radio_fallback.specs.Heard.{Heard, heard_seating, heard_by, heard}
 use Rattle.radio_attached.specs.Losses.{ended_where}
 use Rattle.radio_mount_part.specs.Attached.{is_among}
 
--- he is attached where he sits, and nowhere else
+-- it is attached where it sits, and nowhere else
 abbrev pub FitsHim : Heard → Listener → Type 0
 FitsHim f l = (k : List ℕ) → is_some (f k l.id) ≡ option_map_or (λ (seat : Seat). bytes_eq seat.mount k) (seat_held l.seating) false
 
@@ -40,7 +40,7 @@ module _ (f g : Heard) (m : List ℕ) (q : ℕ → Bool) (rule : Rule) (lost : �
   Shows id seating b = heard_by g (if b then loses rule (record { id = id; seating = seating }) else record { id = id; seating = seating })
       ≡ finished_if lags rule (heard_by f (record { id = id; seating = seating }))
 
-  -- he stays who does not lag, and is not lost
+  -- it stays who does not lag, and is not lost
   stays : (id : ℕ) (seating : Seating) → lost id ≡ false → ended_if lags rule (heard_seating f id seating) ≡ heard_seating f id seating
       → Shows id seating false
   stays id (Sits seat) e same =

@@ -24,7 +24,7 @@ module _ (id : ℕ) (l : List Attachment) (x : Attachment) (m : List Attachment)
   abbrev his : Attachment → Bool
   his row = is_attached id row
 
-  -- the row is his
+  -- the row is its
   module _ (e : x.id ≡ id) where
     pub finds_here : find his (l ++ x ∷ m) ≡ Some x
     finds_here = found_right his l (x ∷ m) (none_of_his id l x m e h).0 ∙ find_here his x m (is_his x id e)
@@ -47,7 +47,7 @@ module _ (id : ℕ) (l : List Attachment) (x : Attachment) (m : List Attachment)
           rest : filter (λ y. not (his y)) m ≡ m
           rest = all_stay m (none_of_his id l x m e h).1
 
-  -- his row stands before it
+  -- its row stands before it
   module _ (e : comes_before id x.id ≡ true) where
     pub finds_less : find his (l ++ x ∷ m) ≡ find his l
     finds_less = found_left his l (x ∷ m) (none_behind id l x m e h)

@@ -59,7 +59,7 @@ pub all_before : (l : List Attachment) (x : Attachment) (m : List Attachment) �
 all_before [] x m h = tt
 all_before (y ∷ l) x m h = (each_middle (IsBefore y) l x m h.0, all_before l x m h.1)
 
--- who comes before the one in the middle is not behind, and who comes after him not in front
+-- who comes before the one in the middle is not behind, and who comes after it not in front
 pub none_behind : (id : ℕ) (l : List Attachment) (x : Attachment) (m : List Attachment) → comes_before id x.id ≡ true → AreInOrder (l ++ x ∷ m)
     → Each (λ y. is_attached id y ≡ false) (x ∷ m)
 none_behind id l x m e h =

@@ -1,4 +1,4 @@
-pub mod Boards
+pub mod SharedViews
 pub mod Choices
 pub mod Marking
 pub mod News

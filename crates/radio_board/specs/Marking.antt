@@ -1,4 +1,4 @@
--- What is marked on the board.
+-- What threads mark for one another.
 use Rattle.std.specs.Prelude.{Bool, ◌&&◌, ◌||◌}
 use Rattle.radio_board.specs.declared.marks.Marks.{Marks}
 

@@ -27,5 +27,5 @@ BegunAreWaitedFor = (least : ℕ) (report : Report)
 -- loses one
 abbrev pub NewcomersAreServed : Type 0
 NewcomersAreServed = (latest : ℕ) (report : Report)
-    → (report.turn_ms + most_still < latest → (load_taken latest report ≡ None) × (0 < report.comings → loses_newcomers latest report ≡ true))
+    → (report.turn_ms + most_still < latest → (load_taken latest report ≡ None) × (0 < report.newcomers → loses_newcomers latest report ≡ true))
     × (latest ≤ report.turn_ms + most_still → loses_newcomers latest report ≡ false)

@@ -3,9 +3,9 @@ use Rattle.std.specs.Prelude.{ℕ, ◌==◌, Bool, Option, None, Some, not, ◌&
 use Rattle.radio_board.specs.declared.news.NewsFor.{NewsFor}
 use Rattle.radio_board.specs.declared.report.Report.{Report}
 use Rattle.radio_board.specs.declared.report.TurnDone.{TurnDone}
-use Rattle.radio_board.specs.declared.state.State.{State}
-use Rattle.radio_board.specs.declared.state.Step.{Step}
-use Rattle.radio_board.specs.declared.state.Step.TheVariants.{News, MuchNews, LieDown, Pause}
+use Rattle.radio_board.specs.declared.worker_state.WorkerState.{WorkerState}
+use Rattle.radio_board.specs.declared.worker_state.Step.{Step}
+use Rattle.radio_board.specs.declared.worker_state.Step.TheVariants.{News, MuchNews, LieDown, Pause}
 use Rattle.radio_board.specs.Serving.{is_served}
 use Rattle.radio_board.specs.News.{is_for}
 use Rattle.radio_board.specs.States.{has_drawn, has_news, waits, after, number_of}
@@ -35,12 +35,12 @@ least_read least report = least_of least report.works report.read_ms
 -- rule: Newcomers
 abbrev pub load_taken : ℕ → Report → Option ℕ
 load_taken latest report =
-    if report.works && is_served report.turn_ms latest then Some (load_of report.connections report.comings) else None
+    if report.works && is_served report.turn_ms latest then Some (load_of report.connections report.newcomers) else None
 
 -- whether its newcomers go to others: there are some, and it is not served
 -- rule: Newcomers
 abbrev pub loses_newcomers : ℕ → Report → Bool
-loses_newcomers latest report = nat_lt 0 report.comings && not (is_served report.turn_ms latest)
+loses_newcomers latest report = nat_lt 0 report.newcomers && not (is_served report.turn_ms latest)
 
 -- by which step a worker waits: with news, or only without it
 abbrev pub step_to_wait : Bool → Step
@@ -51,11 +51,11 @@ abbrev pub step_of_news : Bool → Step
 step_of_news is_much = if is_much then MuchNews else News
 
 -- whether a worker that takes a step to wait in this state has something to do all the same: it does not wait, or newcomers do
-abbrev pub has_to_do : Step → State → ℕ → Bool
-has_to_do step state comings = not (waits (after step state)) || nat_lt 0 comings
+abbrev pub has_to_do : Step → WorkerState → ℕ → Bool
+has_to_do step state newcomers = not (waits (after step state)) || nat_lt 0 newcomers
 
 -- the number of the state after a step, if that is another
-abbrev pub number_after : Step → State → Option ℕ
+abbrev pub number_after : Step → WorkerState → Option ℕ
 number_after step state = if number_of (after step state) == number_of state then None else Some (number_of (after step state))
 
 -- whether so many bytes that came are much for its listeners: they have to draw so many of them still

@@ -1,19 +1,19 @@
 -- What a worker does, as those see it who tell it of news, and wake it.
 use Rattle.std.specs.Prelude.{ℕ, Bool, true, false}
-use Rattle.radio_board.specs.declared.state.State.{State}
-use Rattle.radio_board.specs.declared.state.State.TheVariants.{Awake, Drawing, Asleep, Paused}
-use Rattle.radio_board.specs.declared.state.Step.{Step}
-use Rattle.radio_board.specs.declared.state.Step.TheVariants.{News, MuchNews, Wake, LieDown, Pause, BeginRound, EndRound}
+use Rattle.radio_board.specs.declared.worker_state.WorkerState.{WorkerState}
+use Rattle.radio_board.specs.declared.worker_state.WorkerState.TheVariants.{Awake, Drawing, Asleep, Paused}
+use Rattle.radio_board.specs.declared.worker_state.Step.{Step}
+use Rattle.radio_board.specs.declared.worker_state.Step.TheVariants.{News, MuchNews, Wake, LieDown, Pause, BeginRound, EndRound}
 
 -- whether news waits for it
-abbrev pub has_news : State → Bool
+abbrev pub has_news : WorkerState → Bool
 has_news (Awake news) = news
 has_news (Drawing news) = news
 has_news Asleep = false
 has_news (Paused news) = news
 
 -- whether it waits until it is woken, or for some time
-abbrev pub waits : State → Bool
+abbrev pub waits : WorkerState → Bool
 waits (Awake news) = false
 waits (Drawing news) = false
 waits Asleep = true
@@ -21,7 +21,7 @@ waits (Paused news) = true
 
 -- whether its listeners have drawn all the news that it was told of
 -- rule: Closing of a source
-abbrev pub has_drawn : State → Bool
+abbrev pub has_drawn : WorkerState → Bool
 has_drawn (Awake true) = false
 has_drawn (Awake false) = true
 has_drawn (Drawing news) = false
@@ -31,7 +31,7 @@ has_drawn (Paused false) = true
 
 -- its state after a step
 -- rule: News wakes once
-abbrev pub after : Step → State → State
+abbrev pub after : Step → WorkerState → WorkerState
 after News (Awake news) = Awake true
 after News (Drawing news) = Drawing true
 after News Asleep = Awake true
@@ -63,7 +63,7 @@ after EndRound Asleep = Asleep
 after EndRound (Paused news) = Paused news
 
 -- the number of a state where it is shared
-abbrev pub number_of : State → ℕ
+abbrev pub number_of : WorkerState → ℕ
 number_of (Awake false) = 0
 number_of (Awake true) = 1
 number_of (Drawing false) = 2

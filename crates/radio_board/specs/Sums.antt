@@ -12,7 +12,7 @@ most_of most counts number = if counts then max most number else most
 
 -- how many connections a worker has, with those that were put for it; a count has 64 bits
 abbrev pub load_of : ℕ → ℕ → ℕ
-load_of connections comings = min (2 ^ 64 - 1) (connections + comings)
+load_of connections newcomers = min (2 ^ 64 - 1) (connections + newcomers)
 
 -- how many of so many of a worker's connections may linger, if so many of all do, and so many of all may: those that are too
 -- many are its own
@@ -38,8 +38,8 @@ abbrev pub first_come : Bool → Bool → Bool
 first_come had has = has && not had
 
 -- how many newcomers are left of so many, of which so many at most are taken; nothing changes if none is
-abbrev pub comings_left : ℕ → ℕ → Option ℕ
-comings_left comings most = if nat_lt 0 (min comings most) then Some (comings - most) else None
+abbrev pub newcomers_left : ℕ → ℕ → Option ℕ
+newcomers_left newcomers most = if nat_lt 0 (min newcomers most) then Some (newcomers - most) else None
 
 -- which worker is told of a newcomer: the one that takes newcomers next, or the one for which it was put
 abbrev pub taker_of : Option ℕ → ℕ → ℕ

@@ -1,4 +1,4 @@
-//! What is marked on the board, for all threads.
+//! What threads mark for one another.
 
 ghost use Rattle.std.specs.Prelude.{◌≡◌};
 ghost use Rattle.radio_board.specs.Marking.{calls_acceptor};

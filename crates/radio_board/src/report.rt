@@ -5,8 +5,8 @@ ghost use Rattle.radio_board.specs.Reports.{after_turn, drawn_with, holds_up, is
 
 use crate::news::NewsFor;
 use crate::served::is_served;
-use crate::state::{State, Step};
 use crate::sums::{drawn_after, first_come, least_of, left_to_draw, load_of, most_of};
+use crate::worker_state::{Step, WorkerState};
 
 /// What the desk of a worker reports. Each number is read for itself, so others may have changed in between.
 #[derive(Clone, Copy)]
@@ -14,7 +14,7 @@ pub struct Report {
     /// Whether it has begun.
     pub works: bool,
     /// Its state.
-    pub state: State,
+    pub state: WorkerState,
     /// When the news came that waits for it, or waited last, in microseconds.
     pub came_us: u64,
     /// When it asked its sockets last, by the system's clock in milliseconds.
@@ -30,7 +30,7 @@ pub struct Report {
     /// How many connections it has, a source counted as several.
     pub connections: usize,
     /// How many connections were put for it that it has not taken.
-    pub comings: usize,
+    pub newcomers: usize,
     /// How many of its connections linger.
     pub lingering: usize,
 }
@@ -87,7 +87,7 @@ impl Report {
         ensures { result ≡ load_taken latest_ms self.now }
     {
         if self.works && is_served(self.turn_ms, latest_ms) {
-            Some(load_of(self.connections, self.comings))
+            Some(load_of(self.connections, self.newcomers))
         } else {
             None
         }
@@ -97,7 +97,7 @@ impl Report {
     pub(crate) fn loses_newcomers(&self, latest_ms: u64) -> bool
         ensures { result ≡ loses_newcomers latest_ms self.now }
     {
-        self.comings > 0 && !is_served(self.turn_ms, latest_ms)
+        self.newcomers > 0 && !is_served(self.turn_ms, latest_ms)
     }
 
     /// Returns whether the worker's listeners have to draw `much` or more still of the `received` bytes that came from sources.

@@ -3,7 +3,7 @@
 ghost use Rattle.std.specs.Prelude.{◌≡◌, ◌≤◌, ◌+◌, max};
 ghost use Rattle.radio_board.specs.Serving.{Served, is_served, most_step, served_by, settled};
 
-use crate::rest::MOST_REST_MS;
+use crate::idle_wait::MOST_REST_MS;
 use std::marker::Model;
 
 /// By how many milliseconds the served time grows from one turn to the next, at most.

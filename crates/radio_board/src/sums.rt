@@ -1,7 +1,7 @@
 //! What is made of what the desks of all workers say, as plain values.
 
 ghost use Rattle.std.specs.Prelude.{◌≡◌, ◌<◌, ◌+◌, ◌-◌, ◌^◌, ◌&&◌, ◌||◌};
-ghost use Rattle.radio_board.specs.Sums.{comings_left, drawn_after, first_come, least_of, left_to_draw, load_of, may_linger, most_of, place_on, taker_of};
+ghost use Rattle.radio_board.specs.Sums.{newcomers_left, drawn_after, first_come, least_of, left_to_draw, load_of, may_linger, most_of, place_on, taker_of};
 
 use radio_connections::DRAW_ROOM;
 
@@ -20,10 +20,10 @@ pub(crate) fn most_of(most: u64, counts: bool, number: u64) -> u64
 }
 
 /// Returns how many connections a worker has, with those that were put for it.
-pub(crate) fn load_of(connections: usize, comings: usize) -> usize
-    ensures { result ≡ load_of connections comings }
+pub(crate) fn load_of(connections: usize, newcomers: usize) -> usize
+    ensures { result ≡ load_of connections newcomers }
 {
-    connections.saturating_add(comings)
+    connections.saturating_add(newcomers)
 }
 
 /// Returns how many of the `count` connections of a worker that wish to linger may, if `all` do, of all workers together, and
@@ -83,13 +83,13 @@ pub(crate) fn first_come(had: bool, has: bool) -> bool
 }
 
 /// Returns how many newcomers are left of so many, if `most` of them at most are taken. `None` if none is taken.
-pub(crate) fn comings_left(comings: usize, most: usize) -> Option<usize>
-    ensures { result ≡ comings_left comings most }
+pub(crate) fn newcomers_left(newcomers: usize, most: usize) -> Option<usize>
+    ensures { result ≡ newcomers_left newcomers most }
 {
-    if comings.min(most) == 0 {
+    if newcomers.min(most) == 0 {
         None
     } else {
-        Some(comings.saturating_sub(most))
+        Some(newcomers.saturating_sub(most))
     }
 }
 

@@ -14,7 +14,7 @@ use Rattle.radio_book.specs.contracts.accounts.Accounts as accounts
 use Rattle.radio_book.specs.contracts.book.Book as book
 use Rattle.radio_book.specs.contracts.mount_book.MountBook as mount_book
 use Rattle.radio_chronicle.specs.declared.chronicle.Chronicle as chronicle
-use Rattle.radio_chronicle.specs.declared.house.House as house
+use Rattle.radio_chronicle.specs.declared.house.Origin as house
 
 module _ (C H : RattleType) (c : chronicle.Ghosts C.Denot) (h : house.Ghosts H.Denot) (l : ledger.Ghosts H.Denot) where
   accounts_send : IsSend C → IsSend H → IsSend (accounts.the_field C H c h l).row

@@ -15,7 +15,7 @@ use Rattle.radio_house.specs.declared.standing.Standing.TheVariants.{Feeds}
 use Rattle.radio_seats_rows.specs.Seats.{last_mount_of}
 use Rattle.radio_book.specs.MountBooks.{AreLent, BookOfMount}
 
--- the mount that who stands so feeds, if he feeds one
+-- the mount that who stands so feeds, if it feeds one
 abbrev pub mount_fed : Standing → Option (List ℕ)
 mount_fed (Feeds mount) = Some mount
 mount_fed standing = None

@@ -27,13 +27,13 @@ is_arrival (Arrive peer) = true
 is_arrival (RelayUp mount shown) = true
 is_arrival event = false
 
--- who has come, if the reply lets him in
+-- who has come, if the reply lets it in
 abbrev pub newcomer_by : Event → Reply → Option Newcomer
 newcomer_by (Arrive peer) (Arrived id) = Some (Client id)
 newcomer_by (RelayUp mount shown) (Arrived id) = Some (Relay id)
 newcomer_by event reply = None
 
--- where he stands among these
+-- where it stands among these
 abbrev pub place_of : Newcomer → List Newcomer → Option ℕ
 place_of one present = position (λ other. is_same one other) present
 

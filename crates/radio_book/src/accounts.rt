@@ -14,7 +14,7 @@ use crate::lending::{
     apart, has_time_limit, lend_each, note_cuts, step_over, step3_over, take_back_each,
 };
 use crate::receipt::NOWHERE;
-use crate::{Chronicle, Entry, House, MountBook, OutOfMemory, Receipt, Stamp};
+use crate::{Chronicle, Entry, MountBook, Origin, OutOfMemory, Receipt, Stamp};
 use radio_chronicle::{ControlLine, Notes};
 use radio_core::{Control, ListedPart};
 use radio_events::Event;
@@ -26,7 +26,7 @@ use std::sync::ledger::Share;
 /// The control and its list, and what is owed: there is room for two lines for each end that is owed, a cut and an entry.
 /// What no caller has of the ledger yet is cut into as many parts as there are passes left.
 #[derive(Drop)]
-pub(crate) struct Accounts<C: Chronicle, H: House> {
+pub(crate) struct Accounts<C: Chronicle, H: Origin> {
     pub(crate) control: Control,
     pub(crate) lines: Notes<ControlLine>,
     debt: Debt<H>,
@@ -43,7 +43,7 @@ pub(crate) struct Accounts<C: Chronicle, H: House> {
     ghost by_entries: { ∥ IsToldBy C.KEEPS H.opening lines.items control ∥₁ },
 }
 
-impl<C: Chronicle, H: House> Accounts<C, H> {
+impl<C: Chronicle, H: Origin> Accounts<C, H> {
     pub(crate) fn new(
         alloc: Global,
         control: Control,

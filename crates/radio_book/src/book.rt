@@ -12,7 +12,7 @@ ghost use Rattle.radio_book.specs.declared.newcomer.Newcomer.{Newcomer};
 
 use crate::accounts::Accounts;
 use crate::debt::Debt;
-use crate::{Chronicle, House, Kept, MountBook, OutOfMemory, Pass, Receipt};
+use crate::{Chronicle, Kept, MountBook, Origin, OutOfMemory, Pass, Receipt};
 use radio_access::Lists;
 use radio_chronicle::ControlLine;
 use radio_core::{Control, ListedPart};
@@ -30,19 +30,19 @@ pub const PASSES: u64 = 1 << 32;
 
 /// The control, to which mounts' parts are lent, with its list. Contracts see the control and the lines that are
 /// stored.
-pub struct Book<C: Chronicle, H: House> {
+pub struct Book<C: Chronicle, H: Origin> {
     alloc: Global,
     accounts: Accounts<C, H>,
 }
 
-impl<C: Chronicle, H: House> Drop for Book<C, H> {
+impl<C: Chronicle, H: Origin> Drop for Book<C, H> {
     fn drop(self) {
         let Book { alloc: _, accounts } = self;
         drop(accounts);
     }
 }
 
-impl<C: Chronicle, H: House> Model for Book<C, H> {
+impl<C: Chronicle, H: Origin> Model for Book<C, H> {
     ghost use Rattle.std.specs.Coded.{codes};
     ghost use Rattle.radio_core.specs.contracts.server.control.Control as the_control;
     ghost use Rattle.radio_book.specs.MountBooks.{ControlState};
@@ -54,7 +54,7 @@ impl<C: Chronicle, H: House> Model for Book<C, H> {
     ghost view = { λ b. record { control = b.accounts.control; lines = b.accounts.lines.items } };
 }
 
-impl<C: Chronicle, H: House> Book<C, H> {
+impl<C: Chronicle, H: Origin> Book<C, H> {
     /// Returns a book in which nothing has happened yet. It takes no memory.
     pub fn new(alloc: Global, settings: Settings, lists: Lists, blank: Blank) -> Book<C, H>
         requires opening { H.opening ≡ opening settings lists }
@@ -122,7 +122,7 @@ impl<C: Chronicle, H: House> Book<C, H> {
     }
 }
 
-impl<C: Chronicle, H: House> Book<C, H> {
+impl<C: Chronicle, H: Origin> Book<C, H> {
     /// Returns the mounts where somebody sits, which relays feed on demand, in the order of their bytes, over the parts that are
     /// lent. It makes no entry. `OutOfMemory` if memory was refused.
     // rule: Pulls on demand
@@ -185,7 +185,7 @@ impl<C: Chronicle, H: House> Book<C, H> {
     }
 }
 
-impl<H: House> Book<Kept, H> {
+impl<H: Origin> Book<Kept, H> {
     /// Returns the items of the mount's list, when nobody calls any more; none if nothing has happened at the mount.
     ///
     /// `OutOfMemory` if memory was refused, now or earlier for the list.

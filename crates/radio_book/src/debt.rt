@@ -6,7 +6,7 @@ use std::sync::ledger;
 use std::sync::ledger::{Ledger, Share};
 
 /// How many entries a book owes: one for the end of each client who was let in. Each caller's share
-/// is what is owed to him.
+/// is what is owed to it.
 #[derive(Drop)]
 pub(crate) struct Debt<L: Ledger> {
     pub(crate) owed: usize,

@@ -12,7 +12,7 @@ use std::alloc::Global;
 use std::sync::ledger::{Ledger, Share};
 
 /// The receipts of a caller's calls, and who came by them and has not gone by them, for each of whom
-/// the book owes him an entry. There is room for the receipt of each such end.
+/// the book owes it an entry. There is room for the receipt of each such end.
 #[derive(Drop)]
 pub(crate) struct Holdings<L: Ledger> {
     pub(crate) receipts: Vec<Receipt>,
@@ -63,7 +63,7 @@ impl<L: Ledger> Holdings<L> {
         Ok(())
     }
 
-    /// No more is owed to him than the book owes in all.
+    /// No more is owed to it than the book owes in all.
     pub(crate) fn audit(&mut self, debt: &mut Debt<L>)
         ensures bound { vec_len self.old.present ≤ debt.old.owed }
         ensures owed { debt.new.owed ≡ debt.old.owed }
@@ -102,7 +102,7 @@ impl<L: Ledger> Holdings<L> {
     }
 }
 
-/// One leaves, or one comes; the book owes him an entry less, or more.
+/// One leaves, or one comes; the book owes it an entry less, or more.
 fn come_and_go<L: Ledger>(
     debt: &mut Debt<L>,
     share: &mut Share<L>,
@@ -129,7 +129,7 @@ fn come_and_go<L: Ledger>(
     }
 }
 
-/// One goes, if he is among those who are there; the book then owes an entry less.
+/// One goes, if it is among those who are there; the book then owes an entry less.
 fn goes<L: Ledger>(
     debt: &mut Debt<L>,
     share: &mut Share<L>,
@@ -148,7 +148,7 @@ fn goes<L: Ledger>(
     }
 }
 
-/// Where he stands among these.
+/// Where it stands among these.
 fn place_of(present: &[Newcomer], one: Newcomer) -> Option<usize>
     ensures { result ≡ place_of one present.now }
 {
@@ -201,7 +201,7 @@ fn newcomer_in(receipt: &Receipt) -> Option<Newcomer>
     newcomer_by(receipt.event(), receipt.reply())
 }
 
-/// Who has come, if the reply lets him in.
+/// Who has come, if the reply lets it in.
 fn newcomer_by(event: &Event, reply: &Reply) -> Option<Newcomer>
     ensures { result ≡ newcomer_by event.now reply.now }
 {

@@ -6,7 +6,7 @@
 //! - [`Pass`]: what a caller has: the receipts of its calls, and the right to end whom it let in, a client or a relay
 //!   ([`Newcomer`]).
 //! - [`histories_add_up`]: what a history counts up to.
-//! - [`House`]: which server a book and its passes belong to; only contracts speak of it.
+//! - [`Origin`]: which server a book and its passes belong to; only contracts speak of it.
 #![tactic(auto)]
 
 mod accounts;
@@ -28,7 +28,7 @@ pub use laws::histories_add_up;
 pub use mount_book::{MountBook, Own};
 pub use newcomer::Newcomer;
 pub use pass::Pass;
-pub use radio_chronicle::{Chronicle, ControlLine, House, Kept, Stamp, Unkept};
+pub use radio_chronicle::{Chronicle, ControlLine, Kept, Origin, Stamp, Unkept};
 pub use radio_events::Entry;
 pub use receipt::Receipt;
 

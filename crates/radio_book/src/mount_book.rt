@@ -10,7 +10,7 @@ use crate::holdings::Holdings;
 use crate::own_steps::{Twice, is_own, items_here, step_here, step_twice_here};
 use crate::receipt::NOWHERE;
 use crate::stand_ins::{drop_old, last_block, last_block_of, take_out};
-use crate::{Chronicle, House, OutOfMemory, Pass, Receipt, Stamp};
+use crate::{Chronicle, Origin, OutOfMemory, Pass, Receipt, Stamp};
 use radio_chronicle::ControlLine;
 use radio_core::{Control, ListedPart, PartAnswer};
 use radio_events::Event;
@@ -125,7 +125,7 @@ impl<C: Chronicle> MountBook<C> {
     /// Does what the event does if the mount's part can by itself: a draw of a listener that is attached to it, a block or a
     /// title of the source that feeds it. `OutOfMemory` if memory was refused; nothing has changed then.
     // rule: Legal history; Receipts
-    pub fn apply<H: House>(
+    pub fn apply<H: Origin>(
         &mut self,
         pass: &mut Pass<C, H>,
         event: Event,
@@ -258,7 +258,7 @@ impl<C: Chronicle> MountBook<C> {
     }
 
     /// Does what the event does, which is stored.
-    fn note<H: House>(
+    fn note<H: Origin>(
         &mut self,
         holdings: &mut Holdings<H>,
         event: Event,
@@ -287,7 +287,7 @@ impl<C: Chronicle> MountBook<C> {
     }
 
     /// Does what the event does, of which these are copies, and which is stored; the pass has room for its receipt.
-    fn note_copied<H: House>(
+    fn note_copied<H: Origin>(
         &mut self,
         holdings: &mut Holdings<H>,
         event: Event,
@@ -332,7 +332,7 @@ fn own_of(answered: Result<PartAnswer, OutOfMemory>, told: Event) -> Result<Own,
 
 /// Returns what becomes of a part's answer to the event, which is there twice, if it is stored: the pass takes its receipt, for
 /// which there is room.
-fn note_own<H: House>(
+fn note_own<H: Origin>(
     holdings: &mut Holdings<H>,
     stamp: Stamp,
     held: Event,

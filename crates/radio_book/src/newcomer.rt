@@ -6,7 +6,7 @@ ghost use Rattle.radio_book.specs.Newcomers.{is_same};
 /// A client or a relay that has come, by its number.
 #[derive(Clone, Copy, Debug, PartialEq, Eq)]
 pub enum Newcomer {
-    /// A client, whose end is that he leaves.
+    /// A client, whose end is that it leaves.
     Client(u64),
     /// A relay, whose end is that it goes down.
     Relay(u64),

@@ -4,21 +4,21 @@ ghost use Rattle.std.specs.Prelude.{◌≡◌, []};
 ghost use Rattle.radio_book.specs.Receipts.{has_fed};
 
 use crate::holdings::Holdings;
-use crate::{Chronicle, House, Receipt};
+use crate::{Chronicle, Origin, Receipt};
 use std::alloc::Global;
 use std::collections::BTreeMap;
 use std::marker::{Model, PhantomData};
 
 /// What a caller of a house has: the receipts of its calls, in their order, if the house stores entries; and the right
 /// to end each client and each relay that it has let in.
-pub struct Pass<C: Chronicle, H: House> {
+pub struct Pass<C: Chronicle, H: Origin> {
     pub(crate) holdings: Holdings<H>,
     /// Of a client or a relay by its number: the list of the mount where it was attached last. It may be somewhere else by now.
     whereabouts: BTreeMap<u64, u64>,
     of: PhantomData<C>,
 }
 
-impl<C: Chronicle, H: House> Drop for Pass<C, H> {
+impl<C: Chronicle, H: Origin> Drop for Pass<C, H> {
     fn drop(self) {
         let Pass {
             holdings,
@@ -30,7 +30,7 @@ impl<C: Chronicle, H: House> Drop for Pass<C, H> {
     }
 }
 
-impl<C: Chronicle, H: House> Model for Pass<C, H> {
+impl<C: Chronicle, H: Origin> Model for Pass<C, H> {
     ghost use Rattle.std.specs.Prelude.{List};
     ghost use Rattle.radio_book.specs.Receipts.{ReceiptOf};
 
@@ -39,7 +39,7 @@ impl<C: Chronicle, H: House> Model for Pass<C, H> {
     ghost view = { λ p. p.holdings.receipts.items };
 }
 
-impl<C: Chronicle, H: House> Pass<C, H> {
+impl<C: Chronicle, H: Origin> Pass<C, H> {
     pub(crate) fn new(alloc: Global, holdings: Holdings<H>) -> Pass<C, H>
         ensures { result ≡ holdings.receipts.items }
     {

@@ -310,6 +310,6 @@ due_committed w later change moment (Ok done) ok err due =
 due_committed w later change moment (Err refused) ok err due =
     subst (λ (x : World). IsDueFrom (min moment (due_by w change)) x) (sym err) (due_earlier w moment (min moment (due_by w change)) (omega arith) due)
 
--- who has heard his stream up to a place is due when he was
+-- who has heard its stream up to a place is due when it was
 pub advanced_due : (w : World) (id place moment : ℕ) → moment ≤ last_moment → IsDueFrom moment w → IsDueFrom moment (changed w (Advance id place))
 advanced_due w id place moment last due = stays_due moment last w (Advance id place) due last

@@ -3,7 +3,7 @@ use denote.Param.Send.{IsSend, sendable, view_send}
 use Rattle.radio_house.proofs.registry.Registry.TheSendSync as registry
 use Rattle.radio_mount_part.proofs.Threads.{declared_send}
 use Rattle.radio_attached.proofs.Threads.{listeners_send}
-use Rattle.radio_changes.specs.contracts.state.State as state
+use Rattle.radio_changes.specs.contracts.state.ServerState as state
 use Rattle.radio_changes.specs.contracts.timed_state.TimedState as timed
 
 state_send : IsSend state.the_row

@@ -32,12 +32,12 @@ carried_along w move = record w { seats = (carried (sight_of w.house) move w.sea
 abbrev pub session_over : World → List ℕ → World
 session_over w mount = record w { house = record w.house { live = without_session w.house.live mount } }
 
--- the mount's session has ended; each of its listeners has gone where his walk lands, or has finished by the rule that stops it
+-- the mount's session has ended; each of its listeners has gone where its walk lands, or has finished by the rule that stops it
 -- rule: End of a session
 abbrev pub session_ended : World → List ℕ → World
 session_ended w mount = carried_along (session_over w mount) (HasEnded mount)
 
--- the client feeds the mount, and those hear him who sat there waiting for a session; nobody has been called home yet
+-- the client feeds the mount, and those hear it who sat there waiting for a session; nobody has been called home yet
 abbrev pub session_begun : World → ℕ → List ℕ → Shown → World
 session_begun w id mount shown = record { house = begun w.house id mount shown; seats = with_session_at w.seats mount id }
 
@@ -116,11 +116,11 @@ session_killed w (Some session) = session_ended_by SourceKilled w session
 abbrev pub outsiders_ended : World → List ℕ → World
 outsiders_ended w mount = record w { seats = with_ended w.seats (is_shut_out w.house.lists mount) ListenerPassword }
 
--- the users of the mount let this one in with this password, and nobody has lost his seat yet
+-- the users of the mount let this one in with this password, and nobody has lost its seat yet
 abbrev pub user_added : World → List ℕ → List ℕ → List ℕ → World
 user_added w mount user password = record w { house = with_user w.house mount user password }
 
--- the users of the mount do not let this one in, and nobody has lost his seat yet
+-- the users of the mount do not let this one in, and nobody has lost its seat yet
 abbrev pub user_deleted : World → List ℕ → List ℕ → World
 user_deleted w mount user = record w { house = without_user w.house mount user }
 
@@ -141,7 +141,7 @@ TakesNoRoom (SetFallback mount fallback) = ⊥
 TakesNoRoom (AddUser mount user password) = ⊥
 TakesNoRoom command = Unit {0}
 
--- the client has had his answer
+-- the client has had its answer
 abbrev pub answered : World → ℕ → World
 answered w id = record w { house = now_in_state w.house id Answered }
 

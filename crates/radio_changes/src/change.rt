@@ -11,7 +11,7 @@ use radio_values::{MountName, Shown, Title};
 pub enum Change {
     /// Nothing.
     Nothing,
-    /// The client has had his answer.
+    /// The client has had its answer.
     Answer {
         id: u64,
     },
@@ -47,12 +47,12 @@ pub enum Change {
         id: u64,
         seat: Seat,
     },
-    /// The listener has heard his stream up to this place.
+    /// The listener has heard its stream up to this place.
     Advance {
         id: u64,
         place: Place,
     },
-    /// The mount's session ends, and its source has had his answer.
+    /// The mount's session ends, and its source has had its answer.
     End {
         id: u64,
         mount: MountName,
@@ -70,7 +70,7 @@ pub enum Change {
     Tick {
         ms: u64,
     },
-    /// The command is done, and the client who gave it has had his answer.
+    /// The command is done, and the client who gave it has had its answer.
     Obey {
         id: u64,
         command: Command,

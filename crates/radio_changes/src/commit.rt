@@ -7,7 +7,7 @@ ghost use Rattle.radio_changes.specs.KeptChanges.{kept_changed, kept_taken_in};
 
 use crate::OutOfMemory;
 use crate::change::Change;
-use crate::state::State;
+use crate::state::ServerState;
 use radio_blocks::{Block, Place};
 use radio_fallback::{Carried, Move};
 use radio_house::ClientState;
@@ -18,7 +18,7 @@ use radio_values::{MountName, Shown, Title};
 /// What a change answers that carries nobody along.
 pub(crate) const NOBODY: Carried = Carried { moved: 0, ended: 0 };
 
-impl State {
+impl ServerState {
     /// Makes a change, and answers how many listeners it has moved and finished. `OutOfMemory` where
     /// memory was refused; nothing has changed then.
     pub(crate) fn commit(&mut self, change: Change) -> Result<Carried, OutOfMemory>
@@ -84,14 +84,14 @@ impl State {
         }
     }
 
-    /// The client has had his answer. It takes no memory.
+    /// The client has had its answer. It takes no memory.
     pub(crate) fn answer(&mut self, id: u64)
         ensures { self.new ≡ answered self.old id }
     {
         self.registry.set_state(id, ClientState::Answered);
     }
 
-    /// The listener has heard his stream up to this place. It takes no memory.
+    /// The listener has heard its stream up to this place. It takes no memory.
     fn advance(&mut self, id: u64, place: Place)
         ensures { self.new ≡ changed self.old (Change.Advance id place) }
     {
@@ -150,7 +150,7 @@ impl State {
         Ok(NOBODY)
     }
 
-    /// The client feeds the mount from now on, listeners can be seated there, those hear him who sat
+    /// The client feeds the mount from now on, listeners can be seated there, those hear it who sat
     /// there waiting for a session, and those come home whom the mount calls.
     fn begin(&mut self, id: u64, mount: MountName, shown: Shown) -> Result<Carried, OutOfMemory>
         ensures ok { OnOk result (self.new ≡ changed self.old (Change.Begin id mount shown)) }

@@ -3,11 +3,11 @@
 ghost use Rattle.std.specs.Prelude.{◌≡◌, Err, IfOk, OnErr};
 ghost use Rattle.radio_changes.specs.Lent.{part_due, IsLentTo};
 
-use crate::state::State;
+use crate::state::ServerState;
 use radio_mount_part::ListedPart;
 use radio_parts::{LAST_MOMENT, due_at};
 
-impl State {
+impl ServerState {
     /// Puts the part in the place of its mount's, which it returns. Whoever has lagged out there, and
     /// still has its seat, loses it. `Err` has the part itself, and nothing has changed, if the two
     /// have no sessions of one source. It takes no memory.

@@ -9,15 +9,15 @@ ghost use Rattle.radio_events.specs.declared.command.Command.{Command as Command
 
 use crate::OutOfMemory;
 use crate::commit::NOBODY;
-use crate::state::State;
+use crate::state::ServerState;
 use bytes::Bytes;
 use radio_events::Command;
 use radio_fallback::{Carried, Move};
 use radio_policy::Rule;
 use radio_values::MountName;
 
-impl State {
-    /// The command is done, and the client who gave it has had his answer; how many it has moved or finished.
+impl ServerState {
+    /// The command is done, and the client who gave it has had its answer; how many it has moved or finished.
     /// `OutOfMemory` where memory was refused; nothing has changed then.
     pub(crate) fn obey(&mut self, id: u64, command: Command) -> Result<Carried, OutOfMemory>
         ensures ok { OnOk result (self.new ≡ changed self.old (Change.Obey id command)) }
@@ -42,7 +42,7 @@ impl State {
         }
     }
 
-    /// A user of the mount is set, and the client who gave the command has had his answer; how many are
+    /// A user of the mount is set, and the client who gave the command has had its answer; how many are
     /// finished. `OutOfMemory` where memory was refused; nothing has changed then.
     fn obey_user(
         &mut self,

@@ -17,16 +17,16 @@ use std::marker::Model;
 /// mounts with their sessions. Contracts see it as a `World` in which of each stream the last blocks
 /// are kept. Each live mount is prepared for listeners, and as long as there are some, so is each that
 /// waits for a session. The registry notes of each session its mount and its number.
-pub(crate) struct State {
+pub(crate) struct ServerState {
     pub(crate) alloc: Global,
     pub(crate) registry: Registry,
     /// The listeners, with the parts of the mounts.
     pub(crate) listeners: Listeners,
 }
 
-impl Drop for State {
+impl Drop for ServerState {
     fn drop(self) {
-        let State {
+        let ServerState {
             alloc: _,
             registry,
             listeners,
@@ -36,7 +36,7 @@ impl Drop for State {
     }
 }
 
-impl Model for State {
+impl Model for ServerState {
     ghost use Rattle.radio_house.specs.Registry.{house_of};
     ghost use Rattle.radio_house.specs.Live.{AreLive};
     ghost use Rattle.radio_house.specs.World.{World, world};
@@ -54,12 +54,12 @@ impl Model for State {
     ghost invariant = { λ c. (LiveArePrepared c.listeners.live c.listeners.prepared × OnDemandArePrepared c.registry.settings c.listeners) × AreLive c.registry.live c.listeners.live };
 }
 
-impl State {
+impl ServerState {
     /// Nothing has happened yet. It takes no memory.
-    pub(crate) fn new(alloc: Global, settings: Settings, lists: Lists) -> State
+    pub(crate) fn new(alloc: Global, settings: Settings, lists: Lists) -> ServerState
         ensures { result ≡ opening settings lists }
     {
-        State {
+        ServerState {
             alloc,
             registry: Registry::new(alloc, settings, lists),
             listeners: Listeners::new(alloc),

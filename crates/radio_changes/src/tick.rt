@@ -3,11 +3,11 @@
 ghost use Rattle.std.specs.Prelude.{◌≡◌, fold};
 ghost use Rattle.radio_changes.specs.Changes.{ticked, durations_over, session_silenced, silent_in};
 
-use crate::state::State;
+use crate::state::ServerState;
 use radio_parts::HasSatOut;
 use radio_policy::Rule;
 
-impl State {
+impl ServerState {
     /// It is this moment: clients who have asked for nothing in their time are finished, then
     /// listeners who have had theirs, and then sources that have sent nothing in theirs. It takes
     /// no memory.

@@ -13,7 +13,7 @@ ghost use Rattle.radio_house.specs.World.{opening};
 use crate::OutOfMemory;
 use crate::change::Change;
 use crate::commit::NOBODY;
-use crate::state::State;
+use crate::state::ServerState;
 use radio_access::Lists;
 use radio_attached::Listeners;
 use radio_blocks::Place;
@@ -29,7 +29,7 @@ use std::marker::Model;
 /// The state, and a moment before which nothing in it is due: a clock before that moment walks
 /// nobody. Contracts see the state alone.
 pub struct TimedState {
-    state: State,
+    state: ServerState,
     /// Each client, each listener and each session is due then or later.
     due_from: u64,
 }
@@ -62,7 +62,7 @@ impl TimedState {
         ensures { result ≡ opening settings lists }
     {
         TimedState {
-            state: State::new(alloc, settings, lists),
+            state: ServerState::new(alloc, settings, lists),
             due_from: LAST_MOMENT,
         }
     }
@@ -152,7 +152,7 @@ impl TimedState {
     }
 }
 
-impl State {
+impl ServerState {
     /// It is this moment, and nothing else changes.
     fn set_time(&mut self, ms: u64)
         ensures { self.new ≡ at_moment self.old ms }

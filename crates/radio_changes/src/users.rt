@@ -5,11 +5,11 @@ ghost use Rattle.radio_changes.specs.Changes.{outsiders_ended, user_added, user_
 ghost use Rattle.radio_changes.specs.Counts.{counts_out};
 
 use crate::OutOfMemory;
-use crate::state::State;
+use crate::state::ServerState;
 use radio_fallback::Carried;
 use radio_values::MountName;
 
-impl State {
+impl ServerState {
     /// The users of the mount let this one in with this password from now on, and those lose their
     /// seats there whom they do not let in; how many they are. `OutOfMemory` where memory was
     /// refused; nothing has changed then.

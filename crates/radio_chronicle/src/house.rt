@@ -6,13 +6,13 @@ use std::sync::ledger::Ledger;
 /// Which house a book and its passes belong to: the state in which it was opened, and the ledger
 /// of the ends that it owes to those who let clients in. It stands in contracts alone; a call at
 /// `Brand` picks one.
-pub trait House: Ledger {
+pub trait Origin: Ledger {
     ghost use Rattle.radio_house.specs.World.{World};
 
     ghost opening: { World };
 }
 
-impl House for Brand {
+impl Origin for Brand {
     ghost use Rattle.radio_access.specs.Lists.{no_lists};
     ghost use Rattle.radio_house.specs.World.{opening as opening_of};
     ghost use Rattle.radio_settings_values.specs.Least.{least_settings};

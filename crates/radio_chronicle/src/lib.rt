@@ -2,7 +2,7 @@
 //!
 //! - [`Chronicle`]: whether entries are stored, [`Kept`] or [`Unkept`].
 //! - [`Notes`]: the list that stores them; [`Stamp`]: a place in such a list; [`ControlLine`]: a line of the control's.
-//! - [`House`]: which server a list belongs to; only contracts speak of it.
+//! - [`Origin`]: which server a list belongs to; only contracts speak of it.
 #![tactic(auto)]
 
 mod chronicle;
@@ -12,7 +12,7 @@ mod notes;
 mod stamp;
 
 pub use chronicle::{Chronicle, Kept, Unkept};
-pub use house::House;
+pub use house::Origin;
 pub use line::ControlLine;
 pub use notes::Notes;
 pub use radio_events::Entry;

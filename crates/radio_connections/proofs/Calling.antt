@@ -177,11 +177,11 @@ once_at_most a b c d f (inl none) g = inl (unread_then a c d (unread_then a b c 
 once_at_most a b c d f (inr read) g = inr (once_between a b c d f read g)
 
 -- where nothing is left, all was taken
-pub taken_all : (n : ℕ) (owed : List ℕ) → drop n owed ≡ [] → take n owed ≡ owed
-taken_all n owed none = sym (append-nil (take n owed)) ∙ ap (λ (xs : List ℕ). take n owed ++ xs) (sym none) ∙ take-append-drop n owed
+pub taken_all : (n : ℕ) (outgoing : List ℕ) → drop n outgoing ≡ [] → take n outgoing ≡ outgoing
+taken_all n outgoing none = sym (append-nil (take n outgoing)) ∙ ap (λ (xs : List ℕ). take n outgoing ++ xs) (sym none) ∙ take-append-drop n outgoing
 
-pub none_of_some : {owed : List ℕ} → 0 < length owed → owed ≡ [] → ⊥
-none_of_some {owed} some none = lt_irrefl 0 (subst (λ (xs : List ℕ). 0 < length xs) none some)
+pub none_of_some : {outgoing : List ℕ} → 0 < length outgoing → outgoing ≡ [] → ⊥
+none_of_some {outgoing} some none = lt_irrefl 0 (subst (λ (xs : List ℕ). 0 < length xs) none some)
 
 -- one that was read from was read from once, with the room of a turn
 pub read_by : {a c : Connection} {room : ℕ} (answer : Received) → c.calls ≡ after_read answer room a.calls → room ≡ 16384 → IsReadOnce a c

@@ -4,7 +4,7 @@ use Rattle.radio_addr.specs.declared.peer.Peer.{Peer}
 use Rattle.radio_events.specs.declared.reply.Reply.{Reply}
 use Rattle.radio_events.specs.declared.reply.Reply.TheVariants.{Arrived, Feeding, Seated, Drawn, Noted, Text, Deny, Finished, Stray}
 use Rattle.radio_answers.specs.declared.web_answers.WebAnswers.{WebAnswers}
-use Rattle.radio_connections.specs.declared.conn.Status.{Status}
+use Rattle.radio_connections.specs.declared.conn.ConnStatus.{ConnStatus}
 use Rattle.radio_connections.specs.declared.conn.Fate.TheVariants.{Open, Ended}
 use Rattle.radio_connections.specs.Lines.{Calls}
 use Rattle.radio_connections.specs.Connections.{Connection, newly_come, IsTurnedAway}
@@ -46,6 +46,6 @@ pub is_turned_away : (arrival : Arrival) (given taken : List ℕ) (ms : ℕ) (c 
 is_turned_away arrival given taken ms c nobody away g t =
     stands_so c [] (first_entries arrival.peer arrival.reply) (stranger arrival) Ended (turned_away nobody) (sym (away.given_so_far ∙ g))
     (sym (none_made arrival.peer arrival.reply nobody)) refl
-    (ap (λ (s : Status). s.sits) (sym away.status))
-    (ap (λ (s : Status). s.has_left) (sym away.status)) (ap (λ (s : Status). s.fate) away.status) refl (λ o. absurd (cc))
-    (sym away.owed ∙ ap (λ (xs : List ℕ). xs ++ c.owed) (sym (away.taken_so_far ∙ t)))
+    (ap (λ (s : ConnStatus). s.sits) (sym away.status))
+    (ap (λ (s : ConnStatus). s.has_left) (sym away.status)) (ap (λ (s : ConnStatus). s.fate) away.status) refl (λ o. absurd (cc))
+    (sym away.outgoing ∙ ap (λ (xs : List ℕ). xs ++ c.outgoing) (sym (away.taken_so_far ∙ t)))

@@ -41,7 +41,7 @@ module _ {S : Type 0} (steps : Steps S) where
     chain = chain_one from to (entry (Leave c.id) r.0) r.1;
     served = record {
       same = same.id;
-      stands = λ arrival past st. left_on c c' past r.0 same.id (over_from c.status.fate over) here same.given same.taken same.owed same.session fate sits left st;
+      stands = λ arrival past st. left_on c c' past r.0 same.id (over_from c.status.fate over) here same.given same.taken same.outgoing same.session fate sits left st;
       later = later_same calls same.taken refused;
     };
     alone = λ goes. absurd (not_over c.status.fate over goes);
@@ -69,7 +69,7 @@ module _ {S : Type 0} (steps : Steps S) where
     fate = refl;
     sits = refl;
     calls = refl;
-    same = record { id = refl; given = refl; taken = refl; owed = refl; session = refl };
+    same = record { id = refl; given = refl; taken = refl; outgoing = refl; session = refl };
     noted = refl;
     left = left;
   }
@@ -171,7 +171,7 @@ module _ {S : Type 0} (steps : Steps S) where
     served =
         served_then a (asked_at ms a) c [] drew.entries
         (served_by_note a (asked_at ms a) (record { id = refl; sits = refl; left = refl }) (later_same refl refl refl)
-        (record { id = refl; given = refl; taken = refl; owed = refl; session = refl }) refl) drew.served;
+        (record { id = refl; given = refl; taken = refl; outgoing = refl; session = refl }) refl) drew.served;
     goes = λ stays_on. open_from a.status.fate goes;
     drawn = λ new sits. subst (λ (n : ℕ). IsOneDraw a.id n drew.entries c) (full sits) drew.drawn;
     asked_for = λ long stays_on none. no_entry (drew.drawn stays_on) none;

@@ -178,18 +178,18 @@ spared_open a b calls given unwritten goes = record {
 }
 
 -- its line takes some of what is owed
-pub served_by_write : (c c' : Connection) (n : ℕ) → IsOne c c' → IsLater c c' → IsWritten c.status.fate → c'.owed ≡ drop n c.owed → c'.given ≡ c.given
-    → c'.taken ≡ c.taken ++ take n c.owed → c'.session ≡ c.session
+pub served_by_write : (c c' : Connection) (n : ℕ) → IsOne c c' → IsLater c c' → IsWritten c.status.fate → c'.outgoing ≡ drop n c.outgoing → c'.given ≡ c.given
+    → c'.taken ≡ c.taken ++ take n c.outgoing → c'.session ≡ c.session
     → c'.status.fate ≡ c.status.fate → IsServed c [] c'
-served_by_write c c' n one calls goes owed given taken session fate =
+served_by_write c c' n one calls goes outgoing given taken session fate =
     served_by_none c c' one.id calls
-    (λ arrival past st. taken_on c c' past one st goes (take n c.owed) (sym (take-append-drop n c.owed)
-    ∙ ap (λ (xs : List ℕ). take n c.owed ++ xs) (sym owed)) given taken session fate)
+    (λ arrival past st. taken_on c c' past one st goes (take n c.outgoing) (sym (take-append-drop n c.outgoing)
+    ∙ ap (λ (xs : List ℕ). take n c.outgoing ++ xs) (sym outgoing)) given taken session fate)
 
 -- other things are noted
 pub served_by_note : (c c' : Connection) → IsOne c c' → IsLater c c' → IsSame c c' → c'.status.fate ≡ c.status.fate → IsServed c [] c'
 served_by_note c c' one calls same fate =
-    served_by_none c c' one.id calls (λ arrival past st. still c c' [] past one st same.given same.taken same.owed same.session fate)
+    served_by_none c c' one.id calls (λ arrival past st. still c c' [] past one st same.given same.taken same.outgoing same.session fate)
 
 -- a draw is answered
 pub served_by_draw : (c c' : Connection) (room : ℕ) (entries : List Entry) → c.status.fate ≡ Open → IsAnswered (Draw c.id room) c entries c'
@@ -206,16 +206,16 @@ served_by_draw c c' room entries goes a = record {
 pub heard_so : (ms : ℕ) (c m c' : Connection) (bytes : List ℕ) (heard : Heard) (entries : List Entry) → c.status.fate ≡ Open → IsHeard c.session bytes heard
     → IsOne c m → IsLater c m → m.calls ≡ c.calls → m.given ≡ c.given → IsUnwritten c m
     → m.status.asked_ms ≡ (if length heard.events == 0 then c.status.asked_ms else ms)
-    → m.owed ≡ c.owed → m.session ≡ heard.conversation → m.status.fate ≡ c.status.fate → AreAnswered heard.events m entries c'
+    → m.outgoing ≡ c.outgoing → m.session ≡ heard.conversation → m.status.fate ≡ c.status.fate → AreAnswered heard.events m entries c'
     → IsHeardOn ms bytes c entries c'
-heard_so ms c m c' bytes heard entries goes is one calls same given unwritten asked owed session fate a = record {
+heard_so ms c m c' bytes heard entries goes is one calls same given unwritten asked outgoing session fate a = record {
   same = a.same ∙ one.id;
   heard = inr (record { heard = heard; is = is; first = a.first });
   asking = notes_asking ms c c' heard.events entries a.all (a.asked ∙ asked);
   stands = λ arrival before past now st.
       a.stands arrival past
       (heard_on (record c { given = before }) m past (record { id = one.id; sits = one.sits; left = one.left }) st goes bytes heard is (given
-      ∙ now) unwritten.taken owed session fate);
+      ∙ now) unwritten.taken outgoing session fate);
   later = later_then c m c' calls a.later;
   spared = spared_then c m c' calls same given unwritten a.spared;
 }
@@ -239,35 +239,35 @@ heard_on_one {ms} {a} {b} {c} {bytes} {xs} e = subst (λ (o : Connection). IsHea
 
 -- its line gives bytes, and they are heard
 pub served_by_hearing : {ms : ℕ} (c m c' : Connection) (bytes : List ℕ) (entries : List Entry) → IsOne c m → IsLater c m → m.given ≡ c.given ++ bytes
-    → m.taken ≡ c.taken → m.owed ≡ c.owed → m.session ≡ c.session
+    → m.taken ≡ c.taken → m.outgoing ≡ c.outgoing → m.session ≡ c.session
     → m.status.fate ≡ c.status.fate → IsHeardOn ms bytes m entries c' → IsServed c entries c'
-served_by_hearing {ms} c m c' bytes entries one calls given taken owed session fate h = record {
+served_by_hearing {ms} c m c' bytes entries one calls given taken outgoing session fate h = record {
   same = h.same ∙ one.id;
   stands = λ arrival past st.
       h.stands arrival c.given past given
-      (still c (record m { given = c.given }) [] past (record { id = one.id; sits = one.sits; left = one.left }) st refl taken owed session fate);
+      (still c (record m { given = c.given }) [] past (record { id = one.id; sits = one.sits; left = one.left }) st refl taken outgoing session fate);
   later = later_then c m c' calls h.later;
 }
 
 -- its line has closed
-pub served_by_close : (c c' : Connection) → IsOne c c' → IsLater c c' → IsWritten c.status.fate → c.owed ≡ [] → c'.given ≡ c.given → c'.taken ≡ c.taken
+pub served_by_close : (c c' : Connection) → IsOne c c' → IsLater c c' → IsWritten c.status.fate → c.outgoing ≡ [] → c'.given ≡ c.given → c'.taken ≡ c.taken
     → c'.status.fate ≡ Closed → IsServed c [] c'
-served_by_close c c' one calls goes owed given taken fate = served_by_none c c' one.id calls (λ arrival past st. closed_out c c' past one st goes owed given taken fate)
+served_by_close c c' one calls goes outgoing given taken fate = served_by_none c c' one.id calls (λ arrival past st. closed_out c c' past one st goes outgoing given taken fate)
 
 -- what came after its end is passed over
 pub served_by_passing : (c c' : Connection) (bytes : List ℕ) → IsOne c c' → IsLater c c' → c.status.fate ≡ Ended → c'.given ≡ c.given ++ bytes
-    → c'.taken ≡ c.taken → c'.owed ≡ c.owed → c'.status.fate ≡ Ended → IsServed c [] c'
-served_by_passing c c' bytes one calls ended given taken owed fate =
-    served_by_none c c' one.id calls (λ arrival past st. passed_over c c' past one st ended bytes given taken owed fate)
+    → c'.taken ≡ c.taken → c'.outgoing ≡ c.outgoing → c'.status.fate ≡ Ended → IsServed c [] c'
+served_by_passing c c' bytes one calls ended given taken outgoing fate =
+    served_by_none c c' one.id calls (λ arrival past st. passed_over c c' past one st ended bytes given taken outgoing fate)
 
 pub served_by_read_on : (c c' : Connection) (answer : Received) (buffer : List ℕ) → IsOne c c' → IsLater c c' → c.status.fate ≡ Ended
-    → HasGiven answer buffer c.given c'.given → c'.taken ≡ c.taken → c'.owed ≡ c.owed
+    → HasGiven answer buffer c.given c'.given → c'.taken ≡ c.taken → c'.outgoing ≡ c.outgoing
     → c'.session ≡ c.session → c'.status.fate ≡ Ended → IsServed c [] c'
-served_by_read_on c c' (Bytes n) buffer one calls ended given taken owed session fate =
-    served_by_passing c c' (take n buffer) one calls ended given.1 taken owed fate
-served_by_read_on c c' Nothing buffer one calls ended given taken owed session fate =
-    served_by_note c c' one calls (record { id = one.id; given = given; taken = taken; owed = owed; session = session }) (fate ∙ sym ended)
-served_by_read_on c c' HasClosed buffer one calls ended given taken owed session fate =
-    served_by_note c c' one calls (record { id = one.id; given = given; taken = taken; owed = owed; session = session }) (fate ∙ sym ended)
-served_by_read_on c c' Fault buffer one calls ended given taken owed session fate =
-    served_by_note c c' one calls (record { id = one.id; given = given; taken = taken; owed = owed; session = session }) (fate ∙ sym ended)
+served_by_read_on c c' (Bytes n) buffer one calls ended given taken outgoing session fate =
+    served_by_passing c c' (take n buffer) one calls ended given.1 taken outgoing fate
+served_by_read_on c c' Nothing buffer one calls ended given taken outgoing session fate =
+    served_by_note c c' one calls (record { id = one.id; given = given; taken = taken; outgoing = outgoing; session = session }) (fate ∙ sym ended)
+served_by_read_on c c' HasClosed buffer one calls ended given taken outgoing session fate =
+    served_by_note c c' one calls (record { id = one.id; given = given; taken = taken; outgoing = outgoing; session = session }) (fate ∙ sym ended)
+served_by_read_on c c' Fault buffer one calls ended given taken outgoing session fate =
+    served_by_note c c' one calls (record { id = one.id; given = given; taken = taken; outgoing = outgoing; session = session }) (fate ∙ sym ended)

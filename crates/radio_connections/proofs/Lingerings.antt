@@ -3,7 +3,7 @@ use Rattle.std.proofs.Common.{◌≡◌, inl, inr, ◌<◌, ◌≤◌, ◌-◌, 
 use Rattle.radio_connections.specs.declared.line.Received.{Received}
 use Rattle.radio_connections.specs.declared.line.Received.TheVariants.{Bytes, Nothing, Closed as HasClosed, Fault}
 use Rattle.radio_connections.specs.declared.conn.Fate.TheVariants.{Ended, Closed}
-use Rattle.radio_connections.specs.declared.conn.Status.{Status}
+use Rattle.radio_connections.specs.declared.conn.ConnStatus.{ConnStatus}
 use Rattle.radio_connections.specs.Lines.{Calls, after_read}
 use Rattle.radio_connections.specs.Connections.{Connection, is_open}
 use Rattle.radio_connections.specs.Duties.{IsReadOnce, HasEnded, WhyClosed, LineHasEnded, LingeredOn, Lingers}
@@ -73,8 +73,8 @@ module _ (ms : ℕ) (a m c : Connection) (ended : a.status.fate ≡ Ended) (told
   lingers_by_answer taken finished moved read Fault answered over = absurd (cc)
 
 -- what is noted of one that is closed now
-pub closed_status : {s t : Status} → s ≡ t → record s { fate = Closed } ≡ record t { fate = Closed }
-closed_status {s} {t} e = ap (λ (x : Status). let y : Status = record x { fate = Closed } in y) e
+pub closed_status : {s t : ConnStatus} → s ≡ t → record s { fate = Closed } ≡ record t { fate = Closed }
+closed_status {s} {t} e = ap (λ (x : ConnStatus). let y : ConnStatus = record x { fate = Closed } in y) e
 
 -- It was told the end and read from. By the answer it is closed,
 pub ended_by_close : {ms : ℕ} {a c : Connection} (m n : Connection) → a.status.fate ≡ Ended → m.status.is_finished ≡ true → NotesFinish ms a m
@@ -83,17 +83,17 @@ pub ended_by_close : {ms : ℕ} {a c : Connection} (m n : Connection) → a.stat
     → n.status.has_taken ≡ a.status.has_taken → IsEnded ms a c
 ended_by_close {ms} {a} {c} m n ended told notes calls received answered over same served read still taken status has_taken = record {
   served = served;
-  over = ap (λ (s : Status). is_open s.fate) status;
-  whole = λ e. closed_not_cut (sym (ap (λ (s : Status). s.fate) status) ∙ e);
+  over = ap (λ (s : ConnStatus). is_open s.fate) status;
+  whole = λ e. closed_not_cut (sym (ap (λ (s : ConnStatus). s.fate) status) ∙ e);
   once = inr read;
   taken = taken;
-  has_taken = ap (λ (s : Status). s.has_taken) status ∙ has_taken;
+  has_taken = ap (λ (s : ConnStatus). s.has_taken) status ∙ has_taken;
   noted =
-      finished_then ms a m c notes (ap (λ (s : Status). s.is_finished) status ∙ ap (λ (s : Status). s.is_finished) same)
-      (ap (λ (s : Status). s.moved_ms) status ∙ ap (λ (s : Status). s.moved_ms) same);
+      finished_then ms a m c notes (ap (λ (s : ConnStatus). s.is_finished) status ∙ ap (λ (s : ConnStatus). s.is_finished) same)
+      (ap (λ (s : ConnStatus). s.moved_ms) status ∙ ap (λ (s : ConnStatus). s.moved_ms) same);
   closed =
       λ e. closed_by_answer ms a m c ended told notes calls received (subst (λ (k : Calls). HasAnswered received m.calls k) (sym still) answered) over;
-  lingers = λ e. absurd (closed_not_ended (sym (ap (λ (s : Status). s.fate) status) ∙ e));
+  lingers = λ e. absurd (closed_not_ended (sym (ap (λ (s : ConnStatus). s.fate) status) ∙ e));
 }
 
 -- or it lingers.
@@ -102,8 +102,8 @@ pub ended_by_lingering : {ms : ℕ} {a c : Connection} (m : Connection) → a.st
     → is_over received (nat_le 1000 (ms - m.status.moved_ms)) ≡ false → c.status ≡ m.status → m.status.fate ≡ a.status.fate → IsServed a [] c
     → IsReadOnce a c → c.taken ≡ a.taken → m.status.has_taken ≡ a.status.has_taken → IsEnded ms a c
 ended_by_lingering {ms} {a} {c} m ended written told notes calls received answered over same fate served read taken has_taken =
-    let goes : c.status.fate ≡ Ended = ap (λ (s : Status). s.fate) same ∙ fate ∙ ended in
-    let kept : c.status.has_taken ≡ a.status.has_taken = ap (λ (s : Status). s.has_taken) same ∙ has_taken in
+    let goes : c.status.fate ≡ Ended = ap (λ (s : ConnStatus). s.fate) same ∙ fate ∙ ended in
+    let kept : c.status.has_taken ≡ a.status.has_taken = ap (λ (s : ConnStatus). s.has_taken) same ∙ has_taken in
     record {
       served = served;
       over = ap is_open goes;
@@ -111,8 +111,8 @@ ended_by_lingering {ms} {a} {c} m ended written told notes calls received answer
       once = inr read;
       taken = taken;
       has_taken = kept;
-      noted = finished_then ms a m c notes (ap (λ (s : Status). s.is_finished) same) (ap (λ (s : Status). s.moved_ms) same);
+      noted = finished_then ms a m c notes (ap (λ (s : ConnStatus). s.is_finished) same) (ap (λ (s : ConnStatus). s.moved_ms) same);
       closed = λ e. absurd (closed_not_ended (sym e ∙ goes));
-      lingers = λ e. lingers_by_answer ms a m c ended told notes calls (kept ∙ written) (ap (λ (s : Status). s.is_finished) same)
-          (ap (λ (s : Status). s.moved_ms) same) read received answered over;
+      lingers = λ e. lingers_by_answer ms a m c ended told notes calls (kept ∙ written) (ap (λ (s : ConnStatus). s.is_finished) same)
+          (ap (λ (s : ConnStatus). s.moved_ms) same) read received answered over;
     }

@@ -5,7 +5,7 @@ use Rattle.std.proofs.lemmas.Bool.{false≢true}
 use Rattle.radio_events.specs.Servers.{Steps}
 use Rattle.radio_connections.specs.declared.conn.Fate.{Fate}
 use Rattle.radio_connections.specs.declared.conn.Fate.TheVariants.{Open, Ended, Closed, Cut}
-use Rattle.radio_connections.specs.declared.conn.Status.{Status}
+use Rattle.radio_connections.specs.declared.conn.ConnStatus.{ConnStatus}
 use Rattle.radio_connections.specs.Connections.{Connection}
 use Rattle.radio_connections.specs.Duties.{IsLater, HasTakenSome, IsIdle, IsFinishedNow, HasMoved, NotesTaking}
 use Rattle.radio_connections.specs.Answering.{IsUnwritten}
@@ -37,29 +37,29 @@ open_or Cut = inr (λ e. cc)
 -- a part of what is noted of a write
 
 pub noted_finished : {ms : ℕ} {a b : Connection} → IsNoted ms a b → b.status.is_finished ≡ a.status.is_finished
-noted_finished {ms} {a} {b} (TookNone taken noted) = ap (λ (s : Status). s.is_finished) noted
-noted_finished {ms} {a} {b} (TookSome some goes noted) = ap (λ (s : Status). s.is_finished) noted
+noted_finished {ms} {a} {b} (TookNone taken noted) = ap (λ (s : ConnStatus). s.is_finished) noted
+noted_finished {ms} {a} {b} (TookSome some goes noted) = ap (λ (s : ConnStatus). s.is_finished) noted
 
 pub noted_asked : {ms : ℕ} {a b : Connection} → IsNoted ms a b → b.status.asked_ms ≡ a.status.asked_ms
-noted_asked {ms} {a} {b} (TookNone taken noted) = ap (λ (s : Status). s.asked_ms) noted
-noted_asked {ms} {a} {b} (TookSome some goes noted) = ap (λ (s : Status). s.asked_ms) noted
+noted_asked {ms} {a} {b} (TookNone taken noted) = ap (λ (s : ConnStatus). s.asked_ms) noted
+noted_asked {ms} {a} {b} (TookSome some goes noted) = ap (λ (s : ConnStatus). s.asked_ms) noted
 
 pub noted_left : {ms : ℕ} {a b : Connection} → IsNoted ms a b → b.status.has_left ≡ a.status.has_left
-noted_left {ms} {a} {b} (TookNone taken noted) = ap (λ (s : Status). s.has_left) noted
-noted_left {ms} {a} {b} (TookSome some goes noted) = ap (λ (s : Status). s.has_left) noted
+noted_left {ms} {a} {b} (TookNone taken noted) = ap (λ (s : ConnStatus). s.has_left) noted
+noted_left {ms} {a} {b} (TookSome some goes noted) = ap (λ (s : ConnStatus). s.has_left) noted
 
 -- what is noted of what was taken is noted on
 pub noted_on : {ms : ℕ} {a b : Connection} → IsNoted ms a b → a.status.has_taken ≡ true → b.status.has_taken ≡ true
-noted_on {ms} {a} {b} (TookNone taken noted) before = ap (λ (s : Status). s.has_taken) noted ∙ before
-noted_on {ms} {a} {b} (TookSome some goes noted) before = ap (λ (s : Status). s.has_taken) noted
+noted_on {ms} {a} {b} (TookNone taken noted) before = ap (λ (s : ConnStatus). s.has_taken) noted ∙ before
+noted_on {ms} {a} {b} (TookSome some goes noted) before = ap (λ (s : ConnStatus). s.has_taken) noted
 
 -- a write that took nothing is no write
 pub unwritten_by : {ms : ℕ} {a b : Connection} → IsNoted ms a b → b.taken ≡ a.taken → IsUnwritten a b
 unwritten_by {ms} {a} {b} (TookNone taken noted) same = record {
   taken = same;
-  moved = ap (λ (s : Status). s.moved_ms) noted;
-  has_taken = ap (λ (s : Status). s.has_taken) noted;
-  finished = ap (λ (s : Status). s.is_finished) noted;
+  moved = ap (λ (s : ConnStatus). s.moved_ms) noted;
+  has_taken = ap (λ (s : ConnStatus). s.has_taken) noted;
+  finished = ap (λ (s : ConnStatus). s.is_finished) noted;
 }
 unwritten_by {ms} {a} {b} (TookSome some goes noted) same = absurd (some same)
 
@@ -70,8 +70,8 @@ noted_between {ms} {a} {b} {c} {d} before (TookNone taken noted) behind =
     inl (unwritten_then before (unwritten_then (unwritten_by {ms = ms} {a = b} {b = c} (TookNone taken noted) taken) behind))
 noted_between {ms} {a} {b} {c} {d} before (TookSome some goes noted) behind = inr (
   (λ same. some (sym behind.taken ∙ same ∙ sym before.taken)),
-  behind.moved ∙ ap (λ (s : Status). s.moved_ms) noted,
-  behind.has_taken ∙ ap (λ (s : Status). s.has_taken) noted,
+  behind.moved ∙ ap (λ (s : ConnStatus). s.moved_ms) noted,
+  behind.has_taken ∙ ap (λ (s : ConnStatus). s.has_taken) noted,
 )
 
 module _ {S : Type 0} (steps : Steps S) where
@@ -79,13 +79,13 @@ module _ {S : Type 0} (steps : Steps S) where
   pub unwritten_by_leaving : {from to : S} {c c' : Connection} → Leaves steps from c to c' → IsUnwritten c c'
   unwritten_by_leaving {from} {to} {c} {c'} left = record {
     taken = left.same.taken;
-    moved = ap (λ (s : Status). s.moved_ms) left.noted;
-    has_taken = ap (λ (s : Status). s.has_taken) left.noted;
-    finished = ap (λ (s : Status). s.is_finished) left.noted;
+    moved = ap (λ (s : ConnStatus). s.moved_ms) left.noted;
+    has_taken = ap (λ (s : ConnStatus). s.has_taken) left.noted;
+    finished = ap (λ (s : ConnStatus). s.is_finished) left.noted;
   }
 
   -- what is noted of a turn in which a connection is worked for
-  module _ {news : Bool} {from one two to : S} {ms : ℕ} {a b c d e f : Connection} (first : IsFlushed ms a b) (none : b.owed ≡ [])
+  module _ {news : Bool} {from one two to : S} {ms : ℕ} {a b c d e f : Connection} (first : IsFlushed ms a b) (none : b.outgoing ≡ [])
       (works : Works steps ms news from b one c) (left : Leaves steps one c two d) (last : IsFlushed ms d e) (over : Leaves steps two e to f)
       (later : IsLater b f) where
     behind : IsUnwritten c f ⊎ (HasTakenSome c f × (f.status.moved_ms ≡ ms) × (f.status.has_taken ≡ true))
@@ -119,7 +119,7 @@ module _ {S : Type 0} (steps : Steps S) where
     by_some some = by_first first.noted behind where
       by_first : IsNoted ms a b → IsUnwritten c f ⊎ (HasTakenSome c f × (f.status.moved_ms ≡ ms) × (f.status.has_taken ≡ true)) → f.status.moved_ms ≡ ms
       by_first noted (inr took) = took.1
-      by_first (TookSome took goes noted) (inl same) = same.moved ∙ worked_on (ap (λ (s : Status). s.moved_ms) noted)
+      by_first (TookSome took goes noted) (inl same) = same.moved ∙ worked_on (ap (λ (s : ConnStatus). s.moved_ms) noted)
       by_first (TookNone taken noted) (inl same) = absurd (some (same.taken ∙ works.taken ∙ taken))
 
     pub told_in : IsFinishedNow a f → IsFinishedNow b c
@@ -147,13 +147,13 @@ module _ {S : Type 0} (steps : Steps S) where
         by_rest (inl rests) = rests
         by_rest (inr took) = absurd (took.0 (same ∙ sym none_first ∙ sym works.taken))
 
-      none_owed : a.owed ≡ []
-      none_owed = none_behind a.taken a.owed (sym (first.all none) ∙ none_first)
+      none_outgoing : a.outgoing ≡ []
+      none_outgoing = none_behind a.taken a.outgoing (sym (first.all none) ∙ none_first)
 
       pub not_moved : (IsIdle a → ⊥) → (IsFinishedNow a f → ⊥) → f.status.moved_ms ≡ a.status.moved_ms
       not_moved busy untold =
           none_last.moved
-          ∙ by_notes (works.over (λ goes. busy (sym (first.idle none_owed) ∙ goes, none_owed)))
+          ∙ by_notes (works.over (λ goes. busy (sym (first.idle none_outgoing) ∙ goes, none_outgoing)))
           ∙ (unwritten_by first.noted none_first).moved where
             by_notes : NotesFinish ms b c → c.status.moved_ms ≡ b.status.moved_ms
             by_notes (inl kept) = kept.1
@@ -166,21 +166,21 @@ module _ {S : Type 0} (steps : Steps S) where
     noted_some some = by_first first.noted behind where
       by_first : IsNoted ms a b → IsUnwritten c f ⊎ (HasTakenSome c f × (f.status.moved_ms ≡ ms) × (f.status.has_taken ≡ true)) → f.status.has_taken ≡ true
       by_first noted (inr took) = took.2
-      by_first (TookSome took goes noted) (inl same) = same.has_taken ∙ works.has_taken ∙ ap (λ (s : Status). s.has_taken) noted
+      by_first (TookSome took goes noted) (inl same) = same.has_taken ∙ works.has_taken ∙ ap (λ (s : ConnStatus). s.has_taken) noted
       by_first (TookNone taken noted) (inl same) = absurd (some (same.taken ∙ works.taken ∙ taken))
 
     pub notes_taking : NotesTaking a f
     notes_taking = record { some = noted_some; none = λ same. not_noted same }
 
   -- and of one in which it is not, since something is still owed
-  module _ {from to : S} {ms patience : ℕ} {a b m c : Connection} (first : IsFlushed ms a b) (some : b.owed ≡ [] → ⊥) (rests : IsPatient ms patience b m)
+  module _ {from to : S} {ms patience : ℕ} {a b m c : Connection} (first : IsFlushed ms a b) (some : b.outgoing ≡ [] → ⊥) (rests : IsPatient ms patience b m)
       (left : Leaves steps from m to c) where
     pub unwritten_behind : IsUnwritten b c
     unwritten_behind = record {
       taken = left.same.taken ∙ rests.taken;
-      moved = ap (λ (s : Status). s.moved_ms) left.noted ∙ ap (λ (s : Status). s.moved_ms) rests.noted;
-      has_taken = ap (λ (s : Status). s.has_taken) left.noted ∙ ap (λ (s : Status). s.has_taken) rests.noted;
-      finished = ap (λ (s : Status). s.is_finished) left.noted ∙ ap (λ (s : Status). s.is_finished) rests.noted;
+      moved = ap (λ (s : ConnStatus). s.moved_ms) left.noted ∙ ap (λ (s : ConnStatus). s.moved_ms) rests.noted;
+      has_taken = ap (λ (s : ConnStatus). s.has_taken) left.noted ∙ ap (λ (s : ConnStatus). s.has_taken) rests.noted;
+      finished = ap (λ (s : ConnStatus). s.is_finished) left.noted ∙ ap (λ (s : ConnStatus). s.is_finished) rests.noted;
     }
 
     pub kept_untold : IsFinishedNow a c → ⊥
@@ -189,8 +189,8 @@ module _ {S : Type 0} (steps : Steps S) where
     kept_by_some : HasTakenSome a c → IsNoted ms a b → (c.status.moved_ms ≡ ms) × (c.status.has_taken ≡ true)
     kept_by_some took (TookNone taken noted) = absurd (took (unwritten_behind.taken ∙ taken))
     kept_by_some took (TookSome now goes noted) = (
-      unwritten_behind.moved ∙ ap (λ (s : Status). s.moved_ms) noted,
-      unwritten_behind.has_taken ∙ ap (λ (s : Status). s.has_taken) noted,
+      unwritten_behind.moved ∙ ap (λ (s : ConnStatus). s.moved_ms) noted,
+      unwritten_behind.has_taken ∙ ap (λ (s : ConnStatus). s.has_taken) noted,
     )
 
     pub kept_moved : HasMoved ms a c

@@ -28,31 +28,31 @@ pub record IsOne (c c' : Connection) : Type 0 where
 
 -- what is handed of a text, once it is known what has become of the connection
 
-pub open_text : (f : Fate) → f ≡ Open → (text taken owed : List ℕ) → IsHanded f text taken owed → text ≡ taken ++ owed
-open_text f e text taken owed h = subst (λ (x : Fate). IsHanded x text taken owed) e h
+pub open_text : (f : Fate) → f ≡ Open → (text taken outgoing : List ℕ) → IsHanded f text taken outgoing → text ≡ taken ++ outgoing
+open_text f e text taken outgoing h = subst (λ (x : Fate). IsHanded x text taken outgoing) e h
 
-pub written_text : (f : Fate) → IsWritten f → (text taken owed : List ℕ) → IsHanded f text taken owed → text ≡ taken ++ owed
-written_text Open w text taken owed h = h
-written_text Ended w text taken owed h = h
-written_text Closed w text taken owed h = absurd w
-written_text Cut w text taken owed h = absurd w
+pub written_text : (f : Fate) → IsWritten f → (text taken outgoing : List ℕ) → IsHanded f text taken outgoing → text ≡ taken ++ outgoing
+written_text Open w text taken outgoing h = h
+written_text Ended w text taken outgoing h = h
+written_text Closed w text taken outgoing h = absurd w
+written_text Cut w text taken outgoing h = absurd w
 
-pub handed_still : (f : Fate) → IsWritten f → (text taken owed : List ℕ) → text ≡ taken ++ owed → IsHanded f text taken owed
-handed_still Open w text taken owed h = h
-handed_still Ended w text taken owed h = h
-handed_still Closed w text taken owed h = absurd w
-handed_still Cut w text taken owed h = absurd w
+pub handed_still : (f : Fate) → IsWritten f → (text taken outgoing : List ℕ) → text ≡ taken ++ outgoing → IsHanded f text taken outgoing
+handed_still Open w text taken outgoing h = h
+handed_still Ended w text taken outgoing h = h
+handed_still Closed w text taken outgoing h = absurd w
+handed_still Cut w text taken outgoing h = absurd w
 
-pub begun_text : (f : Fate) → (text taken owed : List ℕ) → IsHanded f text taken owed → (lost : List ℕ) × (text ≡ taken ++ lost)
-begun_text Open text taken owed h = (owed, h)
-begun_text Ended text taken owed h = (owed, h)
-begun_text Closed text taken owed h = ([], h ∙ sym (append-nil taken))
-begun_text Cut text taken owed h = h
+pub begun_text : (f : Fate) → (text taken outgoing : List ℕ) → IsHanded f text taken outgoing → (lost : List ℕ) × (text ≡ taken ++ lost)
+begun_text Open text taken outgoing h = (outgoing, h)
+begun_text Ended text taken outgoing h = (outgoing, h)
+begun_text Closed text taken outgoing h = ([], h ∙ sym (append-nil taken))
+begun_text Cut text taken outgoing h = h
 
 module _ {arrival : Arrival} (c' : Connection) (pending : List Event) (entries : List Entry) (t : Standing) (f : Fate) where
   -- a connection of this fate stands so
   pub stands_so : Course arrival c'.id t → t.given ≡ c'.given → t.entries ≡ entries → t.pending ≡ pending → t.sits ≡ c'.status.sits → t.has_left ≡ c'.status.has_left
-      → c'.status.fate ≡ f → t.fate ≡ f → (f ≡ Open → t.session ≡ c'.session) → IsHanded f t.text c'.taken c'.owed → StandsBefore arrival pending c' entries
+      → c'.status.fate ≡ f → t.fate ≡ f → (f ≡ Open → t.session ≡ c'.session) → IsHanded f t.text c'.taken c'.outgoing → StandsBefore arrival pending c' entries
   stands_so course given same_entries same_pending sits left fate same_fate session handed = record {
     standing = t;
     course = course;
@@ -63,7 +63,7 @@ module _ {arrival : Arrival} (c' : Connection) (pending : List Event) (entries :
     same_fate = same_fate ∙ sym fate;
     same_left = left;
     same_session = λ o. session (sym fate ∙ o);
-    handed = subst (λ (x : Fate). IsHanded x t.text c'.taken c'.owed) (sym fate) handed;
+    handed = subst (λ (x : Fate). IsHanded x t.text c'.taken c'.outgoing) (sym fate) handed;
   }
 
 module _ {arrival : Arrival} (c c' : Connection) (pending : List Event) (past : List Entry) (one : IsOne c c') (st : StandsBefore arrival pending c past) where
@@ -71,20 +71,20 @@ module _ {arrival : Arrival} (c c' : Connection) (pending : List Event) (past : 
   private_course = subst (λ (n : ℕ). Course arrival n st.standing) (sym one.id) st.course
 
   -- nothing has happened but that other things were noted
-  pub still : c'.given ≡ c.given → c'.taken ≡ c.taken → c'.owed ≡ c.owed → c'.session ≡ c.session → c'.status.fate ≡ c.status.fate
+  pub still : c'.given ≡ c.given → c'.taken ≡ c.taken → c'.outgoing ≡ c.outgoing → c'.session ≡ c.session → c'.status.fate ≡ c.status.fate
       → StandsBefore arrival pending c' past
-  still given taken owed session fate =
+  still given taken outgoing session fate =
       stands_so c' pending past st.standing c.status.fate private_course (st.same_given ∙ sym given) st.same_entries st.same_pending (st.same_sits
       ∙ sym one.sits) (st.same_left ∙ sym one.left)
       fate st.same_fate (λ o. st.same_session o ∙ sym session)
-      (subst (λ (xs : List ℕ). IsHanded c.status.fate st.standing.text xs c'.owed) (sym taken)
-      (subst (λ (xs : List ℕ). IsHanded c.status.fate st.standing.text c.taken xs) (sym owed) st.handed))
+      (subst (λ (xs : List ℕ). IsHanded c.status.fate st.standing.text xs c'.outgoing) (sym taken)
+      (subst (λ (xs : List ℕ). IsHanded c.status.fate st.standing.text c.taken xs) (sym outgoing) st.handed))
 
   -- it is cut off, with bytes that were not heard
   pub cut_off : (unheard : List ℕ) → c'.given ≡ c.given ++ unheard → c'.taken ≡ c.taken → c'.status.fate ≡ Cut → Stands arrival c' past
   cut_off unheard given taken fate =
       let s = st.standing in
-      let begun = begun_text c.status.fate s.text c.taken c.owed st.handed in
+      let begun = begun_text c.status.fate s.text c.taken c.outgoing st.handed in
       stands_so c' [] past (record s { given = s.given ++ unheard; pending = []; fate = Cut }) Cut (is_cut s private_course unheard)
       (ap (λ (xs : List ℕ). xs ++ unheard) st.same_given ∙ sym given) st.same_entries refl (st.same_sits ∙ sym one.sits) (st.same_left
       ∙ sym one.left) fate refl (λ o. absurd (cc))
@@ -95,50 +95,50 @@ module _ {arrival : Arrival} (c c' : Connection) (past : List Entry) (one : IsOn
   quiet_course = subst (λ (n : ℕ). Course arrival n st.standing) (sym one.id) st.course
 
   -- it is closed, and has taken all
-  pub closed_out : (text : IsWritten c.status.fate) → c.owed ≡ [] → c'.given ≡ c.given → c'.taken ≡ c.taken → c'.status.fate ≡ Closed → Stands arrival c' past
-  closed_out goes owed given taken fate =
+  pub closed_out : (text : IsWritten c.status.fate) → c.outgoing ≡ [] → c'.given ≡ c.given → c'.taken ≡ c.taken → c'.status.fate ≡ Closed → Stands arrival c' past
+  closed_out goes outgoing given taken fate =
       let s = st.standing in
       stands_so c' [] past (record s { fate = Closed }) Closed (closes s quiet_course (subst IsWritten (sym st.same_fate) goes) st.same_pending) (st.same_given
       ∙ sym given) st.same_entries st.same_pending
       (st.same_sits ∙ sym one.sits) (st.same_left ∙ sym one.left) fate refl (λ o. absurd (cc))
-      (written_text c.status.fate goes s.text c.taken c.owed st.handed ∙ ap (λ (xs : List ℕ). c.taken ++ xs) owed ∙ append-nil c.taken ∙ sym taken)
+      (written_text c.status.fate goes s.text c.taken c.outgoing st.handed ∙ ap (λ (xs : List ℕ). c.taken ++ xs) outgoing ∙ append-nil c.taken ∙ sym taken)
 
   -- bytes come, and are heard
   pub heard_on : c.status.fate ≡ Open → (bytes : List ℕ) (heard : Heard) → IsHeard c.session bytes heard → c'.given ≡ c.given ++ bytes → c'.taken ≡ c.taken
-      → c'.owed ≡ c.owed
+      → c'.outgoing ≡ c.outgoing
       → c'.session ≡ heard.conversation → c'.status.fate ≡ c.status.fate → StandsBefore arrival heard.events c' past
-  heard_on goes bytes heard is given taken owed session fate =
+  heard_on goes bytes heard is given taken outgoing session fate =
       let s = st.standing in
       stands_so c' heard.events past (record s { given = s.given ++ bytes; session = heard.conversation; pending = heard.events }) Open
       (hears s quiet_course (st.same_fate ∙ goes, st.same_pending) bytes heard (subst (λ (x : _). IsHeard x bytes heard) (sym (st.same_session goes)) is))
       (ap (λ (xs : List ℕ). xs ++ bytes) st.same_given ∙ sym given) st.same_entries refl (st.same_sits ∙ sym one.sits) (st.same_left ∙ sym one.left) (fate
       ∙ goes) (st.same_fate ∙ goes) (λ o. sym session)
-      (open_text c.status.fate goes s.text c.taken c.owed st.handed ∙ ap (λ (xs : List ℕ). xs ++ c.owed) (sym taken)
-      ∙ ap (λ (xs : List ℕ). c'.taken ++ xs) (sym owed))
+      (open_text c.status.fate goes s.text c.taken c.outgoing st.handed ∙ ap (λ (xs : List ℕ). xs ++ c.outgoing) (sym taken)
+      ∙ ap (λ (xs : List ℕ). c'.taken ++ xs) (sym outgoing))
 
   -- bytes come after its end
-  pub passed_over : c.status.fate ≡ Ended → (bytes : List ℕ) → c'.given ≡ c.given ++ bytes → c'.taken ≡ c.taken → c'.owed ≡ c.owed → c'.status.fate ≡ Ended
+  pub passed_over : c.status.fate ≡ Ended → (bytes : List ℕ) → c'.given ≡ c.given ++ bytes → c'.taken ≡ c.taken → c'.outgoing ≡ c.outgoing → c'.status.fate ≡ Ended
       → Stands arrival c' past
-  passed_over ended bytes given taken owed fate =
+  passed_over ended bytes given taken outgoing fate =
       let s = st.standing in
       stands_so c' [] past (record s { given = s.given ++ bytes }) Ended (passes_over s quiet_course (st.same_fate ∙ ended) bytes)
       (ap (λ (xs : List ℕ). xs ++ bytes) st.same_given ∙ sym given) st.same_entries st.same_pending (st.same_sits ∙ sym one.sits) (st.same_left
       ∙ sym one.left) fate (st.same_fate ∙ ended) (λ o. absurd (cc))
-      (subst (λ (x : Fate). IsHanded x s.text c.taken c.owed) ended st.handed ∙ ap (λ (xs : List ℕ). xs ++ c.owed) (sym taken)
-      ∙ ap (λ (xs : List ℕ). c'.taken ++ xs) (sym owed))
+      (subst (λ (x : Fate). IsHanded x s.text c.taken c.outgoing) ended st.handed ∙ ap (λ (xs : List ℕ). xs ++ c.outgoing) (sym taken)
+      ∙ ap (λ (xs : List ℕ). c'.taken ++ xs) (sym outgoing))
 
   -- its line takes some of what is owed
-  pub taken_on : (goes : IsWritten c.status.fate) (part : List ℕ) → c.owed ≡ part ++ c'.owed → c'.given ≡ c.given → c'.taken ≡ c.taken ++ part
+  pub taken_on : (goes : IsWritten c.status.fate) (part : List ℕ) → c.outgoing ≡ part ++ c'.outgoing → c'.given ≡ c.given → c'.taken ≡ c.taken ++ part
       → c'.session ≡ c.session
       → c'.status.fate ≡ c.status.fate → Stands arrival c' past
-  taken_on goes part owed given taken session fate =
+  taken_on goes part outgoing given taken session fate =
       let s = st.standing in
       stands_so c' [] past s c.status.fate quiet_course (st.same_given ∙ sym given) st.same_entries st.same_pending (st.same_sits ∙ sym one.sits) (st.same_left
       ∙ sym one.left) fate st.same_fate
       (λ o. st.same_session o ∙ sym session)
-      (handed_still c.status.fate goes s.text c'.taken c'.owed
-      (written_text c.status.fate goes s.text c.taken c.owed st.handed ∙ ap (λ (xs : List ℕ). c.taken ++ xs) owed ∙ sym (append_assoc c.taken part c'.owed)
-      ∙ ap (λ (xs : List ℕ). xs ++ c'.owed) (sym taken)))
+      (handed_still c.status.fate goes s.text c'.taken c'.outgoing
+      (written_text c.status.fate goes s.text c.taken c.outgoing st.handed ∙ ap (λ (xs : List ℕ). c.taken ++ xs) outgoing ∙ sym (append_assoc c.taken part c'.outgoing)
+      ∙ ap (λ (xs : List ℕ). xs ++ c'.outgoing) (sym taken)))
 
 module _ {arrival : Arrival} (c : Connection) (past : List Entry) where
   -- there is room for some data
@@ -151,11 +151,11 @@ module _ {arrival : Arrival} (c : Connection) (past : List Entry) where
 
 module _ {arrival : Arrival} (c c' : Connection) (past : List Entry) (reply : Reply) where
   -- its client leaves
-  pub left_on : c'.id ≡ c.id → IsOver c.status.fate → c.status.has_left ≡ false → c'.given ≡ c.given → c'.taken ≡ c.taken → c'.owed ≡ c.owed
+  pub left_on : c'.id ≡ c.id → IsOver c.status.fate → c.status.has_left ≡ false → c'.given ≡ c.given → c'.taken ≡ c.taken → c'.outgoing ≡ c.outgoing
       → c'.session ≡ c.session
       → c'.status.fate ≡ c.status.fate → c'.status.sits ≡ c.status.sits → c'.status.has_left ≡ true → Stands arrival c past
       → Stands arrival c' (past ++ entry (Leave c.id) reply ∷ [])
-  left_on id over here given taken owed session fate sits left st =
+  left_on id over here given taken outgoing session fate sits left st =
       let s = st.standing in
       stands_so c' [] (past ++ entry (Leave c.id) reply ∷ []) (record s { entries = s.entries ++ entry (Leave c.id) reply ∷ []; has_left = true }) c.status.fate
       (subst (λ (n : ℕ). Course arrival n (record s { entries = s.entries ++ entry (Leave c.id) reply ∷ []; has_left = true })) (sym id)
@@ -163,8 +163,8 @@ module _ {arrival : Arrival} (c c' : Connection) (past : List Entry) (reply : Re
       (st.same_given ∙ sym given) (ap (λ (xs : List Entry). xs ++ entry (Leave c.id) reply ∷ []) st.same_entries) st.same_pending (st.same_sits
       ∙ sym sits) (sym left) fate st.same_fate
       (λ o. st.same_session o ∙ sym session)
-      (subst (λ (xs : List ℕ). IsHanded c.status.fate s.text xs c'.owed) (sym taken)
-      (subst (λ (xs : List ℕ). IsHanded c.status.fate s.text c.taken xs) (sym owed) st.handed))
+      (subst (λ (xs : List ℕ). IsHanded c.status.fate s.text xs c'.outgoing) (sym taken)
+      (subst (λ (xs : List ℕ). IsHanded c.status.fate s.text c.taken xs) (sym outgoing) st.handed))
 
 -- what was heard after an end is not applied
 later_is : (state : State) (later : List Event) → pending_by state later ≡ later_by (fate_by state) later
@@ -172,9 +172,9 @@ later_is Running later = refl
 later_is (Shut ending) later = refl
 
 -- what it is told is owed, if it is not cut off
-told_on : (state : State) (text taken owed told : List ℕ) → text ≡ taken ++ owed → IsHanded (fate_by state) (text ++ told) taken (owed ++ told)
-told_on Running text taken owed told h = ap (λ (xs : List ℕ). xs ++ told) h ∙ append_assoc taken owed told
-told_on (Shut ending) text taken owed told h = ap (λ (xs : List ℕ). xs ++ told) h ∙ append_assoc taken owed told
+told_on : (state : State) (text taken outgoing told : List ℕ) → text ≡ taken ++ outgoing → IsHanded (fate_by state) (text ++ told) taken (outgoing ++ told)
+told_on Running text taken outgoing told h = ap (λ (xs : List ℕ). xs ++ told) h ∙ append_assoc taken outgoing told
+told_on (Shut ending) text taken outgoing told h = ap (λ (xs : List ℕ). xs ++ told) h ∙ append_assoc taken outgoing told
 
 module _ {arrival : Arrival} (c c' : Connection) (event : Event) (later : List Event) (past : List Entry) (reply : Reply) (goes : c.status.fate ≡ Open)
     (id : c'.id ≡ c.id) (given : c'.given ≡ c.given) (taken : c'.taken ≡ c.taken)
@@ -201,23 +201,23 @@ module _ {arrival : Arrival} (c c' : Connection) (event : Event) (later : List E
   said_same : said s.session.says reply ≡ said c.session.says reply
   said_same = ap (λ (x : Conversation). said x.says reply) (st.same_session goes)
 
-  text_is : s.text ≡ c.taken ++ c.owed
-  text_is = open_text c.status.fate goes s.text c.taken c.owed st.handed
+  text_is : s.text ≡ c.taken ++ c.outgoing
+  text_is = open_text c.status.fate goes s.text c.taken c.outgoing st.handed
 
   -- it is told, and goes on or has ended
   told_so : c'.status.fate ≡ fate_by (said c.session.says reply).state → c'.session ≡ saying_now c.session (said c.session.says reply).says
-      → c'.owed ≡ c.owed ++ (said c.session.says reply).bytes → StandsBefore arrival (later_by c'.status.fate later) c' (past ++ entry event reply ∷ [])
-  told_so fate session owed =
+      → c'.outgoing ≡ c.outgoing ++ (said c.session.says reply).bytes → StandsBefore arrival (later_by c'.status.fate later) c' (past ++ entry event reply ∷ [])
+  told_so fate session outgoing =
       let u = said c.session.says reply in
       stands_so c' (later_by c'.status.fate later) (past ++ entry event reply ∷ []) t (fate_by u.state) after (st.same_given ∙ sym given) all_entries
       (later_is (said s.session.says reply).state later ∙ ap (λ (x : _). later_by (fate_by x.state) later) said_same
       ∙ ap (λ (f : Fate). later_by f later) (sym fate))
       all_sits all_left fate (ap (λ (x : _). fate_by x.state) said_same)
       (λ o. ap (λ (x : Conversation). saying_now x (said x.says reply).says) (st.same_session goes) ∙ sym session)
-      (subst (λ (xs : List ℕ). IsHanded (fate_by u.state) (s.text ++ (said s.session.says reply).bytes) c'.taken xs) (sym owed)
-      (subst (λ (xs : List ℕ). IsHanded (fate_by u.state) (s.text ++ (said s.session.says reply).bytes) xs (c.owed ++ u.bytes)) (sym taken)
-      (subst (λ (xs : List ℕ). IsHanded (fate_by u.state) (s.text ++ xs) c.taken (c.owed ++ u.bytes)) (ap (λ (x : _). x.bytes) (sym said_same))
-      (told_on u.state s.text c.taken c.owed u.bytes text_is))))
+      (subst (λ (xs : List ℕ). IsHanded (fate_by u.state) (s.text ++ (said s.session.says reply).bytes) c'.taken xs) (sym outgoing)
+      (subst (λ (xs : List ℕ). IsHanded (fate_by u.state) (s.text ++ (said s.session.says reply).bytes) xs (c.outgoing ++ u.bytes)) (sym taken)
+      (subst (λ (xs : List ℕ). IsHanded (fate_by u.state) (s.text ++ xs) c.taken (c.outgoing ++ u.bytes)) (ap (λ (x : _). x.bytes) (sym said_same))
+      (told_on u.state s.text c.taken c.outgoing u.bytes text_is))))
 
   -- or it is cut off
   cut_so : c'.status.fate ≡ Cut → StandsBefore arrival (later_by c'.status.fate later) c' (past ++ entry event reply ∷ [])
@@ -227,9 +227,9 @@ module _ {arrival : Arrival} (c c' : Connection) (event : Event) (later : List E
       (is_cut t after [])
       (append-nil s.given ∙ st.same_given
       ∙ sym given) all_entries (ap (λ (f : Fate). later_by f later) (sym fate)) all_sits all_left fate refl (λ o. absurd (cc))
-      (c.owed ++ told, ap (λ (xs : List ℕ). xs ++ told) text_is ∙ append_assoc c.taken c.owed told ∙ ap (λ (xs : List ℕ). xs ++ (c.owed ++ told)) (sym taken))
+      (c.outgoing ++ told, ap (λ (xs : List ℕ). xs ++ told) text_is ∙ append_assoc c.taken c.outgoing told ∙ ap (λ (xs : List ℕ). xs ++ (c.outgoing ++ told)) (sym taken))
 
-  pub answered_as : (f : Fate) → c'.status.fate ≡ f → IsToldAs f reply c.session c.owed c'.session c'.owed
+  pub answered_as : (f : Fate) → c'.status.fate ≡ f → IsToldAs f reply c.session c.outgoing c'.session c'.outgoing
       → StandsBefore arrival (later_by c'.status.fate later) c' (past ++ entry event reply ∷ [])
   answered_as Open fate told = told_so (fate ∙ told.0) told.1 told.2
   answered_as Ended fate told = told_so (fate ∙ told.0) told.1 told.2

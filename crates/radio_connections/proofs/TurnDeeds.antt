@@ -5,7 +5,7 @@ use Rattle.radio_events.specs.declared.entry.Entry.{Entry}
 use Rattle.radio_events.specs.Servers.{Steps}
 use Rattle.radio_connections.specs.Connections.{Connection}
 use Rattle.radio_connections.specs.declared.conn.Fate.TheVariants.{Open, Ended, Closed, Cut}
-use Rattle.radio_connections.specs.declared.conn.Status.{Status}
+use Rattle.radio_connections.specs.declared.conn.ConnStatus.{ConnStatus}
 use Rattle.radio_connections.specs.Duties.{IsWritten, IsLater, IsUnread, IsAtMostLeaving, HasTakenAll, HasStalled, LacksMemory, Cause, WasCut, HasFailed, TookNothing, WasRefused}
 use Rattle.radio_connections.specs.Duties.{HasEnded, WhyClosed, WasClosed, LineHasEnded, HeardNothing, LingeredOn, Lingers, AreAtMostHeard, IsAtMostDraw, room_for}
 use Rattle.radio_connections.specs.Serving.{EndsWithDraw, ServesInTurn}
@@ -26,7 +26,7 @@ use Rattle.radio_connections.proofs.Lingerings.{not_long}
 
 module _ {S : Type 0} (steps : Steps S) where
   -- why it is cut off, once it was worked for
-  cause_of : {news : Bool} {from one : S} {ms patience : ℕ} {a b c d e f : Connection} → IsFlushed ms a b → b.owed ≡ [] → Works steps ms news from b one c → IsLater c d
+  cause_of : {news : Bool} {from one : S} {ms patience : ℕ} {a b c d e f : Connection} → IsFlushed ms a b → b.outgoing ≡ [] → Works steps ms news from b one c → IsLater c d
       → d.status.fate ≡ c.status.fate → d.session ≡ c.session → IsFlushed ms d e → IsLater e f → f.status.fate ≡ e.status.fate → f.session ≡ e.session
       → f.status.fate ≡ Cut → Cause ms patience a f
   cause_of {news} {from} {one} {ms} {patience} {a} {b} {c} {d} {e} {f} first none works on left left_session last over same same_session cut = by_last (last.cut (sym same ∙ cut)) where
@@ -63,15 +63,15 @@ module _ {S : Type 0} (steps : Steps S) where
 
     -- nothing is written on what is closed
     untouched : IsNoted ms d e → e.status.has_taken ≡ d.status.has_taken
-    untouched (TookNone taken noted) = ap (λ (s : Status). s.has_taken) noted
+    untouched (TookNone taken noted) = ap (λ (s : ConnStatus). s.has_taken) noted
     untouched (TookSome some goes noted) = absurd (subst IsWritten (left.fate ∙ at_c) goes)
 
     still : f.status.has_taken ≡ c.status.has_taken
     still = (unwritten_by_leaving steps over).has_taken ∙ untouched last.noted ∙ (unwritten_by_leaving steps left).has_taken
 
     long_before : IsNoted ms a b → 1000 ≤ ms - b.status.moved_ms → 1000 ≤ ms - a.status.moved_ms
-    long_before (TookNone taken noted) long = subst (λ (n : ℕ). 1000 ≤ ms - n) (ap (λ (s : Status). s.moved_ms) noted) long
-    long_before (TookSome some goes noted) long = absurd (not_long ms b.status.moved_ms (ap (λ (s : Status). s.moved_ms) noted) long)
+    long_before (TookNone taken noted) long = subst (λ (n : ℕ). 1000 ≤ ms - n) (ap (λ (s : ConnStatus). s.moved_ms) noted) long
+    long_before (TookSome some goes noted) long = absurd (not_long ms b.status.moved_ms (ap (λ (s : ConnStatus). s.moved_ms) noted) long)
 
     by_work : WhyClosed ms b c → WhyClosed ms a f
     by_work (WasClosed was) = WasClosed (sym (first.fate (λ cut. closed_not_cut (sym was ∙ cut))) ∙ was)
@@ -85,7 +85,7 @@ module _ {S : Type 0} (steps : Steps S) where
       long = long_before first.noted lingered.long;
     })
 
-  -- who lingers on, once he was worked for
+  -- who lingers on, once it was worked for
   let_go_of : {news : Bool} {from one two to : S} {ms : ℕ} {a b c d e f : Connection} → IsFlushed ms a b → Works steps ms news from b one c
       → Leaves steps one c two d → IsFlushed ms d e → Leaves steps two e to f → a.status.fate ≡ Ended → f.status.fate ≡ Ended → Lingers ms a f
   let_go_of {news} {from} {one} {two} {to} {ms} {a} {b} {c} {d} {e} {f} first works left last over before after = by_work (works.lingers at_c) where
@@ -111,8 +111,8 @@ module _ {S : Type 0} (steps : Steps S) where
 
     in_time : IsNoted ms d e → ms - c.status.moved_ms < 1000 → ms - e.status.moved_ms < 1000
     in_time (TookNone taken noted) short =
-        subst (λ (n : ℕ). ms - n < 1000) (sym (ap (λ (s : Status). s.moved_ms) noted ∙ (unwritten_by_leaving steps left).moved)) short
-    in_time (TookSome some goes noted) short = omega (arith, ap (λ (s : Status). s.moved_ms) noted)
+        subst (λ (n : ℕ). ms - n < 1000) (sym (ap (λ (s : ConnStatus). s.moved_ms) noted ∙ (unwritten_by_leaving steps left).moved)) short
+    in_time (TookSome some goes noted) short = omega (arith, ap (λ (s : ConnStatus). s.moved_ms) noted)
 
     by_work : (b.status.fate ≡ Open) ⊎ ((b.status.fate ≡ Ended) × Lingers ms b c) → Lingers ms a f
     by_work (inl goes) = absurd (ended_not_open a.status.fate before (first.goes goes))
@@ -138,7 +138,7 @@ module _ {S : Type 0} (steps : Steps S) where
         ∙ ap (λ (xs : List Entry). left.entries ++ xs) (sym (over.again (kept ∙ gone)))) left.leaving
 
   -- a connection is written to and worked for, its client leaves if it is over, and it is written to again
-  pub served_in_turn : {news : Bool} {from one two to : S} {ms patience : ℕ} {a b c d e f : Connection} → IsFlushed ms a b → b.owed ≡ []
+  pub served_in_turn : {news : Bool} {from one two to : S} {ms patience : ℕ} {a b c d e f : Connection} → IsFlushed ms a b → b.outgoing ≡ []
       → Works steps ms news from b one c → Leaves steps one c two d → IsFlushed ms d e → Leaves steps two e to f
       → ServesInTurn steps ms patience news from a to f
   served_in_turn {news} {from} {one} {two} {to} {ms} {patience} {a} {b} {c} {d} {e} {f} first none works left last over = record {
@@ -198,7 +198,7 @@ module _ {S : Type 0} (steps : Steps S) where
         ∙ ap (λ (xs : List Entry). works.entries ++ xs) (over.alone (sym over.fate ∙ goes)) ∙ append-nil works.entries
 
     still_asked : f.status.asked_ms ≡ c.status.asked_ms
-    still_asked = ap (λ (s : Status). s.asked_ms) over.noted ∙ noted_asked last.noted ∙ ap (λ (s : Status). s.asked_ms) left.noted
+    still_asked = ap (λ (s : ConnStatus). s.asked_ms) over.noted ∙ noted_asked last.noted ∙ ap (λ (s : ConnStatus). s.asked_ms) left.noted
 
     ended_before : b.status.fate ≡ Ended → a.status.fate ≡ Ended
     ended_before was = sym (first.fate (ended_not_cut b.status.fate was)) ∙ was
@@ -225,7 +225,7 @@ module _ {S : Type 0} (steps : Steps S) where
     all = (rest.taken.0, rest.taken.1 ∙ ap (λ (xs : List ℕ). xs ++ rest.taken.0) (first.all none))
 
   -- a connection is written to, and still owed something
-  pub kept_in_turn : {news : Bool} {from to : S} {ms patience : ℕ} {a b m c : Connection} → IsFlushed ms a b → (b.owed ≡ [] → ⊥) → IsPatient ms patience b m
+  pub kept_in_turn : {news : Bool} {from to : S} {ms patience : ℕ} {a b m c : Connection} → IsFlushed ms a b → (b.outgoing ≡ [] → ⊥) → IsPatient ms patience b m
       → Leaves steps from m to c → ServesInTurn steps ms patience news from a to c
   kept_in_turn {news} {from} {to} {ms} {patience} {a} {b} {m} {c} first some rests left = record {
     entries = left.entries;
@@ -234,7 +234,7 @@ module _ {S : Type 0} (steps : Steps S) where
     drawn = λ new none goes sits. absurd (some (first.none none));
     asked = λ goes none. absurd (some (first.none none));
     once = inl unread;
-    given = λ goes owed. omega (arith, first.given goes owed, rests.served.later.writes, left.served.later.writes);
+    given = λ goes outgoing. omega (arith, first.given goes outgoing, rests.served.later.writes, left.served.later.writes);
     waited = inr (unread, at_most);
     cut = λ cut. by_wait (rests.cut (sym left.fate ∙ cut));
     in_time =
@@ -245,14 +245,14 @@ module _ {S : Type 0} (steps : Steps S) where
     closed = λ closed.
         let at_b = rests.closed (sym left.fate ∙ closed) in
         WasClosed (sym (first.fate (λ cut. closed_not_cut (sym at_b ∙ cut))) ∙ at_b);
-    let_go = λ before after nothing. absurd (some (sym rests.owed ∙ sym left.same.owed ∙ nothing));
+    let_go = λ before after nothing. absurd (some (sym rests.outgoing ∙ sym left.same.outgoing ∙ nothing));
     finished = λ told. absurd (kept_untold steps first some rests left told);
     left = λ ended. by_leave (left.left ended);
     one = record { heard = []; drawn = []; left = left.entries; all = refl; asks = inl refl; draws = inl refl; leaves = at_most };
     asked_for = λ none goes long empty. absurd (some (first.none none));
     asking = record {
       some = λ goes more. absurd (more (left.alone (sym left.fate ∙ goes)));
-      none = λ goes empty. ap (λ (s : Status). s.asked_ms) left.noted ∙ ap (λ (s : Status). s.asked_ms) rests.noted ∙ noted_asked first.noted;
+      none = λ goes empty. ap (λ (s : ConnStatus). s.asked_ms) left.noted ∙ ap (λ (s : ConnStatus). s.asked_ms) rests.noted ∙ noted_asked first.noted;
     };
   } where
     still : IsUnwritten b c
@@ -275,4 +275,4 @@ module _ {S : Type 0} (steps : Steps S) where
     by_wait : (b.status.fate ≡ Cut) ⊎ HasStalled ms patience b → Cause ms patience a c
     by_wait (inl was) = by_first (first.cut was)
     by_wait (inr stalled) =
-        TookNothing (λ nothing. some (sym rests.owed ∙ sym left.same.owed ∙ nothing)) (subst (λ (n : ℕ). patience ≤ ms - n) (sym still.moved) stalled)
+        TookNothing (λ nothing. some (sym rests.outgoing ∙ sym left.same.outgoing ∙ nothing)) (subst (λ (n : ℕ). patience ≤ ms - n) (sym still.moved) stalled)

@@ -17,10 +17,10 @@ use Rattle.radio_connections.specs.Serving.{StandsBefore, Stands}
 -- With this fate, a connection was told the reply: its bytes are owed behind the others, and its session stands as it does then. Where it
 -- is cut off, nothing is said.
 abbrev pub IsToldAs : Fate → Reply → Conversation → List ℕ → Conversation → List ℕ → Type 0
-IsToldAs Cut reply session owed session' owed' = Unit {0}
-IsToldAs fate reply session owed session' owed' =
+IsToldAs Cut reply session outgoing session' outgoing' = Unit {0}
+IsToldAs fate reply session outgoing session' outgoing' =
     (fate ≡ fate_by (said session.says reply).state) × (session' ≡ saying_now session (said session.says reply).says)
-    × (owed' ≡ owed ++ (said session.says reply).bytes)
+    × (outgoing' ≡ outgoing ++ (said session.says reply).bytes)
 
 -- what is still to be applied of a connection that goes on
 abbrev pub later_by : Fate → List Event → List Event

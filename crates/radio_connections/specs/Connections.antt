@@ -10,7 +10,7 @@ use Rattle.radio_session.specs.Exchanges.{is_leave}
 use Rattle.radio_session.specs.Saying.{said}
 use Rattle.radio_connections.specs.declared.conn.Fate.{Fate}
 use Rattle.radio_connections.specs.declared.conn.Fate.TheVariants.{Open, Ended, Closed, Cut}
-use Rattle.radio_connections.specs.declared.conn.Status.{Status}
+use Rattle.radio_connections.specs.declared.conn.ConnStatus.{ConnStatus}
 use Rattle.radio_connections.specs.Lines.{Calls}
 
 abbrev pub is_open : Fate → Bool
@@ -42,25 +42,25 @@ pub record Connection : Type 0 where
   pub given : List ℕ
   pub taken : List ℕ
   pub calls : Calls
-  pub owed : List ℕ
+  pub outgoing : List ℕ
   pub session : Conversation
-  pub status : Status
+  pub status : ConnStatus
   pub refused : Refused
 
 -- at this moment it comes, and nothing was asked yet
-abbrev pub status_at : Fate → Bool → ℕ → Status
+abbrev pub status_at : Fate → Bool → ℕ → ConnStatus
 status_at fate has_left ms =
     record { fate = fate; has_left = has_left; sits = false; is_behind = false; has_taken = false; is_finished = false; asked_ms = ms; moved_ms = ms }
 
 -- a client was let in, whose line gave and took this, and was called so often
 abbrev pub newly_come : WebAnswers → ℕ → Peer → List ℕ → List ℕ → Calls → ℕ → Connection
 newly_come web id peer given taken calls ms =
-    record { id = id; given = given; taken = taken; calls = calls; owed = []; session = fresh web id peer; status = status_at Open false ms; refused = no_refusals }
+    record { id = id; given = given; taken = taken; calls = calls; outgoing = []; session = fresh web id peer; status = status_at Open false ms; refused = no_refusals }
 
 -- the connection of nobody, whose conversation has ended so
 abbrev pub newly_ended : List ℕ → List ℕ → Calls → List ℕ → Conversation → ℕ → Connection
-newly_ended given taken calls owed session ms =
-    record { id = 0; given = given; taken = taken; calls = calls; owed = owed; session = session; status = status_at Ended true ms; refused = no_refusals }
+newly_ended given taken calls outgoing session ms =
+    record { id = 0; given = given; taken = taken; calls = calls; outgoing = outgoing; session = session; status = status_at Ended true ms; refused = no_refusals }
 
 -- it is still to be served: it is not over, or its client has not left
 abbrev pub stays_with : Fate → Bool → Bool
@@ -85,11 +85,11 @@ without_at (Some i) cs = remove cs i
 abbrev pub without_first : List Connection → List Connection
 without_first cs = without_at (position lingers cs) cs
 
--- one was not let in, and is owed what he is told; his line gave and took this
+-- one was not let in, and is owed what it is told; its line gave and took this
 pub record IsTurnedAway (web : WebAnswers) (denial : Reply) (given taken : List ℕ) (ms : ℕ) (c : Connection) : Type 0 where
   pub id : c.id ≡ 0
   pub given_so_far : c.given ≡ given
   pub taken_so_far : c.taken ≡ taken
   pub web_of_it : c.session.says.web ≡ web
-  pub owed : c.owed ≡ (said (asking web) denial).bytes
+  pub outgoing : c.outgoing ≡ (said (asking web) denial).bytes
   pub status : c.status ≡ status_at Ended true ms

@@ -1,4 +1,4 @@
--- What a worker owes to a connection in a turn, and what he may not do to it.
+-- What a worker owes to a connection in a turn, and what it may not do to it.
 use Rattle.std.specs.Prelude.{◌≡◌, ◌+◌, ◌<◌, ◌≤◌, ◌-◌, ◌⊎◌, ℕ, suc, Bool, true, false, List, [], ◌∷◌, ◌++◌, map}
 use Rattle.radio_events.specs.declared.event.Event.{Event}
 use Rattle.radio_events.specs.declared.event.Event.TheVariants.{Draw, Leave}
@@ -19,7 +19,7 @@ IsWritten fate = Unit {0}
 
 -- something is owed to it
 abbrev pub IsOwed : Connection → Type 0
-IsOwed c = c.owed ≡ [] → ⊥
+IsOwed c = c.outgoing ≡ [] → ⊥
 
 -- The calls of a line are counted on, and what it takes comes behind what it took.
 pub record IsLater (c c' : Connection) : Type 0 where
@@ -44,7 +44,7 @@ pub record IsReadOnce (c c' : Connection) : Type 0 where
 -- One that is open, and to which nothing is owed, is asked for bytes, once.
 -- rule: Reading; Unwanted bytes
 abbrev pub IsAsked : Connection → Connection → Type 0
-IsAsked c c' = c.status.fate ≡ Open → c.owed ≡ [] → IsReadOnce c c'
+IsAsked c c' = c.status.fate ≡ Open → c.outgoing ≡ [] → IsReadOnce c c'
 
 -- No connection is asked more often than once in a turn.
 -- rule: Reading
@@ -58,9 +58,9 @@ IsGiven c c' = IsWritten c.status.fate → IsOwed c → c.calls.writes < c'.call
 
 -- its line has taken all that it was owed, and perhaps more
 abbrev pub HasTakenAll : Connection → Connection → Type 0
-HasTakenAll c c' = (more : List ℕ) × (c'.taken ≡ (c.taken ++ c.owed) ++ more)
+HasTakenAll c c' = (more : List ℕ) × (c'.taken ≡ (c.taken ++ c.outgoing) ++ more)
 
--- nothing, or his leaving
+-- nothing, or its leaving
 abbrev pub IsAtMostLeaving : ℕ → List Entry → Type 0
 IsAtMostLeaving id entries = (entries ≡ []) ⊎ ((reply : Reply) × (entries ≡ entry (Leave id) reply ∷ []))
 
@@ -74,7 +74,7 @@ HasWaited c entries c' = HasTakenAll c c' ⊎ (IsUnread c c' × IsAtMostLeaving 
 abbrev pub HasStalled : ℕ → ℕ → Connection → Type 0
 HasStalled ms patience c = patience ≤ ms - c.status.moved_ms
 
--- Who is still served has taken all that he was owed, or something of it has moved within this time: who has stalled is cut off.
+-- Who is still served has taken all that it was owed, or something of it has moved within this time: who has stalled is cut off.
 -- rule: Cut off
 abbrev pub IsInTime : ℕ → ℕ → Connection → Connection → Type 0
 IsInTime ms patience c c' = IsWritten c'.status.fate → HasTakenAll c c' ⊎ (ms - c'.status.moved_ms < patience)
@@ -85,7 +85,7 @@ HasTakenSome c c' = c'.taken ≡ c.taken → ⊥
 
 -- it goes on, and nothing is owed to it
 abbrev pub IsIdle : Connection → Type 0
-IsIdle c = (c.status.fate ≡ Open) × (c.owed ≡ [])
+IsIdle c = (c.status.fate ≡ Open) × (c.outgoing ≡ [])
 
 -- its peer was told that nothing more is written
 abbrev pub IsFinishedNow : Connection → Connection → Type 0
@@ -170,14 +170,14 @@ pub record Lingers (ms : ℕ) (c c' : Connection) : Type 0 where
 -- Who had ended and is owed nothing lingers, or is closed.
 -- rule: Lingering
 abbrev pub IsLetGo : ℕ → Connection → Connection → Type 0
-IsLetGo ms c c' = c.status.fate ≡ Ended → c'.status.fate ≡ Ended → c'.owed ≡ [] → Lingers ms c c'
+IsLetGo ms c c' = c.status.fate ≡ Ended → c'.status.fate ≡ Ended → c'.outgoing ≡ [] → Lingers ms c c'
 
 -- Nobody is told that nothing more is written but who has ended, and whose line has taken all.
 -- rule: Lingering
 abbrev pub IsFinishedFor : Connection → Connection → Type 0
 IsFinishedFor c c' = IsFinishedNow c c' → (c.status.fate ≡ Ended) × HasTakenAll c c'
 
--- Who is over has left, or his leaving was refused for want of memory.
+-- Who is over has left, or its leaving was refused for want of memory.
 -- rule: Lingering
 abbrev pub HasLeft : Connection → Connection → Type 0
 HasLeft c c' = (c'.status.fate ≡ Open → ⊥) → (c'.status.has_left ≡ true) ⊎ (c.refused.leavings < c'.refused.leavings)
@@ -211,7 +211,7 @@ room_for false = 0
 abbrev pub IsAtMostDraw : ℕ → ℕ → List Entry → Type 0
 IsAtMostDraw id room entries = (entries ≡ []) ⊎ ((reply : Reply) × (entries ≡ entry (Draw id room) reply ∷ []))
 
--- What is applied for it in a turn: the events that its bytes mean, behind them at most one draw, and behind that at most his leaving.
+-- What is applied for it in a turn: the events that its bytes mean, behind them at most one draw, and behind that at most its leaving.
 -- rule: Reading; Drawing
 pub record IsOneTurn (c : Connection) (entries : List Entry) (c' : Connection) : Type 0 where
   pub heard : List Entry
@@ -229,7 +229,7 @@ IsUnasked ms c = 500 ≤ ms - c.status.asked_ms
 -- For one that goes on, to which nothing was owed and for which nothing was asked for so long, something is asked.
 -- rule: Finishes are silent; Drawing
 abbrev pub IsAskedFor : ℕ → Connection → List Entry → Connection → Type 0
-IsAskedFor ms c entries c' = c.owed ≡ [] → c'.status.fate ≡ Open → IsUnasked ms c → entries ≡ [] → ⊥
+IsAskedFor ms c entries c' = c.outgoing ≡ [] → c'.status.fate ≡ Open → IsUnasked ms c → entries ≡ [] → ⊥
 
 -- When something was last asked for it is noted, as long as it goes on.
 -- rule: Drawing

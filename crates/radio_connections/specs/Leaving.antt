@@ -20,7 +20,7 @@ pub record IsSame (c c' : Connection) : Type 0 where
   pub id : c'.id ≡ c.id
   pub given : c'.given ≡ c.given
   pub taken : c'.taken ≡ c.taken
-  pub owed : c'.owed ≡ c.owed
+  pub outgoing : c'.outgoing ≡ c.outgoing
   pub session : c'.session ≡ c.session
 
 -- it was cut off before, or its line has failed
@@ -37,9 +37,9 @@ pub record IsFlushed (ms : ℕ) (c c' : Connection) : Type 0 where
   pub served : IsServed c [] c'
   pub goes : c'.status.fate ≡ Open → c.status.fate ≡ Open
   pub sits : c'.status.sits ≡ c.status.sits
-  pub none : c.owed ≡ [] → c'.owed ≡ []
-  pub all : c'.owed ≡ [] → c'.taken ≡ c.taken ++ c.owed
-  pub idle : c.owed ≡ [] → c'.status.fate ≡ c.status.fate
+  pub none : c.outgoing ≡ [] → c'.outgoing ≡ []
+  pub all : c'.outgoing ≡ [] → c'.taken ≡ c.taken ++ c.outgoing
+  pub idle : c.outgoing ≡ [] → c'.status.fate ≡ c.status.fate
   pub unread : IsUnread c c'
   pub session : c'.session ≡ c.session
   pub given : IsGiven c c'
@@ -60,7 +60,7 @@ pub record IsPatient (ms patience : ℕ) (c c' : Connection) : Type 0 where
   pub in_time : IsWritten c'.status.fate → ms - c.status.moved_ms < patience
   pub noted : c'.status ≡ record c.status { is_behind = c'.status.is_behind; fate = c'.status.fate }
   pub taken : c'.taken ≡ c.taken
-  pub owed : c'.owed ≡ c.owed
+  pub outgoing : c'.outgoing ≡ c.outgoing
 
 -- by this answer to a read, its line has ended, or has not
 abbrev pub HasAnswered : Received → Calls → Calls → Type 0
@@ -148,7 +148,7 @@ module _ {S : Type 0} (steps : Steps S) where
     pub served : IsServed c entries c'
     pub alone : c.status.fate ≡ Open → entries ≡ []
     pub leaving : IsAtMostLeaving c.id entries
-    -- where he had left, he does not leave again; and where he leaves, he has left
+    -- where it had left, it does not leave again; and where it leaves, it has left
     pub again : c.status.has_left ≡ true → entries ≡ []
     pub gone : (entries ≡ []) ⊎ (c'.status.has_left ≡ true)
     pub fate : c'.status.fate ≡ c.status.fate

@@ -17,9 +17,9 @@ use Rattle.radio_connections.specs.Rooms.{draw_room}
 -- What the line took, followed by what is owed to it, is what was told. Once it is closed, it took all; where it was cut off, the front.
 -- rule: Reading
 abbrev pub IsHanded : Fate → List ℕ → List ℕ → List ℕ → Type 0
-IsHanded Cut text taken owed = (lost : List ℕ) × (text ≡ taken ++ lost)
-IsHanded Closed text taken owed = text ≡ taken
-IsHanded fate text taken owed = text ≡ taken ++ owed
+IsHanded Cut text taken outgoing = (lost : List ℕ) × (text ≡ taken ++ lost)
+IsHanded Closed text taken outgoing = text ≡ taken
+IsHanded fate text taken outgoing = text ≡ taken ++ outgoing
 
 -- The connection stands as it must where it came so, these entries were made for it, and these events are still to be applied:
 -- there is a course of its client by which its line gave what it gave, and was handed what was told.
@@ -33,7 +33,7 @@ pub record StandsBefore (arrival : Arrival) (pending : List Event) (c : Connecti
   pub same_fate : standing.fate ≡ c.status.fate
   pub same_left : standing.has_left ≡ c.status.has_left
   pub same_session : c.status.fate ≡ Open → standing.session ≡ c.session
-  pub handed : IsHanded c.status.fate standing.text c.taken c.owed
+  pub handed : IsHanded c.status.fate standing.text c.taken c.outgoing
 
 -- and nothing is still to be applied
 -- rule: Reading
@@ -55,10 +55,10 @@ IsOneDraw id room entries c' = c'.status.fate ≡ Open → (reply : Reply) × (e
 abbrev pub EndsWithDraw : ℕ → List Entry → Type 0
 EndsWithDraw id entries = (others : List Entry) × (reply : Reply) × (entries ≡ others ++ entry (Draw id draw_room) reply ∷ [])
 
--- Where there is news, one who has a seat and goes on has drawn, last of all, if nothing was owed to him when his turn came.
+-- Where there is news, one who has a seat and goes on has drawn, last of all, if nothing was owed to it when its turn came.
 -- rule: Drawing
 abbrev pub HasDrawn : Bool → Connection → List Entry → Connection → Type 0
-HasDrawn news c entries c' = news ≡ true → c.owed ≡ [] → c'.status.fate ≡ Open → c'.status.sits ≡ true → EndsWithDraw c.id entries
+HasDrawn news c entries c' = news ≡ true → c.outgoing ≡ [] → c'.status.fate ≡ Open → c'.status.sits ≡ true → EndsWithDraw c.id entries
 
 module _ {S : Type 0} (steps : Steps S) where
   -- At this moment, with news or without, the server made entries for the connection: a draw if it was due, and what else there was to do.

@@ -6,7 +6,7 @@ ghost use Rattle.radio_events.specs.declared.reply.Reply.TheVariants.{Deny};
 ghost use Rattle.radio_session.specs.Conversation.{asking, saying_now};
 ghost use Rattle.radio_session.specs.Saying.{said};
 
-use crate::owed::Owed;
+use crate::outgoing::Outgoing;
 use crate::refusals::Refusals;
 use crate::{Line, OutOfMemory, WebAnswers};
 use radio_addr::Peer;
@@ -46,7 +46,7 @@ impl Fate {
 
 /// What its worker notes of a connection. Moments are in milliseconds.
 #[derive(Clone, Copy, Debug, PartialEq, Eq)]
-pub struct Status {
+pub struct ConnStatus {
     /// What has become of it.
     pub fate: Fate,
     /// Whether its client has left, or was never let in.
@@ -65,14 +65,14 @@ pub struct Status {
     pub moved_ms: u64,
 }
 
-impl Status {
+impl ConnStatus {
     ghost use Rattle.radio_connections.specs.Connections.{status_at};
 
     /// At its arrival.
-    pub(crate) fn new(fate: Fate, has_left: bool, ms: u64) -> Status
+    pub(crate) fn new(fate: Fate, has_left: bool, ms: u64) -> ConnStatus
         ensures { result ≡ status_at fate has_left ms }
     {
-        Status {
+        ConnStatus {
             fate,
             has_left,
             sits: false,
@@ -94,8 +94,8 @@ pub struct Conn<L: Line> {
     pub(crate) id: u64,
     pub(crate) line: L,
     pub(crate) session: Session,
-    pub(crate) owed: Owed,
-    pub(crate) status: Status,
+    pub(crate) outgoing: Outgoing,
+    pub(crate) status: ConnStatus,
     pub(crate) refusals: Refusals,
     /// What is noted for the log. It changes nothing of what is answered.
     pub(crate) account: Account,
@@ -111,7 +111,7 @@ impl<L: Line> Model for Conn<L> {
       given = L.given c.line;
       taken = L.taken c.line;
       calls = L.calls c.line;
-      owed = c.owed;
+      outgoing = c.outgoing;
       session = c.session;
       status = c.status;
       refused = c.refusals;
@@ -132,14 +132,14 @@ impl<L: Line> Conn<L> {
             id,
             line,
             session: Session::new(alloc, web, id, peer),
-            owed: Owed::new(alloc),
-            status: Status::new(Fate::Open, false, ms),
+            outgoing: Outgoing::new(alloc),
+            status: ConnStatus::new(Fate::Open, false, ms),
             refusals: Refusals::new(),
             account: Account::new(alloc, ms),
         }
     }
 
-    /// The connection of one who was not let in: it is owed what he is told. `OutOfMemory` where
+    /// The connection of one who was not let in: it is owed what it is told. `OutOfMemory` where
     /// memory was refused; the line is closed then.
     fn turned_away(
         alloc: Global,
@@ -154,7 +154,7 @@ impl<L: Line> Conn<L> {
         let account = denied_account(alloc, &denial, ms);
         let mut session = Session::new(alloc, web, 0, peer);
         match told_first(alloc, &mut session, &account, denial) {
-            Ok(owed) => Ok(Conn::ended(line, session, owed, account, ms)),
+            Ok(outgoing) => Ok(Conn::ended(line, session, outgoing, account, ms)),
             Err(refused) => {
                 drop(line);
                 drop(session);
@@ -165,15 +165,15 @@ impl<L: Line> Conn<L> {
     }
 
     /// The connection of nobody, whose conversation has ended.
-    fn ended(line: L, session: Session, owed: Owed, account: Account, ms: u64) -> Conn<L>
-        ensures { result ≡ newly_ended (L.given line) (L.taken line) (L.calls line) owed session ms }
+    fn ended(line: L, session: Session, outgoing: Outgoing, account: Account, ms: u64) -> Conn<L>
+        ensures { result ≡ newly_ended (L.given line) (L.taken line) (L.calls line) outgoing session ms }
     {
         Conn {
             id: 0,
             line,
             session,
-            owed,
-            status: Status::new(Fate::Ended, true, ms),
+            outgoing,
+            status: ConnStatus::new(Fate::Ended, true, ms),
             refusals: Refusals::new(),
             account,
         }
@@ -191,7 +191,7 @@ impl<L: Line> Conn<L> {
     ) -> Result<Conn<L>, OutOfMemory>
         ensures taken_in { IfOk result (λ c. IsTakenIn (record { web = web; peer = peer; reply = reply }) (L.given line) (L.taken line) c) }
         ensures answers { IfOk result (λ c. c.session.says.web ≡ web) }
-        ensures denial { IfOk result (λ c. (rule : Rule) → reply ≡ Deny rule → c.owed ≡ (said (asking web) (Deny rule)).bytes) }
+        ensures denial { IfOk result (λ c. (rule : Rule) → reply ≡ Deny rule → c.outgoing ≡ (said (asking web) (Deny rule)).bytes) }
         // memory is wanted only for one who was not let in
         ensures err { OnErr result (LetsNobodyIn reply) }
     {
@@ -228,7 +228,7 @@ impl<L: Line> Conn<L> {
     }
 
     /// How it stands.
-    pub fn status(&self) -> Status
+    pub fn status(&self) -> ConnStatus
         ensures { result ≡ self.now.status }
     {
         self.status
@@ -258,15 +258,15 @@ fn told_first(
     session: &mut Session,
     account: &Account,
     reply: Reply,
-) -> Result<Owed, OutOfMemory>
-    ensures bytes { IfOk result (λ owed. owed ≡ (said session.old.says reply).bytes) }
+) -> Result<Outgoing, OutOfMemory>
+    ensures bytes { IfOk result (λ outgoing. outgoing ≡ (said session.old.says reply).bytes) }
     ensures says { IfOk result (λ _. session.new ≡ saying_now session.old (said session.old.says reply).says) }
 {
-    let mut owed = Owed::new(alloc);
-    match owed.tell(session, reply) {
+    let mut outgoing = Outgoing::new(alloc);
+    match outgoing.tell(session, reply) {
         Ok(state) => {
             account.note_state(state);
-            Ok(owed)
+            Ok(outgoing)
         }
         Err(refused) => Err(refused),
     }

@@ -14,13 +14,13 @@ mod conn;
 mod history;
 mod line;
 mod lingering;
-mod owed;
+mod outgoing;
 mod refusals;
 mod serving;
 mod workspace;
 
 pub use calls::CallCount;
-pub use conn::{Conn, Fate, Status};
+pub use conn::{Conn, ConnStatus, Fate};
 pub use history::History;
 pub use line::{Gate, Line, OpenGate, Received, Sent};
 pub use lingering::{close_first_lingering, count_lingering};

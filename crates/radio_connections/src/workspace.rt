@@ -1,4 +1,4 @@
-//! What a worker lends each connection that he serves.
+//! What a worker lends each connection that it serves.
 
 use std::alloc::Global;
 

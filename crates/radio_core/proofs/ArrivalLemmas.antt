@@ -1,4 +1,4 @@
--- through each event, a client who is there keeps the address from which he came, and the moment
+-- through each event, a client who is there keeps the address from which it came, and the moment
 use Rattle.std.proofs.Common.{◌≡◌, true, ℕ, ◌==◌, ◌+◌, Option, Some, None, List, [], ◌∷◌, map, refl, ap, sym, subst, ◌∙◌, arith}
 use Rattle.std.specs.Prelude.{fold}
 use Rattle.std.specs.Option.{option_map}
@@ -31,7 +31,7 @@ use Rattle.radio_core.proofs.TickLemmas.{clients_after}
 use Rattle.radio_core.proofs.Standings.{no_client_there}
 use Rattle.radio_core.proofs.Ways.{way_of}
 
--- he was there before, from the same address and from the same moment on
+-- it was there before, from the same address and from the same moment on
 record WasThere (xs : List Client) (id : ℕ) (later : Client) : Type 0 where
   pub client : Client
   pub there : client_of xs id ≡ Some client

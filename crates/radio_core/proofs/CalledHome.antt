@@ -11,7 +11,7 @@ use Rattle.radio_seats_rows.specs.declared.seat.Listener.{Listener}
 use Rattle.radio_seats_rows.specs.declared.seat.Seat.{Seat}
 use Rattle.radio_seats_rows.specs.Seats.{seat_of}
 use Rattle.radio_fallback.specs.declared.moves.Move.TheVariants.{Up}
-use Rattle.radio_fallback.specs.declared.moves.Turn.TheVariants.{GoesTo}
+use Rattle.radio_fallback.specs.declared.moves.MoveEffect.TheVariants.{GoesTo}
 use Rattle.radio_fallback.specs.Carry.{at_his_turn}
 use Rattle.radio_fallback.proofs.Faring.{comes_home, never_out}
 use Rattle.radio_changes.specs.declared.change.Change.TheVariants.{Begin, Raise}
@@ -34,11 +34,11 @@ use Rattle.radio_house.specs.Waiting.{heard_at}
 abbrev Nothing : ℕ → Rule → Type 0
 Nothing id rule = ⊥
 
--- whoever is called leaves another mount, and the one to which he goes is his home
+-- whoever is called leaves another mount, and the one to which it goes is its home
 abbrev pub LeavesAnother : World → Seat → Session → Type 0
 LeavesAnother later old session = (bytes_eq old.mount session.mount ≡ false) × (old.home ≡ session.mount)
 
--- a listener rests where he is, or comes home from another mount, to the end of the stream there
+-- a listener rests where it is, or comes home from another mount, to the end of the stream there
 pub data IsCalled (M : ℕ → Session → Type 0) (w later : World) (id : ℕ) : Type 0 where
   Rests : standing_of later id ≡ standing_of w id → seat_of later.seats id ≡ seat_of w.seats id → IsCalled M w later id
   Comes : (old : Seat) (session : Session) → M id session → LeavesAnother later old session → seat_of w.seats id ≡ Some old
@@ -58,7 +58,7 @@ apart_by home at mount to same e = ap (bytes_eq at) (sym same) ∙ not_true (byt
   not_true true h = cc
   not_true false h = refl
 
--- whom the move concerns, his home it is
+-- whom the move concerns, its home it is
 home_by : (home mount to : List ℕ) (away : Bool) → mount ≡ to → (bytes_eq home mount && away) ≡ true → home ≡ to
 home_by home mount to away same e = (bytes_eq-Decides home mount).0 (and_parts (bytes_eq home mount) away e).0 ∙ same
 

@@ -8,7 +8,7 @@ use Rattle.radio_seats_rows.specs.declared.seat.Seat.{Seat}
 use Rattle.radio_seats_rows.specs.declared.seat.Seating.TheVariants.{Sits as HasSeat, Finished as HasLostIt}
 use Rattle.radio_seats_rows.specs.Seats.{listener_of, seat_of, seat_in, AreByNumber}
 use Rattle.radio_fallback.specs.declared.moves.Move.{Move}
-use Rattle.radio_fallback.specs.declared.moves.Turn.TheVariants.{Stays, GoesTo, IsOut}
+use Rattle.radio_fallback.specs.declared.moves.MoveEffect.TheVariants.{Stays, GoesTo, IsOut}
 use Rattle.radio_fallback.specs.Walk.{MaySit}
 use Rattle.radio_fallback.specs.Carry.{concerns}
 use Rattle.radio_fallback.specs.Fares.{seat_at_end}
@@ -64,7 +64,7 @@ module _ (C : ℕ → Rule → Type 0) (M : ℕ → Session → Type 0) (S : ℕ
   abbrev relay : Option Relay
   relay = relay_of w.house.relays id
 
-  -- he stands as his place in the table says
+  -- it stands as its place in the table says
   stands_by : (listener : Option Listener) → listener_of after.seats id ≡ listener → standing_of after id ≡ standing_in relay listener client
   stands_by listener e =
       ap (λ l. standing_in (relay_of house.relays id) l (client_of house.clients id)) e

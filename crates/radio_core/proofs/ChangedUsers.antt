@@ -1,4 +1,4 @@
--- who loses his seat where a command has changed the users of his mount
+-- who loses its seat where a command has changed the users of its mount
 use Rattle.std.proofs.Common.{◌≡◌, Bool, true, false, ℕ, List, refl, ap, sym, subst, ◌∙◌}
 use Rattle.std.specs.Prelude.{not}
 use Rattle.std.specs.Str.{bytes_eq}
@@ -44,7 +44,7 @@ is_not : (b : Bool) → not b ≡ true → b ≡ false
 is_not true e = cc
 is_not false e = refl
 
--- he sits there, and is not let in
+-- it sits there, and is not let in
 pub shut_out_there : (lists : Lists) (mount : List ℕ) (seat : Seat) → is_shut_out lists mount seat ≡ true
     → (mount ≡ seat.mount) × (lets_in lists seat.mount seat.pair ≡ false)
 shut_out_there lists mount seat out =

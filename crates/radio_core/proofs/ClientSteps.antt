@@ -49,7 +49,7 @@ turned w C event id {before} {a} {later} {b} ea eb step =
     subst (λ (x : Standing). ClientStep w C event id x b) ea (subst (λ (x : Standing). ClientStep w C event id before x) eb step)
 
 module _ (w : World) (s : IsSound w) (id : ℕ) (C : Rule → Type 0) where
-  -- he leaves, or it goes down
+  -- it leaves, or it goes down
   goes : (event : Event) (him : ℕ) → him ≡ id
       → ((event ≡ Leave him) × (has_relay w him ≡ false)) ⊎ ((event ≡ RelayDown him) × (has_relay w him ≡ true))
       → ClientStep w C event id (standing_of w id) Unknown
@@ -58,7 +58,7 @@ module _ (w : World) (s : IsSound w) (id : ℕ) (C : Rule → Type 0) where
   goes event him same (inr down) =
       ItGoesDown (standing_of w id) (down.0 ∙ ap (λ (n : ℕ). RelayDown n) same) (ap (has_relay w) (sym same) ∙ down.1)
 
-  -- his own event
+  -- its own event
   own_by : (event : Event) (o : Outcome) → Way w event o → client_in event ≡ Some id
       → ((rule : Rule) → standing_of (changed w o.change) id ≡ HasFinished rule → (standing_of w id ≡ HasFinished rule) ⊎ C rule)
       → ((rule : Rule) → o.reply ≡ Deny rule → reply_to w event ≡ Deny rule)

@@ -6,7 +6,7 @@ use Rattle.radio_events.specs.Events.{client_in}
 use Rattle.radio_core.specs.Closing.{Closes, OfClient, OfRelay}
 use Rattle.radio_house.specs.World.{World, has_relay}
 
--- his it is
+-- whose it is
 pub closes_his : (w : World) (id : ℕ) (event : Event) → Closes w id event → client_in event ≡ Some id
 closes_his w id event (OfClient no_relay) = refl
 closes_his w id event (OfRelay relay) = refl

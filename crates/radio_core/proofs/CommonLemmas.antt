@@ -29,7 +29,7 @@ use Rattle.radio_events.specs.declared.event.Event.{Event}
 use Rattle.radio_events.specs.declared.event.Event.TheVariants.{Arrive, Source, Push, SourceEnd, Title, Listen, Draw, Command, Leave, RelayUp, RelayDown, Clock}
 use Rattle.radio_events.specs.declared.reply.Reply.{Reply}
 use Rattle.radio_events.specs.declared.reply.Reply.TheVariants.{Arrived, Feeding, Seated, Drawn, Noted, Text as SaysText, Deny, Finished, Stray}
-use Rattle.radio_events.specs.declared.text.Text.{Text}
+use Rattle.radio_events.specs.declared.text.ReplyText.{ReplyText}
 use Rattle.radio_fallback.specs.declared.moves.Carried.{Carried}
 use Rattle.radio_house.specs.House.{House}
 use Rattle.radio_house.specs.Streams.{shown_for}
@@ -64,7 +64,7 @@ module _ (common : Common) where
   kept_denied rule event = kept_by (Deny rule) refl (λ asked. refl) (λ ms. refl) event
 
   -- how many were moved, or have finished, does not matter
-  text_same : (event : Event) (text other : Text) → common_after common event (SaysText text) ≡ common_after common event (SaysText other)
+  text_same : (event : Event) (text other : ReplyText) → common_after common event (SaysText text) ≡ common_after common event (SaysText other)
   text_same (Arrive peer) text other = refl
   text_same (Source asked) text other = refl
   text_same (Push id block) text other = refl
@@ -116,13 +116,13 @@ module _ (w : World) where
   obeyed_common id (DeleteUser mount user) = refl
 
   -- a command that is done
-  commanded_common : (event : Event) (command : TheCommand) (c : IsCommanded w event command) (text : Text)
+  commanded_common : (event : Event) (command : TheCommand) (c : IsCommanded w event command) (text : ReplyText)
       → common_after (common_of w) event (SaysText text) ≡ common_done (common_of w) command
   commanded_common event command c text =
       ap (λ (e : Event). common_after (common_of w) e (SaysText text)) c.is_event ∙ ap (λ (a : Asked). common_asked (common_of w) a) c.is_asked
 
   -- what is shown is no command
-  shown_common : (event : Event) (text : Text) → IsShownBy w event text → common_after (common_of w) event (SaysText text) ≡ common_of w
+  shown_common : (event : Event) (text : ReplyText) → IsShownBy w event text → common_after (common_of w) event (SaysText text) ≡ common_of w
   shown_common event text (IsListing listing listed) =
       ap (λ (e : Event). common_after (common_of w) e (SaysText text)) listed.is_event ∙ ap (λ (a : Asked). common_asked (common_of w) a) listed.is_asked
   shown_common event text (IsAtPath asked path is_listen at) = ap (λ (e : Event). common_after (common_of w) e (SaysText text)) is_listen

@@ -38,13 +38,13 @@ use Rattle.radio_core.proofs.TickLemmas.{ClockCarries, ticked_fates}
 use Rattle.radio_core.proofs.Obeyed.{LeavesFor, Takes, obeyed, is_answered, others_stood}
 use Rattle.radio_core.proofs.Ways.{way_of, may_arrive}
 
--- by his own event nobody finishes, or comes to have asked for nothing
+-- by its own event nobody finishes, or comes to have asked for nothing
 abbrev pub HasActed : Standing → Type 0
 HasActed (Undecided peer) = ⊥
 HasActed (Finished rule) = ⊥
 HasActed standing = Unit {0}
 
--- a client stands as before, or is finished, or stops feeding by his own doing
+-- a client stands as before, or is finished, or stops feeding by its own doing
 pub data IsSwept (w later : World) (event : Event) (id : ℕ) : Type 0 where
   GoesOnAs : standing_of later id ≡ standing_of w id → IsSwept w later event id
   IsOut : (rule : Rule) → Cause w later event id rule → standing_of later id ≡ Finished rule → seat_of later.seats id ≡ None → IsSwept w later event id
@@ -89,7 +89,7 @@ module _ (w : World) (s : IsSound w) (mount block : List ℕ) (him : ℕ) (feedi
     by_fate (HasStopped other why feeds done none over) = absurd why
     by_fate (IsMoved old session carries left had has same live opens) = absurd carries
 
--- a command is done: the client who gave it has had his answer, and whom it names is finished, or carried along
+-- a command is done: the client who gave it has had its answer, and whom it names is finished, or carried along
 module _ (w : World) (s : IsSound w) (event : Event) (command : Command) (c : IsCommanded w event command) where
   abbrev then_world : World
   then_world = changed w (Obey c.asked.id command)

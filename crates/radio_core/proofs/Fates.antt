@@ -23,27 +23,27 @@ use Rattle.radio_core.proofs.Standings.{no_relay_sits}
 use Rattle.radio_house.specs.Waiting.{heard_at}
 use Rattle.radio_core.proofs.HeardLemmas.{heard_same}
 
--- there is something that can end for him
+-- there is something that can end for it
 abbrev pub IsActive : Standing → Type 0
 IsActive (Undecided peer) = Unit {0}
 IsActive (Feeds mount) = Unit {0}
 IsActive Sits = Unit {0}
 IsActive standing = ⊥
 
--- nothing more is to come for him, by his own doing
+-- nothing more is to come for it, by its own doing
 abbrev pub IsDone : Standing → Type 0
 IsDone Answered = Unit {0}
 IsDone Unknown = Unit {0}
 IsDone standing = ⊥
 
--- why a rule ends for a client what it ends, why he is moved into a session, why a source stops feeding, and what of the mount that one who is moved leaves
+-- why a rule ends for a client what it ends, why it is moved into a session, why a source stops feeding, and what of the mount that one who is moved leaves
 pub data Fate (C : ℕ → Rule → Type 0) (M : ℕ → Session → Type 0) (S : ℕ → Type 0) (L : World → Seat → Session → Type 0) (w later : World) (id : ℕ) : Type 0 where
-  -- a client goes on as he was, in the same session
+  -- a client goes on as it was, in the same session
   GoesOn : standing_of later id ≡ standing_of w id → seat_of later.seats id ≡ seat_of w.seats id
       → ((mount : List ℕ) → standing_of w id ≡ Feeds mount → session_of later.house.live mount ≡ session_of w.house.live mount)
       → ((seat : Seat) → seat_of w.seats id ≡ Some seat → session_of later.house.live seat.mount ≡ session_of w.house.live seat.mount)
       → Fate C M S L w later id
-  -- he is ended by a rule
+  -- it is ended by a rule
   IsEnded : (rule : Rule) → C id rule → IsActive (standing_of w id) → standing_of later id ≡ Finished rule → seat_of later.seats id ≡ None
       → ((mount : List ℕ) → standing_of w id ≡ Feeds mount → session_of later.house.live mount ≡ None) → Fate C M S L w later id
   -- a source stops feeding
@@ -179,7 +179,7 @@ HasEnded later old session = (session_of later.house.live old.mount ≡ None) ×
 abbrev pub Nobody : ℕ → Type 0
 Nobody id = ⊥
 
--- one thing after another, where nobody stops by his own doing, and the reasons are of the whole
+-- one thing after another, where nobody stops by its own doing, and the reasons are of the whole
 module _ (C : ℕ → Rule → Type 0) (M : ℕ → Session → Type 0) (w between later : World) (f : Fates C M Nobody HasEnded w between)
     (g : Fates C M Nobody HasEnded between later) where
   still_none : (mount : List ℕ) → session_of between.house.live mount ≡ None → session_of later.house.live mount ≡ None
@@ -241,7 +241,7 @@ module _ (C : ℕ → Rule → Type 0) (M : ℕ → Session → Type 0) (w betwe
     fate = λ id. fate_then id (f.fate id) (g.fate id);
   }
 
--- one who sits and has lost his seat has finished
+-- one who sits and has lost its seat has finished
 lost_by : (listener : Option Listener) (number : ℕ) (rule : Rule) (last : List ℕ) (client : Client) (state : ClientState)
     → standing_by listener client.peer state ≡ Sits
     → standing_by (Some (record { id = number; seating = HasLostIt rule last })) client.peer state ≡ Finished rule

@@ -113,7 +113,7 @@ module _ (w : World) (s : IsSound w) (event : Event) where
       → (standing_of w id ≡ HasFinished rule) ⊎ Finishes w event id rule
   finish_step id rule e = finished_by id rule e (effect_of w s event)
 
-  -- he has a new number, and his address passes the address lists
+  -- it has a new number, and its address passes the address lists
   abbrev HasArrived : ℕ → Peer → Type 0
   HasArrived id peer = (w.house.last_id < id) × (passes w.house.lists peer ≡ true)
 
@@ -147,7 +147,7 @@ module _ (w : World) (s : IsSound w) (event : Event) where
       → (standing_of w id ≡ Undecided peer) ⊎ HasArrived id peer
   undecided_before id peer e = undecided_by id peer e (effect_of w s event)
 
--- who is told that he was finished stands so
+-- who is told that it was finished stands so
 told_by : (w : World) (event : Event) (o : Outcome) → RuleNamed w event o → (rule : Rule) → o.reply ≡ Finished rule
     → (id : ℕ) × (client_in event ≡ Some id) × (standing_of w id ≡ HasFinished rule)
 told_by w event o (TellsHisRule him by its known) rule d = let same : by ≡ rule = cc in (him, its, known ∙ ap (λ (r : Rule). HasFinished r) same)

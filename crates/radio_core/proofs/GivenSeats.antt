@@ -11,7 +11,7 @@ use Rattle.radio_seats_rows.proofs.CountLaws.{NobodyCame}
 
 module _ (mount : List ℕ) (session : ℕ) (seats : List Listener) (id : ℕ) (seat : Seat)
     (has : seat_of (with_session_at seats mount session) id ≡ Some seat) where
-  -- each has the seat that he had, in the new session where it is at the mount
+  -- each has the seat that it had, in the new session where it is at the mount
   pub given_from : (old : Seat) × (seat_of seats id ≡ Some old) × (seat_hearing mount session old ≡ seat)
   given_from = by_found (seat_of seats id) refl (sym (seat_of_hearing mount session seats id) ∙ has) where
     by_found : (found : Option Seat) → seat_of seats id ≡ found → option_map (seat_hearing mount session) (seat_of seats id) ≡ Some seat
@@ -23,7 +23,7 @@ module _ (mount : List ℕ) (session : ℕ) (seats : List Listener) (id : ℕ) (
         let one : seat_hearing mount session old ≡ seat = cc in
         (old, had, one)
 
-  -- who sits elsewhere has the one that he had
+  -- who sits elsewhere has the one that it had
   pub sat_elsewhere : bytes_eq seat.mount mount ≡ false → seat_of seats id ≡ Some seat
   sat_elsewhere away =
       let apart : bytes_eq given_from.0.mount mount ≡ false = ap (λ (x : Seat). bytes_eq x.mount mount) given_from.2 ∙ away in

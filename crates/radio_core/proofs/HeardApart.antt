@@ -54,7 +54,7 @@ apart_sessions w s id seat session has live away =
     cc))
     (λ apart. apart)
 
--- and who is moved since his session is over goes on in another, or waits
+-- and who is moved since its session is over goes on in another, or waits
 pub apart_then : (w later : World) → IsSound w
     → ((mount : List ℕ) (session : Session) → session_of later.house.live mount ≡ Some session → session_of w.house.live mount ≡ Some session)
     → (id : ℕ) (old : Seat) (session : Session) → seat_of w.seats id ≡ Some old → HasEnded later old session

@@ -39,7 +39,7 @@ use Rattle.radio_events.specs.declared.command.Command.TheVariants.{MoveClients,
 use Rattle.radio_events.specs.declared.command.CommandRequest.{CommandRequest}
 use Rattle.radio_events.specs.declared.command.Listing.{Listing}
 use Rattle.radio_events.specs.declared.command.Listing.TheVariants.{Status, Stats, Mounts, Clients, Streams}
-use Rattle.radio_events.specs.declared.text.Text.{Text}
+use Rattle.radio_events.specs.declared.text.ReplyText.{ReplyText}
 use Rattle.radio_fallback.specs.declared.moves.Carried.{Carried}
 use Rattle.radio_fallback.specs.declared.moves.Move.TheVariants.{To}
 use Rattle.radio_fallback.specs.Carry.{carried}
@@ -201,7 +201,7 @@ module _ (w : World) (rise : Each HasRisingStarts w.house.live) (kept : SeatsAre
   does_alike : (id : ℕ) (asked : Asked) → does_asked (kept_of w) id asked ≡ does_asked w id asked
   does_alike id NoCommand = refl
   does_alike id (MissingArgument by) = refl
-  does_alike id (AsksFor listing) = ap (λ (text : Text). says (SaysText text) (Answer id)) (shown_kept w listing)
+  does_alike id (AsksFor listing) = ap (λ (text : ReplyText). says (SaysText text) (Answer id)) (shown_kept w listing)
   does_alike id (Asks command) = ap (λ (counts : Carried). says (SaysText (said_of command counts)) (Obey id command)) (counts_alike command)
 
   commands_alike : (asked : CommandRequest) → gives_command (kept_of w) asked ≡ gives_command w asked
@@ -220,7 +220,7 @@ module _ (w : World) (rise : Each HasRisingStarts w.house.live) (kept : SeatsAre
       ∙ ap (if_undecided (standing_of w asked.id)) (fun_ext (λ peer.
       ap (on_verdict (verdict_in (listen_rows (listen_facts w.house w.seats asked))) (Answer asked.id)) (hears_alike asked peer)))
   paths_alike asked (Some path) =
-      ap (λ (text : Text). if_undecided (standing_of w asked.id) (λ _. says (SaysText text) (Answer asked.id))) (page_kept w path asked.visit)
+      ap (λ (text : ReplyText). if_undecided (standing_of w asked.id) (λ _. says (SaysText text) (Answer asked.id))) (page_kept w path asked.visit)
 
   pub outcome_kept : (event : Event) → outcome (kept_of w) event ≡ outcome w event
   unfolding outcome

@@ -66,11 +66,11 @@ use Rattle.radio_core.proofs.GivenSeats.{sat_elsewhere}
 use Rattle.radio_parts.proofs.ApartLemmas.{bytes_apart}
 use Rattle.radio_seats_rows.proofs.GivenLaws.{numbers_hearing}
 
--- he sits at the end of his session's stream
+-- it sits at the end of its session's stream
 abbrev pub SitsAtEnd : World → Seat → Type 0
 SitsAtEnd w seat = (session : Session) → session_of w.house.live seat.mount ≡ Some session → seat.place ≡ end_of session.stream
 
--- whoever has a seat had it, or sits at the end of his stream, and no session is there that was not
+-- whoever has a seat had it, or sits at the end of its stream, and no session is there that was not
 record HasFewer (w later : World) : Type 0 where
   pub settings : later.house.settings ≡ w.house.settings
   pub seats : (id : ℕ) (seat : Seat) → seat_of later.seats id ≡ Some seat → (seat_of w.seats id ≡ Some seat) ⊎ SitsAtEnd later seat
@@ -129,7 +129,7 @@ seat_before w him id seat e =
 fewer_left : (w : World) (him : ℕ) → HasFewer w (changed w (Forget him))
 fewer_left w him = record { settings = refl; seats = λ id seat e. inl (seat_before w him id seat e); sessions = λ mount session e. e }
 
--- whoever has a seat after one has lost his had it before
+-- whoever has a seat after one has lost its had it before
 pub seat_unless_lost : (w : World) (him : ℕ) (rule : Rule) (id : ℕ) (seat : Seat) → seat_of (with_end w.seats him rule) id ≡ Some seat → seat_of w.seats id ≡ Some seat
 seat_unless_lost w him rule id seat e =
     by_number him id (λ same. by_found same (listener_of w.seats him) refl)
@@ -290,7 +290,7 @@ module _ (P : WholeStream → ℕ → Type 0) (w : World) (order : AreByNumber w
       (λ old same found one. subst (λ (x : Session). P x.stream seat.place) one (all id seat old has found))
       (all id seat session has))
 
-  -- a block is delivered, and who is too far behind then has lost his seat
+  -- a block is delivered, and who is too far behind then has lost its seat
   abbrev grown : List ℕ → List ℕ → World
   grown mount block = record w { house = received w.house mount block }
 

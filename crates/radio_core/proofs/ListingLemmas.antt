@@ -3,8 +3,8 @@ use Rattle.std.proofs.Common.{◌≡◌, List, [], ◌∷◌, refl, ap}
 use Rattle.std.specs.Prelude.{map, length}
 use Rattle.radio_events.specs.declared.command.Listing.{Listing}
 use Rattle.radio_events.specs.declared.command.Listing.TheVariants.{Status, Stats, Mounts, Clients, Streams}
-use Rattle.radio_events.specs.declared.text.Text.{Text}
-use Rattle.radio_events.specs.declared.text.Text.TheVariants.{Done, Moved, Ended, Json, Streams as StreamList, Public, Page}
+use Rattle.radio_events.specs.declared.text.ReplyText.{ReplyText}
+use Rattle.radio_events.specs.declared.text.ReplyText.TheVariants.{Done, Moved, Ended, Json, Streams as StreamList, Public, Page}
 use Rattle.radio_listing.specs.declared.rows.MountRow.{MountRow}
 use Rattle.radio_listing.specs.Admin.{stats_text, mounts_text}
 use Rattle.radio_listing.specs.Public.{status_text, stream_text}
@@ -18,7 +18,7 @@ use Rattle.radio_settings_values.specs.declared.web.WebPath.{WebPath}
 use Rattle.radio_settings_values.specs.declared.web.WebPath.TheVariants.{IcecastStatus, Page as AtPage}
 use Rattle.radio_listing.specs.Icecast.{icecast_text}
 use Rattle.radio_events.specs.declared.event.Event.{Event}
-use Rattle.radio_events.specs.declared.event.Visit.{Visit}
+use Rattle.radio_events.specs.declared.event.PageVisit.{PageVisit}
 use Rattle.radio_events.specs.Texts.{IsShort}
 use Rattle.radio_parts.specs.Sessions.{Session}
 use Rattle.radio_house.specs.World.{World}
@@ -40,7 +40,7 @@ module _ (w : World) where
   shown_kept (Clients mount) = refl
   shown_kept Streams = ap (λ (rows : List MountRow). StreamList (stream_text rows)) rows_kept
 
-  pub page_kept : (path : WebPath) (visit : Visit) → page_at (kept_of w) path visit ≡ page_at w path visit
+  pub page_kept : (path : WebPath) (visit : PageVisit) → page_at (kept_of w) path visit ≡ page_at w path visit
   page_kept IcecastStatus visit =
       ap (λ (rows : List MountRow). Public (icecast_text (server_as w.house.settings visit) rows) w.house.settings.web.allow_origin) rows_kept
   page_kept AtPage visit = refl
@@ -53,18 +53,18 @@ module _ (w : World) where
   no_short (Clients mount) short = short
   no_short Streams short = short
 
-  no_short_page : (path : WebPath) (visit : Visit) → IsShort (page_at w path visit) → ⊥
+  no_short_page : (path : WebPath) (visit : PageVisit) → IsShort (page_at w path visit) → ⊥
   no_short_page IcecastStatus visit short = short
   no_short_page AtPage visit short = short
 
-  pub shown_long : (event : Event) (text : Text) → IsShownBy w event text → IsShort text → ⊥
+  pub shown_long : (event : Event) (text : ReplyText) → IsShownBy w event text → IsShort text → ⊥
   shown_long event text (IsListing listing c) short = no_short listing short
   shown_long event text (IsAtPath asked path is_event is_path) short = no_short_page path asked.visit short
 
   -- so it tells no number of those who were moved, or have finished
-  pub shown_untold : (event : Event) (text : Text) → IsShownBy w event text → (counts : Carried) → told_counts text counts ≡ text
+  pub shown_untold : (event : Event) (text : ReplyText) → IsShownBy w event text → (counts : Carried) → told_counts text counts ≡ text
   shown_untold event text shown counts = untold text (shown_long event text shown) where
-    untold : (text : Text) → (IsShort text → ⊥) → told_counts text counts ≡ text
+    untold : (text : ReplyText) → (IsShort text → ⊥) → told_counts text counts ≡ text
     untold Done long = absurd (long tt)
     untold (Moved other) long = absurd (long tt)
     untold (Ended other) long = absurd (long tt)

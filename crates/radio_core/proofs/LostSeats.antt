@@ -1,4 +1,4 @@
--- whoever has lost his seat has left by it, or was finished
+-- whoever has lost its seat has left by it, or was finished
 use Rattle.std.proofs.Common.{◌≡◌, inl, inr, ℕ, Some, None, ap, sym, ◌∙◌}
 use Rattle.radio_events.specs.declared.event.Event.{Event}
 use Rattle.radio_events.specs.declared.event.Event.TheVariants.{Leave}
@@ -29,7 +29,7 @@ module _ (w : World) (s : IsSound w) (id : ℕ) (seat : Seat) (has : seat_of w.s
   sits : standing_of w id ≡ Sits
   sits = s.sitting id seat has
 
-  -- by his own events, he loses it by leaving alone
+  -- by its own events, it loses it by leaving alone
   own_by : (event : Event) (o : Outcome) → Way w event o → client_in event ≡ Some id → seat_of (changed w o.change).seats id ≡ None → event ≡ Leave id
   own_by event o (EndsAndLeaves _ him mount closes feeding) his none =
       let both : Some him ≡ Some id = sym (closes_his w him event closes) ∙ his in

@@ -53,7 +53,7 @@ use Rattle.radio_core.proofs.NumbersStay.{number_of, relay_number, row_of, ids, 
 use Rattle.radio_house.specs.HouseChanges.{raised}
 use Rattle.radio_seats_rows.proofs.GivenLaws.{numbers_hearing}
 
--- he has not asked for anything yet, if he is there at all
+-- it has not asked for anything yet, if it is there at all
 abbrev pub IsYetToAsk : Standing → Type 0
 IsYetToAsk Unknown = Unit {0}
 IsYetToAsk (Undecided peer) = Unit {0}
@@ -96,7 +96,7 @@ turned w later him now t never before id yet =
     (λ same. absurd (never (subst IsYetToAsk (ap (standing_of later) (sym same) ∙ t.his) yet)))
     (λ other. before id (subst IsYetToAsk (t.others id other) yet))
 
--- or he is none of the listeners then
+-- or it is none of the listeners then
 turned_free : (w later : World) (him : ℕ) (now : Standing) → Turns w later him now → IsFree him (rows later)
     → ((id : ℕ) → IsYetToAsk (standing_of w id) → IsFree id (rows later)) → (id : ℕ) → IsYetToAsk (standing_of later id) → IsFree id (rows later)
 turned_free w later him now t none before id yet =

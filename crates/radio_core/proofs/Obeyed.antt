@@ -50,14 +50,14 @@ use Rattle.radio_house.specs.Waiting.{heard_at}
 use Rattle.radio_core.proofs.HeardApart.{apart_sessions, apart_then}
 use Rattle.radio_core.proofs.HeardLemmas.{heard_cases}
 
--- whoever is moved by a command, or since his session is over, goes on in another
+-- whoever is moved by a command, or since its session is over, goes on in another
 abbrev pub LeavesFor : World → Event → World → Seat → Session → Type 0
 LeavesFor w event later old session = IsSent w later event old session.mount × ((old.session == session.number) ≡ false)
 
 abbrev pub Takes : World → Event → ℕ → Session → Type 0
 Takes w event id session = TakesTo w event id session.mount
 
--- what a command does: first the client who gave it has had his answer, and what it sets is set; then each fares so
+-- what a command does: first the client who gave it has had its answer, and what it sets is set; then each fares so
 pub record IsObeyed (w : World) (event : Event) (him : ℕ) (later : World) : Type 0 where
   pub base : World
   pub stands : (id : ℕ) → standing_of base id ≡ standing_of (answered w him) id
@@ -66,7 +66,7 @@ pub record IsObeyed (w : World) (event : Event) (him : ℕ) (later : World) : Ty
   pub fates : Fates (Cause w later event) (Takes w event) Nobody (LeavesFor w event) base later
 
 module _ (w : World) (s : IsSound w) (event : Event) where
-  -- what holds of the world where the client has had his answer
+  -- what holds of the world where the client has had its answer
   module _ {command : Command} (c : IsCommanded w event command) where
     abbrev heard : World
     heard = answered w c.asked.id
@@ -349,7 +349,7 @@ module _ (w : World) (s : IsSound w) (event : Event) where
   obeyed (AddUser mount user password) c = obeyed_users c mount (Adds user password c) (with_user_at w.house.lists mount user password)
   obeyed (DeleteUser mount user) c = obeyed_users c mount (Deletes user c) (without_user_at w.house.lists mount user)
 
-  -- the client who gave it has had his answer, and is no listener
+  -- the client who gave it has had its answer, and is no listener
   module _ (command : Command) (c : IsCommanded w event command) where
     abbrev obeyed_world : World
     obeyed_world = changed w (Obey c.asked.id command)

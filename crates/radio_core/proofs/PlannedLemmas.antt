@@ -7,7 +7,7 @@ use Rattle.radio_events.specs.declared.event.Event.{Event}
 use Rattle.radio_events.specs.declared.event.Event.TheVariants.{Arrive, Source, Push, SourceEnd, Title, Listen, Draw, Command, Leave, RelayUp, RelayDown, Clock}
 use Rattle.radio_events.specs.declared.reply.Reply.{Reply}
 use Rattle.radio_events.specs.declared.reply.Reply.TheVariants.{Text as SaysText}
-use Rattle.radio_events.specs.declared.text.Text.{Text}
+use Rattle.radio_events.specs.declared.text.ReplyText.{ReplyText}
 use Rattle.radio_fallback.specs.declared.moves.Carried.{Carried}
 use Rattle.radio_core.specs.declared.outcome.Outcome.{Outcome}
 use Rattle.radio_core.specs.Command.{obeys}
@@ -41,7 +41,7 @@ module _ (w : World) where
   plain_by event o (EndsAndLeaves _ id mount closes feeding) other_than counts = refl
   plain_by event o (Leaves id no_relay other) other_than counts = refl
   plain_by event o (GoesDown id rule relay told) other_than counts = refl
-  plain_by event o (Shows _ asker peer text its undecided what) other_than counts = ap (λ (t : Text). SaysText t) (shown_untold w event text what counts)
+  plain_by event o (Shows _ asker peer text its undecided what) other_than counts = ap (λ (t : ReplyText). SaysText t) (shown_untold w event text what counts)
   plain_by event o (Obeys _ command c) other_than counts = absurd (other_than c.asked c.is_event)
   plain_by event o (HasPassed ms e) other_than counts = refl
   plain_by event o (Ticks ms e) other_than counts = refl
@@ -85,9 +85,9 @@ module _ (w : World) where
   obeys_completed id (AddUser mount user password) = refl
   obeys_completed id (DeleteUser mount user) = refl
 
-  shows_completed : (event : Event) (text : Text) → IsShownBy w event text → with_counts (with_counts (SaysText text) nobody) nobody ≡ SaysText text
+  shows_completed : (event : Event) (text : ReplyText) → IsShownBy w event text → with_counts (with_counts (SaysText text) nobody) nobody ≡ SaysText text
   shows_completed event text what =
-      ap (λ (t : Text). SaysText (told_counts t nobody)) (shown_untold w event text what nobody) ∙ ap (λ (t : Text). SaysText t) (shown_untold w event text what nobody)
+      ap (λ (t : ReplyText). SaysText (told_counts t nobody)) (shown_untold w event text what nobody) ∙ ap (λ (t : ReplyText). SaysText t) (shown_untold w event text what nobody)
 
   completed_by : (event : Event) (o : Outcome) → Way w event o → IsCompleted o
   completed_by event o (Misplaced _) = refl

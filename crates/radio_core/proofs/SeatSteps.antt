@@ -97,14 +97,14 @@ module _ (w : World) (s : IsSound w) (id : ℕ) where
   mine = seat_of w.seats id
 
   module _ (now : World) (event : Event) where
-    -- nothing is handed out, and his seat is as it was, or gone
+    -- nothing is handed out, and its seat is as it was, or gone
     stays : (bytes : List ℕ) (later : Option Seat) → bytes ≡ [] → later ≡ mine → Turn w now event id mine bytes later
     stays bytes later none same = adapted w now event id refl (sym none) (sym same) (Rests mine)
 
     loses : (bytes : List ℕ) (later : Option Seat) → bytes ≡ [] → later ≡ None → Turn w now event id mine bytes later
     loses bytes later none forgotten = adapted w now event id refl (sym none) (sym forgotten) (Goes mine)
 
-    -- he is carried along
+    -- it is carried along
     moves : (bytes : List ℕ) (old : Seat) (session : Session) → bytes ≡ [] → TakesTo w event id session.mount
         → IsSent w now event old session.mount → mine ≡ Some old
         → seat_of now.seats id ≡ Some (moved_into session old) → heard_at now.house session.mount ≡ Some session
@@ -113,7 +113,7 @@ module _ (w : World) (s : IsSound w) (id : ℕ) where
     moves bytes old session none takes sent had has live opens apart =
         adapted w now event id (sym had) (sym none) (sym has) (Moves old session takes sent live opens apart)
 
-    -- he goes on, or is ended, or carried along from a mount whose session is over
+    -- it goes on, or is ended, or carried along from a mount whose session is over
     fares : (S : ℕ → Type 0)
         → Fates (Cause w now event) (λ him session. TakesTo w event him session.mount) S HasEnded w now
         → (bytes : List ℕ) → bytes ≡ [] → Turn w now event id mine bytes (seat_of now.seats id)
@@ -127,7 +127,7 @@ module _ (w : World) (s : IsSound w) (id : ℕ) where
           moves bytes old session none takes (HisSessionIsOver left.0 left.1) had has live (ap (λ (x : Lists). lets_in x session.mount old.pair) f.lists ∙ opens)
           (apart_then w now s f.live id old session had left live)
 
-  -- he sits down
+  -- it sits down
   takes_seat_at : (asked : ListenRequest) (peer : Peer) (session : Session) → standing_of w asked.id ≡ Undecided peer
       → walks_to w.house w.seats asked.mount asked.pair ≡ Lands session.mount → heard_at w.house session.mount ≡ Some session
       → verdict_in (rows_to_listen w asked) ≡ Allow → (bytes : List ℕ) → bytes ≡ []
@@ -146,7 +146,7 @@ module _ (w : World) (s : IsSound w) (id : ℕ) where
       (λ other. stays now (Listen asked) bytes (seat_of (changed w (TakeSeat asked.id seat)).seats id) none
       (beside_new_seat w s asked peer session undecided live id other))
 
-  -- he is handed what stands at his place
+  -- it is handed what stands at its place
   hands_at : (him room : ℕ) (seat : Seat) (session : Session) → standing_of w him ≡ Sits → seat_of w.seats him ≡ Some seat
       → heard_at w.house seat.mount ≡ Some session
       → Turn w (changed w (Advance him (seat.place + length (data_at session.stream seat.place room)))) (Draw him room) id mine
@@ -170,7 +170,7 @@ module _ (w : World) (s : IsSound w) (id : ℕ) where
         his_bytes true bytes e = refl
         his_bytes false bytes e = cc
 
-  -- a block comes: he goes on, or is too far behind
+  -- a block comes: it goes on, or is too far behind
   lags : (him : ℕ) (mount block : List ℕ) → standing_of w him ≡ Feeds mount → (bytes : List ℕ) → bytes ≡ []
       → Turn w (taken_in w mount block) (Push him block) id mine bytes (seat_of (taken_in w mount block).seats id)
   lags him mount block feeding bytes none = by_fate ((lag_fates w s mount block him feeding).fate id) where
@@ -182,7 +182,7 @@ module _ (w : World) (s : IsSound w) (id : ℕ) where
     by_fate (HasStopped other why feeds done gone over) = absurd why
     by_fate (IsMoved old session carries left had has same live opens) = absurd carries
 
-  -- a source, or a relay, comes up: he hears it where he waited for it, rests where he is, or comes home
+  -- a source, or a relay, comes up: it hears it where it waited for it, rests where it is, or comes home
   module _ (event : Event) (him : ℕ) (mount : List ℕ) (shown : Shown) (house : House) (settings : house.settings ≡ w.house.settings)
       (begins : house.live ≡ with_session w.house.live (opened mount him shown w.house.time)) (not_live : session_of w.house.live mount ≡ None)
       (past : (him == 0) ≡ false)
@@ -270,7 +270,7 @@ module _ (w : World) (s : IsSound w) (id : ℕ) where
   asks_past_zero him peer e =
       by_number him 0 (λ same. let unknown : standing_of w him ≡ Unknown = ap (standing_of w) same ∙ s.from_one in cc) (λ apart. apart)
 
-  -- a command is done: he rests, or is finished, or is carried along
+  -- a command is done: it rests, or is finished, or is carried along
   obeys : (event : Event) (command : Command) (c : IsCommanded w event command) (bytes : List ℕ) → bytes ≡ []
       → Turn w (changed w (Obey c.asked.id command)) event id mine bytes (seat_of (changed w (Obey c.asked.id command)).seats id)
   obeys event command c bytes none = by_fate (did.fates.fate id) where
@@ -343,7 +343,7 @@ module _ (w : World) (s : IsSound w) (id : ℕ) where
   unfolding reply_to world_after
   turn_of event = step_by event (outcome w event) (way_of w event)
 
-  -- whoever has lost his seat has left, or was finished
+  -- whoever has lost its seat has left, or was finished
   by_turn : (event : Event) (before : Option Seat) (bytes : List ℕ) (later : Option Seat) → mine ≡ before
       → seat_of (world_after w event).seats id ≡ later → Turn w (world_after w event) event id before bytes later → SeatStep w (Finishes w event id) event id before bytes later
   by_turn event before bytes later had has (Rests seat) = Stays seat

@@ -1,4 +1,4 @@
--- who sits, and his seat
+-- who sits, and its seat
 use Rattle.std.proofs.Common.{◌≡◌, ℕ, Option, Some, None, refl}
 use Rattle.radio_addr.specs.declared.peer.Peer.{Peer}
 use Rattle.radio_seats_rows.specs.declared.seat.Listener.{Listener}

@@ -8,7 +8,7 @@ use Rattle.radio_policy.specs.declared.rule.Rule.{Rule}
 use Rattle.radio_tables.proofs.KeyLaws.{by_number, by_name}
 use Rattle.radio_fallback.specs.declared.moves.Move.TheVariants.{Ended as SessionEnds}
 use Rattle.radio_fallback.specs.declared.moves.Move.{Move}
-use Rattle.radio_fallback.specs.declared.moves.Turn.TheVariants.{Stays, GoesTo, IsOut}
+use Rattle.radio_fallback.specs.declared.moves.MoveEffect.TheVariants.{Stays, GoesTo, IsOut}
 use Rattle.radio_fallback.proofs.Faring.{Faring, HasStayed, HasGone, HasLost, fares, nobody_stays}
 use Rattle.radio_events.specs.declared.event.Event.{Event}
 use Rattle.radio_events.specs.declared.event.Event.TheVariants.{SourceEnd}
@@ -134,7 +134,7 @@ module _ (C : ℕ → Rule → Type 0) (M : ℕ → Session → Type 0) (S : ℕ
       fate = λ id. by_number him id (λ same. subst (λ (n : ℕ). Fate C M S HasEnded w later n) same his) (λ other. fate_of id other);
     }
 
--- who asks too late after one client has turned to something else was as he is
+-- who asks too late after one client has turned to something else was as it is
 pub late_beside : (clients : List Client) (him : ℕ) (state : ClientState)
     → ((client : Client) (seconds ms : ℕ) → asks_too_late seconds ms (with_state state client) ≡ true → ⊥)
     → (id : ℕ) (client : Client) (seconds ms : ℕ) → client_of (in_state clients him state) id ≡ Some client → asks_too_late seconds ms client ≡ true
@@ -161,7 +161,7 @@ module _ (w : World) (s : IsSound w) (him : ℕ) (mount : List ℕ) (feeding : s
   pub order_then : AreByNumber (session_ended w mount).seats
   order_then = order_carried (session_over w mount) (SessionEnds mount) s.by_number
 
-  -- his data have come to their end
+  -- its data have come to their end
   abbrev ended : World
   ended = changed w (End him mount)
 
@@ -181,7 +181,7 @@ module _ (w : World) (s : IsSound w) (him : ℕ) (mount : List ℕ) (feeding : s
       (λ id session turn. (SessionEnds mount, session_over w mount, ByItsEnd him mount feeding no_relay, turn))
       refl refl refl order_then (late_beside w.house.clients him HasHisAnswer (λ client seconds ms late. cc))
 
-  -- he has left
+  -- it has left
   abbrev gone : World
   gone = changed w (EndAndLeave him mount)
 

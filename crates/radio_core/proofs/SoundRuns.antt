@@ -35,7 +35,7 @@ use Rattle.radio_core.proofs.SoundEnds.{sound_ended, sound_ended_and_left}
 use Rattle.radio_core.proofs.Obeyed.{sound_obeyed}
 use Rattle.radio_core.proofs.Ways.{way_of}
 
--- a block has come, and who is too far behind has lost his seat
+-- a block has come, and who is too far behind has lost its seat
 abbrev pub grown_world : World → List ℕ → List ℕ → World
 grown_world w mount block = record w { house = received w.house mount block }
 

@@ -247,7 +247,7 @@ module _ (w : World) (s : IsSound w) (him room : ℕ) (seat : Seat) (session : S
       let low : seat.place ≤ end_of session.stream = subst (λ (x : Session). seat.place ≤ end_of x.stream) one old.within in
       omega (arith, length-take room (drop seat.place session.stream.bytes), length-drop seat.place session.stream.bytes, low)
 
-  -- his seat is the same, further on
+  -- its seat is the same, further on
   pub has_advanced : seat_of after_draw.seats him ≡ Some (record seat { place = behind })
   has_advanced =
       let listener = listener_seated w.seats him seat has in

@@ -104,7 +104,7 @@ module _ (w : World) (s : IsSound w) where
       seated = seated;
     }
 
-  -- a client has no seat before he is known, and so on
+  -- a client has no seat before it is known, and so on
   known_low : (id : ℕ) (now : Standing) → standing_of w id ≡ now → (now ≡ Unknown → ⊥) → w.house.last_id < id → {A : Type 0} → A
   known_low id now e known high {A} = absurd (known (sym e ∙ s.numbered id high))
 
@@ -160,7 +160,7 @@ module _ (w : World) (s : IsSound w) where
     pub turns_seated : Turns w after_seat asked.id Sits
     turns_seated = turns_sitting w asked.id new_seat (asks w asked.id peer e)
 
-    -- he has that seat, and had none before
+    -- it has that seat, and had none before
     pub has_new_seat : seat_of after_seat.seats asked.id ≡ Some new_seat
     has_new_seat =
         let itself : (asked.id == asked.id) ≡ true = grind (arith, nat_tests) in

@@ -75,7 +75,7 @@ module _ (w : World) (id : ℕ) where
   abbrev listener_row : Option Listener
   listener_row = listener_of w.seats id
 
-  -- where there is no client, he stands as a relay
+  -- where there is no client, it stands as a relay
   pub stands_as_relay : client_of w.house.clients id ≡ None → standing_of w id ≡ standing_of_relay relay_row
   stands_as_relay none = ap (standing_in relay_row listener_row) none
 
@@ -235,7 +235,7 @@ stays_hearing w him place listener found id = by_number him id his others where
   others : (him == id) ≡ false → standing_of (changed w (Advance him place)) id ≡ standing_of w id
   others other = ap (λ l. standing_in (relay_of w.house.relays id) l (client_of w.house.clients id)) (beside_moved w.seats him id other place)
 
--- who hears a session that begins at his mount stands as before
+-- who hears a session that begins at its mount stands as before
 given_seated : (mount : List ℕ) (session : ℕ) (seating : Seating) → standing_seated (in_session_at mount session seating) ≡ standing_seated seating
 given_seated mount session (HasSeat seat) = refl
 given_seated mount session (HasFinished rule last) = refl

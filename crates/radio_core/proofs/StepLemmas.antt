@@ -106,7 +106,7 @@ pub wants_alike : (core w : World) → Represents core w → wanted core ≡ wan
 unfolding Represents
 wants_alike core w stands = ap wanted stands.shows
 
--- and each listener sits, or sat last, where he does there
+-- and each listener sits, or sat last, where it does there
 pub last_alike : (core w : World) → Represents core w → (id : ℕ) → last_mount_of core.seats id ≡ last_mount_of w.seats id
 unfolding Represents
 last_alike core w stands id = ap (λ (x : World). last_mount_of x.seats id) stands.shows

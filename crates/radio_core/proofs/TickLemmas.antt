@@ -42,7 +42,7 @@ module _ (seconds ms : ℕ) where
       → client_of (map (timed_out seconds ms) clients) id ≡ option_map (timed_out seconds ms) (client_of clients id)
   clients_after clients id = find_mapped (is_client id) (timed_out seconds ms) (λ client. refl) clients
 
-  -- who asks too late after that, by whatever measure, was as he is
+  -- who asks too late after that, by whatever measure, was as it is
   late_at : (client : Client) (b : Bool) (seconds' ms' : ℕ)
       → asks_too_late seconds' ms' (with_state (if b then Ended HeaderTimeout else client.state) client) ≡ true
       → with_state (if b then Ended HeaderTimeout else client.state) client ≡ client

@@ -80,7 +80,7 @@ module _ (w : World) (s : IsSound w) (inv : AreInOrder w) where
 
   -- how many are there afterwards
   module _ (later : World) (event : Event) (reply : Reply) where
-    -- who sits and who has lost his seat are the listeners
+    -- who sits and who has lost its seat are the listeners
     listeners : seats_there later + seats_lost later ≡ length (rows later)
     listeners = length-filter_both has_seat (λ listener. not (has_seat listener)) (λ x. refl) later.seats ∙ sym (length-map later.seats row_of)
 
@@ -199,7 +199,7 @@ module _ (w : World) (s : IsSound w) (inv : AreInOrder w) where
       relay_goes him (changed w (Forget him)) refl refl refl (numbers_without row_of him w.seats) relay
 
 module _ (w : World) (s : IsSound w) (inv : AreInOrder w) where
-  -- where none of that number is there, his leaving is told to be stray
+  -- where none of that number is there, its leaving is told to be stray
   left_is_known : (event : Event) (id : ℕ) → event ≡ Leave id → (outcome w event).reply ≡ Noted → standing_of w id ≡ Unknown → ⊥
   unfolding outcome
   left_is_known event id leaves noted unknown =

@@ -24,7 +24,7 @@ use Rattle.radio_changes.specs.declared.change.Change.TheVariants.{Nothing, Answ
 use Rattle.radio_core.specs.declared.outcome.Outcome.{Outcome}
 use Rattle.radio_events.specs.declared.reply.Reply.TheVariants.{Deny, Noted, Stray}
 use Rattle.radio_seats_rows.specs.declared.seat.Seat.{Seat}
-use Rattle.radio_fallback.specs.declared.walking.Found.{Found}
+use Rattle.radio_fallback.specs.declared.walking.WalkFinding.{WalkFinding}
 use Rattle.radio_fallback.specs.declared.walking.Landing.{Landing}
 use Rattle.radio_fallback.specs.declared.walking.Landing.TheVariants.{Lands, Stops}
 use Rattle.radio_fallback.specs.Walk.{MaySit, found_at, stop_in}
@@ -168,7 +168,7 @@ pub may_be_raised : (w : World) (mount : List ℕ) (shown : Shown) → verdict_i
     → session_of w.house.live mount ≡ None
 may_be_raised w mount shown v = none_there (session_of w.house.live mount) (may_come_up w.house mount shown v).is_free
 
--- who may arrive passes the address lists, and there is a number left for him
+-- who may arrive passes the address lists, and there is a number left for it
 passes_by : (denied allowed full spent : Bool)
     → verdict_in (row AddressDenied denied ∷ row AddressNotAllowed (not allowed) ∷ row TooManyClients full ∷ row NumbersSpent spent ∷ []) ≡ Allow
     → ((not denied && allowed) ≡ true) × (spent ≡ false) × (full ≡ false)
@@ -195,7 +195,7 @@ has_room_left house peer v =
     let facts = arrive_facts house peer in
     (passes_by facts.address_is_denied facts.address_is_allowed facts.clients_are_full facts.number_is_spent v).2
 
--- who may listen is accepted at the mount that he asked for, where he does not sit already, and no rule stops his walk from there
+-- who may listen is accepted at the mount that it asked for, where it does not sit already, and no rule stops its walk from there
 pub record IsWelcome (accepted twice : Bool) (stop : Option Rule) : Type 0 where
   pub accepts : accepted ≡ true
   pub once : twice ≡ false
@@ -211,7 +211,7 @@ hears_by true true false twice stop v = cc
 hears_by true false accepted twice stop v = cc
 hears_by false known accepted twice stop v = cc
 
--- and his path names a mount, and is none of the web site's
+-- and its path names a mount, and is none of the web site's
 named_by : (named known accepted twice : Bool) (stop : Option Rule)
     → verdict_in (listen_rows (if named then Some (record { mount_is_known = known; users_accept = accepted; user_is_twice = twice; walk_stops = stop })
     else None)) ≡ Allow → named ≡ true
@@ -230,8 +230,8 @@ no_path w asked v =
     (named_by (names_mount w.house.settings asked.mount) (is_known w.house asked.mount) found.users_accept found.user_is_twice
     (walk_stops w.house w.seats asked.mount asked.pair) v)
 
--- what one who asks finds at the mount of his path
-abbrev pub found_by : World → ListenRequest → Found
+-- what one who asks finds at the mount of its path
+abbrev pub found_by : World → ListenRequest → WalkFinding
 found_by w asked = found_at (sight_of w.house) w.seats asked.mount asked.pair
 
 pub may_listen : (w : World) (asked : ListenRequest) → verdict_in (rows_to_listen w asked) ≡ Allow
@@ -240,7 +240,7 @@ may_listen w asked v =
     hears_by (names_mount w.house.settings asked.mount) (is_known w.house asked.mount) (found_by w asked).users_accept (found_by w asked).user_is_twice
     (walk_stops w.house w.seats asked.mount asked.pair) v
 
--- so his walk lands where he may sit
+-- so its walk lands where it may sit
 lands_by : (l : Landing) → stop_in l ≡ None → (to : List ℕ) × (l ≡ Lands to)
 lands_by (Lands to) e = (to, refl)
 lands_by (Stops rule) e = cc

@@ -17,44 +17,44 @@ use Rattle.radio_house.specs.declared.standing.Standing.TheVariants.{Unknown, Un
 use Rattle.radio_events.specs.declared.command.Command.{Command}
 use Rattle.radio_core.specs.Allowed.{IsCommanded}
 use Rattle.radio_house.specs.Facts.{rows_to_feed, rows_to_raise, rows_to_listen}
-use Rattle.radio_events.specs.declared.text.Text.{Text}
+use Rattle.radio_events.specs.declared.text.ReplyText.{ReplyText}
 use Rattle.radio_core.specs.Pages.{IsShownBy}
 use Rattle.radio_core.specs.Finishes.{Finishes}
 use Rattle.radio_house.specs.Clients.{Client, client_of}
 use Rattle.radio_core.specs.Step.{reply_to, world_after}
 use Rattle.radio_house.specs.World.{World, standing_of, has_relay}
 
--- all that an event can do to how the client, or the relay, of this number stands, where a rule finishes him only for its cause
+-- all that an event can do to how the client, or the relay, of this number stands, where a rule finishes it only for its cause
 pub data ClientStep (w : World) (Cause : Rule → Type 0) (event : Event) (id : ℕ) : Standing → Standing → Type 0 where
-  -- he stands as before
+  -- it stands as before
   Stays : (standing : Standing) → ClientStep w Cause event id standing standing
-  -- he arrives from an address that passes the address lists, with a number that was not given before
+  -- it arrives from an address that passes the address lists, with a number that was not given before
   Arrives : (peer : Peer) → event ≡ Arrive peer → passes w.house.lists peer ≡ true → w.house.last_id < id
       → ClientStep w Cause event id Unknown (Undecided peer)
-  -- what he asks for is denied
+  -- what it asks for is denied
   IsAnswered : (peer : Peer) (rule : Rule) → client_in event ≡ Some id → reply_to w event ≡ Deny rule → ClientStep w Cause event id (Undecided peer) Answered
-  -- he gives a command, and the policy allows it
+  -- it gives a command, and the policy allows it
   IsObeyed : (peer : Peer) (command : Command) → client_in event ≡ Some id → IsCommanded w event command
       → ClientStep w Cause event id (Undecided peer) Answered
-  -- he asks to be shown something of the station, and the policy allows it
-  IsShown : (peer : Peer) (text : Text) → client_in event ≡ Some id → IsShownBy w event text
+  -- it asks to be shown something of the station, and the policy allows it
+  IsShown : (peer : Peer) (text : ReplyText) → client_in event ≡ Some id → IsShownBy w event text
       → ClientStep w Cause event id (Undecided peer) Answered
-  -- he asks to feed a mount, and the policy allows it
+  -- it asks to feed a mount, and the policy allows it
   BeginsToFeed : (peer : Peer) (asked : SourceRequest) → event ≡ Source asked → asked.id ≡ id → verdict_in (rows_to_feed w.house asked) ≡ Allow
       → ClientStep w Cause event id (Undecided peer) (Feeds asked.mount)
-  -- he asks to hear a mount, and the policy allows it
+  -- it asks to hear a mount, and the policy allows it
   SitsDown : (peer : Peer) (asked : ListenRequest) → event ≡ Listen asked → asked.id ≡ id → verdict_in (rows_to_listen w asked) ≡ Allow
       → ClientStep w Cause event id (Undecided peer) Sits
-  -- his data have come to their end
+  -- its data have come to their end
   StopsFeeding : (mount : List ℕ) → event ≡ SourceEnd id → has_relay w id ≡ false → ClientStep w Cause event id (Feeds mount) Answered
-  -- he leaves
+  -- it leaves
   Leaves : (standing : Standing) → event ≡ Leave id → has_relay w id ≡ false → ClientStep w Cause event id standing Unknown
   -- a relay comes up, with a number that was not given before, and the policy allows it
   ComesUp : (mount : List ℕ) (shown : Shown) → event ≡ RelayUp mount shown → w.house.last_id < id
       → verdict_in (rows_to_raise w.house mount shown) ≡ Allow → ClientStep w Cause event id Unknown (Feeds mount)
   -- it goes down
   GoesDown : (standing : Standing) → event ≡ RelayDown id → has_relay w id ≡ true → ClientStep w Cause event id standing Unknown
-  -- he is finished by a rule
+  -- it is finished by a rule
   IsFinished : (standing : Standing) (rule : Rule) → Cause rule → ClientStep w Cause event id standing (Finished rule)
 
 -- rule: Client states; Relay ended before

@@ -8,8 +8,8 @@ use Rattle.radio_events.specs.declared.command.Command.TheVariants.{MoveClients,
 use Rattle.radio_events.specs.declared.command.CommandRequest.{CommandRequest}
 use Rattle.radio_events.specs.declared.command.Listing.{Listing}
 use Rattle.radio_events.specs.declared.reply.Reply.TheVariants.{Text as SaysText, Stray}
-use Rattle.radio_events.specs.declared.text.Text.{Text}
-use Rattle.radio_events.specs.declared.text.Text.TheVariants.{Done, Moved, Ended}
+use Rattle.radio_events.specs.declared.text.ReplyText.{ReplyText}
+use Rattle.radio_events.specs.declared.text.ReplyText.TheVariants.{Done, Moved, Ended}
 use Rattle.radio_changes.specs.declared.change.Change.TheVariants.{Nothing, Answer, Obey}
 use Rattle.radio_core.specs.declared.outcome.Outcome.{Outcome}
 use Rattle.radio_facts.specs.CommandFacts.{rows_to_command}
@@ -20,17 +20,17 @@ use Rattle.radio_core.specs.Outcomes.{says, on_verdict, if_undecided}
 
 -- what is said of a command that was done: how many it has moved, how many have finished since it changed the users of their mount, or that it was done
 -- rule: Move clients
-abbrev pub said_of : TheCommand → Carried → Text
+abbrev pub said_of : TheCommand → Carried → ReplyText
 said_of (MoveClients mount destination) counts = Moved counts.moved
 said_of (AddUser mount user password) counts = Ended counts.ended
 said_of (DeleteUser mount user) counts = Ended counts.ended
 said_of command counts = Done
 
--- the command is done, and the client who gave it has had his answer
+-- the command is done, and the client who gave it has had its answer
 abbrev pub obeys : World → ℕ → TheCommand → Outcome
 obeys w id command = says (SaysText (said_of command (counts_by w command))) (Obey id command)
 
--- the client is shown it, and has had his answer
+-- the client is shown it, and has had its answer
 abbrev pub shows : World → ℕ → Listing → Outcome
 shows w id listing = says (SaysText (shown w listing)) (Answer id)
 

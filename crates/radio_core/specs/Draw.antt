@@ -16,7 +16,7 @@ use Rattle.radio_house.specs.World.{World, standing_of}
 use Rattle.radio_core.specs.Outcomes.{says, if_sitting}
 use Rattle.radio_house.specs.Waiting.{silence_of}
 
--- the listener is handed what stands at his place, which moves past it, and is told the title of then; at a mount that waits for a session that is nothing
+-- the listener is handed what stands at its place, which moves past it, and is told the title of then; at a mount that waits for a session that is nothing
 abbrev pub hands_out : ℕ → Seat → ℕ → Option Session → Outcome
 hands_out id seat room None = says Stray Nothing
 hands_out id seat room (Some session) =
@@ -32,20 +32,20 @@ as_heard house p = record p { session = option_or p.session (silence_of house p.
 abbrev pub part_draws : Part → ℕ → ℕ → Outcome
 part_draws p id room = option_map_or (λ seat. hands_out id seat room p.session) (seat_of p.listeners id) (says Stray Nothing)
 
--- he draws from what is heard at the mount of his seat
+-- it draws from what is heard at the mount of its seat
 abbrev pub draws_from : World → ℕ → ℕ → Seat → Outcome
 draws_from w id room seat = part_draws (as_heard w.house (part_at w seat.mount)) id room
 
--- where a draw moves him
+-- where a draw moves it
 abbrev pub moves_to : ℕ → Option ℕ → Change
 moves_to id None = Nothing
 moves_to id (Some place) = Advance id place
 
--- it moves him, or does nothing
+-- it moves it, or does nothing
 abbrev pub IsMove : ℕ → Change → Type 0
 IsMove id change = (place : Option ℕ) × (change ≡ moves_to id place)
 
--- what comes of a draw that is replied to so, and moves him there
+-- what comes of a draw that is replied to so, and moves it there
 abbrev pub comes_to : ℕ → Drawing → Outcome
 comes_to id drawing = says drawing.reply (moves_to id drawing.place)
 

@@ -21,31 +21,31 @@ use Rattle.radio_house.specs.World.{World, standing_of}
 -- what there is about the event by which it finishes the client by the rule, where the state was w and is `later`
 -- rule: Killed; Source killed
 pub data Cause (w later : World) (event : Event) (id : ℕ) : Rule → Type 0 where
-  -- the session of the mount where he sits ends, and the rule stops his walk from there at his turn
+  -- the session of the mount where it sits ends, and the rule stops its walk from there at its turn
   SessionIsOver : (rule : Rule) (seat : Seat) → seat_of w.seats id ≡ Some seat → LeavesOut w event id rule → Cause w later event id rule
-  -- the source of his mount delivers a block, and he is further behind its end than a queue is long
+  -- the source of its mount delivers a block, and it is further behind its end than a queue is long
   IsFarBehind : (him : ℕ) (block : List ℕ) (seat : Seat) → event ≡ Push him block → standing_of w him ≡ Feeds seat.mount → seat_of w.seats id ≡ Some seat
       → lags_behind seat.mount (live_end later.house seat.mount) w.house.settings.limits.queue_size seat ≡ true → Cause w later event id Lagged
-  -- it is a moment at which he has sat as long as the mount allows that he asked for
+  -- it is a moment at which it has sat as long as the mount allows that it asked for
   HasSatOut : (ms : ℕ) (seat : Seat) → event ≡ Clock ms → seat_of w.seats id ≡ Some seat → has_sat_out w.house.settings ms seat ≡ true
       → Cause w later event id TimeOver
-  -- it is a moment at which he has asked for nothing in the time that he has for it
+  -- it is a moment at which it has asked for nothing in the time that it has for it
   HasAskedNothing : (ms : ℕ) (client : Client) → event ≡ Clock ms → client_of w.house.clients id ≡ Some client
       → asks_too_late w.house.settings.limits.header_timeout ms client ≡ true → Cause w later event id HeaderTimeout
-  -- it is a moment at which he, a source, has sent nothing in the time that he has for it
+  -- it is a moment at which it, a source, has sent nothing in the time that it has for it
   HasSentNothing : (ms : ℕ) (session : Session) → event ≡ Clock ms → standing_of w id ≡ Feeds session.mount
       → session_of w.house.live session.mount ≡ Some session → is_silent w.house.settings.limits.source_timeout ms session ≡ true
       → Cause w later event id SourceSilent
-  -- a command names him, and the mount where he sits
+  -- a command names it, and the mount where it sits
   IsKilled : (seat : Seat) → seat_of w.seats id ≡ Some seat → IsCommanded w event (KillClient seat.mount id) → Cause w later event id Killed
-  -- a command changes the users of the mount where he sits, and they do not let him in then
+  -- a command changes the users of the mount where it sits, and they do not let it in then
   IsNotAccepted : (seat : Seat) → seat_of w.seats id ≡ Some seat → ChangesUsers w event seat.mount
       → lets_in later.house.lists seat.mount seat.pair ≡ false → Cause w later event id ListenerPassword
-  -- a command ends the session that he feeds
+  -- a command ends the session that it feeds
   HisSessionIsKilled : (session : Session) → standing_of w id ≡ Feeds session.mount → session_of w.house.live session.mount ≡ Some session
       → IsCommanded w event (KillSource session.mount) → Cause w later event id SourceKilled
 
--- the event finishes the client by the rule: there is a cause, and he stands so, without a seat
+-- the event finishes the client by the rule: there is a cause, and it stands so, without a seat
 -- rule: Killed
 pub record Finishes (w : World) (event : Event) (id : ℕ) (rule : Rule) : Type 0 where
   pub cause : Cause w (world_after w event) event id rule

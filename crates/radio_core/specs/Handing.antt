@@ -31,7 +31,7 @@ of_client event id brought = (if is_number id (client_in event) then brought els
 abbrev pub handed_at : World → Event → ℕ → List ℕ
 handed_at w event id = of_client event id (data_in (reply_to w event))
 
--- all that the events hand to him, joined in their order
+-- all that the events hand to it, joined in their order
 -- rule: Without gap or repeat
 abbrev pub handed : World → List Event → ℕ → List ℕ
 handed w [] id = []

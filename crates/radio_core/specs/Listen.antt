@@ -17,7 +17,7 @@ use Rattle.radio_facts.specs.Streams.{burst_of, head_of, interval_for}
 use Rattle.radio_core.specs.Outcomes.{says, on_verdict, if_undecided}
 use Rattle.radio_house.specs.Waiting.{heard_at}
 
--- the seat of a new listener where his walk landed, at a mount with this session, or one that waits for one: the mount that he asked for is his home, and he begins at the start of a block
+-- the seat of a new listener where its walk landed, at a mount with this session, or one that waits for one: the mount that it asked for is its home, and it begins at the start of a block
 -- rule: Start of the burst
 abbrev pub first_seat : House → ListenRequest → Peer → Session → Seat
 first_seat house asked peer session = record {
@@ -37,7 +37,7 @@ takes_seat house asked peer None = says Stray Nothing
 takes_seat house asked peer (Some session) =
     says (Seated (interval_for house asked.mount asked.wants_metadata) (head_of house session.shown)) (TakeSeat asked.id (first_seat house asked peer session))
 
--- he sits down where his walk lands; where it is stopped, which the policy denies, nothing happens
+-- it sits down where its walk lands; where it is stopped, which the policy denies, nothing happens
 -- rule: Seat of a newcomer
 abbrev pub sits_where : House → ListenRequest → Peer → Landing → Outcome
 sits_where house asked peer (Stops rule) = says Stray Nothing

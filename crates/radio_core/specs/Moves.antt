@@ -8,8 +8,8 @@ use Rattle.radio_values.specs.declared.field.Shown.{Shown}
 use Rattle.radio_settings_values.specs.Options.{options_for}
 use Rattle.radio_fallback.specs.declared.moves.Move.{Move}
 use Rattle.radio_fallback.specs.declared.moves.Move.TheVariants.{Ended, Up, To}
-use Rattle.radio_fallback.specs.declared.moves.Turn.{Turn}
-use Rattle.radio_fallback.specs.declared.moves.Turn.TheVariants.{GoesTo, IsOut}
+use Rattle.radio_fallback.specs.declared.moves.MoveEffect.{MoveEffect}
+use Rattle.radio_fallback.specs.declared.moves.MoveEffect.TheVariants.{GoesTo, IsOut}
 use Rattle.radio_fallback.specs.Carry.{turn_of, at_his_turn}
 use Rattle.radio_seats_rows.specs.declared.seat.Seat.{Seat}
 use Rattle.radio_events.specs.declared.event.Event.{Event}
@@ -26,16 +26,16 @@ use Rattle.radio_house.specs.Streams.{shown_for}
 use Rattle.radio_parts.specs.Stream.{end_of}
 use Rattle.radio_house.specs.World.{World, standing_of, has_relay}
 
--- what the move has in store for the listener at his turn, where the state before the first turn is w: those of lower numbers have had theirs
+-- what the move has in store for the listener at its turn, where the state before the first turn is w: those of lower numbers have had theirs
 -- rule: Turns of a move
-abbrev pub his_turn : World → Move → ℕ → Turn
+abbrev pub his_turn : World → Move → ℕ → MoveEffect
 his_turn w move id = turn_of (sight_of w.house) move (at_his_turn (sight_of w.house) move w.seats id) id
 
 -- the seat that goes on in the session, from the end of its stream; all else of it stays
 abbrev pub moved_into : Session → Seat → Seat
 moved_into session seat = record seat { mount = session.mount; session = session.number; place = end_of session.stream }
 
--- the event brings the move, and this is the state before the first listener has his turn
+-- the event brings the move, and this is the state before the first listener has its turn
 -- rule: End of a session
 pub data Brings (w : World) : Event → Move → World → Type 0 where
   -- a source's data come to their end
@@ -59,12 +59,12 @@ pub data Brings (w : World) : Event → Move → World → Type 0 where
   -- a command moves the listeners of a mount to another
   ByMoving : (event : Event) (mount destination : List ℕ) → IsCommanded w event (MoveClients mount destination) → Brings w event (To mount destination) w
 
--- a move that the event brings takes him to the mount at his turn
+-- a move that the event brings takes it to the mount at its turn
 -- rule: End of a session
 abbrev pub TakesTo : World → Event → ℕ → List ℕ → Type 0
 TakesTo w event id mount = (move : Move) × (during : World) × Brings w event move during × (his_turn during move id ≡ GoesTo mount)
 
--- a move that the event brings leaves him nowhere to sit: the rule stops his walk at his turn
+-- a move that the event brings leaves it nowhere to sit: the rule stops its walk at its turn
 -- rule: End of a session
 abbrev pub LeavesOut : World → Event → ℕ → Rule → Type 0
 LeavesOut w event id rule = (move : Move) × (during : World) × Brings w event move during × (his_turn during move id ≡ IsOut rule)

@@ -19,7 +19,7 @@ use Rattle.radio_core.specs.Ways.{IsUndecided}
 use Rattle.radio_events.specs.Events.{client_in}
 use Rattle.radio_house.specs.World.{World, standing_of}
 
--- another client's event leaves him as he stands, unless it finishes him, or he has only arrived by it, or come up
+-- another client's event leaves it as it stands, unless it finishes it, or it has only arrived by it, or come up
 abbrev pub StandsOn : World → Event → ℕ → Type 0
 StandsOn w event id = (standing_of (world_after w event) id ≡ standing_of w id) ⊎
     ((rule : Rule) × Finishes w event id rule) ⊎
@@ -34,7 +34,7 @@ pub data HasCome (w : World) (id : ℕ) : Event → Type 0 where
   AsClient : (peer : Peer) → standing_of (world_after w (Arrive peer)) id ≡ Undecided peer → HasCome w id (Arrive peer)
   AsRelay : (mount : List ℕ) (shown : Shown) → standing_of (world_after w (RelayUp mount shown)) id ≡ Feeds mount → HasCome w id (RelayUp mount shown)
 
--- each reply is told to one whom it fits, and he stands as it says
+-- each reply is told to one whom it fits, and it stands as it says
 -- rule: Other clients
 pub record RepliesFit (w : World) (event : Event) : Type 0 where
   pub arrived : (id : ℕ) → reply_to w event ≡ Arrived id → HasCome w id event × (w.house.last_id < id) × (standing_of w id ≡ Unknown)
@@ -44,7 +44,7 @@ pub record RepliesFit (w : World) (event : Event) : Type 0 where
       → (asked : ListenRequest) × (event ≡ Listen asked) × IsUndecided w asked.id × (standing_of (world_after w event) asked.id ≡ Sits)
   pub finished : (rule : Rule) → reply_to w event ≡ Finished rule → (id : ℕ) × (client_in event ≡ Some id) × (standing_of w id ≡ HasFinished rule)
 
--- whoever has lost his seat by an event has left by it, or is finished by it
+-- whoever has lost its seat by an event has left by it, or is finished by it
 -- rule: Changes of seats
 abbrev pub LosesNoSeatElse : World → Event → Type 0
 LosesNoSeatElse w event = (id : ℕ) (seat : Seat) → seat_of w.seats id ≡ Some seat → seat_of (world_after w event).seats id ≡ None

@@ -19,7 +19,7 @@ abbrev pub on_verdict : Verdict → Change → Outcome → Outcome
 on_verdict Allow denied allowed = allowed
 on_verdict (Denied rule) denied allowed = says (Deny rule) denied
 
--- an event that does not fit how its client stands: he is told if he has finished, and nothing changes
+-- an event that does not fit how its client stands: it is told if it has finished, and nothing changes
 -- rule: Out of place
 abbrev pub out_of_place : Standing → Outcome
 out_of_place (HasFinished rule) = says (Finished rule) Nothing

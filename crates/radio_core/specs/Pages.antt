@@ -7,7 +7,7 @@ use Rattle.radio_events.specs.declared.event.Event.{Event}
 use Rattle.radio_events.specs.declared.event.Event.TheVariants.{Listen}
 use Rattle.radio_events.specs.declared.event.ListenRequest.{ListenRequest}
 use Rattle.radio_events.specs.declared.reply.Reply.TheVariants.{Text as SaysText}
-use Rattle.radio_events.specs.declared.text.Text.{Text}
+use Rattle.radio_events.specs.declared.text.ReplyText.{ReplyText}
 use Rattle.radio_changes.specs.declared.change.Change.TheVariants.{Answer}
 use Rattle.radio_core.specs.declared.outcome.Outcome.{Outcome}
 use Rattle.radio_core.specs.Allowed.{IsListed}
@@ -17,7 +17,7 @@ use Rattle.radio_status.specs.Pages.{page_at}
 use Rattle.radio_core.specs.Outcomes.{says, if_undecided}
 use Rattle.radio_house.specs.World.{World, standing_of}
 
--- the client is shown it, and has had his answer
+-- the client is shown it, and has had its answer
 abbrev pub shows_page : World → ListenRequest → WebPath → Outcome
 shows_page w asked path = says (SaysText (page_at w path asked.visit)) (Answer asked.id)
 
@@ -32,7 +32,7 @@ asks_by_path w asked = asks_by w asked (web_path w.house.settings.web asked.moun
 
 -- the event asks to be shown something of the station, and this is it: a listing that the policy allows, or what is at a path of the web site
 -- rule: Icecast status
-pub data IsShownBy (w : World) (event : Event) : Text → Type 0 where
+pub data IsShownBy (w : World) (event : Event) : ReplyText → Type 0 where
   IsListing : (listing : Listing) → IsListed w event listing → IsShownBy w event (shown w listing)
   IsAtPath : (asked : ListenRequest) (path : WebPath) → event ≡ Listen asked → web_path w.house.settings.web asked.mount ≡ Some path
       → IsShownBy w event (page_at w path asked.visit)

@@ -3,8 +3,8 @@ use Rattle.radio_events.specs.declared.event.Event.{Event}
 use Rattle.radio_events.specs.declared.event.Event.TheVariants.{Command}
 use Rattle.radio_events.specs.declared.reply.Reply.{Reply}
 use Rattle.radio_events.specs.declared.reply.Reply.TheVariants.{Text as SaysText}
-use Rattle.radio_events.specs.declared.text.Text.{Text}
-use Rattle.radio_events.specs.declared.text.Text.TheVariants.{Moved, Ended}
+use Rattle.radio_events.specs.declared.text.ReplyText.{ReplyText}
+use Rattle.radio_events.specs.declared.text.ReplyText.TheVariants.{Moved, Ended}
 use Rattle.radio_core.specs.declared.outcome.Outcome.{Outcome}
 use Rattle.radio_fallback.specs.declared.moves.Carried.{Carried}
 use Rattle.radio_core.specs.Command.{gives_command}
@@ -12,7 +12,7 @@ use Rattle.radio_changes.specs.Counts.{nobody}
 use Rattle.radio_core.specs.Step.{outcome}
 use Rattle.radio_house.specs.World.{World}
 
-abbrev pub told_counts : Text → Carried → Text
+abbrev pub told_counts : ReplyText → Carried → ReplyText
 told_counts (Moved other) counts = Moved counts.moved
 told_counts (Ended other) counts = Ended counts.ended
 told_counts text counts = text

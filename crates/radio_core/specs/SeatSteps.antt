@@ -1,4 +1,4 @@
--- What an event does to the seat of one client, and what it hands to him.
+-- What an event does to the seat of one client, and what it hands to it.
 use Rattle.std.specs.Prelude.{◌≡◌, ◌==◌, ℕ, ◌+◌, ◌≤◌, true, false, List, [], length, Option, Some, None}
 use Rattle.radio_policy.specs.declared.rule.Rule.{Rule}
 use Rattle.radio_policy.specs.declared.judgement.Verdict.TheVariants.{Allow}
@@ -33,40 +33,40 @@ pub data ComesUpOn : Event → List ℕ → Type 0 where
   ASource : (asked : SourceRequest) → ComesUpOn (Source asked) asked.mount
   ARelay : (mount : List ℕ) (shown : Shown) → ComesUpOn (RelayUp mount shown) mount
 
--- why a listener goes from his seat to the mount: the session in which he sat is over; or one has come up on the mount, which is the one that he asked
--- for, and calls its listeners home; or a command moves the listeners of his mount there
+-- why a listener goes from its seat to the mount: the session in which it sat is over; or one has come up on the mount, which is the one that it asked
+-- for, and calls its listeners home; or a command moves the listeners of its mount there
 pub data IsSent (w later : World) (event : Event) (seat : Seat) (mount : List ℕ) : Type 0 where
   HisSessionIsOver : session_of later.house.live seat.mount ≡ None → (seat.session == 0) ≡ false → IsSent w later event seat mount
   HeIsCalledHome : ComesUpOn event mount → seat.home ≡ mount → (options_for w.house.settings mount).listeners.fallback_override ≡ true
       → IsSent w later event seat mount
   IsCommandedThere : IsCommanded w event (MoveClients seat.mount mount) → IsSent w later event seat mount
 
--- all that an event can do to the seat of the client of this number, where a rule ends one only for its cause; between the seats, what it hands to him
+-- all that an event can do to the seat of the client of this number, where a rule ends one only for its cause; between the seats, what it hands to it
 pub data SeatStep (w : World) (Cause : Rule → Type 0) (event : Event) (id : ℕ) : Option Seat → List ℕ → Option Seat → Type 0 where
-  -- it stays as it is, or he has none still
+  -- it stays as it is, or it has none still
   Stays : (seat : Option Seat) → SeatStep w Cause event id seat [] seat
-  -- he draws, and is handed what stands at his place in the session in which he sits
+  -- it draws, and is handed what stands at its place in the session in which it sits
   IsHanded : (seat : Seat) (session : Session) (room : ℕ) → event ≡ Draw id room → heard_at w.house seat.mount ≡ Some session
       → session.number ≡ seat.session → seat.place + length (data_at session.stream seat.place room) ≤ end_of session.stream
       → SeatStep w Cause event id (Some seat) (data_at session.stream seat.place room)
       (Some (record seat { place = seat.place + length (data_at session.stream seat.place room) }))
-  -- he asks for a mount, the policy allows it, and his walk lands at a mount that is live, or waits for a session
+  -- it asks for a mount, the policy allows it, and its walk lands at a mount that is live, or waits for a session
   SitsDown : (asked : ListenRequest) (peer : Peer) (session : Session) → event ≡ Listen asked → asked.id ≡ id → standing_of w id ≡ Undecided peer
       → walks_to w.house w.seats asked.mount asked.pair ≡ Lands session.mount → heard_at w.house session.mount ≡ Some session
       → verdict_in (rows_to_listen w asked) ≡ Allow
       → SeatStep w Cause event id None [] (Some (first_seat w.house asked peer session))
-  -- a session begins at his mount, which waited for one: he hears it from its start
+  -- a session begins at its mount, which waited for one: it hears it from its start
   IsGiven : (seat : Seat) (session : Session) → ComesUpOn event seat.mount → session_of w.house.live seat.mount ≡ None
       → session_of (world_after w event).house.live seat.mount ≡ Some session → session.stream.bytes ≡ [] → seat.session ≡ 0 → seat.place ≡ 0
       → (0 == session.number) ≡ false → SeatStep w Cause event id (Some seat) [] (Some (record seat { session = session.number }))
-  -- a move that the event brings takes him, at his turn, to the end of the stream of another mount, which is live and lets him in, or of his own, which
+  -- a move that the event brings takes it, at its turn, to the end of the stream of another mount, which is live and lets it in, or of its own, which
   -- waits for a session from then on
   IsMoved : (seat : Seat) (session : Session) → TakesTo w event id session.mount → IsSent w (world_after w event) event seat session.mount
       → heard_at (world_after w event).house session.mount ≡ Some session → lets_in (world_after w event).house.lists session.mount seat.pair ≡ true
       → (seat.session == session.number) ≡ false → SeatStep w Cause event id (Some seat) [] (Some (moved_into session seat))
-  -- he leaves
+  -- it leaves
   Leaves : (seat : Seat) → event ≡ Leave id → SeatStep w Cause event id (Some seat) [] None
-  -- he is finished by a rule
+  -- it is finished by a rule
   IsEnded : (seat : Seat) (rule : Rule) → Cause rule → SeatStep w Cause event id (Some seat) [] None
 
 -- rule: Changes of seats; Seat of a newcomer

@@ -8,7 +8,7 @@ use Rattle.radio_parts.specs.Stream.{AreRising, end_of}
 use Rattle.radio_house.specs.World.{World, standing_of}
 use Rattle.radio_house.specs.Waiting.{heard_at}
 
--- the listener sits in the session that his mount has, or waits there for one, and his place is within its stream
+-- the listener sits in the session that its mount has, or waits there for one, and its place is within its stream
 pub record IsSeatedIn (w : World) (seat : Seat) : Type 0 where
   pub session : Session
   pub is_heard : heard_at w.house seat.mount ≡ Some session
@@ -30,6 +30,6 @@ pub record IsSound (w : World) : Type 0 where
   pub starts : (mount : List ℕ) (session : Session) → session_of w.house.live mount ≡ Some session → AreRising session.stream.starts (end_of session.stream)
   -- listeners stand in the order of their numbers
   pub by_number : AreByNumber w.seats
-  -- whoever has a seat sits, in the session that his mount has, or waits there for one
+  -- whoever has a seat sits, in the session that its mount has, or waits there for one
   pub sitting : (id : ℕ) (seat : Seat) → seat_of w.seats id ≡ Some seat → standing_of w id ≡ Sits
   pub seated : (id : ℕ) (seat : Seat) → seat_of w.seats id ≡ Some seat → IsSeatedIn w seat

@@ -44,7 +44,7 @@ abbrev pub seatings : Reply → ℕ
 seatings (Seated interval head) = 1
 seatings reply = 0
 
--- the client who has left was a listener, who sat or had lost his seat before
+-- the client who has left was a listener, who sat or had lost its seat before
 abbrev pub listeners_leaving : World → Reply → Event → ℕ
 listeners_leaving w Noted (Leave id) = if is_some (listener_of w.seats id) then 1 else 0
 listeners_leaving w reply event = 0

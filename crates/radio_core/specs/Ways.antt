@@ -27,7 +27,7 @@ use Rattle.radio_house.specs.Facts.{rows_to_arrive, rows_to_feed, rows_to_raise,
 use Rattle.radio_core.specs.Listen.{first_seat}
 use Rattle.radio_facts.specs.Streams.{interval_for, head_of}
 use Rattle.radio_core.specs.Pages.{IsShownBy}
-use Rattle.radio_events.specs.declared.text.Text.{Text}
+use Rattle.radio_events.specs.declared.text.ReplyText.{ReplyText}
 use Rattle.radio_core.specs.Outcomes.{says}
 use Rattle.radio_core.specs.RelayUp.{raises}
 use Rattle.radio_seats_rows.specs.Seats.{seat_of}
@@ -66,7 +66,7 @@ pub data Way (w : World) : Event → Outcome → Type 0 where
   -- the policy denies it to one who did not ask for a mount
   IsDenied : (event : Event) (rule : Rule) → verdict_in (rows_for w event) ≡ Denied rule → ((id : ℕ) → client_in event ≡ Some id → IsUndecided w id → ⊥)
       → Way w event (says (Deny rule) Nothing)
-  -- the policy denies a client what he asks for, and he has had his answer
+  -- the policy denies a client what it asks for, and it has had its answer
   IsRefused : (event : Event) (id : ℕ) (rule : Rule) → verdict_in (rows_for w event) ≡ Denied rule → client_in event ≡ Some id → IsUndecided w id
       → Way w event (says (Deny rule) (Answer id))
   IsAdmitted : (peer : Peer) → verdict_in (rows_to_arrive w.house peer) ≡ Allow
@@ -90,7 +90,7 @@ pub data Way (w : World) : Event → Outcome → Type 0 where
   Leaves : (id : ℕ) → has_relay w id ≡ false → ((mount : List ℕ) → standing_of w id ≡ Feeds mount → ⊥) → Way w (Leave id) (says Noted (Forget id))
   GoesDown : (id : ℕ) (rule : Rule) → has_relay w id ≡ true → standing_of w id ≡ HasFinished rule → Way w (RelayDown id) (says Noted (Forget id))
   Obeys : (event : Event) (command : TheCommand) (c : IsCommanded w event command) → Way w event (obeys w c.asked.id command)
-  Shows : (event : Event) (id : ℕ) (peer : Peer) (text : Text) → client_in event ≡ Some id → standing_of w id ≡ Undecided peer → IsShownBy w event text
+  Shows : (event : Event) (id : ℕ) (peer : Peer) (text : ReplyText) → client_in event ≡ Some id → standing_of w id ≡ Undecided peer → IsShownBy w event text
       → Way w event (says (SaysText text) (Answer id))
   HasPassed : (ms : ℕ) → nat_lt ms w.house.time ≡ true → Way w (Clock ms) (says Noted Nothing)
   Ticks : (ms : ℕ) → nat_lt ms w.house.time ≡ false → Way w (Clock ms) (says Noted (Tick ms))

@@ -27,8 +27,8 @@ pub use outcome::Outcome;
 pub use radio_access::Lists;
 pub use radio_changes::Change;
 pub use radio_events::{
-    Asked, Boxed, Command, CommandRequest, Event, ListenRequest, Listing, OpenedBy, Reply,
-    SourceRequest, StreamHead, Text, Visit,
+    Asked, Boxed, Command, CommandRequest, Event, ListenRequest, Listing, OpenedBy, PageVisit,
+    Reply, ReplyText, SourceRequest, StreamHead,
 };
 pub use radio_mount_part::{ListedPart, MountPart, PartAnswer};
 pub use radio_mounts::MountParts;

@@ -51,7 +51,7 @@ new_first (Some x) later true digest h = absurd (false≢true (sym (h refl)))
 new_first None later true digest h = refl
 new_first o later false digest h = refl
 
--- a user who is listed keeps his digest, and another gets that of the line
+-- a user who is listed keeps its digest, and another gets that of the line
 one_more : (users : UserList) (line : Option (List ℕ × List ℕ)) (entries : List (List ℕ × List ℕ)) (user : List ℕ)
     → or_later (finite.get (with_line users line) user) (find (slice_cmp nat_cmp) user entries)
     ≡ or_later (finite.get users user) (find (slice_cmp nat_cmp) user (cons_option line entries))

@@ -114,7 +114,7 @@ module _ {K : Type 0} (read : K → List ℕ) where
             get-from_entries nat_list_cmp_total _ q ∙ find-removed q user h entries ∙ sym (get-from_entries nat_list_cmp_total _ q)
             ∙ sym (ap (λ b. cond b None (finite.get (finite.from_entries {R = slice_cmp nat_cmp} (listed read entries)) q)) h)
 
--- a line of a user who is not listed adds him
+-- a line of a user who is not listed adds it
 pub with_new_line : (users : UserList) (line : Option (List ℕ × List ℕ)) (user digest : List ℕ)
     → line ≡ Some (user, digest) → finite.contains_key users user ≡ false → with_line users line ≡ finite.insert users user digest
 with_new_line users line user digest is new =

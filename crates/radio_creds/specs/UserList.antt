@@ -45,7 +45,7 @@ with_line users (Some line) =
 abbrev pub users_of : List ℕ → UserList
 users_of text = map.from_entries (user_lines text)
 
--- the user is listed with the digest of this password, and no more as he was
+-- the user is listed with the digest of this password, and no more as it was
 -- rule: Change of users
 abbrev pub with_user : UserList → List ℕ → List ℕ → UserList
 with_user users user password = map.insert users user (md5 password)

@@ -92,7 +92,7 @@ impl Users {
         self.digest_of(user).is_some()
     }
 
-    /// Lists the user with this password, whatever was listed of him before. `OutOfMemory` where memory was refused;
+    /// Lists the user with this password, whatever was listed of it before. `OutOfMemory` where memory was refused;
     /// nothing has changed then.
     // rule: Change of users
     pub fn set(&mut self, alloc: Global, user: &[u8], password: &[u8]) -> Result<(), OutOfMemory>
@@ -104,7 +104,7 @@ impl Users {
         Ok(())
     }
 
-    /// Lists the user no more. Whether he was listed. It takes no memory.
+    /// Lists the user no more. Whether it was listed. It takes no memory.
     // rule: Change of users
     pub fn remove(&mut self, user: &[u8]) -> bool
         ensures was_listed { result ≡ has_user self.old user.now }

@@ -6,8 +6,8 @@ use Rattle.std.specs.Option.{option_map, option_to_list, MatchOption}
 use Rattle.std.specs.Char.{digit_char}
 use Rattle.std.proofs.lemmas.Bool.Decides.{nat_tests}
 use Rattle.std.proofs.lemmas.Str.{digit_value-digit_char}
-use Rattle.radio_deliveries.specs.declared.escapes.Place.TheVariants.{Between, Escape, High, Low}
-use Rattle.radio_deliveries.specs.declared.escapes.Place.{Place}
+use Rattle.radio_deliveries.specs.declared.escapes.EscapePlace.TheVariants.{Between, Escape, High, Low}
+use Rattle.radio_deliveries.specs.declared.escapes.EscapePlace.{EscapePlace}
 use Rattle.radio_deliveries.specs.Escapes.{is_plain, escape_of, escaped, hex_value_of, step_at, unescaped_from, unescaped}
 
 -- The text is read as this byte, and then the rest.
@@ -80,15 +80,15 @@ joined : (bytes more : List ℕ) (o : Option (List ℕ)) → option_map (λ rest
 joined bytes more None = refl
 joined bytes more (Some rest) = ap Some (append_assoc bytes more rest)
 
-steps_on : (place : Place) (b : ℕ) (rest : List ℕ) (step : Place × Option ℕ) → step_at place b ≡ Some step
+steps_on : (place : EscapePlace) (b : ℕ) (rest : List ℕ) (step : EscapePlace × Option ℕ) → step_at place b ≡ Some step
     → unescaped_from place (b ∷ rest) ≡ option_map (λ bytes. option_to_list step.1 ++ bytes) (unescaped_from step.0 rest)
 steps_on Between b rest step e = rw e refl
 steps_on Escape b rest step e = rw e refl
 steps_on High b rest step e = rw e refl
 steps_on (Low high) b rest step e = rw e refl
 
-pub taken : (bytes new : List ℕ) (place next : Place) (text : List ℕ) (i : ℕ) → i < length text
-    → (r : Option (Place × Option ℕ)) → step_at place (get_or text i 0) ≡ r
+pub taken : (bytes new : List ℕ) (place next : EscapePlace) (text : List ℕ) (i : ℕ) → i < length text
+    → (r : Option (EscapePlace × Option ℕ)) → step_at place (get_or text i 0) ≡ r
     → MatchOption r (Some next ≡ None) (λ step. (Some next ≡ Some step.0) × (new ≡ bytes ++ option_to_list step.1))
     → option_map (λ rest. new ++ rest) (unescaped_from next (drop (i + 1) text)) ≡ option_map (λ rest. bytes ++ rest) (unescaped_from place (drop i text))
 taken bytes new place next text i low None e h = cc

@@ -9,7 +9,7 @@ use Rattle.std.specs.Fmt.{decimal}
 use Rattle.std.specs.Str.Parse.{AllDigits}
 use Rattle.std.proofs.lemmas.Bool.Decides.{nat_tests}
 use Rattle.std.proofs.lemmas.Fmt.{decimal_injective, decimal_is_IsNumeral}
-use Rattle.radio_deliveries.specs.declared.escapes.Place.TheVariants.{Between}
+use Rattle.radio_deliveries.specs.declared.escapes.EscapePlace.TheVariants.{Between}
 use Rattle.radio_deliveries.specs.Escapes.{is_plain, escape_of, escaped, hex_value_of, unescaped_from, unescaped}
 use Rattle.radio_deliveries.specs.Feeds.{has_feed}
 use Rattle.radio_deliveries.specs.TranscriptLines.{out_line, shut_line}

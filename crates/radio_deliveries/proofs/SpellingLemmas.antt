@@ -3,8 +3,8 @@ use Rattle.std.proofs.Common.{◌≡◌, ◌↔◌, ℕ, zero, suc, ◌+◌, ◌
 use Rattle.std.proofs.Common.{Some, refl, ap, ◌∙◌, subst, arith}
 use Rattle.std.specs.Option.{option_map, option_to_list}
 use Rattle.std.proofs.lemmas.Bool.Decides.{nat_tests}
-use Rattle.radio_deliveries.specs.declared.escapes.Place.{Place}
-use Rattle.radio_deliveries.specs.declared.escapes.Place.TheVariants.{Between, Escape, High, Low}
+use Rattle.radio_deliveries.specs.declared.escapes.EscapePlace.{EscapePlace}
+use Rattle.radio_deliveries.specs.declared.escapes.EscapePlace.TheVariants.{Between, Escape, High, Low}
 use Rattle.radio_deliveries.specs.Steps.{◌>>=◌}
 use Rattle.radio_deliveries.specs.Escapes.{is_plain, hex_value_of, step_at, unescaped_from, unescaped}
 use Rattle.radio_deliveries.specs.Spelling.{Spells, as_itself, as_return, as_feed, as_backslash, as_digits, SpellsAll, none, more}
@@ -31,26 +31,26 @@ reads_all text bytes (more {piece = piece} {text = rest} {bytes = others} {b = b
 -- ---- what is read is spelled so
 
 -- a step and what follows it, where both are there
-record Stepped (place : Place) (b : ℕ) (text bytes : List ℕ) : Type 0 where
-  step : Place × Option ℕ
+record Stepped (place : EscapePlace) (b : ℕ) (text bytes : List ℕ) : Type 0 where
+  step : EscapePlace × Option ℕ
   rest : List ℕ
   is : step_at place b ≡ Some step
   follows : unescaped_from step.0 text ≡ Some rest
   all : option_to_list step.1 ++ rest ≡ bytes
 
-stepped_on : (place : Place) (b : ℕ) (text bytes : List ℕ) (step : Place × Option ℕ) → step_at place b ≡ Some step → (o : Option (List ℕ))
+stepped_on : (place : EscapePlace) (b : ℕ) (text bytes : List ℕ) (step : EscapePlace × Option ℕ) → step_at place b ≡ Some step → (o : Option (List ℕ))
     → unescaped_from step.0 text ≡ o
     → option_map (λ ys. option_to_list step.1 ++ ys) o ≡ Some bytes → Stepped place b text bytes
 stepped_on place b text bytes step e None f h = cc
 stepped_on place b text bytes step e (Some rest) f h = record { step = step; rest = rest; is = e; follows = f; all = cc }
 
-stepped_by : (place : Place) (b : ℕ) (text bytes : List ℕ) (o : Option (Place × Option ℕ)) → step_at place b ≡ o
+stepped_by : (place : EscapePlace) (b : ℕ) (text bytes : List ℕ) (o : Option (EscapePlace × Option ℕ)) → step_at place b ≡ o
     → (o >>= λ step. option_map (λ ys. option_to_list step.1 ++ ys) (unescaped_from step.0 text)) ≡ Some bytes → Stepped place b text bytes
 stepped_by place b text bytes None e h = cc
 stepped_by place b text bytes (Some step) e h = stepped_on place b text bytes step e (unescaped_from step.0 text) refl h
 
 -- Reading goes on from a place only by a step.
-stepped : (place : Place) (b : ℕ) (text bytes : List ℕ) → unescaped_from place (b ∷ text) ≡ Some bytes → Stepped place b text bytes
+stepped : (place : EscapePlace) (b : ℕ) (text bytes : List ℕ) → unescaped_from place (b ∷ text) ≡ Some bytes → Stepped place b text bytes
 stepped Between b text bytes h = stepped_by Between b text bytes (step_at Between b) refl h
 stepped Escape b text bytes h = stepped_by Escape b text bytes (step_at Escape b) refl h
 stepped High b text bytes h = stepped_by High b text bytes (step_at High b) refl h
@@ -69,13 +69,13 @@ bind_some None f y e = cc
 bind_some (Some x) f y e = (x, refl, e)
 
 -- The step leads to this place and gives this byte, or none.
-goes_to : (place : Place) (given : Option ℕ) (step : Place × Option ℕ) (text rest bytes : List ℕ) → Some (place, given) ≡ Some step
+goes_to : (place : EscapePlace) (given : Option ℕ) (step : EscapePlace × Option ℕ) (text rest bytes : List ℕ) → Some (place, given) ≡ Some step
     → unescaped_from step.0 text ≡ Some rest → option_to_list step.1 ++ rest ≡ bytes
     → (unescaped_from place text ≡ Some rest) × (option_to_list given ++ rest ≡ bytes)
 goes_to place given step text rest bytes e follows all =
     let same : step ≡ (place, given) = cc in (
-      subst (λ (p : Place × Option ℕ). unescaped_from p.0 text ≡ Some rest) same follows,
-      subst (λ (p : Place × Option ℕ). option_to_list p.1 ++ rest ≡ bytes) same all,
+      subst (λ (p : EscapePlace × Option ℕ). unescaped_from p.0 text ≡ Some rest) same follows,
+      subst (λ (p : EscapePlace × Option ℕ). option_to_list p.1 ++ rest ≡ bytes) same all,
     )
 
 -- a byte is whole, and the rest of the text is spelled

@@ -4,8 +4,8 @@ use Rattle.std.specs.Prelude.{ℕ, ◌+◌, ◌*◌, ◌/◌, ◌%◌, nat_lt, n
 use Rattle.std.specs.Option.{option_map, option_to_list}
 use Rattle.std.specs.Char.{digit_value, digit_char}
 use Rattle.std.specs.List.{flat_map}
-use Rattle.radio_deliveries.specs.declared.escapes.Place.{Place}
-use Rattle.radio_deliveries.specs.declared.escapes.Place.TheVariants.{Between, Escape, High, Low}
+use Rattle.radio_deliveries.specs.declared.escapes.EscapePlace.{EscapePlace}
+use Rattle.radio_deliveries.specs.declared.escapes.EscapePlace.TheVariants.{Between, Escape, High, Low}
 use Rattle.radio_deliveries.specs.Steps.{◌>>=◌}
 
 -- a byte that stands for itself
@@ -32,7 +32,7 @@ hex_value_of b = if nat_lt (digit_value b) 16 then Some (digit_value b) else Non
 
 -- What one byte of a text does at each place of its reading: where the reading goes on, and the
 -- byte that is whole now.
-abbrev pub step_at : Place → ℕ → Option (Place × Option ℕ)
+abbrev pub step_at : EscapePlace → ℕ → Option (EscapePlace × Option ℕ)
 step_at Between b =
     if b == 92 then Some (Escape, None) else (if is_plain b then Some (Between, Some b) else None)
 step_at Escape b =
@@ -49,7 +49,7 @@ step_at (Low high) b = do
   Some (Between, Some (first * 16 + second))
 
 -- the bytes that the rest of a text stands for, read from this place on
-abbrev pub unescaped_from : Place → List ℕ → Option (List ℕ)
+abbrev pub unescaped_from : EscapePlace → List ℕ → Option (List ℕ)
 unescaped_from Between [] = Some []
 unescaped_from place [] = None
 unescaped_from place (b ∷ text) = do

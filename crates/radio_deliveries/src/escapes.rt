@@ -13,7 +13,7 @@ use std::alloc::Global;
 
 /// Where the reading of a text stands.
 #[derive(Clone, Copy)]
-pub enum Place {
+pub enum EscapePlace {
     /// Between the spellings of two bytes.
     Between,
     /// Behind a backslash.
@@ -31,7 +31,7 @@ pub fn unescape(alloc: Global, text: &[u8]) -> Result<Option<Bytes>, OutOfMemory
     ensures { IfOk result (λ bytes. bytes ≡ unescaped text.now) }
 {
     let mut bytes = Vec::new(alloc);
-    let mut place = Place::Between;
+    let mut place = EscapePlace::Between;
     for b in text {
         match take_byte(&mut bytes, place, *b)? {
             Some(next) => place = next,
@@ -39,14 +39,18 @@ pub fn unescape(alloc: Global, text: &[u8]) -> Result<Option<Bytes>, OutOfMemory
         }
     }
     match place {
-        Place::Between => Ok(Some(Bytes::from_vec(bytes)?)),
+        EscapePlace::Between => Ok(Some(Bytes::from_vec(bytes)?)),
         _ => Ok(None),
     }
 }
 
 // Goes one byte on in a text: adds the byte that is whole now, if one is, and says where the
 // reading goes on.
-fn take_byte(bytes: &mut Vec<u8>, place: Place, b: u8) -> Result<Option<Place>, OutOfMemory>
+fn take_byte(
+    bytes: &mut Vec<u8>,
+    place: EscapePlace,
+    b: u8,
+) -> Result<Option<EscapePlace>, OutOfMemory>
     ensures { IfOk result (λ next. MatchOption (step_at place b)
         (next ≡ None)
         (λ step. (next ≡ Some step.0)
@@ -61,52 +65,52 @@ fn take_byte(bytes: &mut Vec<u8>, place: Place, b: u8) -> Result<Option<Place>, 
     Ok(Some(next))
 }
 
-fn step(place: Place, b: u8) -> Option<(Place, Option<u8>)>
+fn step(place: EscapePlace, b: u8) -> Option<(EscapePlace, Option<u8>)>
     ensures { result ≡ step_at place b }
 {
     match place {
-        Place::Between => step_between(b),
-        Place::Escape => step_behind_backslash(b),
-        Place::High => step_to_low(b),
-        Place::Low(high) => step_behind_digits(high, b),
+        EscapePlace::Between => step_between(b),
+        EscapePlace::Escape => step_behind_backslash(b),
+        EscapePlace::High => step_to_low(b),
+        EscapePlace::Low(high) => step_behind_digits(high, b),
     }
 }
 
-fn step_between(b: u8) -> Option<(Place, Option<u8>)>
-    ensures { result ≡ step_at Place.Between b }
+fn step_between(b: u8) -> Option<(EscapePlace, Option<u8>)>
+    ensures { result ≡ step_at EscapePlace.Between b }
 {
     match b {
-        b'\\' => Some((Place::Escape, None)),
-        b' '..=b'~' => Some((Place::Between, Some(b))),
+        b'\\' => Some((EscapePlace::Escape, None)),
+        b' '..=b'~' => Some((EscapePlace::Between, Some(b))),
         _ => None,
     }
 }
 
-fn step_behind_backslash(b: u8) -> Option<(Place, Option<u8>)>
-    ensures { result ≡ step_at Place.Escape b }
+fn step_behind_backslash(b: u8) -> Option<(EscapePlace, Option<u8>)>
+    ensures { result ≡ step_at EscapePlace.Escape b }
 {
     match b {
-        b'r' => Some((Place::Between, Some(b'\r'))),
-        b'n' => Some((Place::Between, Some(b'\n'))),
-        b'\\' => Some((Place::Between, Some(b'\\'))),
-        b'x' => Some((Place::High, None)),
+        b'r' => Some((EscapePlace::Between, Some(b'\r'))),
+        b'n' => Some((EscapePlace::Between, Some(b'\n'))),
+        b'\\' => Some((EscapePlace::Between, Some(b'\\'))),
+        b'x' => Some((EscapePlace::High, None)),
         _ => None,
     }
 }
 
-fn step_to_low(b: u8) -> Option<(Place, Option<u8>)>
-    ensures { result ≡ step_at Place.High b }
+fn step_to_low(b: u8) -> Option<(EscapePlace, Option<u8>)>
+    ensures { result ≡ step_at EscapePlace.High b }
 {
     let _ = hex_value(b)?;
-    Some((Place::Low(b), None))
+    Some((EscapePlace::Low(b), None))
 }
 
-fn step_behind_digits(high: u8, low: u8) -> Option<(Place, Option<u8>)>
-    ensures { result ≡ step_at (Place.Low high) low }
+fn step_behind_digits(high: u8, low: u8) -> Option<(EscapePlace, Option<u8>)>
+    ensures { result ≡ step_at (EscapePlace.Low high) low }
 {
     let first = hex_value(high)?;
     let second = hex_value(low)?;
-    Some((Place::Between, Some(first * 16 + second)))
+    Some((EscapePlace::Between, Some(first * 16 + second)))
 }
 
 // The value of a hexadecimal digit, in either case.

@@ -1,7 +1,7 @@
 -- What is answered to a command, or to one who is shown something of the station.
 use Rattle.std.specs.Prelude.{ℕ, List, ◌++◌, codes, decimal}
-use Rattle.radio_events.specs.declared.text.Text.{Text}
-use Rattle.radio_events.specs.declared.text.Text.TheVariants.{Done, Moved, Ended, Json, Streams, Public, Page}
+use Rattle.radio_events.specs.declared.text.ReplyText.{ReplyText}
+use Rattle.radio_events.specs.declared.text.ReplyText.TheVariants.{Done, Moved, Ended, Json, Streams, Public, Page}
 
 -- a line that a command was done
 -- rule: Commands are done
@@ -18,7 +18,7 @@ abbrev pub ended_line : ℕ → List ℕ
 ended_line count = codes "ended: " ++ decimal count ++ codes "\n"
 
 -- it is neither a listing nor the page
-abbrev pub IsShort : Text → Type 0
+abbrev pub IsShort : ReplyText → Type 0
 IsShort Done = Unit {0}
 IsShort (Moved count) = Unit {0}
 IsShort (Ended count) = Unit {0}

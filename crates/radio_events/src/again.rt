@@ -4,7 +4,8 @@ ghost use Rattle.std.specs.Prelude.{◌≡◌, IsOk, IfOk};
 ghost use Rattle.radio_events.specs.Events.{TakesNoMemory};
 
 use crate::{
-    Asked, Boxed, Command, CommandRequest, Event, ListenRequest, OutOfMemory, SourceRequest, Visit,
+    Asked, Boxed, Command, CommandRequest, Event, ListenRequest, OutOfMemory, PageVisit,
+    SourceRequest,
 };
 use bytes::Bytes;
 use radio_blocks::Block;
@@ -97,10 +98,10 @@ fn listen_again(asked: &Boxed<ListenRequest>) -> Result<Boxed<ListenRequest>, Ou
 }
 
 /// An equal visit. `OutOfMemory` where memory was refused.
-fn visit_again(visit: &Visit) -> Result<Visit, OutOfMemory>
+fn visit_again(visit: &PageVisit) -> Result<PageVisit, OutOfMemory>
     ensures { IfOk result (λ again. again ≡ visit.now) }
 {
-    Ok(Visit {
+    Ok(PageVisit {
         host: visit.host.clone()?,
         server_start: visit.server_start,
     })

@@ -7,7 +7,7 @@ use radio_values::MountName;
 use std::marker::Model;
 use std::sync::Wait;
 
-/// A caller of a server, with his pass. In contracts he is his pass.
+/// A caller of a server, with its pass. In contracts it is its pass.
 #[derive(Drop)]
 pub struct Caller<'a, R: Wait, S: SharedServer> {
     rt: &'a R,
@@ -29,7 +29,7 @@ impl<'a, R: Wait, S: SharedServer> Caller<'a, R, S> {
         Caller { rt, server, pass }
     }
 
-    /// His pass, when he calls no more.
+    /// Its pass, when it calls no more.
     pub fn into_pass(self) -> S::Pass
         ensures { result ≡ self.entry }
     {

@@ -9,9 +9,9 @@ use radio_values::{MountName, Title};
 pub struct CommandRequest {
     /// The number of the client.
     pub id: u64,
-    /// What his path and its arguments ask for.
+    /// What its path and its arguments ask for.
     pub asked: Asked,
-    /// The user and the password that he sends, if he does.
+    /// The user and the password that it sends, if it does.
     pub pair: Option<Pair>,
 }
 

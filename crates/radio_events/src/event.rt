@@ -11,11 +11,11 @@ use radio_values::{Shown, Title};
 pub struct SourceRequest {
     /// The number of the client.
     pub id: u64,
-    /// The path that he names, which need not be the name of a mount.
+    /// The path that it names, which need not be the name of a mount.
     pub mount: Bytes,
-    /// The user and the password that he sends, if he does.
+    /// The user and the password that it sends, if it does.
     pub pair: Option<Pair>,
-    /// What his head tells of the stream.
+    /// What its head tells of the stream.
     pub shown: Shown,
 }
 
@@ -38,19 +38,19 @@ impl Drop for SourceRequest {
 pub struct ListenRequest {
     /// The number of the client.
     pub id: u64,
-    /// The path that he names, which need not be the name of a mount.
+    /// The path that it names, which need not be the name of a mount.
     pub mount: Bytes,
-    /// The user and the password that he sends, if he does.
+    /// The user and the password that it sends, if it does.
     pub pair: Option<Pair>,
-    /// Whether he wants metadata between the data (ICY convention, `Icy-MetaData`).
+    /// Whether it wants metadata between the data (ICY convention, `Icy-MetaData`).
     pub wants_metadata: bool,
     /// What a page of the web site may say to this client.
-    pub visit: Visit,
+    pub visit: PageVisit,
 }
 
 /// What a page of the web site says of the server to one client.
 #[derive(Drop)]
-pub struct Visit {
+pub struct PageVisit {
     /// The host by which the client calls the server (RFC 9110, section 7.2), if the page has full addresses; empty for
     /// other pages, and if the client names no host.
     pub host: Bytes,

@@ -1,9 +1,9 @@
 //! What happens to the server, and what it replies.
 //!
 //! - [`Event`]: what happens; [`SourceRequest`], [`ListenRequest`] and [`CommandRequest`] are what a
-//!   client asks for. [`Visit`]: what a page of the web site says of the server to one client.
+//!   client asks for. [`PageVisit`]: what a page of the web site says of the server to one client.
 //! - [`Boxed`]: a value in an allocation of its own, as what a client asks for is: so an event and a reply move for little.
-//! - [`Reply`]: what the server replies; a [`Text`] is its answer to a command, or to one who
+//! - [`Reply`]: what the server replies; a [`ReplyText`] is its answer to a command, or to one who
 //!   is shown something of the station.
 //! - [`State`], [`Ending`]: whether a connection goes on, and the word by which it ends.
 //! - [`Entry`]: one event with its reply, of which histories are made.
@@ -29,12 +29,12 @@ pub use boxed::Boxed;
 pub use caller::Caller;
 pub use command::{Asked, Command, CommandRequest, Listing, OpenedBy};
 pub use entry::Entry;
-pub use event::{Event, ListenRequest, MomentText, SourceRequest, Visit};
+pub use event::{Event, ListenRequest, MomentText, PageVisit, SourceRequest};
 pub use reply::{Reply, StreamHead};
 pub use server::Server;
 pub use shared_server::SharedServer;
 pub use state::{Ending, State};
-pub use text::Text;
+pub use text::ReplyText;
 
 /// What a call answers where memory was refused. Nothing has changed then.
 pub type OutOfMemory = std::alloc::AllocError;

@@ -1,13 +1,13 @@
 //! What the server replies.
 
-use crate::{Boxed, OutOfMemory, Text};
+use crate::{Boxed, OutOfMemory, ReplyText};
 use radio_blocks::Pieces;
 use radio_policy::Rule;
 use radio_values::{AllowedOrigin, Shown, Title};
 
 /// What the head of a listener's stream says.
 pub struct StreamHead {
-    /// What the session shows that he hears.
+    /// What the session shows that it hears.
     pub shown: Shown,
     /// Whose pages may read the stream (`Access-Control-Allow-Origin`), where the settings say it.
     pub allow_origin: Option<AllowedOrigin>,
@@ -47,22 +47,22 @@ pub enum Reply {
     Feeding,
     /// The client hears a mount from now on.
     Seated {
-        /// After how many bytes of data he is sent a metadata block, if he asked for metadata.
+        /// After how many bytes of data it is sent a metadata block, if it asked for metadata.
         interval: Option<u32>,
-        /// What his head says beside it.
+        /// What its head says beside it.
         head: Boxed<StreamHead>,
     },
     /// The listener's next data.
     Drawn {
         /// The data.
         pieces: Pieces,
-        /// The title that the source of his mount has set last, if it has set one.
+        /// The title that the source of its mount has set last, if it has set one.
         title: Option<Title>,
     },
     /// It was done, and there is nothing to say.
     Noted,
     /// The command was done, or something of the station is shown; this is the answer.
-    Text(Text),
+    Text(ReplyText),
     /// The policy denies it, by this rule.
     Deny(Rule),
     /// The client or relay was finished before, by this rule.

@@ -22,6 +22,6 @@ pub trait Server {
         ensures err { OnErr result (self.new ≡ self.old) }
         ensures refused { OnErr result (refuses self.old event) };
 
-    /// The mount where the listener of this number sits, or sat last, if he is one. It takes no memory.
+    /// The mount where the listener of this number sits, or sat last, if it is one. It takes no memory.
     fn last_mount(&self, id: u64) -> Option<MountName>;
 }

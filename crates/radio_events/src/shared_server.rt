@@ -9,15 +9,15 @@ use std::sync::Wait;
 
 /// A server that several threads ask, each by a pass of its own.
 pub trait SharedServer {
-    /// What one who asks has, where it may be noted what was applied for him.
+    /// What one who asks has, where it may be noted what was applied for it.
     type Pass: Drop;
 
     ghost use Rattle.radio_events.specs.Servers.{Steps};
 
-    // from one state of his pass the event is answered by the reply, and leaves the other state
+    // from one state of its pass the event is answered by the reply, and leaves the other state
     ghost steps: { Steps Self.Pass };
 
-    // in this state of his pass the event may be refused for want of memory
+    // in this state of its pass the event may be refused for want of memory
     ghost refuses: { Self.Pass → EventOf → Type 0 };
 
     /// A pass for one more who asks. `None` where there is none left.
@@ -35,7 +35,7 @@ pub trait SharedServer {
         ensures err { OnErr result (pass.new ≡ pass.old) }
         ensures refused { OnErr result (refuses pass.old event) };
 
-    /// The mount where the listener of this number sits, or sat last, if he is one. It takes no memory.
+    /// The mount where the listener of this number sits, or sat last, if it is one. It takes no memory.
     fn last_mount<R: Wait>(&self, rt: &R, id: u64) -> Option<MountName>;
 
     /// The mounts where somebody sits, which relays feed on demand, in the order of their bytes.

@@ -2,7 +2,7 @@
 
 ghost use Rattle.std.specs.Prelude.{◌≡◌, IsOk, IfOk};
 ghost use Rattle.radio_events.specs.Texts.{IsShort};
-ghost use Rattle.radio_events.specs.declared.text.Text.{Text as TextOf};
+ghost use Rattle.radio_events.specs.declared.text.ReplyText.{ReplyText as TextOf};
 
 use crate::OutOfMemory;
 use bytes::Bytes;
@@ -10,7 +10,7 @@ use radio_values::AllowedOrigin;
 
 /// What the server answers a command that it has done, or one who is shown something of the station.
 #[derive(Drop)]
-pub enum Text {
+pub enum ReplyText {
     /// That the command was done.
     Done,
     /// How many listeners went to another mount.
@@ -34,24 +34,24 @@ pub enum Text {
     },
 }
 
-impl Text {
+impl ReplyText {
     /// An equal text. `OutOfMemory` where memory was refused.
-    pub fn again(&self) -> Result<Text, OutOfMemory>
+    pub fn again(&self) -> Result<ReplyText, OutOfMemory>
         ensures value { IfOk result (λ text. text ≡ self.now) }
         // of one that is no listing it is never refused
         ensures frees { IsShort self.now → IsOk result }
     {
         match self {
-            Text::Done => Ok(Text::Done),
-            Text::Moved(count) => Ok(Text::Moved(*count)),
-            Text::Ended(count) => Ok(Text::Ended(*count)),
-            Text::Json(bytes) => Ok(Text::Json(bytes.clone()?)),
-            Text::Streams(bytes) => Ok(Text::Streams(bytes.clone()?)),
-            Text::Public {
+            ReplyText::Done => Ok(ReplyText::Done),
+            ReplyText::Moved(count) => Ok(ReplyText::Moved(*count)),
+            ReplyText::Ended(count) => Ok(ReplyText::Ended(*count)),
+            ReplyText::Json(bytes) => Ok(ReplyText::Json(bytes.clone()?)),
+            ReplyText::Streams(bytes) => Ok(ReplyText::Streams(bytes.clone()?)),
+            ReplyText::Public {
                 bytes,
                 allow_origin,
             } => public_again(bytes, allow_origin),
-            Text::Page { allow_origin } => Ok(Text::Page {
+            ReplyText::Page { allow_origin } => Ok(ReplyText::Page {
                 allow_origin: allow_origin.clone()?,
             }),
         }
@@ -59,10 +59,13 @@ impl Text {
 }
 
 /// An equal text for everybody. `OutOfMemory` where memory was refused.
-fn public_again(bytes: &Bytes, allow_origin: &Option<AllowedOrigin>) -> Result<Text, OutOfMemory>
+fn public_again(
+    bytes: &Bytes,
+    allow_origin: &Option<AllowedOrigin>,
+) -> Result<ReplyText, OutOfMemory>
     ensures { IfOk result (λ text. text ≡ TextOf.Public bytes.now allow_origin.now) }
 {
-    Ok(Text::Public {
+    Ok(ReplyText::Public {
         bytes: bytes.clone()?,
         allow_origin: allow_origin.clone()?,
     })

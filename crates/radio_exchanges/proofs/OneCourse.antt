@@ -4,8 +4,8 @@ use Rattle.radio_events.specs.declared.event.Event.{Event}
 use Rattle.radio_house.specs.World.{World}
 use Rattle.radio_core.specs.Step.{Step}
 use Rattle.radio_relay.specs.declared.items.PullItem.{PullItem}
-use Rattle.radio_relay.specs.declared.pull.Stage.{Stage}
-use Rattle.radio_relay.specs.declared.pull.Stage.TheVariants.{Head, Behind, Over}
+use Rattle.radio_relay.specs.declared.pull.PullStage.{PullStage}
+use Rattle.radio_relay.specs.declared.pull.PullStage.TheVariants.{Head, Behind, Over}
 use Rattle.radio_relay.specs.Cuts.{PullingIsOne}
 use Rattle.radio_relay.specs.Items.{items_of}
 use Rattle.radio_relay.specs.Pulled.{GoesOn, IsPulledAt, Pulled, Standing as AnswerStanding, Stops}
@@ -66,7 +66,7 @@ brings_once mount (item ∷ items) number w one other a b g h =
     (λ now mid final last x y p q. brings_once mount items now.number mid final last x y p q) number (event_for mount number item) w one other a b g h
 
 -- bytes pull in one thing at each stage
-pulled_once : PullingIsOne → (stage : Stage) (bytes : List ℕ) (one other : Pulled) → IsPulledAt stage bytes one
+pulled_once : PullingIsOne → (stage : PullStage) (bytes : List ℕ) (one other : Pulled) → IsPulledAt stage bytes one
     → IsPulledAt stage bytes other → one ≡ other
 pulled_once law (Head held) bytes one other g h = law (held ++ bytes) one other g h
 pulled_once law (Behind stream) bytes one other g h = g ∙ sym h

@@ -94,7 +94,7 @@ needs_to_list w listing = Nothing
 abbrev pub facts_to_list : World → Listing → Option Credentials → CommandFacts
 facts_to_list w listing pair = record { access = access_to w.house.settings listing pair; needs = needs_to_list w listing }
 
--- what is looked up for what his path and its arguments ask; nothing is where the path names no command
+-- what is looked up for what its path and its arguments ask; nothing is where the path names no command
 -- rule: Order for a command
 abbrev pub facts_asked : World → Asked → Option Credentials → Option CommandFacts
 facts_asked w NoCommand pair = None

@@ -15,6 +15,6 @@ head_of house shown = record { shown = shown; allow_origin = house.settings.web.
 abbrev pub burst_of : House → List ℕ → ℕ
 burst_of house mount = min (options_for house.settings mount).stream.burst_size house.settings.limits.queue_size
 
--- after how many bytes a listener of the mount is sent a metadata block, if he asked for metadata
+-- after how many bytes a listener of the mount is sent a metadata block, if it asked for metadata
 abbrev pub interval_for : House → List ℕ → Bool → Option ℕ
 interval_for house mount wants_metadata = (if wants_metadata then Some (options_for house.settings mount).stream.mp3_metadata_interval else None)

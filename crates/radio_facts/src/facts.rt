@@ -79,7 +79,7 @@ pub fn push_facts(house: &House<'_>, mount: &MountName, block: &Block) -> PushFa
 }
 
 /// What is looked up for a listener who sends this pair, or none, and wants to hear the mount,
-/// and where his walk from there ends. A digest is made for each mount with users at which the
+/// and where its walk from there ends. A digest is made for each mount with users at which the
 /// walk looks for a seat: two at the most.
 // rule: Order for a listener; Fallback of a mount
 pub fn listen_facts(

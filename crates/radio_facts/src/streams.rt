@@ -55,7 +55,7 @@ pub fn burst_of(house: &House<'_>, mount: &MountName) -> u64
     burst.min(house.settings().limits.queue_size.get()) as u64
 }
 
-/// After how many bytes of data a listener of the mount is sent a metadata block, if he asked
+/// After how many bytes of data a listener of the mount is sent a metadata block, if it asked
 /// for metadata.
 pub fn interval_for(house: &House<'_>, mount: &MountName, wants_metadata: bool) -> Option<u32>
     ensures { result ≡ interval_for house.now mount.now wants_metadata }

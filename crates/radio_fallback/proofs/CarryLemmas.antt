@@ -16,8 +16,8 @@ use Rattle.radio_seats_rows.specs.Seats.{is_listener, moved, loses, next_number}
 use Rattle.radio_seats_rows.proofs.Lists.{map_found}
 use Rattle.radio_fallback.specs.declared.moves.Carried.{Carried}
 use Rattle.radio_fallback.specs.declared.moves.Move.{Move}
-use Rattle.radio_fallback.specs.declared.moves.Turn.{Turn}
-use Rattle.radio_fallback.specs.declared.moves.Turn.TheVariants.{Stays, GoesTo, IsOut}
+use Rattle.radio_fallback.specs.declared.moves.MoveEffect.{MoveEffect}
+use Rattle.radio_fallback.specs.declared.moves.MoveEffect.TheVariants.{Stays, GoesTo, IsOut}
 use Rattle.radio_fallback.specs.Walk.{Sight}
 use Rattle.radio_fallback.specs.Carry.{Carry, turn_of, after_turn, turns, numbers_of, numbers_past, at_first, carried}
 
@@ -113,14 +113,14 @@ numbers_stay : (p : Listener → Bool) (f : Listener → Listener) → ((x : Lis
 numbers_stay p f same [] = refl
 numbers_stay p f same (x ∷ xs) = numbers_at p f x xs (p x) (same x) (numbers_stay p f same xs)
 
-pub same_numbers : (sight : Sight) (id : ℕ) (carry : Carry) (turn : Turn) → numbers_of (after_turn sight id carry turn).seats ≡ numbers_of carry.seats
+pub same_numbers : (sight : Sight) (id : ℕ) (carry : Carry) (turn : MoveEffect) → numbers_of (after_turn sight id carry turn).seats ≡ numbers_of carry.seats
 same_numbers sight id carry Stays = refl
 same_numbers sight id carry (GoesTo mount) =
     numbers_stay (is_listener id) (moved mount (sight.stream_end mount).session (sight.stream_end mount).place) (λ x. refl) carry.seats
 same_numbers sight id carry (IsOut rule) = numbers_stay (is_listener id) (loses rule) (λ x. refl) carry.seats
 
--- and counts him once at the most
-pub one_more : (sight : Sight) (id : ℕ) (carry : Carry) (turn : Turn)
+-- and counts it once at the most
+pub one_more : (sight : Sight) (id : ℕ) (carry : Carry) (turn : MoveEffect)
     → (after_turn sight id carry turn).counts.moved + (after_turn sight id carry turn).counts.ended ≤ carry.counts.moved + carry.counts.ended + 1
 one_more sight id carry Stays = omega arith
 one_more sight id carry (GoesTo mount) = omega arith

@@ -7,7 +7,7 @@ use Rattle.radio_seats_rows.specs.declared.seat.Seat.{Seat}
 use Rattle.radio_seats_rows.specs.Seats.{seat_of, without_listener}
 use Rattle.radio_fallback.specs.declared.moves.Move.{Move}
 use Rattle.radio_fallback.specs.declared.moves.Move.TheVariants.{Ended, Up, To}
-use Rattle.radio_fallback.specs.declared.moves.Turn.TheVariants.{Stays}
+use Rattle.radio_fallback.specs.declared.moves.MoveEffect.TheVariants.{Stays}
 use Rattle.radio_fallback.specs.Walk.{Sight, with_ends, landing_here, next_mount, onward, walk, landing}
 use Rattle.radio_fallback.specs.Carry.{concerns, walks_on, turn_by, turn_in, turn_of}
 use Rattle.radio_fallback.proofs.WalkLaws.{walks_ten}

@@ -22,8 +22,8 @@ use Rattle.radio_seats_rows.proofs.SeatLaws.{beside_left}
 use Rattle.radio_seats_rows.proofs.CountLaws.{no_more_updated, nobody_sits_as}
 use Rattle.radio_seats_rows.proofs.Lists.{one, held, passing_updated, passing_removed}
 use Rattle.radio_fallback.specs.declared.moves.Move.{Move}
-use Rattle.radio_fallback.specs.declared.moves.Turn.{Turn}
-use Rattle.radio_fallback.specs.declared.moves.Turn.TheVariants.{Stays, GoesTo, IsOut}
+use Rattle.radio_fallback.specs.declared.moves.MoveEffect.{MoveEffect}
+use Rattle.radio_fallback.specs.declared.moves.MoveEffect.TheVariants.{Stays, GoesTo, IsOut}
 use Rattle.radio_fallback.specs.Walk.{Sight, is_full, is_twice_for, sits_already}
 use Rattle.radio_fallback.specs.Carry.{Carry, turn_of, after_turn, turns, numbers_of, at_first, carried}
 use Rattle.radio_fallback.specs.Fares.{IsWithinLimit, SitOnce, seat_at_end, IsCarriedTo, HadASeat}
@@ -34,7 +34,7 @@ use Rattle.radio_fallback.proofs.TurnLemmas.{IsShifted, is_shifted}
 module _ (sight : Sight) (move : Move) (P : Carry → Type 0)
     (shifts : (carry : Carry) (id : ℕ) (to : List ℕ) → P carry → IsShifted sight move carry.seats id to → P (after_turn sight id carry (GoesTo to)))
     (ends : (carry : Carry) (id : ℕ) (rule : Rule) → P carry → P (after_turn sight id carry (IsOut rule))) where
-  turn_by : (carry : Carry) (id : ℕ) (turn : Turn) → turn_of sight move carry.seats id ≡ turn → P carry → P (after_turn sight id carry turn)
+  turn_by : (carry : Carry) (id : ℕ) (turn : MoveEffect) → turn_of sight move carry.seats id ≡ turn → P carry → P (after_turn sight id carry turn)
   turn_by carry id Stays e holds = holds
   turn_by carry id (GoesTo to) e holds = shifts carry id to holds (is_shifted sight move carry.seats id to e)
   turn_by carry id (IsOut rule) e holds = ends carry id rule holds
@@ -52,7 +52,7 @@ numbers_kept sight move seats =
     (λ carry id rule e. same_numbers sight id carry (IsOut rule) ∙ e)
     (numbers_of seats) (at_first seats) refl
 
--- one listener changed: he himself, and all others
+-- one listener changed: it itself, and all others
 changed_at : (p : Listener → Bool) (f : Listener → Listener) (x : Listener) (xs : List Listener) (b : Bool) → p x ≡ b → p (f x) ≡ p x
     → find p (update_first p f xs) ≡ option_map f (find p xs)
     → find p (if b then f x ∷ xs else x ∷ update_first p f xs) ≡ option_map f (find p (x ∷ xs))
@@ -111,7 +111,7 @@ module _ (seats : List Listener) (him : ℕ) (rule : Rule) where
   pub out_beside : (id : ℕ) → (him == id) ≡ false → seat_of (with_end seats him rule) id ≡ seat_of seats id
   out_beside id other = ap seat_in (beside (loses rule) (λ x. refl) seats him id other)
 
--- what is open lets him in
+-- what is open lets it in
 and_first : (a b : Bool) → (a && b) ≡ true → a ≡ true
 and_first true b e = refl
 and_first false b e = cc
@@ -266,7 +266,7 @@ module _ (sight : Sight) (move : Move) (seats : List Listener) (mount : List ℕ
       nobody_sits_as others other to user (no_user others to user shifted.seat.pair none his)
       (sits.0, ap seat_in (beside_left carry.seats him other apart) ∙ sits.1, sits.2, sits.3)
 
-  -- who sits there as this user after he came
+  -- who sits there as this user after it came
   sat_before : (carry : Carry) (him : ℕ) (to : List ℕ) (user : List ℕ) (id : ℕ) → (him == id) ≡ false
       → SitsAs (shifted_there sight carry.seats him to) id mount user → SitsAs carry.seats id mount user
   sat_before carry him to user id apart sits = (sits.0, sym (shifted_beside sight carry.seats him to id apart) ∙ sits.1, sits.2, sits.3)

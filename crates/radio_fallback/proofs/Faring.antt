@@ -1,4 +1,4 @@
--- how one listener fares in a carry, by his turn
+-- how one listener fares in a carry, by its turn
 use Rattle.std.proofs.Common.{◌≡◌, Bool, true, false, ℕ, ◌==◌, Option, Some, None, List, [], ◌∷◌, refl, ap, sym, ◌∙◌, arith}
 use Rattle.std.specs.Prelude.{find, filter, nat_lt, if◌then◌else◌}
 use Rattle.std.proofs.lemmas.Bool.{eqb-true}
@@ -14,8 +14,8 @@ use Rattle.radio_seats_rows.specs.declared.seat.Seating.TheVariants.{Sits, Finis
 use Rattle.radio_seats_rows.specs.Seats.{is_listener, listener_of, seat_held, seat_in, seat_of, moved, loses, without_listener, AreByNumber}
 use Rattle.radio_fallback.specs.declared.moves.Move.{Move}
 use Rattle.radio_fallback.specs.declared.moves.Move.TheVariants.{Ended, Up, To}
-use Rattle.radio_fallback.specs.declared.moves.Turn.{Turn}
-use Rattle.radio_fallback.specs.declared.moves.Turn.TheVariants.{Stays, GoesTo, IsOut}
+use Rattle.radio_fallback.specs.declared.moves.MoveEffect.{MoveEffect}
+use Rattle.radio_fallback.specs.declared.moves.MoveEffect.TheVariants.{Stays, GoesTo, IsOut}
 use Rattle.radio_fallback.specs.declared.walking.Landing.{Landing}
 use Rattle.radio_fallback.specs.declared.walking.Landing.TheVariants.{Lands, Stops}
 use Rattle.radio_fallback.specs.Walk.{Sight, MaySit, found_at, stop_of, landing_at, landing}
@@ -25,7 +25,7 @@ use Rattle.radio_fallback.proofs.FaresLemmas.{numbers_kept, turn_cases}
 use Rattle.radio_fallback.proofs.HisTurn.{others_turn, by_his_turn}
 use Rattle.radio_fallback.proofs.TurnLemmas.{is_shifted}
 
--- who is past his number is another
+-- who is past its number is another
 below_apart : (n id : ℕ) → nat_lt n id ≡ true → (n == id) ≡ false
 below_apart n id below = grind (arith, nat_tests)
 
@@ -33,7 +33,7 @@ module _ (sight : Sight) (move : Move) (id : ℕ) where
   abbrev before : List ℕ → List ℕ
   before ns = filter (λ other. nat_lt other id) ns
 
-  -- turns of lower numbers leave him as he is
+  -- turns of lower numbers leave it as it is
   waits_at : (n : ℕ) (ns : List ℕ) (carry : Carry) (b : Bool) → nat_lt n id ≡ b
       → ((next : Carry) → listener_of (turns sight move (before ns) next).seats id ≡ listener_of next.seats id)
       → listener_of (turns sight move (if b then n ∷ before ns else before ns) carry).seats id ≡ listener_of carry.seats id
@@ -46,11 +46,11 @@ module _ (sight : Sight) (move : Move) (id : ℕ) where
   waits [] carry = refl
   waits (n ∷ ns) carry = waits_at n ns carry (nat_lt n id) refl (waits ns)
 
--- at his turn he sits as he sat before the carry
+-- at its turn it sits as it sat before the carry
 pub sits_as_before : (sight : Sight) (move : Move) (seats : List Listener) (id : ℕ) → listener_of (at_his_turn sight move seats id) id ≡ listener_of seats id
 sits_as_before sight move seats id = waits sight move id (numbers_of seats) (at_first seats)
 
--- how he fares: he stays, goes on at the end of a mount's stream where he may sit, or loses his seat where he sat
+-- how it fares: it stays, goes on at the end of a mount's stream where it may sit, or loses its seat where it sat
 pub data Faring (sight : Sight) (move : Move) (seats : List Listener) (id : ℕ) : Type 0 where
   HasStayed : listener_of (carried sight move seats).seats id ≡ listener_of seats id
       → ((seat : Seat) → seat_of seats id ≡ Some seat → turn_of sight move (at_his_turn sight move seats id) id ≡ Stays) → Faring sight move seats id
@@ -61,7 +61,7 @@ pub data Faring (sight : Sight) (move : Move) (seats : List Listener) (id : ℕ)
       → concerns move seat.mount seat.home ≡ true
       → listener_of (carried sight move seats).seats id ≡ Some (record { id = id; seating = Finished rule seat.mount }) → Faring sight move seats id
 
--- whom a turn takes his seat the move concerns
+-- whom a turn takes its seat the move concerns
 out_by : (sight : Sight) (others : List Listener) (move : Move) (seat : Seat) (rule : Rule) (b : Bool) → concerns move seat.mount seat.home ≡ b
     → (if b then turn_by sight others seat.pair move else Stays) ≡ IsOut rule → concerns move seat.mount seat.home ≡ true
 out_by sight others move seat rule true c e = c
@@ -84,10 +84,10 @@ module _ (sight : Sight) (move : Move) (seats : List Listener) (rising : AreByNu
   sat_then : seat_of then_seats id ≡ seat_of seats id
   sat_then = ap seat_in (sits_as_before sight move seats id)
 
-  fares_by : (listener : Listener) → listener_of seats id ≡ Some listener → (turn : Turn) → turn_of sight move then_seats id ≡ turn
+  fares_by : (listener : Listener) → listener_of seats id ≡ Some listener → (turn : MoveEffect) → turn_of sight move then_seats id ≡ turn
       → Faring sight move seats id
   fares_by listener has Stays e =
-      HasStayed (by_his_turn sight move seats id listener rising has ∙ ap (λ (t : Turn). Some (fared sight t listener)) e ∙ sym has) (λ seat sits. e)
+      HasStayed (by_his_turn sight move seats id listener rising has ∙ ap (λ (t : MoveEffect). Some (fared sight t listener)) e ∙ sym has) (λ seat sits. e)
   fares_by listener has (GoesTo to) e =
       let shifted = is_shifted sight move then_seats id to e in
       let had : seat_of seats id ≡ Some shifted.seat = sym sat_then ∙ shifted.had in
@@ -97,7 +97,7 @@ module _ (sight : Sight) (move : Move) (seats : List Listener) (rising : AreByNu
       let is : listener ≡ record { id = id; seating = Sits shifted.seat } =
       ap (λ (n : ℕ). record listener { id = n }) his ∙ ap (λ (x : Seating). record { id = id; seating = x }) sits in
       HasGone shifted.seat to e had shifted.concerned shifted.fits
-      (by_his_turn sight move seats id listener rising has ∙ ap (λ (t : Turn). Some (fared sight t listener)) e
+      (by_his_turn sight move seats id listener rising has ∙ ap (λ (t : MoveEffect). Some (fared sight t listener)) e
       ∙ ap (λ (x : Listener). Some (fared sight (GoesTo to) x)) is)
   fares_by listener has (IsOut rule) e =
       let out = out_in sight (without_listener then_seats id) move (seat_of then_seats id) rule e in
@@ -108,7 +108,7 @@ module _ (sight : Sight) (move : Move) (seats : List Listener) (rising : AreByNu
       let is : listener ≡ record { id = id; seating = Sits out.0 } =
       ap (λ (n : ℕ). record listener { id = n }) his ∙ ap (λ (x : Seating). record { id = id; seating = x }) sits in
       HasLost out.0 rule e had out.2
-      (by_his_turn sight move seats id listener rising has ∙ ap (λ (t : Turn). Some (fared sight t listener)) e
+      (by_his_turn sight move seats id listener rising has ∙ ap (λ (t : MoveEffect). Some (fared sight t listener)) e
       ∙ ap (λ (x : Listener). Some (fared sight (IsOut rule) x)) is)
 
 -- nobody comes into the table by a carry

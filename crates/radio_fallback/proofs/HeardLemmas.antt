@@ -1,4 +1,4 @@
--- where one sits, and what his turn comes to, does not go by how far anybody has heard
+-- where one sits, and what its turn comes to, does not go by how far anybody has heard
 use Rattle.std.proofs.Common.{◌≡◌, Bool, true, false, ℕ, ◌==◌, zero, suc, Option, Some, None, List, [], ◌∷◌, length, not, ◌⊎◌, inl, inr, refl, ap, sym, subst, ◌∙◌, arith}
 use Rattle.std.specs.Prelude.{map, filter, find, if◌then◌else◌, unwrap_or}
 use Rattle.std.specs.List.{AllByRecursion}
@@ -26,8 +26,8 @@ use Rattle.radio_fallback.specs.declared.walking.Landing.{Landing}
 use Rattle.radio_fallback.specs.Walk.{Sight, is_full, is_full_for, sits_already, found_at, stop_of, landing_at, landing_here, hands_on, next_mount, onward, walk, landing}
 use Rattle.radio_fallback.specs.Carry.{concerns, walks_on, is_asked, turn_by, turn_in, turn_of, after_turn, turns, at_first, carried, Carry, numbers_of, numbers_past}
 use Rattle.radio_fallback.specs.Heard.{Heard, heard_seating, heard_by, heard, OthersStay, IsAt}
-use Rattle.radio_fallback.specs.declared.moves.Turn.{Turn}
-use Rattle.radio_fallback.specs.declared.moves.Turn.TheVariants.{Stays, GoesTo, IsOut}
+use Rattle.radio_fallback.specs.declared.moves.MoveEffect.{MoveEffect}
+use Rattle.radio_fallback.specs.declared.moves.MoveEffect.TheVariants.{Stays, GoesTo, IsOut}
 use Rattle.radio_fallback.specs.declared.moves.Carried.{Carried}
 use Rattle.radio_fallback.proofs.WalkLaws.{walks_ten}
 use Rattle.radio_fallback.proofs.CarryLemmas.{everybody_is_past, next_has_his_turn, same_numbers}
@@ -76,7 +76,7 @@ module _ (f : Heard) where
   others_heard [] id = refl
   others_heard (l ∷ seats) id = others_at l seats id (not (is_listener id l)) (others_heard seats id)
 
-  -- he himself
+  -- it itself
   pub listener_heard : (seats : List Listener) (id : ℕ) → listener_of (heard f seats) id ≡ option_map (heard_by f) (listener_of seats id)
   listener_heard seats id = find_mapped (is_listener id) (heard_by f) (λ x. refl) seats
 
@@ -120,7 +120,7 @@ module _ (f : Heard) where
     by_heard pair (Up mount) = ap is_asked (here_heard mount pair)
     by_heard pair (To mount destination) = ap is_asked (here_heard destination pair)
 
-  -- so his turn is the same
+  -- so its turn is the same
   module _ (sight : Sight) (move : Move) (seats : List Listener) (id : ℕ) where
     turn_seated : (n : ℕ) (seating : Seating)
         → turn_in sight (heard f (without_listener seats id)) move (seat_held (heard_seating f n seating))
@@ -140,7 +140,7 @@ module _ (f : Heard) where
         ∙ ap (λ (found : Option Listener). turn_in sight (heard f (without_listener seats id)) move (seat_in found)) (listener_heard seats id)
         ∙ turn_found (listener_of seats id)
 
--- one goes elsewhere, or loses his seat, and nobody else has heard more or less
+-- one goes elsewhere, or loses its seat, and nobody else has heard more or less
 module _ (f g : Heard) (id : ℕ) (stay : OthersStay f g id) where
   pub seating_stays : (n : ℕ) → (id == n) ≡ false → (seating : Seating) → heard_seating g n seating ≡ heard_seating f n seating
   seating_stays n apart (Sits seat) = ap (λ found. Sits (record seat { place = unwrap_or found seat.place })) (stay seat.mount n apart)
@@ -182,7 +182,7 @@ module _ (f g : Heard) (id : ℕ) (stay : OthersStay f g id) where
         changed_at l seats (l.id == id) refl (sorted_head nat_cmp l.id (numbers_of seats) rising)
         (changed_heard seats (sorted_tail nat_cmp l.id (numbers_of seats) rising))
 
-  -- who loses his seat
+  -- who loses its seat
   pub ended_heard : (rule : Rule) (seats : List Listener) → AreByNumber seats → heard g (with_end seats id rule) ≡ with_end (heard f seats) id rule
   ended_heard rule seats rising = changed_heard (loses rule) (λ l e. by_seating l.id l.seating) seats rising where
     by_seating : (n : ℕ) (seating : Seating) → heard_by g (record { id = n; seating = lost_by rule seating })
@@ -217,9 +217,9 @@ module _ (sight : Sight) (move : Move) where
   -- the counts are the same
   pub counts_heard : (f : Heard) (seats : List Listener) (counts : Carried) (id : ℕ) → (in_turn (heard f seats) counts id).counts ≡ (in_turn seats counts id).counts
   counts_heard f seats counts id =
-      ap (λ (turn : Turn). (after_turn sight id (record { seats = heard f seats; counts = counts }) turn).counts) (turn_heard f sight move seats id)
+      ap (λ (turn : MoveEffect). (after_turn sight id (record { seats = heard f seats; counts = counts }) turn).counts) (turn_heard f sight move seats id)
       ∙ by_turn (turn_of sight move seats id) where
-        by_turn : (turn : Turn) → (after_turn sight id (record { seats = heard f seats; counts = counts }) turn).counts
+        by_turn : (turn : MoveEffect) → (after_turn sight id (record { seats = heard f seats; counts = counts }) turn).counts
             ≡ (after_turn sight id (record { seats = seats; counts = counts }) turn).counts
         by_turn Stays = refl
         by_turn (GoesTo mount) = refl

@@ -1,4 +1,4 @@
--- what becomes of a listener is what his turn has in store for him
+-- what becomes of a listener is what its turn has in store for it
 use Rattle.std.proofs.Common.{◌≡◌, Bool, true, false, ℕ, ◌==◌, Option, Some, None, List, [], ◌∷◌, refl, ap, sym, subst, ◌∙◌, arith}
 use Rattle.std.specs.Prelude.{find, filter, nat_lt}
 use Rattle.std.specs.List.{AllByRecursion}
@@ -14,15 +14,15 @@ use Rattle.radio_seats_rows.specs.declared.seat.Listener.{Listener}
 use Rattle.radio_seats_rows.specs.Seats.{is_listener, listener_of, moved, loses, AreByNumber}
 use Rattle.radio_seats_rows.proofs.Lists.{map_found}
 use Rattle.radio_fallback.specs.declared.moves.Move.{Move}
-use Rattle.radio_fallback.specs.declared.moves.Turn.{Turn}
-use Rattle.radio_fallback.specs.declared.moves.Turn.TheVariants.{Stays, GoesTo, IsOut}
+use Rattle.radio_fallback.specs.declared.moves.MoveEffect.{MoveEffect}
+use Rattle.radio_fallback.specs.declared.moves.MoveEffect.TheVariants.{Stays, GoesTo, IsOut}
 use Rattle.radio_fallback.specs.Walk.{Sight}
 use Rattle.radio_fallback.specs.Carry.{Carry, turn_of, after_turn, turns, numbers_of, at_first, carried, at_his_turn}
 use Rattle.radio_fallback.specs.Fares.{fared}
 use Rattle.radio_fallback.proofs.FaresLemmas.{beside, found_changed}
 
--- his turn changes him, and another's does not
-his_own : (sight : Sight) (id : ℕ) (carry : Carry) (turn : Turn)
+-- its turn changes it, and another's does not
+his_own : (sight : Sight) (id : ℕ) (carry : Carry) (turn : MoveEffect)
     → listener_of (after_turn sight id carry turn).seats id ≡ option_map (fared sight turn) (listener_of carry.seats id)
 his_own sight id carry Stays = same (listener_of carry.seats id) where
   same : (listener : Option Listener) → listener ≡ option_map (λ (x : Listener). x) listener
@@ -32,7 +32,7 @@ his_own sight id carry (GoesTo to) =
     found_changed (is_listener id) (moved to (sight.stream_end to).session (sight.stream_end to).place) (λ x. refl) carry.seats
 his_own sight id carry (IsOut rule) = found_changed (is_listener id) (loses rule) (λ x. refl) carry.seats
 
-pub others_turn : (sight : Sight) (him id : ℕ) (carry : Carry) (turn : Turn) → (him == id) ≡ false
+pub others_turn : (sight : Sight) (him id : ℕ) (carry : Carry) (turn : MoveEffect) → (him == id) ≡ false
     → listener_of (after_turn sight him carry turn).seats id ≡ listener_of carry.seats id
 others_turn sight him id carry Stays apart = refl
 others_turn sight him id carry (GoesTo to) apart =

@@ -9,8 +9,8 @@ use Rattle.radio_seats_rows.specs.declared.seat.Seating.{Seating}
 use Rattle.radio_seats_rows.specs.declared.seat.Seating.TheVariants.{Sits, Finished}
 use Rattle.radio_seats_rows.specs.Seats.{is_listener, listener_of, seat_held, seat_in, seat_of, moved, moved_to, with_move, without_listener, is_seat_at, seats_at, count_at}
 use Rattle.radio_fallback.specs.declared.moves.Move.TheVariants.{To}
-use Rattle.radio_fallback.specs.declared.moves.Turn.{Turn}
-use Rattle.radio_fallback.specs.declared.moves.Turn.TheVariants.{Stays, GoesTo, IsOut}
+use Rattle.radio_fallback.specs.declared.moves.MoveEffect.{MoveEffect}
+use Rattle.radio_fallback.specs.declared.moves.MoveEffect.TheVariants.{Stays, GoesTo, IsOut}
 use Rattle.radio_fallback.specs.Carry.{Carry, concerns, turn_by, turn_in, turn_of, after_turn, turns, at_first, carried, numbers_of}
 use Rattle.radio_fallback.specs.Walk.{Sight}
 use Rattle.radio_fallback.proofs.Faring.{goes_there, never_out_there}
@@ -58,11 +58,11 @@ module _ (sight : Sight) (from mount : List ℕ) (apart : bytes_eq from mount �
   sat_there_in others None to e = cc
   sat_there_in others (Some seat) to e = (seat, refl, sat_there_by others seat to (concerns (To from mount) seat.mount seat.home) refl e)
 
-  abbrev IsCounted : ℕ → Carry → Turn → Type 0
+  abbrev IsCounted : ℕ → Carry → MoveEffect → Type 0
   IsCounted id carry turn = count_at (after_turn sight id carry turn).seats mount + carry.counts.moved
       ≡ count_at carry.seats mount + (after_turn sight id carry turn).counts.moved
 
-  counted_by : (id : ℕ) (carry : Carry) (turn : Turn) → turn_of sight (To from mount) carry.seats id ≡ turn → IsCounted id carry turn
+  counted_by : (id : ℕ) (carry : Carry) (turn : MoveEffect) → turn_of sight (To from mount) carry.seats id ≡ turn → IsCounted id carry turn
   counted_by id carry Stays e = refl
   counted_by id carry (IsOut rule) e = absurd (never_out_there sight from mount carry.seats id rule e)
   counted_by id carry (GoesTo to) e =

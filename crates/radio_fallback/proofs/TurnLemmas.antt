@@ -1,4 +1,4 @@
--- what a turn comes to: he goes only where he may sit
+-- what a turn comes to: it goes only where it may sit
 use Rattle.std.proofs.Common.{◌≡◌, Bool, true, false, ℕ, zero, suc, Option, Some, None, List, refl, ap, subst, ◌∙◌}
 use Rattle.std.specs.Prelude.{if◌then◌else◌}
 use Rattle.radio_creds.specs.Credentials.{Credentials}
@@ -9,7 +9,7 @@ use Rattle.radio_fallback.specs.declared.walking.Landing.{Landing}
 use Rattle.radio_fallback.specs.declared.walking.Landing.TheVariants.{Lands, Stops}
 use Rattle.radio_fallback.specs.declared.moves.Move.{Move}
 use Rattle.radio_fallback.specs.declared.moves.Move.TheVariants.{Ended, Up, To}
-use Rattle.radio_fallback.specs.declared.moves.Turn.TheVariants.{Stays, GoesTo}
+use Rattle.radio_fallback.specs.declared.moves.MoveEffect.TheVariants.{Stays, GoesTo}
 use Rattle.radio_fallback.specs.Walk.{Sight, MaySit, found_at, stop_of, landing_at, landing_here, next_mount, onward, walk, landing}
 use Rattle.radio_fallback.specs.Carry.{concerns, walks_on, is_asked, turn_by, turn_in, turn_of}
 use Rattle.radio_fallback.proofs.WalkLaws.{walks_ten}
@@ -41,7 +41,7 @@ module _ (sight : Sight) (others : List Listener) (pair : Option Credentials) wh
   fits_walking zero mount to h = cc
   fits_walking (suc left) mount to h = fits_onward left mount to (next_mount sight others mount) (λ m. fits_walking left m to) h
 
-  -- where a walk lands he may sit
+  -- where a walk lands it may sit
   pub lands_where_he_fits : (mount to : List ℕ) → landing sight others pair mount ≡ Lands to → MaySit sight others pair to
   lands_where_he_fits mount to h = fits_walking 10 mount to (walks_ten sight others pair mount ∙ h)
 
@@ -58,7 +58,7 @@ module _ (sight : Sight) (others : List Listener) (pair : Option Credentials) wh
   goes_where_he_fits (Up mount) to h = fits_here mount to (goes_asked (landing_here sight others pair mount) to h)
   goes_where_he_fits (To mount destination) to h = fits_here destination to (goes_asked (landing_here sight others pair destination) to h)
 
--- who is shifted had a seat, which the move concerns, and may sit where he goes
+-- who is shifted had a seat, which the move concerns, and may sit where it goes
 pub record IsShifted (sight : Sight) (move : Move) (seats : List Listener) (id : ℕ) (to : List ℕ) : Type 0 where
   pub seat : Seat
   pub had : seat_of seats id ≡ Some seat

@@ -3,8 +3,8 @@ use Rattle.std.specs.Prelude.{◌≡◌, ◌⊎◌, ℕ, ◌≤◌, false, true,
 use Rattle.radio_seats_rows.specs.declared.seat.Seat.{Seat}
 use Rattle.radio_seats_rows.specs.declared.seat.Listener.{Listener}
 use Rattle.radio_seats_rows.specs.Seats.{seat_of, count_at, moved, loses, SitsAs}
-use Rattle.radio_fallback.specs.declared.moves.Turn.{Turn}
-use Rattle.radio_fallback.specs.declared.moves.Turn.TheVariants.{Stays, GoesTo, IsOut}
+use Rattle.radio_fallback.specs.declared.moves.MoveEffect.{MoveEffect}
+use Rattle.radio_fallback.specs.declared.moves.MoveEffect.TheVariants.{Stays, GoesTo, IsOut}
 use Rattle.radio_fallback.specs.Walk.{Sight}
 
 -- no more sit at the mount than may
@@ -22,19 +22,19 @@ SitOnce sight seats mount = sight.allows_duplicates mount ≡ false → (user : 
 abbrev pub seat_at_end : Sight → List ℕ → Seat → Seat
 seat_at_end sight mount seat = record seat { mount = mount; session = (sight.stream_end mount).session; place = (sight.stream_end mount).place }
 
--- he was carried to the end of the stream of a live mount, which lets him in
+-- it was carried to the end of the stream of a live mount, which lets it in
 pub record IsCarriedTo (sight : Sight) (old seat : Seat) (mount : List ℕ) : Type 0 where
   pub is_live : sight.is_live mount ≡ true
   pub is_let_in : sight.lets_in mount old.pair ≡ true
   pub at_its_end : seat ≡ seat_at_end sight mount old
 
--- who has this seat had one before: this one, or one from which he was carried here
+-- who has this seat had one before: this one, or one from which it was carried here
 -- rule: Moved to the end
 abbrev pub HadASeat : Sight → List Listener → ℕ → Seat → Type 0
 HadASeat sight seats id seat = (old : Seat) × (seat_of seats id ≡ Some old) × ((seat ≡ old) ⊎ ((mount : List ℕ) × IsCarriedTo sight old seat mount))
 
--- how a listener fares by his turn
-abbrev pub fared : Sight → Turn → Listener → Listener
+-- how a listener fares by its turn
+abbrev pub fared : Sight → MoveEffect → Listener → Listener
 fared sight Stays listener = listener
 fared sight (GoesTo mount) listener = moved mount (sight.stream_end mount).session (sight.stream_end mount).place listener
 fared sight (IsOut rule) listener = loses rule listener

@@ -6,7 +6,7 @@ use Rattle.radio_seats_rows.specs.declared.seat.Listener.{Listener}
 use Rattle.radio_seats_rows.specs.declared.seat.Seating.{Seating}
 use Rattle.radio_seats_rows.specs.declared.seat.Seating.TheVariants.{Sits, Finished}
 
--- how far the listener of a number has heard at a mount, if he is attached there
+-- how far the listener of a number has heard at a mount, if it is attached there
 abbrev pub Heard : Type 0
 Heard = List ℕ → ℕ → Option ℕ
 

@@ -5,7 +5,7 @@ use Rattle.radio_creds.specs.Credentials.{Credentials}
 use Rattle.radio_policy.specs.declared.rule.Rule.{Rule}
 use Rattle.radio_policy.specs.declared.rule.Rule.TheVariants.{NotLive, MountFull, ListenerPassword, UserTwice, FallbackDepth}
 use Rattle.radio_seats_rows.specs.declared.seat.Listener.{Listener}
-use Rattle.radio_fallback.specs.declared.walking.Found.{Found}
+use Rattle.radio_fallback.specs.declared.walking.WalkFinding.{WalkFinding}
 use Rattle.radio_fallback.specs.declared.walking.Landing.{Landing}
 use Rattle.radio_fallback.specs.declared.walking.Landing.TheVariants.{Lands, Stops}
 use Rattle.radio_seats_rows.specs.Seats.{count_at, sits_there}
@@ -53,18 +53,18 @@ sits_already seats mount pair = option_map_or (λ sent. sits_there seats mount s
 abbrev pub is_full_for : Sight → List Listener → List ℕ → Bool
 is_full_for sight others mount = is_full (count_at others mount) (sight.limit mount)
 
--- another has his user, where each may sit once
+-- another has its user, where each may sit once
 abbrev pub is_twice_for : Sight → List Listener → Option Credentials → List ℕ → Bool
 is_twice_for sight others pair mount = not (sight.allows_duplicates mount) && sits_already others mount pair
 
--- a mount is open to a listener: it lets him in, and he does not sit there already
+-- a mount is open to a listener: it lets it in, and it does not sit there already
 -- rule: Listener password; Closed to moves
 abbrev pub is_open_to : Sight → List Listener → Option Credentials → List ℕ → Bool
 is_open_to sight others pair mount = sight.lets_in mount pair && not (is_twice_for sight others pair mount)
 
 -- what one who sends this finds at the mount
 -- rule: Not live; End of a walk
-abbrev pub found_at : Sight → List Listener → List ℕ → Option Credentials → Found
+abbrev pub found_at : Sight → List Listener → List ℕ → Option Credentials → WalkFinding
 found_at sight others mount pair = record {
   is_live = sight.is_live mount;
   is_full = is_full_for sight others mount;
@@ -72,9 +72,9 @@ found_at sight others mount pair = record {
   user_is_twice = is_twice_for sight others pair mount;
 }
 
--- the rule that stops a walk where it finds this; where none does, he may sit there
+-- the rule that stops a walk where it finds this; where none does, it may sit there
 -- rule: Not live; End of a walk
-abbrev pub stop_of : Found → Option Rule
+abbrev pub stop_of : WalkFinding → Option Rule
 stop_of found =
     if not found.is_live then Some NotLive else
     if found.is_full then Some MountFull else
@@ -82,7 +82,7 @@ stop_of found =
     if found.user_is_twice then Some UserTwice else
     None
 
--- he may sit at the mount, or the rule stops him there
+-- it may sit at the mount, or the rule stops it there
 abbrev pub landing_at : List ℕ → Option Rule → Landing
 landing_at mount None = Lands mount
 landing_at mount (Some rule) = Stops rule
@@ -125,7 +125,7 @@ abbrev pub stop_in : Landing → Option Rule
 stop_in (Lands mount) = None
 stop_in (Stops rule) = Some rule
 
--- he may sit at the mount: it is live, not full for him, and open to him
+-- it may sit at the mount: it is live, not full for it, and open to it
 -- rule: End of a walk
 pub record MaySit (sight : Sight) (others : List Listener) (pair : Option Credentials) (mount : List ℕ) : Type 0 where
   pub is_live : sight.is_live mount ≡ true

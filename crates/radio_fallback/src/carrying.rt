@@ -8,7 +8,7 @@ ghost use Rattle.radio_fallback.specs.Heard.{heard, OthersStay, IsAt, Fits, Goes
 ghost use Rattle.radio_fallback.specs.Walk.{with_ends};
 ghost use Rattle.radio_parts.specs.Parts.{ends_in};
 
-use crate::moves::Turn;
+use crate::moves::MoveEffect;
 use crate::walker::Walker;
 use crate::{Attachments, Carried, Move, View};
 use radio_blocks::Place;
@@ -16,8 +16,8 @@ use radio_seats::{LentSeat, Seats};
 use radio_values::MountName;
 
 /// Carries the listeners along whom the move concerns, one after the other in the order of their
-/// numbers: each by what stands at his turn, as the earlier ones left things, and his own seat does
-/// not count against him. Who goes to a mount goes on at the end of its stream. It takes no memory.
+/// numbers: each by what stands at its turn, as the earlier ones left things, and its own seat does
+/// not count against it. Who goes to a mount goes on at the end of its stream. It takes no memory.
 /// It looks at each listener of the house once.
 // rule: Refused memory; End of a session; Turns of a move; Move clients
 pub fn carry<V: View, A: Attachments>(
@@ -50,7 +50,7 @@ pub fn carry<V: View, A: Attachments>(
     counts
 }
 
-/// One listener has his turn, and is counted.
+/// One listener has its turn, and is counted.
 fn take_turn<V: View, A: Attachments>(
     view: &V,
     attached: &mut A,
@@ -71,8 +71,8 @@ fn take_turn<V: View, A: Attachments>(
     ensures live { A.live attached.new ≡ A.live attached.old }
 {
     match turn_of(view, seats, moving, id) {
-        Turn::Stays => counts,
-        Turn::GoesTo(mount) => {
+        MoveEffect::Stays => counts,
+        MoveEffect::GoesTo(mount) => {
             let session = view.session_number(&mount);
             let place = attach_elsewhere(attached, seats, id, &mount);
             seats.shift(id, &mount, session, place);
@@ -81,7 +81,7 @@ fn take_turn<V: View, A: Attachments>(
                 ended: counts.ended,
             }
         }
-        Turn::IsOut(rule) => {
+        MoveEffect::IsOut(rule) => {
             detach(attached, seats, id);
             seats.end(id, rule);
             Carried {
@@ -94,15 +94,15 @@ fn take_turn<V: View, A: Attachments>(
 
 /// What the listener's turn comes to, as things stand.
 // rule: Turns of a move
-fn turn_of<V: View>(view: &V, seats: &Seats, moving: &Move, id: u64) -> Turn
+fn turn_of<V: View>(view: &V, seats: &Seats, moving: &Move, id: u64) -> MoveEffect
     ensures { result ≡ turn_of (V.sight view.now) moving.now seats.now.seats id }
 {
     let Some(seat) = seats.seat(id) else {
-        return Turn::Stays;
+        return MoveEffect::Stays;
     };
     let LentSeat { mount, guest, .. } = seat;
     if !moving.concerns(mount, guest.home.get()) {
-        return Turn::Stays;
+        return MoveEffect::Stays;
     }
     let pair = guest.pair.as_ref();
     let walker = Walker {

@@ -15,8 +15,8 @@ pub fn a_carry_keeps_numbers()
     ensures { (sight : Sight) (move : Move) (seats : List Listener) → numbers_of (carried sight move seats).seats ≡ numbers_of seats }
 {}
 
-/// Whoever has a seat after a carry has the one that he had, or he was carried from it to the end of
-/// a live mount's stream, and that mount lets him in.
+/// Whoever has a seat after a carry has the one that it had, or it was carried from it to the end of
+/// a live mount's stream, and that mount lets it in.
 // rule: Closed to moves
 pub fn a_carry_asks_the_users()
     ensures { (sight : Sight) (move : Move) (seats : List Listener) (id : ℕ) (seat : Seat)
@@ -37,7 +37,7 @@ pub fn a_carry_seats_users_once()
         → SitOnce sight seats mount → SitOnce sight (carried sight move seats).seats mount }
 {}
 
-/// What becomes of each listener is what his turn has in store for him, by what stands then: those of
+/// What becomes of each listener is what its turn has in store for it, by what stands then: those of
 /// lower numbers have had their turns, and nobody else has.
 // rule: Turns of a move
 pub fn each_fares_by_his_turn()

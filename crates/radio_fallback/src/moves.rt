@@ -40,12 +40,12 @@ pub struct Carried {
 
 /// What a move does to one listener.
 #[derive(Clone, Copy)]
-pub enum Turn {
-    /// He stays as he is.
+pub enum MoveEffect {
+    /// It stays as it is.
     Stays,
-    /// He sits at this mount from now on.
+    /// It sits at this mount from now on.
     GoesTo(MountName),
-    /// He loses his seat by the rule.
+    /// It loses its seat by the rule.
     IsOut(Rule),
 }
 
@@ -61,8 +61,12 @@ impl Move {
         }
     }
 
-    /// What it has in store for this one, if he sent this pair, or none.
-    pub(crate) fn turn<V: View>(&self, walker: &Walker<'_, '_, V>, pair: Option<&Pair>) -> Turn
+    /// What it has in store for this one, if it sent this pair, or none.
+    pub(crate) fn turn<V: View>(
+        &self,
+        walker: &Walker<'_, '_, V>,
+        pair: Option<&Pair>,
+    ) -> MoveEffect
         ensures { result ≡ turn_by (V.sight walker.now.view.now) (others_of walker.now.seats.now.seats walker.now.own) (option_copied pair.entry) self.now }
     {
         match self {
@@ -73,22 +77,22 @@ impl Move {
     }
 }
 
-/// He goes where he lands, or is out.
-fn walks_on(landing: Landing) -> Turn
+/// It goes where it lands, or is out.
+fn walks_on(landing: Landing) -> MoveEffect
     ensures { result ≡ walks_on landing }
 {
     match landing {
-        Landing::Lands(mount) => Turn::GoesTo(mount),
-        Landing::Stops(rule) => Turn::IsOut(rule),
+        Landing::Lands(mount) => MoveEffect::GoesTo(mount),
+        Landing::Stops(rule) => MoveEffect::IsOut(rule),
     }
 }
 
-/// He goes where he lands, or stays.
-fn is_asked(landing: Landing) -> Turn
+/// It goes where it lands, or stays.
+fn is_asked(landing: Landing) -> MoveEffect
     ensures { result ≡ is_asked landing }
 {
     match landing {
-        Landing::Lands(mount) => Turn::GoesTo(mount),
-        Landing::Stops(_) => Turn::Stays,
+        Landing::Lands(mount) => MoveEffect::GoesTo(mount),
+        Landing::Stops(_) => MoveEffect::Stays,
     }
 }

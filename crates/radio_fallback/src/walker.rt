@@ -5,7 +5,7 @@ ghost use Rattle.std.specs.Option.{option_copied};
 ghost use Rattle.radio_seats_rows.specs.Seats.{others_of};
 ghost use Rattle.radio_fallback.specs.Walk.{is_full, is_full_for, is_twice_for, sits_already, found_at, stop_of, landing_at, landing_here, hands_on, next_mount, walk};
 
-use crate::{Found, Landing, View};
+use crate::{Landing, View, WalkFinding};
 use radio_creds::Pair;
 use radio_policy::Rule;
 use radio_seats::Seats;
@@ -14,7 +14,7 @@ use radio_values::MountName;
 /// At how many mounts a walk looks at the most.
 pub(crate) const MOST_MOUNTS: u8 = 10;
 
-/// One who walks: what he sees, those who sit, and his own number if he is among them.
+/// One who walks: what it sees, those who sit, and its own number if it is among them.
 #[derive(Clone, Copy)]
 pub(crate) struct Walker<'v, 's, V: View> {
     pub(crate) view: &'v V,
@@ -23,11 +23,11 @@ pub(crate) struct Walker<'v, 's, V: View> {
 }
 
 impl<V: View> Walker<'_, '_, V> {
-    /// What he finds at the mount if he sends this pair, or none.
-    pub(crate) fn found_at(&self, mount: &MountName, pair: Option<&Pair>) -> Found
+    /// What it finds at the mount if it sends this pair, or none.
+    pub(crate) fn found_at(&self, mount: &MountName, pair: Option<&Pair>) -> WalkFinding
         ensures { result ≡ found_at (V.sight self.now.view.now) (others_of self.now.seats.now.seats self.now.own) mount.now (option_copied pair.entry) }
     {
-        Found {
+        WalkFinding {
             is_live: self.view.is_live(mount),
             is_full: self.is_full(mount),
             users_accept: self.view.lets_in(mount, pair),
@@ -51,7 +51,7 @@ impl<V: View> Walker<'_, '_, V> {
         Landing::Stops(Rule::FallbackDepth)
     }
 
-    /// The mount to which this one hands him on, if it does.
+    /// The mount to which this one hands it on, if it does.
     pub(crate) fn next_mount(&self, mount: &MountName) -> Option<MountName>
         ensures { result ≡ next_mount (V.sight self.now.view.now) (others_of self.now.seats.now.seats self.now.own) mount.now }
     {
@@ -62,14 +62,14 @@ impl<V: View> Walker<'_, '_, V> {
         }
     }
 
-    /// Where he comes to sit if he goes no further, or which rule stops him there.
+    /// Where it comes to sit if it goes no further, or which rule stops it there.
     pub(crate) fn landing_here(&self, mount: &MountName, pair: Option<&Pair>) -> Landing
         ensures { result ≡ landing_here (V.sight self.now.view.now) (others_of self.now.seats.now.seats self.now.own) (option_copied pair.entry) mount.now }
     {
         landed(mount, self.stop_at(mount, pair))
     }
 
-    /// The rule that stops him at the mount. What is dear to find out is looked up last.
+    /// The rule that stops it at the mount. What is dear to find out is looked up last.
     // rule: Closed to moves; End of a walk
     fn stop_at(&self, mount: &MountName, pair: Option<&Pair>) -> Option<Rule>
         ensures { result ≡ stop_of (found_at (V.sight self.now.view.now) (others_of self.now.seats.now.seats self.now.own) mount.now (option_copied pair.entry)) }
@@ -87,7 +87,7 @@ impl<V: View> Walker<'_, '_, V> {
         }
     }
 
-    /// Whether the mount hands him on.
+    /// Whether the mount hands it on.
     fn hands_on(&self, mount: &MountName) -> bool
         ensures { result ≡ hands_on (V.sight self.now.view.now) (others_of self.now.seats.now.seats self.now.own) mount.now }
     {
@@ -122,7 +122,7 @@ impl<V: View> Walker<'_, '_, V> {
     }
 }
 
-/// Where the mount puts him whom this rule stops there, or none.
+/// Where the mount puts it whom this rule stops there, or none.
 pub(crate) fn landed(mount: &MountName, stop: Option<Rule>) -> Landing
     ensures { result ≡ landing_at mount.now stop }
 {

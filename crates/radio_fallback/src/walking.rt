@@ -13,7 +13,7 @@ use radio_values::MountName;
 
 /// What a walk finds at a mount.
 #[derive(Clone, Copy)]
-pub struct Found {
+pub struct WalkFinding {
     /// The mount has a live source.
     pub is_live: bool,
     /// As many sit there as may.
@@ -24,8 +24,8 @@ pub struct Found {
     pub user_is_twice: bool,
 }
 
-impl Found {
-    /// The rule that stops a walk that finds this; `None` where he may sit there.
+impl WalkFinding {
+    /// The rule that stops a walk that finds this; `None` where it may sit there.
     pub fn stop(&self) -> Option<Rule>
         ensures { result ≡ stop_of self.now }
     {
@@ -46,14 +46,14 @@ impl Found {
 /// Where a walk ends.
 #[derive(Clone, Copy)]
 pub enum Landing {
-    /// At this mount, where he may sit.
+    /// At this mount, where it may sit.
     Lands(MountName),
     /// By this rule.
     Stops(Rule),
 }
 
 impl Landing {
-    /// The rule that stopped it; `None` where it came to a mount at which he may sit.
+    /// The rule that stopped it; `None` where it came to a mount at which it may sit.
     pub fn stop(&self) -> Option<Rule>
         ensures { result ≡ stop_in self.now }
     {
@@ -68,7 +68,7 @@ impl Landing {
 #[derive(Clone, Copy)]
 pub struct Walk {
     /// What it found at the mount that it began from.
-    pub first: Found,
+    pub first: WalkFinding,
     /// Where it ended.
     pub landing: Landing,
 }

@@ -11,7 +11,7 @@ use Rattle.radio_deliveries.specs.declared.faults.PerformFault.TheVariants.{OutO
 use Rattle.radio_tables.proofs.FindLaws.{changed_alike, unchanged}
 use Rattle.radio_tables.specs.Lists.{update_first}
 use Rattle.radio_answers.specs.declared.web_answers.WebAnswers.{WebAnswers}
-use Rattle.radio_floor.specs.declared.handler.Told.{Told}
+use Rattle.radio_floor.specs.declared.handler.DeliveryAnswer.{DeliveryAnswer}
 use Rattle.radio_floor.specs.declared.labelled.Connection.{Connection}
 use Rattle.radio_floor.specs.declared.labelled.Labelled.{Labelled}
 use Rattle.radio_floor.specs.Performing.{Performs, PerformsAs}
@@ -58,11 +58,11 @@ module _ (label : ℕ) (input : Input) (connections connections' : List Labelled
         )
 
     -- its connection is there, and this is told on it
-    abbrev pub TellsOn : Told → Type 0
+    abbrev pub TellsOn : DeliveryAnswer → Type 0
     TellsOn told = (w : World) → Represents core w
         → (w' : World) × Represents core' w' × Comes w (performed_as (Some (told_lines label told.bytes.items told.state)) w' connections')
 
-    told_at : (o o' : Option Connection) (told : Told) → l.connection ≡ o → l'.connection ≡ o' → l'.label ≡ l.label
+    told_at : (o o' : Option Connection) (told : DeliveryAnswer) → l.connection ≡ o → l'.connection ≡ o' → l'.label ≡ l.label
         → AnswersOn core input o (Ok (Some told)) core' o' → TellsOn told
     told_at None o' told e e' same h w stands = let none : Ok (Some told) ≡ Ok None = h.0 in cc
     told_at (Some connection) o' told e e' same h w stands =
@@ -78,10 +78,10 @@ module _ (label : ℕ) (input : Input) (connections connections' : List Labelled
         let was : became (find (has_label label) connections) ≡ Some (Some connection) =
         ap became found ∙ ap (λ (p : Option Connection). Some p) e in
         let done = performed_as (Some (told_lines label told.bytes.items told.state)) a.0 connections' in
-        let done_of = λ (x : Told) (o : Option Connection).
+        let done_of = λ (x : DeliveryAnswer) (o : Option Connection).
         performed_as (Some (told_lines label x.bytes.items x.state)) a.0 (with_connection connections label o) in
         let same_done : answered_under connections label t h.1 a.0 ≡ done =
-        ap (done_of t) (sym h.3) ∙ ap (λ (x : Told). done_of x o') one
+        ap (done_of t) (sym h.3) ∙ ap (λ (x : DeliveryAnswer). done_of x o') one
         ∙ ap (λ (xs : List Labelled). performed_as (Some (told_lines label told.bytes.items told.state)) a.0 xs) (sym set) in (
           a.0,
           a.1,
@@ -89,7 +89,7 @@ module _ (label : ℕ) (input : Input) (connections connections' : List Labelled
               (subst (λ (x : Performed). ComesTo (script_state_of w connections) label connection input x) same_done (a.2 connections label)),
         )
 
-    pub answered-label : (told : Told) → AnswersUnder core input l (Ok (Some told)) core' l' → TellsOn told
+    pub answered-label : (told : DeliveryAnswer) → AnswersUnder core input l (Ok (Some told)) core' l' → TellsOn told
     answered-label told h = told_at l.connection l'.connection told refl refl h.0 h.1
 
 -- the lines are written of what was performed, or memory was refused

@@ -8,7 +8,7 @@ use Rattle.radio_deliveries.specs.declared.delivery.Input.{Input}
 use Rattle.radio_events.specs.declared.state.State.{State}
 use Rattle.radio_pull.specs.Pulling.{Pulling}
 use Rattle.radio_answers.specs.declared.web_answers.WebAnswers.{WebAnswers}
-use Rattle.radio_floor.specs.declared.handler.Told.{Told}
+use Rattle.radio_floor.specs.declared.handler.DeliveryAnswer.{DeliveryAnswer}
 use Rattle.radio_floor.specs.declared.labelled.Labelled.{Labelled}
 use Rattle.radio_floor.specs.declared.labelled.Connection.{Connection}
 use Rattle.radio_floor.specs.ScriptState.{ScriptState, Performed, ComesTo, opens, connects, relay_named, told_lines, with_connection, kept_unless, pulled_on}
@@ -32,13 +32,13 @@ ConnectsAs core connections label mount text connections' = (w : World) → Repr
     → connects (script_state_of w connections) label (relay_named w mount) ≡ performed_as text w connections'
 
 -- a connection of a label that is now so was told this, as what is performed
-abbrev pub answered_under : List Labelled → ℕ → Told → Connection → World → Performed
+abbrev pub answered_under : List Labelled → ℕ → DeliveryAnswer → Connection → World → Performed
 answered_under connections label told connection w =
     performed_as (Some (told_lines label told.bytes.items told.state)) w
     (with_connection connections label (kept_unless connection told.state))
 
 -- Whatever state the core stood for, and whatever the labels are: it comes of it so, and the core stands for the state after it.
-abbrev pub AnswersAs : World → World → Told → Connection → (ScriptState → ℕ → Performed → Type 0) → Type 0
+abbrev pub AnswersAs : World → World → DeliveryAnswer → Connection → (ScriptState → ℕ → Performed → Type 0) → Type 0
 AnswersAs core core' told connection Done =
     (w : World) → Represents core w → (w' : World) × Represents core' w'
     × ((connections : List Labelled) (label : ℕ) → Done (script_state_of w connections) label (answered_under connections label told connection w'))
@@ -50,14 +50,14 @@ PullsAs core core' ends pulling Done =
     × ((connections : List Labelled) (label : ℕ) → Done (script_state_of w connections) label (pulled_on (script_state_of w connections) label pulling ends w'))
 
 -- something comes to what became of a label: its connection is dealt with, if it has one; of want of memory nothing is said
-abbrev pub AnswersOn : World → Input → Option Connection → Result (Option Told) AllocError → World → Option Connection → Type 0
+abbrev pub AnswersOn : World → Input → Option Connection → Result (Option DeliveryAnswer) AllocError → World → Option Connection → Type 0
 AnswersOn core input None result core' connection' = (result ≡ Ok None) × (core' ≡ core) × (connection' ≡ None)
 AnswersOn core input (Some connection) result core' connection' =
-    IfOk result (λ answer. (told : Told) × (now : Connection) × (answer ≡ Some told)
+    IfOk result (λ answer. (told : DeliveryAnswer) × (now : Connection) × (answer ≡ Some told)
     × (connection' ≡ kept_unless now told.state)
     × AnswersAs core core' told now (λ state label done. ComesTo state label connection input done))
 
 -- something comes to a label, which stays that label
-abbrev pub AnswersUnder : World → Input → Labelled → Result (Option Told) AllocError → World → Labelled → Type 0
+abbrev pub AnswersUnder : World → Input → Labelled → Result (Option DeliveryAnswer) AllocError → World → Labelled → Type 0
 AnswersUnder core input labelled result core' labelled' =
     (labelled'.label ≡ labelled.label) × AnswersOn core input labelled.connection result core' labelled'.connection

@@ -17,13 +17,13 @@ use radio_events::Event;
 use radio_exchanges::cores_exchange_as_their_states;
 use radio_script::Input;
 use radio_session::{Ending, Session, State, exchange};
-use radio_tables::Visit;
+use radio_tables::RowVisit;
 use radio_values::Title;
 use std::alloc::Global;
 
 /// What a connection is told at a delivery: the bytes that went out, and how it goes on.
 #[derive(Drop)]
-pub(crate) struct Told {
+pub(crate) struct DeliveryAnswer {
     pub(crate) bytes: Vec<u8>,
     pub(crate) state: State,
 }
@@ -37,7 +37,11 @@ pub(crate) struct Handler {
 
 impl Handler {
     /// Something comes to a connection: what it is told.
-    fn answer(&mut self, connection: &mut Connection, input: &Input) -> Result<Told, OutOfMemory>
+    fn answer(
+        &mut self,
+        connection: &mut Connection,
+        input: &Input,
+    ) -> Result<DeliveryAnswer, OutOfMemory>
         ensures { IfOk result (λ told. AnswersAs self.old.core self.new.core told connection.new
             (λ state label done. ComesTo state label connection.old input.now done)) }
     {
@@ -52,7 +56,7 @@ impl Handler {
         &mut self,
         connection: &mut Session,
         input: &Input,
-    ) -> Result<Told, OutOfMemory>
+    ) -> Result<DeliveryAnswer, OutOfMemory>
         ensures { IfOk result (λ told. AnswersAs self.old.core self.new.core told (Connection.Client connection.new)
             (λ state label done. ComesToClient state label connection.old input.now done)) }
     {
@@ -65,7 +69,11 @@ impl Handler {
     }
 
     /// Bytes come on it.
-    fn hear(&mut self, connection: &mut Session, bytes: &[u8]) -> Result<Told, OutOfMemory>
+    fn hear(
+        &mut self,
+        connection: &mut Session,
+        bytes: &[u8],
+    ) -> Result<DeliveryAnswer, OutOfMemory>
         ensures { IfOk result (λ told. AnswersAs self.old.core self.new.core told (Connection.Client connection.new)
             (λ state label done. (heard : Heard) × IsHeard connection.old bytes.now heard × (exchanges state label heard.conversation heard.events ≡ done))) }
     {
@@ -74,7 +82,7 @@ impl Handler {
     }
 
     /// There is room for so many bytes on it.
-    fn draw(&mut self, connection: &mut Session, room: u32) -> Result<Told, OutOfMemory>
+    fn draw(&mut self, connection: &mut Session, room: u32) -> Result<DeliveryAnswer, OutOfMemory>
         ensures { IfOk result (λ told. AnswersAs self.old.core self.new.core told (Connection.Client connection.new)
             (λ state label done. exchanges state label connection.old (Event.Draw connection.old.id room ∷ []) ≡ done)) }
     {
@@ -83,7 +91,11 @@ impl Handler {
     }
 
     /// Its source names what is on the air.
-    fn title(&mut self, connection: &mut Session, text: &[u8]) -> Result<Told, OutOfMemory>
+    fn title(
+        &mut self,
+        connection: &mut Session,
+        text: &[u8],
+    ) -> Result<DeliveryAnswer, OutOfMemory>
         ensures { IfOk result (λ told. AnswersAs self.old.core self.new.core told (Connection.Client connection.new)
             (λ state label done. exchanges state label connection.old (Event.Title connection.old.id (cleaned max_title text.now) ∷ []) ≡ done)) }
     {
@@ -93,19 +105,23 @@ impl Handler {
     }
 
     /// The peer has closed it.
-    fn close(&mut self, connection: &Session) -> Result<Told, OutOfMemory>
+    fn close(&mut self, connection: &Session) -> Result<DeliveryAnswer, OutOfMemory>
         ensures { IfOk result (λ told. AnswersAs self.old.core self.new.core told (Connection.Client connection.now)
             (λ state label done. closes state label connection.now ≡ done)) }
     {
         leave(&mut self.core, connection.id())?;
-        Ok(Told {
+        Ok(DeliveryAnswer {
             bytes: Vec::new(self.alloc),
             state: State::Shut(Ending::Done),
         })
     }
 
     /// One event is exchanged on it.
-    fn event(&mut self, connection: &mut Session, event: Event) -> Result<Told, OutOfMemory>
+    fn event(
+        &mut self,
+        connection: &mut Session,
+        event: Event,
+    ) -> Result<DeliveryAnswer, OutOfMemory>
         ensures { IfOk result (λ told. AnswersAs self.old.core self.new.core told (Connection.Client connection.new)
             (λ state label done. exchanges state label connection.old (event ∷ []) ≡ done)) }
     {
@@ -119,21 +135,21 @@ impl Handler {
         &mut self,
         connection: &mut Session,
         events: Vec<Event>,
-    ) -> Result<Told, OutOfMemory>
+    ) -> Result<DeliveryAnswer, OutOfMemory>
         ensures { IfOk result (λ told. AnswersAs self.old.core self.new.core told (Connection.Client connection.new)
             (λ state label done. exchanges state label connection.old events.items ≡ done)) }
     {
         cores_exchange_as_their_states();
         let mut bytes = Vec::new(self.alloc);
         let state = exchange(&mut self.core, connection, events, &mut bytes)?;
-        Ok(Told { bytes, state })
+        Ok(DeliveryAnswer { bytes, state })
     }
 }
 
-impl Visit<Labelled> for Handler {
+impl RowVisit<Labelled> for Handler {
     type Given = Input;
 
-    type Answer = Result<Option<Told>, OutOfMemory>;
+    type Answer = Result<Option<DeliveryAnswer>, OutOfMemory>;
 
     ghost use Rattle.radio_floor.specs.ScriptServer.{AnswersUnder};
 
@@ -141,7 +157,11 @@ impl Visit<Labelled> for Handler {
 
     ghost keeps_key = { λ handler handler' input row row' answer visited. visited.0 };
 
-    fn visit(&mut self, row: &mut Labelled, input: &Input) -> Result<Option<Told>, OutOfMemory> {
+    fn visit(
+        &mut self,
+        row: &mut Labelled,
+        input: &Input,
+    ) -> Result<Option<DeliveryAnswer>, OutOfMemory> {
         let Some(connection) = &mut row.connection else {
             return Ok(None);
         };

@@ -5,7 +5,7 @@ ghost use Rattle.radio_floor.specs.ScriptState.{told_lines};
 ghost use Rattle.radio_floor.specs.Performing.{PerformsAs};
 ghost use Rattle.radio_deliveries.specs.declared.delivery.Delivery.TheVariants.{Open, Pull, To, Clock};
 
-use crate::handler::{Told, tick};
+use crate::handler::{DeliveryAnswer, tick};
 use crate::labelled::has_label;
 use crate::script_server::{ScriptServer, push_told};
 use radio_addr::Peer;
@@ -119,7 +119,7 @@ impl Performer for ScriptServer {
 fn write_told(
     alloc: Global,
     label: u32,
-    told: Told,
+    told: DeliveryAnswer,
     lines: &mut Vec<u8>,
 ) -> Result<(), PerformFault>
     ensures { MatchResult result

@@ -9,7 +9,7 @@ ghost use Rattle.radio_floor.specs.ScriptState.{AsksOn, ComesToRelay};
 ghost use Rattle.radio_floor.specs.ScriptServer.{AnswersAs, PullsAs};
 
 use crate::OutOfMemory;
-use crate::handler::{Handler, Told};
+use crate::handler::{DeliveryAnswer, Handler};
 use radio_events::Event;
 use radio_exchanges::cores_pull_as_their_states;
 use radio_pull::{RelayPull, ask, close, take};
@@ -23,12 +23,12 @@ impl Handler {
         &mut self,
         pull: &mut RelayPull,
         input: &Input,
-    ) -> Result<Told, OutOfMemory>
+    ) -> Result<DeliveryAnswer, OutOfMemory>
         ensures { IfOk result (λ told. AnswersAs self.old.core self.new.core told (Relay pull.new)
             (λ state label done. ComesToRelay state label pull.old input.now done)) }
     {
         let state = self.pull(pull, input)?;
-        Ok(Told {
+        Ok(DeliveryAnswer {
             bytes: Vec::new(self.alloc),
             state,
         })

@@ -8,16 +8,18 @@
 //! Each of these has its contracts in the crate that it comes from.
 #![tactic(auto)]
 
-pub use radio_book::{Chronicle, Entry, House, Kept, PASSES, Pass, Receipt, Stamp, Unkept};
+pub use radio_book::{Chronicle, Entry, Kept, Origin, PASSES, Pass, Receipt, Stamp, Unkept};
 pub use radio_connections::{
     CallCount, Conn, Gate, History, Line, OpenGate, Received, Sent, Server, WebAnswers,
 };
 pub use radio_events::SharedServer;
 pub use radio_intake::{
-    AcceptFault, Accepted, Accepts, Entrance, Intake, IntakePass, ROOM, Tried, accept_next,
+    AcceptFault, AcceptResult, AcceptTry, Accepts, Entrance, Intake, IntakePass, ROOM, accept_next,
 };
 pub use radio_locks::{Caller, Hall, OutOfMemory};
 pub use radio_notes::Log;
 pub use radio_serving::{Turn, Watched, Worker};
 pub use radio_settling::{SettleFault, settle, settle_books, settle_family};
-pub use radio_workers::{Call, Post, Seat, Seen, Workplace, add_seat, run_workers};
+pub use radio_workers::{
+    Seen, TurnSource, TurnStart, WorkerSlot, Workplace, add_slot, run_workers,
+};

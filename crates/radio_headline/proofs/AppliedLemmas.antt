@@ -161,7 +161,7 @@ goes_on w id says (event ∷ asked) run =
       all = then_all w id event says others rest asked of.state run (λ r. (goes_on later id of.says asked r).all);
     }
 
--- an answer, a denial, and that he was finished, are the last that is told
+-- an answer, a denial, and that it was finished, are the last that is told
 abbrev pub IsLast : Reply → Type 0
 IsLast (Text text) = Unit {0}
 IsLast (Deny rule) = Unit {0}

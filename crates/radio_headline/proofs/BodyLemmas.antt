@@ -187,7 +187,7 @@ module _ (web : WebAnswers) (settled : IsSettled ShowsRequest) (within : HeadsLi
         greets = ap (λ (x : Heard). x.conversation.says.greeting) (source_so c f.request rest f.start f.source f.framed) ∙ ap (λ (s : Says). s.greeting) d.says;
       }
 
-  -- and those of one who hears as his request
+  -- and those of one who hears as its request
   pub heard_get : (bytes : List ℕ) (log : List Entry) (given : List ℕ) (g : ByGet web bytes log given) → IsRequest bytes g.id (asks_by_get web g.id g.request) []
   heard_get bytes log given g =
       let c = fresh web g.id g.peer in

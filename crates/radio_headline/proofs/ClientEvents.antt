@@ -211,7 +211,7 @@ behind_is_his id (Title him text) h = ap (λ (n : ℕ). Some n) h
 behind_is_his id (Draw him room) h = ap (λ (n : ℕ). Some n) h
 behind_is_his id (Leave him) h = ap (λ (n : ℕ). Some n) h
 
--- he draws, tells titles or leaves
+-- it draws, tells titles or leaves
 abbrev pub IsIdleOrLeave : ℕ → Event → Type 0
 IsIdleOrLeave id event = IsIdle id event ⊎ (event ≡ Leave id)
 

@@ -145,7 +145,7 @@ module _ (web : WebAnswers) (settled : IsSettled ShowsRequest) (within : HeadsLi
                 ∙ ap (λ (q : Place). after q (drop fed.0.length (bytes ++ more))) (sym fed.2)))
             stage run (inr h) = AfterBody fed.0 (fed.4 _) h
 
-      -- between them he draws, or tells titles
+      -- between them it draws, or tells titles
       idle_at_body : f.rest ≡ [] → conversation.hears ≡ Body (unfed (after f.start (drop f.length bytes))) → (events : List Event)
           → EachAsked (IsIdle id) events → Came (bytes ++ []) conversation events
       idle_at_body none hears events asked =
@@ -209,7 +209,7 @@ module _ (web : WebAnswers) (settled : IsSettled ShowsRequest) (within : HeadsLi
       by_stage (AfterBody f told hears) = nothing_heard hears (after_body f told (same_arrival f.peer f.id _ f.in_order) hears more [] tt)
       by_stage (Refused nothing hears) = nothing_heard hears (after_refusal nothing hears (bytes ++ more) [] tt)
 
-    -- he draws, or tells a title
+    -- it draws, or tells a title
     pub idle_comes : (event : Event) → IsIdle id event → Came (bytes ++ []) conversation (event ∷ [])
     idle_comes event idle = by_stage c.stage where
       by_stage : Stage web bytes log given conversation → Came (bytes ++ []) conversation (event ∷ [])

@@ -18,8 +18,8 @@ use Rattle.radio_heads.specs.Response.{ResponseParts, ShowsResponse}
 use Rattle.radio_relay.specs.Answer.{interval_in, shown_by}
 use Rattle.radio_relay.specs.Laws.{sound_in}
 use Rattle.radio_relay.specs.Pulled.{after_bytes, stream_parts, stream_with}
-use Rattle.radio_relay.specs.declared.pull.Stage.TheVariants.{Head, Behind}
-use Rattle.radio_relay.specs.declared.stream.Stream.{Stream}
+use Rattle.radio_relay.specs.declared.pull.PullStage.TheVariants.{Head, Behind}
+use Rattle.radio_relay.specs.declared.stream.PulledStream.{PulledStream}
 use Rattle.radio_session.specs.declared.session.Hears.TheVariants.{Head as HearsHead, Body, Nothing}
 use Rattle.radio_session.specs.Asking.{asks_to_feed, asks_by_get}
 use Rattle.radio_session.specs.Conversation.{Conversation, asking}
@@ -37,18 +37,18 @@ use Rattle.radio_headline.proofs.ReplyForms.{IsIdle}
 use Rattle.radio_headline.proofs.RunLemmas.{IsOwn, IsIdling}
 use Rattle.radio_answers.specs.declared.web_answers.WebAnswers.{WebAnswers}
 
--- he has arrived, and has this number
+-- it has arrived, and has this number
 abbrev pub arrival : Peer → ℕ → Entry
 arrival peer id = record { event = Arrive peer; reply = Arrived id }
 
 abbrev pub events_of : List Entry → List Event
 events_of log = map (λ e. e.event) log
 
--- he draws, tells titles or leaves
+-- it draws, tells titles or leaves
 abbrev pub IsIdleOrLeaving : ℕ → Entry → Type 0
 IsIdleOrLeaving id e = IsIdle id e.event ⊎ (e.event ≡ Leave id)
 
--- it is of this client, and he asks for nothing by it
+-- it is of this client, and it asks for nothing by it
 abbrev pub IsBehindRequest : ℕ → Event → Type 0
 IsBehindRequest id (Push him block) = him ≡ id
 IsBehindRequest id (SourceEnd him) = him ≡ id
@@ -133,7 +133,7 @@ abbrev pub IsGreeted : (web : WebAnswers) → {bytes : List ℕ} {log : List Ent
 IsGreeted web f given = Greeted web f.id f.idle f.request f.reply given
 
 -- the stream behind what has come of it
-abbrev pub stream_after : {bytes : List ℕ} {log : List Entry} → Pulls bytes log → Stream
+abbrev pub stream_after : {bytes : List ℕ} {log : List Entry} → Pulls bytes log → PulledStream
 stream_after {bytes = bytes} p = after_bytes (stream_with p.interval) (drop p.length bytes)
 
 pub data Facts (web : WebAnswers) (bytes : List ℕ) (log : List Entry) (given : List ℕ) : Type 0 where

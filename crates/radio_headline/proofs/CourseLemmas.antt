@@ -54,7 +54,7 @@ use Rattle.radio_headline.proofs.ConnectionSteps.{data_come, idle_comes, end_com
 use Rattle.radio_headline.proofs.PullSteps.{idles_so, more_facts, takes_so}
 use Rattle.radio_heads.specs.Response.{ShowsResponse}
 use Rattle.radio_relay.proofs.CutLemmas.{AfterPieces, HeardInPieces}
-use Rattle.radio_relay.specs.declared.pull.Stage.TheVariants.{Head}
+use Rattle.radio_relay.specs.declared.pull.PullStage.TheVariants.{Head}
 use Rattle.radio_headline.proofs.LabelLemmas.{answer, answer_here, answer_elsewhere, answer_written, opened_here, opened_elsewhere, with_here, with_elsewhere}
 use Rattle.radio_headline.proofs.Standing.{brought_joined, brought_here, brought_elsewhere, front_none, IsSo_as, Stands, nowhere_joined, Changes, then_stands}
 use Rattle.radio_answers.specs.declared.web_answers.WebAnswers.{WebAnswers}

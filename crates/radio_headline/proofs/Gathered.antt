@@ -1,4 +1,4 @@
--- What a client's events bring, gathered over a course, is what the entries on his connection bring.
+-- What a client's events bring, gathered over a course, is what the entries on its connection bring.
 use Rattle.std.proofs.Common.{◌≡◌, ◌⊎◌, inl, inr, ℕ, ◌==◌, Bool, true, false, List, [], ◌∷◌, ◌++◌, Option, None, Some, refl, ap, sym, ◌∙◌, arith}
 use Rattle.std.specs.Prelude.{flat_map, if◌then◌else◌}
 use Rattle.std.specs.List.{AllByRecursion}
@@ -12,7 +12,7 @@ use Rattle.radio_house.specs.World.{World}
 use Rattle.radio_headline.specs.Course.{Happening, entry, log_on}
 use Rattle.radio_headline.proofs.Logs.{Each, itself}
 
--- the events of the client are those on his connection
+-- the events of the client are those on its connection
 counts_as : (id : ℕ) (event : Event) → is_number id (client_in event) ≡ true → client_in event ≡ Some id
 counts_as id event h = by_client (client_in event) refl where
   by_client : (c : Option ℕ) → client_in event ≡ c → client_in event ≡ Some id

@@ -137,7 +137,7 @@ parted_at_get web bytes log given g before behind e parts l =
     ((λ k. k), each_as (IsIdling g.id) GetsNot (idle_not g.id) g.idle g.idles)
     (each_as (IsIdleOrLeaving g.id) GetsNot (idle_or_leaving_not g.id) g.behind g.no_more)).here
 
--- nothing was told while he waited
+-- nothing was told while it waited
 abbrev pub IsMute : Entry → Type 0
 IsMute e = (e.reply ≡ Stray) ⊎ ((rule : Rule) × (e.reply ≡ Finished rule))
 

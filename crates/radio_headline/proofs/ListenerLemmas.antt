@@ -20,7 +20,7 @@ use Rattle.radio_events.specs.declared.event.Event.TheVariants.{Listen, Draw, Co
 use Rattle.radio_core.specs.Ways.{rows_for}
 use Rattle.radio_policy.specs.Verdicts.{Denies}
 use Rattle.radio_events.specs.declared.command.CommandRequest.{CommandRequest}
-use Rattle.radio_events.specs.declared.text.Text.{Text as CommandText}
+use Rattle.radio_events.specs.declared.text.ReplyText.{ReplyText as CommandText}
 use Rattle.radio_events.specs.declared.event.ListenRequest.{ListenRequest}
 use Rattle.radio_events.specs.declared.reply.Reply.{Reply}
 use Rattle.radio_events.specs.declared.reply.Reply.TheVariants.{Arrived, Feeding, Seated, Drawn, Noted, Text, Deny, Finished, Stray}
@@ -75,7 +75,7 @@ module _ (web : WebAnswers) (settings : Settings) (lists : Lists)
     (brought given : ℕ → List ℕ) (course : List Happening)
     (each : (label : ℕ) → IsClosed web (brought label) (log_on (opening settings lists) course label) (given label))
     (nowhere : AllNowhere (λ h. IsMoment h.event) course) where
-  -- the events of a client are on the connection on which he was given his number
+  -- the events of a client are on the connection on which it was given its number
   none_nowhere : (label id : ℕ) (past : List Happening) → AllNowhere (λ h. IsMoment h.event) past → AllNowhere (IsOnIt label id) past
   none_nowhere label id [] h = tt
   none_nowhere label id (x ∷ past) h =
@@ -241,7 +241,7 @@ module _ (web : WebAnswers) (settings : Settings) (lists : Lists)
       mute : Waited web g.idle
       mute = waited web g.idle g.goes.1 waits.1
 
-      -- behind his head stand the draws
+      -- behind its head stand the draws
       told_behind : given label ≡ told (asking web) (reply ∷ replies behind)
       told_behind =
           g.is_told

@@ -23,8 +23,8 @@ use Rattle.radio_relay.specs.Pulled.{Part, ShownPart, SoundPart, TitlePart}
 use Rattle.radio_relay.specs.Pulled.{parts_heard, stream_parts, stream_with, title_parts}
 use Rattle.radio_relay.specs.declared.items.PullItem.{PullItem}
 use Rattle.radio_relay.specs.declared.items.PullItem.TheVariants.{Up, Sound, Title as Named}
-use Rattle.radio_relay.specs.declared.stream.Stream.{Stream}
-use Rattle.radio_relay.specs.declared.stream.Stream.TheVariants.{Plain, Woven}
+use Rattle.radio_relay.specs.declared.stream.PulledStream.{PulledStream}
+use Rattle.radio_relay.specs.declared.stream.PulledStream.TheVariants.{Plain, Woven}
 use Rattle.radio_relay.proofs.CutLemmas.{AfterPieces, HeardInPieces, parts-cut}
 use Rattle.radio_headline.specs.Sources.{pushed}
 use Rattle.radio_headline.proofs.Logs.{entries, Each}
@@ -65,7 +65,7 @@ woven_shows [] = tt
 woven_shows (SoundByte b ∷ atoms) = woven_shows atoms
 woven_shows (WholeText text ∷ atoms) = show_joined (title_parts (title_of text)) (parts_heard atoms) (title_shows (title_of text)) (woven_shows atoms)
 
-pub stream_shows : (stream : Stream) (bytes : List ℕ) → ShowNothing (stream_parts stream bytes)
+pub stream_shows : (stream : PulledStream) (bytes : List ℕ) → ShowNothing (stream_parts stream bytes)
 stream_shows Plain bytes = plain_shows bytes
 stream_shows (Woven reader) bytes = woven_shows (heard reader bytes)
 

@@ -25,8 +25,8 @@ use Rattle.radio_relay.specs.declared.fault.PullFault.{PullFault}
 use Rattle.radio_relay.specs.declared.fault.PullFault.TheVariants.{BadHead}
 use Rattle.radio_relay.specs.declared.items.PullItem.{PullItem}
 use Rattle.radio_relay.specs.declared.items.PullItem.TheVariants.{Up}
-use Rattle.radio_relay.specs.declared.pull.Stage.{Stage}
-use Rattle.radio_relay.specs.declared.pull.Stage.TheVariants.{Head, Behind}
+use Rattle.radio_relay.specs.declared.pull.PullStage.{PullStage}
+use Rattle.radio_relay.specs.declared.pull.PullStage.TheVariants.{Head, Behind}
 use Rattle.radio_relay.proofs.CutLemmas.{AfterPieces, HeardInPieces, after-cut}
 use Rattle.radio_events.specs.declared.state.State.{State}
 use Rattle.radio_events.specs.declared.state.State.TheVariants.{Running, Shut}
@@ -335,10 +335,10 @@ module _ (web : WebAnswers) (settled : IsSettled ShowsResponse) (within : HeadsL
 
       by_stage : RelayStage bytes log pulling → Taken more given now ends later
       by_stage (AtAnswer st lg) =
-          let known = subst (λ (s : Stage). IsPulledAt s more pulled) st is_pulled in
+          let known = subst (λ (s : PullStage). IsPulledAt s more pulled) st is_pulled in
           by_reading more given now ends later pulled is_pulled known.0 known.1 known.2 lg (as_known (pulled_as (bytes ++ more) known.0) known.2)
       by_stage (InAnswer p st whole calm) =
-          let known = subst (λ (s : Stage). IsPulledAt s more pulled) st is_pulled in
+          let known = subst (λ (s : PullStage). IsPulledAt s more pulled) st is_pulled in
           stream_comes more given now ends later pulled is_pulled p known whole calm (as_known (stream_pulled [] (stream_after p) more) known)
 
   -- more bytes may come where it was shut

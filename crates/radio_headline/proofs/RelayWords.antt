@@ -72,7 +72,7 @@ number_stays number (Deny rule) = refl
 number_stays number (Finished rule) = refl
 number_stays number Stray = refl
 
--- the policy denied it, or he had been finished
+-- the policy denied it, or it had been finished
 abbrev pub IsRefusal : Reply → Type 0
 IsRefusal (Deny rule) = Unit {0}
 IsRefusal (Finished rule) = Unit {0}

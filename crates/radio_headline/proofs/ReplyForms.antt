@@ -7,7 +7,7 @@ use Rattle.radio_events.specs.declared.event.ListenRequest.{ListenRequest}
 use Rattle.radio_events.specs.declared.reply.Reply.{Reply}
 use Rattle.radio_events.specs.declared.reply.Reply.TheVariants.{Arrived, Seated, Drawn, Noted, Text, Deny, Finished, Stray}
 use Rattle.radio_events.specs.declared.reply.StreamHead.{StreamHead}
-use Rattle.radio_events.specs.declared.text.Text.{Text as CommandText}
+use Rattle.radio_events.specs.declared.text.ReplyText.{ReplyText as CommandText}
 use Rattle.radio_policy.specs.declared.judgement.Verdict.{Verdict}
 use Rattle.radio_policy.specs.declared.judgement.Verdict.TheVariants.{Allow, Deny as Denied}
 use Rattle.radio_policy.specs.Verdicts.{verdict_in}
@@ -111,7 +111,7 @@ IsIdle id (Draw him room) = him ≡ id
 IsIdle id (Title him text) = him ≡ id
 IsIdle id event = ⊥
 
--- how he may be replied who is no source and has no seat
+-- how it may be replied who is no source and has no seat
 pub data IdleReply (w : World) (id : ℕ) : Reply → Type 0 where
   IsStray : IdleReply w id Stray
   WasFinished : (rule : Rule) → IdleReply w id (Finished rule)

@@ -20,7 +20,7 @@ use Rattle.radio_core.specs.ClientSteps.{Stays, Arrives, IsAnswered, IsObeyed, I
 use Rattle.radio_core.specs.Finishes.{Finishes}
 use Rattle.radio_core.specs.Handing.{is_number}
 use Rattle.radio_core.specs.Pages.{IsShownBy, IsListing, IsAtPath}
-use Rattle.radio_events.specs.declared.text.Text.{Text as CommandText}
+use Rattle.radio_events.specs.declared.text.ReplyText.{ReplyText as CommandText}
 use Rattle.radio_core.specs.Others.{RepliesFit, HasCome, AsClient}
 use Rattle.radio_core.specs.Run.{run_after, world_after_all}
 use Rattle.radio_core.specs.Step.{reply_to, world_after}
@@ -87,7 +87,7 @@ AreOn label id past = AllByRecursion (λ (h : Happening). client_in h.event ≡ 
 abbrev pub IsIdling : ℕ → Entry → Type 0
 IsIdling id e = IsIdle id e.event
 
--- he is told nothing, or that he was finished
+-- it is told nothing, or that it was finished
 abbrev pub IsSilent : Entry → Type 0
 IsSilent e = (e.reply ≡ Stray) ⊎ ((rule : Rule) × (e.reply ≡ Finished rule))
 
@@ -181,7 +181,7 @@ module _ (settings : Settings) (lists : Lists)
         by_labels ih false e true f x (inr y) = ih x y
         by_labels ih false e false f x y = ih x y
 
-  -- who has asked for nothing has asked for nothing still, if all that he does is to draw and to tell titles
+  -- who has asked for nothing has asked for nothing still, if all that it does is to draw and to tell titles
   still_new : (w : World) (event : Event) (id : ℕ) → (client_in event ≡ Some id → IsIdle id event) → (Cause : Rule → Type 0) → (s later : Standing)
       → ClientStep w Cause event id s later → IsNew s → IsNew later
   still_new w event id idle Cause s later (Stays _) n = n

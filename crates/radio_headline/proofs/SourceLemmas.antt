@@ -70,7 +70,7 @@ delivered_gathered w past label id on his = in_order w past ∙ gathered noted_o
       ap (λ (xs : List ℕ). (if is_number id (client_in h.event) then xs else []) ++ delivered (world_after x h.event) (events_in hs) id) (brings_noted x h.event)
       ∙ ap (λ (xs : List ℕ). (if is_number id (client_in h.event) then noted_of (entry x h.event) else []) ++ xs) (in_order (world_after x h.event) hs)
 
--- he feeds no mount
+-- it feeds no mount
 abbrev FeedsNothing : Standing → Type 0
 FeedsNothing (Feeds mount) = ⊥
 FeedsNothing standing = Unit {0}

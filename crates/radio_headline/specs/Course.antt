@@ -57,7 +57,7 @@ log_on w (happening ∷ happenings) label = entry_on w happening label ++ log_on
 
 -- Of the events that a client's connection asks for.
 
--- this one is applied, and the others where it goes on; where it is shut the client leaves, unless that is what he has just done
+-- this one is applied, and the others where it goes on; where it is shut the client leaves, unless that is what it has just done
 abbrev pub and_then : ℕ → Event → State → List Event → List Event
 and_then id event Running others = event ∷ others
 and_then id event (Shut ending) others = event ∷ (if is_leave event then [] else Leave id ∷ [])

@@ -26,8 +26,8 @@ draws_noted [] id = []
 draws_noted (e ∷ history) id = of_client e.event id (draws_of (e.reply ∷ [])) ++ draws_noted history id
 
 -- each reply that was noted is that of a step from the state after the entries before it, and lawful; and the data in the draws that were noted for a
--- listener are slices, joined in order, one for each of his sittings, of what the source delivered in whose session he sat, or of nothing, where he waited
--- for a session; and the split between two of them is where he sat down
+-- listener are slices, joined in order, one for each of its sittings, of what the source delivered in whose session it sat, or of nothing, where it waited
+-- for a session; and the split between two of them is where it sat down
 pub record IsLawfulHistory (settings : Settings) (lists : Lists) (history : List Entry) : Type 0 where
   pub replies : (before after : List Entry) (entry : Entry) → history ≡ before ++ entry ∷ after
       → entry.reply ≡ reply_to (run_after settings lists (events_noted before)) entry.event

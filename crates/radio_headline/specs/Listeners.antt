@@ -14,7 +14,7 @@ use Rattle.radio_events.specs.declared.event.SourceRequest.{SourceRequest}
 use Rattle.radio_events.specs.declared.reply.Reply.{Reply}
 use Rattle.radio_events.specs.declared.reply.Reply.TheVariants.{Feeding, Seated, Text, Deny, Finished}
 use Rattle.radio_events.specs.declared.reply.StreamHead.{StreamHead}
-use Rattle.radio_events.specs.declared.text.Text.{Text as ShownText}
+use Rattle.radio_events.specs.declared.text.ReplyText.{ReplyText as ShownText}
 use Rattle.radio_icy.specs.Weaving.{Call}
 use Rattle.radio_icy.specs.Bare.{sound_in}
 use Rattle.radio_icy.specs.Stream.{IsWoven, sound_of_calls}
@@ -41,8 +41,8 @@ abbrev pub draws_to : World → List Event → ℕ → List Call
 draws_to w [] id = []
 draws_to w (event ∷ events) id = of_client event id (draws_of (reply_to w event ∷ [])) ++ draws_to (world_after w event) events id
 
--- the data in the draws of a listener are slices joined in order, one for each of his sittings: of what the source delivered in whose session
--- he sat, from where he sat down
+-- the data in the draws of a listener are slices joined in order, one for each of its sittings: of what the source delivered in whose session
+-- it sat, from where it sat down
 abbrev pub DrawsAreStretches : Settings → Lists → List Event → ℕ → Type 0
 DrawsAreStretches settings lists events id =
     let w = opening settings lists in
@@ -52,8 +52,8 @@ DrawsAreStretches settings lists events id =
 abbrev pub draw_to : ℕ → World → Event → List Call
 draw_to id w event = of_client event id (draws_of (reply_to w event ∷ []))
 
--- they are cut where he sits down: the data of the draws from one sitting to the next, or to the end, are one slice of what the source delivered in whose
--- session he sat; those before the first have none; and joined in order they are all his draws
+-- they are cut where it sits down: the data of the draws from one sitting to the next, or to the end, are one slice of what the source delivered in whose
+-- session it sat; those before the first have none; and joined in order they are all its draws
 abbrev pub DrawsAreCut : Settings → Lists → List Event → ℕ → Type 0
 DrawsAreCut settings lists events id =
     let w = opening settings lists in
@@ -67,14 +67,14 @@ module _ (settings : Settings) (lists : Lists) (brought : ℕ → List ℕ) (cou
   abbrev pub server_after : List Happening → World
   server_after past = run_after settings lists (events_in past)
 
-  -- he sits down in the session of a source, or where one is awaited
+  -- it sits down in the session of a source, or where one is awaited
   abbrev pub SitsWithASource : Sitting → Type 0
   SitsWithASource sitting = (shown : Shown) × HasItsSource settings lists brought course sitting.mount sitting.source shown
 
   -- by what the settings say of answers
   module _ (web : WebAnswers) where
-    -- he is seated in the session of a source, or where one is awaited, and given a head that shows what that shows; then his draws, woven as one stream at
-    -- the interval that the head tells, or their data alone where it tells none; these data are slices, one for each time that he sat down, each time with
+    -- it is seated in the session of a source, or where one is awaited, and given a head that shows what that shows; then its draws, woven as one stream at
+    -- the interval that the head tells, or their data alone where it tells none; these data are slices, one for each time that it sat down, each time with
     -- a source, or without data, awaiting one
     pub record IsHearing (w : World) (asked : ListenRequest) (interval : Option ℕ) (head : StreamHead) (bytes : List ℕ) : Type 0 where
       pub is_seated : IsSeated w (Listen asked) interval head
@@ -93,20 +93,20 @@ module _ (settings : Settings) (lists : Lists) (brought : ℕ → List ℕ) (cou
 
     -- all that one is given who asked so, by the reply
     pub data IsGiven (w : World) (asked : ListenRequest) (bytes : List ℕ) : Reply → Type 0 where
-      -- the policy denies it, by the first rule that held then, which he reads
+      -- the policy denies it, by the first rule that held then, which it reads
       IsDenied : (rule : Rule) → Denies (rows_for w (Listen asked)) rule → bytes ≡ denial web rule → IsGiven w asked bytes (Deny rule)
-      -- he asked for a path of the web site
+      -- it asked for a path of the web site
       IsShown : (text : ShownText) → bytes ≡ text_answer web text → IsGiven w asked bytes (Text text)
       Hears : (interval : Option ℕ) (head : StreamHead) → IsHearing w asked interval head bytes → IsGiven w asked bytes (Seated interval head)
-      -- he was finished before he had asked
+      -- it was finished before it had asked
       IsTooLate : (rule : Rule) → bytes ≡ [] → IsGiven w asked bytes (Finished rule)
 
-    -- one who asks so on the connection of the label, when this had happened: that is how the bytes are heard that have come, and he is given that
+    -- one who asks so on the connection of the label, when this had happened: that is how the bytes are heard that have come, and it is given that
     pub record IsAnswered (given : ℕ → List ℕ) (label : ℕ) (asked : ListenRequest) (past : List Happening) : Type 0 where
       pub is_request : IsRequest (brought label) asked.id (Listen asked) []
       pub is_given : IsGiven (server_after past) asked (given label) (reply_to (server_after past) (Listen asked))
 
-    -- one who gives a command so: he reads what is said of it, or that the policy denies it, by the first rule that held then
+    -- one who gives a command so: it reads what is said of it, or that the policy denies it, by the first rule that held then
     pub record CommandIsAnswered (given : ℕ → List ℕ) (label : ℕ) (asked : CommandRequest) (past : List Happening) : Type 0 where
       pub denied : (rule : Rule) → reply_to (server_after past) (Command asked) ≡ Deny rule
           → Denies (rows_for (server_after past) (Command asked)) rule × (given label ≡ denial web rule)

@@ -40,7 +40,7 @@ pub fn read_request<'b>(bytes: &'b [u8]) -> Result<Progress<Head<'b>>, HeadFault
 /// The search for the end looks at the empty lines before the first text, and then at the bytes from
 /// two before `seen` on; the grammar reads the head once, when its end has come. So a caller that
 /// reads after each byte pays for each byte once, and at each reading for leading empty lines, which
-/// no real client sends. With `read_request` he would pay at each reading for all that has come.
+/// no real client sends. With `read_request` it would pay at each reading for all that has come.
 // rule: Longest head
 pub fn read_request_from<'b>(bytes: &'b [u8], seen: usize) -> Result<Progress<Head<'b>>, HeadFault>
     requires in_range { seen ≤ length bytes.now }

@@ -11,9 +11,9 @@ use Rattle.radio_tables.specs.Lists.{update_first, placed}
 pub record Client : Type 0 where
   pub id : ℕ
   pub peer : Peer
-  -- the moment of his arrival, in milliseconds
+  -- the moment of its arrival, in milliseconds
   pub arrived : ℕ
-  -- what he does
+  -- what it does
   pub state : ClientState
 
 -- a client who has just arrived
@@ -23,7 +23,7 @@ newcomer id peer moment = record { id = id; peer = peer; arrived = moment; state
 abbrev pub is_client : ℕ → Client → Bool
 is_client id client = client.id == id
 
--- the client of this number, if he is there
+-- the client of this number, if it is there
 abbrev pub client_of : List Client → ℕ → Option Client
 client_of clients id = find (is_client id) clients
 

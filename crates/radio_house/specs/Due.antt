@@ -1,4 +1,4 @@
--- From which moment on the time of somebody is over, so that before it no clock ends him.
+-- From which moment on the time of somebody is over, so that before it no clock ends it.
 use Rattle.std.specs.Prelude.{ℕ, min}
 use Rattle.radio_seats_rows.specs.Guests.{first_moment}
 use Rattle.radio_parts.specs.Due.{last_moment, due_at, guest_due, session_due, earliest}
@@ -7,7 +7,7 @@ use Rattle.radio_house.specs.declared.clients.ClientState.{ClientState}
 use Rattle.radio_house.specs.declared.clients.ClientState.TheVariants.{Undecided}
 use Rattle.radio_house.specs.World.{World}
 
--- a client of this state, who arrived then, is due if he has asked for nothing
+-- a client of this state, who arrived then, is due if it has asked for nothing
 abbrev pub due_in_state : ℕ → ℕ → ClientState → ℕ
 due_in_state seconds arrived Undecided = due_at seconds arrived
 due_in_state seconds arrived state = last_moment

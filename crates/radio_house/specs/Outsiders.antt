@@ -1,4 +1,4 @@
--- Who sits at a mount whose users do not let him in.
+-- Who sits at a mount whose users do not let it in.
 use Rattle.std.specs.Prelude.{ℕ, Bool, ◌&&◌, not, List}
 use Rattle.std.specs.Str.{bytes_eq}
 use Rattle.radio_access.specs.Lists.{Lists, lets_in}

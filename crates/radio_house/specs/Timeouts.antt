@@ -19,7 +19,7 @@ asks_nothing seconds now arrived state = false
 abbrev pub asks_too_late : ℕ → ℕ → Client → Bool
 asks_too_late seconds now client = asks_nothing seconds now client.arrived client.state
 
--- such a client is finished; any other does what he did
+-- such a client is finished; any other does what it did
 abbrev pub timed_out : ℕ → ℕ → Client → Client
 timed_out seconds now client = with_state (if asks_too_late seconds now client then Ended HeaderTimeout else client.state) client
 

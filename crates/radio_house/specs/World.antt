@@ -46,7 +46,7 @@ abbrev pub standing_of_listener : Option Listener → Standing
 standing_of_listener None = IsAnswered
 standing_of_listener (Some listener) = standing_seated listener.seating
 
--- how a client from this address stands who does this, and is this listener if he is one
+-- how a client from this address stands who does this, and is this listener if it is one
 abbrev pub standing_by : Option Listener → Peer → ClientState → Standing
 standing_by listener peer Undecided = IsUndecided peer
 standing_by listener peer (Feeds mount) = IsFeeding mount

@@ -2,22 +2,22 @@
 
 use radio_addr::Peer;
 use radio_policy::Rule;
-use radio_tables::{Change, Row};
+use radio_tables::{Row, RowChange};
 use radio_values::MountName;
 use std::marker::Model;
 
 /// What a client does.
 #[derive(Clone, Copy)]
 pub enum ClientState {
-    /// He has asked for nothing yet.
+    /// It has asked for nothing yet.
     Undecided,
-    /// He is the source of the mount.
+    /// It is the source of the mount.
     Feeds(MountName),
-    /// He was admitted as a listener; the table of listeners has him.
+    /// It was admitted as a listener; the table of listeners has it.
     Listens,
-    /// He has had his answer, and nothing more is to come.
+    /// It has had its answer, and nothing more is to come.
     Answered,
-    /// He was finished by the rule, and had no seat.
+    /// It was finished by the rule, and had no seat.
     Ended(Rule),
 }
 
@@ -26,7 +26,7 @@ pub enum ClientState {
 pub(crate) struct Client {
     pub(crate) id: u64,
     pub(crate) peer: Peer,
-    /// The moment of his arrival, in milliseconds.
+    /// The moment of its arrival, in milliseconds.
     pub(crate) arrived: u64,
     pub(crate) state: ClientState,
 }
@@ -62,7 +62,7 @@ pub(crate) struct SetState {
     pub(crate) state: ClientState,
 }
 
-impl Change<Client> for SetState {
+impl RowChange<Client> for SetState {
     ghost use Rattle.std.specs.Prelude.{refl};
     ghost use Rattle.radio_house.specs.Clients.{with_state};
 

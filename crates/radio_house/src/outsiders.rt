@@ -1,4 +1,4 @@
-//! Who sits at a mount whose users do not let him in, since they have changed.
+//! Who sits at a mount whose users do not let it in, since they have changed.
 
 ghost use Rattle.std.specs.Prelude.{◌≡◌};
 ghost use Rattle.radio_policy.specs.declared.rule.Rule.{Rule as RuleOf};

@@ -1,7 +1,7 @@
 //! The relays that are there.
 
 use radio_policy::Rule;
-use radio_tables::{Change, Row};
+use radio_tables::{Row, RowChange};
 use radio_values::MountName;
 use std::marker::Model;
 
@@ -52,7 +52,7 @@ pub(crate) struct SetRelayState {
     pub(crate) state: RelayState,
 }
 
-impl Change<Relay> for SetRelayState {
+impl RowChange<Relay> for SetRelayState {
     ghost use Rattle.std.specs.Prelude.{refl};
     ghost use Rattle.radio_house.specs.Relays.{doing};
 

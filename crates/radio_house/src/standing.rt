@@ -15,26 +15,26 @@ use radio_policy::Rule;
 use radio_seats::ListenerStanding;
 use radio_values::MountName;
 
-/// How a client or a relay stands: what decides which of his events count.
+/// How a client or a relay stands: what decides which of its events count.
 #[derive(Clone, Copy)]
 pub enum Standing {
     /// There is neither a client nor a relay of that number.
     Unknown,
-    /// He has asked for nothing yet.
+    /// It has asked for nothing yet.
     Undecided(Peer),
-    /// He is the source of the mount, or it is the relay that feeds it.
+    /// It is the source of the mount, or it is the relay that feeds it.
     Feeds(MountName),
-    /// He is a listener who has a seat.
+    /// It is a listener who has a seat.
     Sits,
-    /// He has had his answer, and nothing more is to come.
+    /// It has had its answer, and nothing more is to come.
     Answered,
-    /// He was finished by the rule.
+    /// It was finished by the rule.
     Finished(Rule),
 }
 
 impl House<'_> {
-    /// How the client, or the relay, of this number stands, who has his place among these listeners
-    /// if he is one.
+    /// How the client, or the relay, of this number stands, who has its place among these listeners
+    /// if it is one.
     pub fn standing(&self, seats: &Listeners, id: u64) -> Standing
         ensures { result ≡ standing_of (world self.now seats.now.seats) id }
     {

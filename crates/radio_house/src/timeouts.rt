@@ -6,7 +6,7 @@ ghost use Rattle.radio_house.specs.Timeouts.{asks_too_late};
 use crate::clients::{Client, ClientState};
 use radio_parts::lies_back;
 use radio_policy::Rule;
-use radio_tables::Change;
+use radio_tables::RowChange;
 
 /// A client who has asked for nothing in so many seconds is finished.
 #[derive(Drop)]
@@ -15,7 +15,7 @@ pub(crate) struct TimesOut {
     pub(crate) now: u64,
 }
 
-impl Change<Client> for TimesOut {
+impl RowChange<Client> for TimesOut {
     ghost use Rattle.std.specs.Prelude.{refl};
     ghost use Rattle.radio_house.specs.Timeouts.{timed_out};
 

@@ -37,7 +37,7 @@ module _ {L : Type 0} where
       let first = bare hand (h zero hand refl (omega arith)) in
       omega (arith, total-idle f bare hands (λ i x at. h (suc i) x at) (omega arith))
 
-  -- where one has all parts, the total is his
+  -- where one has all parts, the total is its
   total-alone : (f : Hand L → ℕ) → ((hand : Hand L) → IsBare hand → f hand ≡ 0) → (hands : List (Hand L)) (pass : ℕ) (hand : Hand L)
       → get_elem? hands pass ≡ some hand → IdleIsEmpty hands → total parts_of hands ≡ hand.parts → total f hands ≡ f hand
   total-alone f bare hands pass hand at h all =
@@ -124,7 +124,7 @@ module _ {L : Type 0} where
         (idle-set hands pass (both hand hand') (λ none. absurd (omega arith)) h.2),
   )
 
-  -- of who has all parts, how many he has put and taken says whether there was room
+  -- of who has all parts, how many it has put and taken says whether there was room
   pub room-told : (result : Result (Unit {0}) L) (room : ℕ) (hand hand' : Hand L) (line : L) → room ≡ ROOM
       → MatchResult result (λ _. IsPut hand line hand') (λ x. (x ≡ line) × (hand' ≡ hand) × Held room (IsKnown hand)) → hand.parts ≡ all_parts
       → MatchResult result (λ _. length hand.put < length hand.taken + ROOM) (λ _. length hand.put ≡ length hand.taken + ROOM)

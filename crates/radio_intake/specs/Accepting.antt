@@ -1,7 +1,7 @@
 -- When connections are accepted, and how many in a row could not be.
 use Rattle.std.specs.Prelude.{ℕ, ◌+◌, ◌^◌, ◌-◌, min, Bool, true, false}
-use Rattle.radio_intake.specs.declared.accepts.Tried.{Tried}
-use Rattle.radio_intake.specs.declared.accepts.Tried.TheVariants.{Accepted, Failed, NoDescriptor}
+use Rattle.radio_intake.specs.declared.accepts.AcceptTry.{AcceptTry}
+use Rattle.radio_intake.specs.declared.accepts.AcceptTry.TheVariants.{Accepted, Failed, NoDescriptor}
 
 -- with so many failures in a row a server ends
 abbrev pub most_failed : ℕ
@@ -23,7 +23,7 @@ after_pause ms = min (2 ^ 64 - 1) (ms + pause)
 
 -- one was tried at this moment
 -- rule: Failed accepts
-abbrev pub tried_at : ℕ → Tried → Accepting → Accepting
+abbrev pub tried_at : ℕ → AcceptTry → Accepting → Accepting
 tried_at ms Accepted a = record { failed = 0; not_before = 0; is_short = false }
 tried_at ms Failed a = record { failed = min most_failed (a.failed + 1); not_before = after_pause ms; is_short = false }
 tried_at ms NoDescriptor a = record { failed = a.failed; not_before = after_pause ms; is_short = true }

@@ -19,11 +19,11 @@ module _ {L : Type 0} where
   abbrev pub both : Hand L → Hand L → Hand L
   both hand other = record { parts = hand.parts + other.parts; put = hand.put ++ other.put; taken = hand.taken ++ other.taken }
 
-  -- of who has all parts, what he has put and taken and what is left add up
+  -- of who has all parts, what it has put and taken and what is left add up
   abbrev pub IsKnown : Hand L → List L → Type 0
   IsKnown hand left = hand.parts ≡ all_parts → AddsUp hand.put hand.taken left
 
-  -- a line was put; if he has all parts, there was room
+  -- a line was put; if it has all parts, there was room
   abbrev pub IsPut : Hand L → L → Hand L → Type 0
   IsPut hand line hand' = (hand' ≡ record hand { put = hand.put ++ line ∷ [] }) × (left : List L) × (length left < ROOM) × IsKnown hand left
 

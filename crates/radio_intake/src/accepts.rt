@@ -13,7 +13,7 @@ const PAUSE_MS: u64 = 100;
 
 /// What came of a try to accept a connection.
 #[derive(Clone, Copy)]
-pub enum Tried {
+pub enum AcceptTry {
     /// It was accepted.
     Accepted,
     /// It could not be.
@@ -72,18 +72,18 @@ impl Accepts {
     /// One was tried at this moment. Whether the server goes on: it does not from the hundredth
     /// failure in a row on. Where no descriptor is left, that is no failure.
     // rule: Failed accepts
-    pub fn note(&mut self, tried: Tried, ms: u64) -> bool
+    pub fn note(&mut self, tried: AcceptTry, ms: u64) -> bool
         ensures tried { self.new ≡ tried_at ms tried self.old }
         ensures goes_on { result ≡ nat_lt self.new.failed most_failed }
     {
         match tried {
-            Tried::Accepted => *self = Accepts::new(),
-            Tried::Failed => {
+            AcceptTry::Accepted => *self = Accepts::new(),
+            AcceptTry::Failed => {
                 self.failed = MOST_FAILED.min(self.failed.saturating_add(1));
                 self.not_before_ms = ms.saturating_add(PAUSE_MS);
                 self.is_short = false;
             }
-            Tried::NoDescriptor => {
+            AcceptTry::NoDescriptor => {
                 self.not_before_ms = ms.saturating_add(PAUSE_MS);
                 self.is_short = true;
             }

@@ -3,11 +3,11 @@
 ghost use Rattle.std.specs.Prelude.{◌≡◌, nat_le};
 ghost use Rattle.radio_intake.specs.Entrances.{IsTried, answer_of, settled};
 
-use crate::accepts::{Accepts, Tried};
+use crate::accepts::{AcceptTry, Accepts};
 
 /// What came of a try to accept.
 #[derive(Drop)]
-pub enum Accepted<T: Drop> {
+pub enum AcceptResult<T: Drop> {
     /// A connection.
     One(T),
     /// None waits.
@@ -20,13 +20,13 @@ pub enum Accepted<T: Drop> {
 
 /// Where connections come from.
 pub trait Entrance<T: Drop> {
-    ghost use Rattle.radio_intake.specs.declared.entrance.Accepted.{Accepted};
+    ghost use Rattle.radio_intake.specs.declared.entrance.AcceptResult.{AcceptResult};
 
     // a try may come to this
-    ghost accepts: { Self → Accepted T → Self → Type 0 };
+    ghost accepts: { Self → AcceptResult T → Self → Type 0 };
 
     /// Tries to accept the next one.
-    fn accept(&mut self) -> Accepted<T>
+    fn accept(&mut self) -> AcceptResult<T>
         ensures { accepts self.old result self.new };
 }
 
@@ -53,7 +53,7 @@ pub fn accept_next<T: Drop, E: Entrance<T>>(
 
 /// Notes what has come of a try at this moment, in milliseconds. Returns the connection, if there is one.
 fn settle<T: Drop>(
-    accepted: Accepted<T>,
+    accepted: AcceptResult<T>,
     accepts: &mut Accepts,
     ms: u64,
 ) -> Result<Option<T>, AcceptFault>
@@ -61,17 +61,17 @@ fn settle<T: Drop>(
     ensures result { result ≡ answer_of accepted accepts.new }
 {
     match accepted {
-        Accepted::One(one) => {
-            accepts.note(Tried::Accepted, ms);
+        AcceptResult::One(one) => {
+            accepts.note(AcceptTry::Accepted, ms);
             Ok(Some(one))
         }
-        Accepted::Nothing => Ok(None),
-        Accepted::NoDescriptor => {
-            accepts.note(Tried::NoDescriptor, ms);
+        AcceptResult::Nothing => Ok(None),
+        AcceptResult::NoDescriptor => {
+            accepts.note(AcceptTry::NoDescriptor, ms);
             Ok(None)
         }
-        Accepted::Failed => {
-            if accepts.note(Tried::Failed, ms) {
+        AcceptResult::Failed => {
+            if accepts.note(AcceptTry::Failed, ms) {
                 Ok(None)
             } else {
                 Err(AcceptFault)

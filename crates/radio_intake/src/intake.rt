@@ -6,7 +6,7 @@ ghost use Rattle.radio_intake.specs.Passes.{AddsUp, all_parts, joined, unused};
 
 use crate::OutOfMemory;
 use crate::pass::IntakePass;
-use crate::rule::{Balance, Hand, OnePart, Puts, Takes, Together};
+use crate::rule::{Balance, Hand, OnePart, PutsOne, TakesOne, Together};
 use crossbeam_queue::RuledArrayQueue;
 use std::alloc::Global;
 use std::marker::Model;
@@ -75,7 +75,7 @@ impl<L> Intake<L> {
         // who has all parts is handed it back exactly where [`ROOM`] are left
         ensures room { pass.old.parts ≡ all_parts → MatchResult result (λ _. length pass.old.put < length pass.old.taken + ROOM) (λ _. length pass.old.put ≡ length pass.old.taken + ROOM) }
     {
-        self.queue.push_as::<Puts, R>(rt, &mut pass.hand, line)
+        self.queue.push_as::<PutsOne, R>(rt, &mut pass.hand, line)
     }
 
     /// Takes the connection that waits longest. `None` only if at one moment of the call there was
@@ -87,7 +87,7 @@ impl<L> Intake<L> {
         // for who has all parts, nothing is left then: what was put was taken
         ensures empty { pass.old.parts ≡ all_parts → IfNone result (AddsUp pass.old.put pass.old.taken []) }
     {
-        self.queue.pop_as::<Takes, R>(rt, &mut pass.hand)
+        self.queue.pop_as::<TakesOne, R>(rt, &mut pass.hand)
     }
 
     /// With all parts in one pass: how many connections are left, and that what was put is what was
@@ -98,6 +98,6 @@ impl<L> Intake<L> {
         ensures same { pass.new ≡ pass.old }
         ensures left { (left : List L) × (length left ≡ result) × AddsUp pass.old.put pass.old.taken left }
     {
-        self.queue.len_as::<Takes, R>(rt, &mut pass.hand)
+        self.queue.len_as::<TakesOne, R>(rt, &mut pass.hand)
     }
 }

@@ -16,8 +16,8 @@ mod laws;
 mod pass;
 mod rule;
 
-pub use accepts::{Accepts, Tried};
-pub use entrance::{AcceptFault, Accepted, Entrance, accept_next};
+pub use accepts::{AcceptTry, Accepts};
+pub use entrance::{AcceptFault, AcceptResult, Entrance, accept_next};
 pub use intake::{Intake, ROOM};
 pub use laws::accepting_rests;
 pub use pass::IntakePass;

@@ -47,31 +47,31 @@ impl<L> Join<Hand<L>> for Together {
 }
 
 /// A connection is put; who has all parts knows that there was room.
-pub(crate) struct Puts;
+pub(crate) struct PutsOne;
 
-impl<L> Outcome<L, Hand<L>> for Puts {
+impl<L> Outcome<L, Hand<L>> for PutsOne {
     ghost use Rattle.radio_intake.specs.Balance.{IsPut};
 
     ghost then = { IsPut };
 }
 
 /// A connection is taken.
-pub(crate) struct Takes;
+pub(crate) struct TakesOne;
 
-impl<L> Outcome<L, Hand<L>> for Takes {
+impl<L> Outcome<L, Hand<L>> for TakesOne {
     ghost use Rattle.radio_intake.specs.Balance.{IsTaken};
 
     ghost then = { IsTaken };
 }
 
 /// Who has all parts knows what is left.
-impl<L> Lesson<L, Hand<L>> for Puts {
+impl<L> Lesson<L, Hand<L>> for PutsOne {
     ghost use Rattle.radio_intake.specs.Balance.{IsKnown};
 
     ghost fact = { IsKnown };
 }
 
-impl<L> Lesson<L, Hand<L>> for Takes {
+impl<L> Lesson<L, Hand<L>> for TakesOne {
     ghost use Rattle.radio_intake.specs.Balance.{IsKnown};
 
     ghost fact = { IsKnown };

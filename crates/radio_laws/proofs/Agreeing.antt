@@ -195,7 +195,7 @@ module _ (within : List ℕ → Bool) where
     pub without_alike : (id : ℕ) → ListenersDo (without_listener xs id) (without_listener ys id)
     without_alike id = agree_filtered (ListenersAgree within) (λ l. not (is_listener id l)) (λ a b agree. ap not (is_alike id a b agree)) xs ys r
 
-    -- his place moves on, wherever he sits
+    -- its place moves on, wherever it sits
     heard_last : (place : ℕ) (seating : Seating) → last_mount (heard_to place seating) ≡ last_mount seating
     heard_last place (Sits seat) = refl
     heard_last place (Finished rule mount) = refl

@@ -13,7 +13,7 @@ use Rattle.radio_seats_rows.specs.declared.seat.Seat.{Seat}
 use Rattle.radio_seats_rows.specs.Seats.{seat_in, seat_of}
 use Rattle.radio_fallback.proofs.FitsLemmas.{sits_last}
 use Rattle.radio_parts.specs.Sessions.{Session}
-use Rattle.radio_fallback.specs.declared.walking.Found.{Found}
+use Rattle.radio_fallback.specs.declared.walking.WalkFinding.{WalkFinding}
 use Rattle.radio_fallback.specs.declared.walking.Landing.{Landing}
 use Rattle.radio_fallback.specs.declared.walking.Landing.TheVariants.{Lands, Stops}
 use Rattle.radio_fallback.specs.declared.moves.Move.TheVariants.{To}
@@ -105,7 +105,7 @@ module _ (within : List ℕ → Bool) (w : World) (live : List Session) (seats :
     rows_same =
         let is_live = live_alike within live w.house.live r asked.mount in
         let found = found_alike within w live r seats w.seats s asked.mount asked.pair walks.there in
-        let twice = ap (λ (f : Found). f.user_is_twice) found in
+        let twice = ap (λ (f : WalkFinding). f.user_is_twice) found in
         rw (is_live, twice, walk_same) refl
 
     sits_alike : (peer : Peer) (where_he_lands : Landing) → walks_to w.house w.seats asked.mount asked.pair ≡ where_he_lands

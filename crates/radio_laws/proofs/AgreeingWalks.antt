@@ -13,8 +13,8 @@ use Rattle.radio_fallback.specs.declared.walking.Landing.TheVariants.{Lands, Sto
 use Rattle.radio_fallback.specs.declared.moves.Carried.{Carried}
 use Rattle.radio_fallback.specs.declared.moves.Move.{Move}
 use Rattle.radio_fallback.specs.declared.moves.Move.TheVariants.{Ended, Up, To}
-use Rattle.radio_fallback.specs.declared.moves.Turn.{Turn}
-use Rattle.radio_fallback.specs.declared.moves.Turn.TheVariants.{Stays, GoesTo, IsOut}
+use Rattle.radio_fallback.specs.declared.moves.MoveEffect.{MoveEffect}
+use Rattle.radio_fallback.specs.declared.moves.MoveEffect.TheVariants.{Stays, GoesTo, IsOut}
 use Rattle.radio_fallback.specs.Walk.{Sight, is_full, sits_already, is_full_for, found_at, stop_of, landing_at, landing_here, hands_on, next_mount, onward, walk, landing}
 use Rattle.radio_fallback.specs.Carry.{concerns, walks_on, is_asked, turn_by, turn_in, turn_of, Carry, after_turn, turns, numbers_of, at_first, carried}
 use Rattle.radio_fallback.proofs.FitsLemmas.{is_out}
@@ -162,7 +162,7 @@ module _ (within : List ℕ → Bool) (w : World) (live : List Session) (r : Ses
       turn_alike : turn_of one move here id ≡ turn_of other move there id
       turn_alike = by_seats (seat_of here id) (seat_of there id) (seat_alike within here there s id)
 
-      -- whoever goes sits within reach, and so will he
+      -- whoever goes sits within reach, and so will it
       goes_by : (m : Move) → MovesWithin m → (pair : Option Credentials) (to : List ℕ) → turn_by other (without_listener there id) pair m ≡ GoesTo to → within to ≡ true
       goes_by (Ended mount) goes pair to e =
           by_landing (landing other (without_listener there id) pair mount) refl e where
@@ -201,7 +201,7 @@ module _ (within : List ℕ → Bool) (w : World) (live : List Session) (r : Ses
       seats : ListenersDo within a.seats b.seats
       counts : a.counts ≡ b.counts
 
-    one_turn : (a b : Carry) → CarriesDo a b → (id : ℕ) (turn : Turn) → turn_of other move b.seats id ≡ turn
+    one_turn : (a b : Carry) → CarriesDo a b → (id : ℕ) (turn : MoveEffect) → turn_of other move b.seats id ≡ turn
         → CarriesDo (after_turn one id a turn) (after_turn other id b turn)
     one_turn a b both id Stays e = both
     one_turn a b both id (GoesTo to) e =

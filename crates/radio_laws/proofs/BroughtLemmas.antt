@@ -6,8 +6,8 @@ use Rattle.radio_events.specs.declared.command.Command.{Command as TheCommand}
 use Rattle.radio_events.specs.declared.event.Event.{Event}
 use Rattle.radio_events.specs.declared.event.Event.TheVariants.{Push, Title}
 use Rattle.radio_events.specs.declared.reply.Reply.TheVariants.{Noted, Text as SaysText}
-use Rattle.radio_events.specs.declared.text.Text.{Text}
-use Rattle.radio_events.specs.declared.text.Text.TheVariants.{Done, Moved, Json, Streams, Public, Page, Ended as ListenersEnded}
+use Rattle.radio_events.specs.declared.text.ReplyText.{ReplyText}
+use Rattle.radio_events.specs.declared.text.ReplyText.TheVariants.{Done, Moved, Json, Streams, Public, Page, Ended as ListenersEnded}
 use Rattle.radio_events.specs.Texts.{IsShort}
 use Rattle.radio_house.specs.declared.standing.Standing.TheVariants.{Undecided, Feeds}
 use Rattle.radio_house.specs.World.{World, standing_of}
@@ -36,7 +36,7 @@ use Rattle.radio_laws.proofs.BegunLemmas.{source_begins, relay_begins}
 abbrev pub sets : World → Event → Outcome → ℕ → List (List ℕ)
 sets w event o id = set_by w event o.reply id
 
--- he has asked for nothing yet, or nobody has had this number
+-- it has asked for nothing yet, or nobody has had this number
 abbrev pub IsNewcomer : World → ℕ → Type 0
 IsNewcomer w id = ((peer : Peer) × (standing_of w id ≡ Undecided peer)) ⊎ (w.house.last_id < id)
 
@@ -71,7 +71,7 @@ module _ (w : World) (s : IsSound w) where
   closes_untitled him event (OfRelay relay) = refl
 
   -- who is shown something of the station sets none
-  long_sets_none : (event : Event) (text : Text) → (IsShort text → ⊥) → (asker id : ℕ) → sets w event (says (SaysText text) (Answer asker)) id ≡ []
+  long_sets_none : (event : Event) (text : ReplyText) → (IsShort text → ⊥) → (asker id : ℕ) → sets w event (says (SaysText text) (Answer asker)) id ≡ []
   long_sets_none event Done long asker id = absurd (long tt)
   long_sets_none event (Moved count) long asker id = untitled event id
   long_sets_none event (ListenersEnded count) long asker id = untitled event id
@@ -80,7 +80,7 @@ module _ (w : World) (s : IsSound w) where
   long_sets_none event (Public bytes origin) long asker id = untitled event id
   long_sets_none event (Page origin) long asker id = untitled event id
 
-  shown_sets_none : (event : Event) (text : Text) → IsShownBy w event text → (asker id : ℕ) → sets w event (says (SaysText text) (Answer asker)) id ≡ []
+  shown_sets_none : (event : Event) (text : ReplyText) → IsShownBy w event text → (asker id : ℕ) → sets w event (says (SaysText text) (Answer asker)) id ≡ []
   shown_sets_none event text what = long_sets_none event text (shown_long w event text what)
 
   brought_by : (event : Event) (o : Outcome) → Way w event o → Brought w event o

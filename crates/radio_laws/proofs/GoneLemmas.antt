@@ -97,7 +97,7 @@ pub has_left : (settings : Settings) (lists : Lists) (events : List Event) (id :
 has_left settings lists events id given event leaving =
     subst (λ (x : World). HasLeft x id) (sym (after_joined _ events (event ∷ []))) (left_at_once (run_after settings lists events) id given event leaving)
 
--- whatever happens in his name is out of place
+-- whatever happens in its name is out of place
 module _ (w : World) (id : ℕ) (unknown : standing_of w id ≡ Unknown) where
   either_stray : (b : Bool) → unless_relayed b (says Stray Nothing) ≡ says Stray Nothing
   either_stray true = refl
@@ -110,7 +110,7 @@ module _ (w : World) (id : ℕ) (unknown : standing_of w id ≡ Unknown) where
   his_standing : (him : ℕ) → Some him ≡ Some id → standing_of w him ≡ Unknown
   his_standing him e = let same : him ≡ id = cc in ap (standing_of w) same ∙ unknown
 
-  -- by whatever path he asks
+  -- by whatever path it asks
   asks_out_of_place : (asked : ListenRequest) → standing_of w asked.id ≡ Unknown → (path : Option WebPath) → asks_by w asked path ≡ says Stray Nothing
   asks_out_of_place asked e None = rw e refl
   asks_out_of_place asked e (Some path) = rw e refl

@@ -16,7 +16,7 @@ use Rattle.radio_events.specs.declared.event.SourceRequest.{SourceRequest}
 use Rattle.radio_events.specs.declared.event.ListenRequest.{ListenRequest}
 use Rattle.radio_events.specs.declared.reply.Reply.{Reply}
 use Rattle.radio_events.specs.declared.reply.Reply.TheVariants.{Arrived, Feeding, Seated, Drawn, Text as SaysText, Stray, Finished}
-use Rattle.radio_events.specs.declared.text.Text.{Text}
+use Rattle.radio_events.specs.declared.text.ReplyText.{ReplyText}
 use Rattle.radio_events.specs.Events.{client_in}
 use Rattle.radio_house.specs.declared.standing.Standing.TheVariants.{Undecided, Sits}
 use Rattle.radio_house.specs.Facts.{rows_to_arrive, rows_to_feed, rows_to_raise, walks_to}
@@ -53,7 +53,7 @@ is_idle (Finished rule) = true
 is_idle reply = false
 
 -- whoever is told the text has asked to be shown something of the station, or has given a command
-pub data IsToldFor (w : World) (event : Event) (text : Text) : Type 0 where
+pub data IsToldFor (w : World) (event : Event) (text : ReplyText) : Type 0 where
   ByShowing : (asker : ℕ) (peer : Peer) → client_in event ≡ Some asker → standing_of w asker ≡ Undecided peer → IsShownBy w event text → IsToldFor w event text
   ByDoing : (command : TheCommand) → IsCommanded w event command → said_of command (counts_by w command) ≡ text → IsToldFor w event text
 
@@ -72,7 +72,7 @@ pub data Granted (w : World) (event : Event) : Outcome → Type 0 where
   HandsData : (id room : ℕ) (seat : Seat) (session : Session) (change : Change) → event ≡ Draw id room → standing_of w id ≡ Sits
       → seat_of w.seats id ≡ Some seat → heard_at w.house seat.mount ≡ Some session
       → Granted w event (says (Drawn (data_at session.stream seat.place room) session.title) change)
-  TellsText : (text : Text) (change : Change) → IsToldFor w event text → Granted w event (says (SaysText text) change)
+  TellsText : (text : ReplyText) (change : Change) → IsToldFor w event text → Granted w event (says (SaysText text) change)
   GrantsNothing : (o : Outcome) → grants o.reply ≡ false → (is_idle o.reply ≡ true → o.change ≡ Nothing) → Granted w event o
 
 granted_by : (w : World) (event : Event) (o : Outcome) → Way w event o → Granted w event o

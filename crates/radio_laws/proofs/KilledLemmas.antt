@@ -19,7 +19,7 @@ use Rattle.radio_core.proofs.SoundRuns.{sound_after}
 use Rattle.radio_laws.proofs.GoneLemmas.{last_rises}
 use Rattle.radio_laws.proofs.LastMountLemmas.{seatless}
 
--- he was finished, and has perhaps left since
+-- it was finished, and has perhaps left since
 abbrev pub IsOver : Standing → Type 0
 IsOver (Finished rule) = Unit {0}
 IsOver Unknown = Unit {0}

@@ -196,7 +196,7 @@ ended_by_clock w s ms = record {
       ap (λ (later : World). last_mount_of later.seats id) (ticks w ms now) ∙ left_by w s ms (Clock ms) move before refl brings id seat has none;
 }
 
--- who was finished stays where he sat last
+-- who was finished stays where it sat last
 pub rows_stay : (w : World) → IsSound w → (event : Event) → FinishedRowsStay w event
 rows_stay w s event id rule over stays = by_step (event_step w s id (λ peer e. cc) event) where
   none : seat_of w.seats id ≡ None

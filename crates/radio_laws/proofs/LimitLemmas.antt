@@ -155,7 +155,7 @@ module _ (w : World) (s : IsSound w) (l : Within w) where
   pub within_sat_out : (ms : ℕ) → Within (before_silence w ms)
   within_sat_out ms = within_still (before_silence w ms) refl (nobody_came_ending (has_sat_out w.house.settings ms) TimeOver w.seats)
 
-  -- a listener sits down where he is welcome
+  -- a listener sits down where it is welcome
   module _ (asked : ListenRequest) (peer : Peer) (session : Session) (e : standing_of w asked.id ≡ Undecided peer)
       (live : heard_at w.house session.mount ≡ Some session) (welcome : MaySit (sight_of w.house) w.seats asked.pair session.mount) where
     abbrev new : Seat
@@ -173,7 +173,7 @@ module _ (w : World) (s : IsSound w) (l : Within w) where
         omega (arith, below, one_more_at w.seats asked.id new mount))
         (λ apart. omega (arith, no_more_elsewhere w.seats asked.id new mount apart, l.not_too_many mount most limit))
 
-    -- whoever sat there before did not send his user
+    -- whoever sat there before did not send its user
     nobody_else : (mount user : List ℕ) (other : ℕ) → allows_duplicates_at w mount ≡ false → SitsAs later.seats asked.id mount user
         → SitsAs w.seats other mount user → ⊥
     nobody_else mount user other once his theirs =

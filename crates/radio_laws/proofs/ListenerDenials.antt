@@ -1,4 +1,4 @@
--- why a listener is denied what he asks for, and at which mount of his walk
+-- why a listener is denied what it asks for, and at which mount of its walk
 use Rattle.std.proofs.Common.{◌≡◌, inl, inr, Bool, true, false, ℕ, ◌<◌, ◌||◌, ◌&&◌, not, Option, Some, None, List, [], ◌∷◌, refl, ap, sym, subst, ◌∙◌, arith}
 use Rattle.std.specs.Prelude.{if◌then◌else◌}
 use Rattle.std.specs.List.{list_any}
@@ -12,7 +12,7 @@ use Rattle.radio_policy.specs.Table.{listen_rows}
 use Rattle.radio_policy.specs.Verdicts.{verdict_in}
 use Rattle.radio_tables.specs.Lists.{Has}
 use Rattle.radio_seats_rows.specs.declared.seat.Listener.{Listener}
-use Rattle.radio_fallback.specs.declared.walking.Found.{Found}
+use Rattle.radio_fallback.specs.declared.walking.WalkFinding.{WalkFinding}
 use Rattle.radio_seats_rows.specs.declared.seat.Seat.{Seat}
 use Rattle.radio_seats_rows.specs.declared.seat.Seating.{Seating}
 use Rattle.radio_seats_rows.specs.declared.seat.Seating.TheVariants.{Sits as HasSeat, Finished as HasLostIt}
@@ -33,7 +33,7 @@ abbrev is_of_names : Rule → Bool
 is_of_names NoMount = true
 is_of_names rule = false
 
--- why a listener is denied: by the path or the name, by what he finds at the mount that he asked for, or by where his walk stops
+-- why a listener is denied: by the path or the name, by what it finds at the mount that it asked for, or by where its walk stops
 pub data IsDeniedBy (known accepted twice : Bool) (stop : Option Rule) : Rule → Type 0 where
   ByPath : IsDeniedBy known accepted twice stop BadMount
   ByName : known ≡ false → IsDeniedBy known accepted twice stop NoMount
@@ -57,17 +57,17 @@ denied_listener true true true false None rule v = cc
 denied_listener true true true false (Some by) rule v =
     let same : by ≡ rule = cc in as_rule true true false (Some by) by rule same (ByWalk by refl)
 
--- what stops a walk at a mount: it is not live, or full, or does not let him in, or another has his user
-pub data StopsBy (found : Found) : Rule → Type 0 where
+-- what stops a walk at a mount: it is not live, or full, or does not let it in, or another has its user
+pub data StopsBy (found : WalkFinding) : Rule → Type 0 where
   IsIdle : found.is_live ≡ false → StopsBy found NotLive
   IsFilled : found.is_full ≡ true → StopsBy found MountFull
   IsClosed : found.users_accept ≡ false → StopsBy found ListenerPassword
   IsTaken : found.user_is_twice ≡ true → StopsBy found UserTwice
 
-stops_at : (found : Found) (a b : Rule) → a ≡ b → StopsBy found a → StopsBy found b
+stops_at : (found : WalkFinding) (a b : Rule) → a ≡ b → StopsBy found a → StopsBy found b
 stops_at found a b same by = subst (λ (r : Rule). StopsBy found r) same by
 
-stops_by : (found : Found) (live full accepted twice : Bool) → found.is_live ≡ live → found.is_full ≡ full → found.users_accept ≡ accepted
+stops_by : (found : WalkFinding) (live full accepted twice : Bool) → found.is_live ≡ live → found.is_full ≡ full → found.users_accept ≡ accepted
     → found.user_is_twice ≡ twice → (rule : Rule)
     → stop_of (record { is_live = live; is_full = full; users_accept = accepted; user_is_twice = twice }) ≡ Some rule → StopsBy found rule
 stops_by found false full accepted twice l f a t rule e = let same : NotLive ≡ rule = cc in stops_at found NotLive rule same (IsIdle l)
@@ -77,11 +77,11 @@ stops_by found true false false twice l f a t rule e =
 stops_by found true false true true l f a t rule e = let same : UserTwice ≡ rule = cc in stops_at found UserTwice rule same (IsTaken t)
 stops_by found true false true false l f a t rule e = cc
 
-pub why_it_stops : (found : Found) (rule : Rule) → stop_of found ≡ Some rule → StopsBy found rule
+pub why_it_stops : (found : WalkFinding) (rule : Rule) → stop_of found ≡ Some rule → StopsBy found rule
 why_it_stops found rule e = stops_by found found.is_live found.is_full found.users_accept found.user_is_twice refl refl refl refl rule e
 
 -- no such rule stops a walk
-not_a_stop : (found : Found) (rule : Rule) → StopsBy found rule → (meant : Rule → Bool) → meant NotLive ≡ false → meant MountFull ≡ false
+not_a_stop : (found : WalkFinding) (rule : Rule) → StopsBy found rule → (meant : Rule → Bool) → meant NotLive ≡ false → meant MountFull ≡ false
     → meant ListenerPassword ≡ false → meant UserTwice ≡ false → meant rule ≡ true → ⊥
 not_a_stop found rule (IsIdle e) meant a b c d is = cc
 not_a_stop found rule (IsFilled e) meant a b c d is = cc
@@ -130,7 +130,7 @@ there_already w mount (Some sent) false once is =
 
 -- of a listener who is denied
 module _ (w : World) (asked : ListenRequest) where
-  abbrev found_first : Found
+  abbrev found_first : WalkFinding
   found_first = found_by w asked
 
   abbrev Why : Rule → Type 0
@@ -196,7 +196,7 @@ module _ (w : World) (asked : ListenRequest) where
   deep_by_walk l (StopsThere steps mount by low comes stops) e =
       let same : by ≡ FallbackDepth = cc in
       absurd (never_deep (found_at (sight_of w.house) w.seats mount asked.pair) by (why_it_stops (found_at (sight_of w.house) w.seats mount asked.pair) by stops) same) where
-        never_deep : (found : Found) (by : Rule) → StopsBy found by → by ≡ FallbackDepth → ⊥
+        never_deep : (found : WalkFinding) (by : Rule) → StopsBy found by → by ≡ FallbackDepth → ⊥
         never_deep found by (IsIdle t) same = cc
         never_deep found by (IsFilled t) same = cc
         never_deep found by (IsClosed t) same = cc

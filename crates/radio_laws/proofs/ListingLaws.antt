@@ -21,7 +21,7 @@ use Rattle.radio_events.specs.declared.command.Listing.TheVariants.{Status, Stat
 use Rattle.radio_events.specs.declared.event.Event.{Event}
 use Rattle.radio_events.specs.declared.event.Event.TheVariants.{Command}
 use Rattle.radio_events.specs.declared.reply.Reply.TheVariants.{Text as SaysText}
-use Rattle.radio_events.specs.declared.text.Text.{Text}
+use Rattle.radio_events.specs.declared.text.ReplyText.{ReplyText}
 use Rattle.radio_events.specs.Texts.{IsShort}
 use Rattle.radio_changes.specs.declared.change.Change.TheVariants.{Answer}
 use Rattle.radio_core.specs.declared.outcome.Outcome.{Outcome}
@@ -155,7 +155,7 @@ module _ (w : World) (event : Event) (listing : Listing) (c : IsListed w event l
   unfolding reply_to
   told_so = ap (λ (o : Outcome). o.reply) comes_of
 
-  by_right : (text : Text) → shown w listing ≡ text → IsShownByRight w event text
+  by_right : (text : ReplyText) → shown w listing ≡ text → IsShownByRight w event text
   by_right text is =
       let sees = may_see w listing c.asked.pair
       (ap (λ (a : Asked). verdict_in (command_rows (facts_asked w a c.asked.pair))) (sym c.is_asked) ∙ c.allowed) in
@@ -176,7 +176,7 @@ module _ (w : World) (event : Event) (listing : Listing) (c : IsListed w event l
 
 -- or what is at a path of the web site
 module _ (w : World) (event : Event) (asker : ℕ) (peer : Peer) (its : client_in event ≡ Some asker) (undecided : standing_of w asker ≡ Undecided peer) where
-  by_what : (text : Text) → IsShownBy w event text → IsShownByRight w event text ⊎ IsShownAtPath w event text
+  by_what : (text : ReplyText) → IsShownBy w event text → IsShownByRight w event text ⊎ IsShownAtPath w event text
   by_what text (IsListing listing c) = inl (by_right w event listing c (shown w listing) refl)
   by_what text (IsAtPath asked path is on) =
       let both : Some asked.id ≡ Some asker = sym (ap client_in is) ∙ its in

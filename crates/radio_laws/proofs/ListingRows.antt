@@ -11,7 +11,7 @@ use Rattle.radio_seats_rows.specs.declared.seat.Seating.{Seating}
 use Rattle.radio_seats_rows.specs.declared.seat.Seating.TheVariants.{Sits, Finished}
 use Rattle.radio_seats.specs.Listed.{guests_at}
 use Rattle.radio_seats_rows.specs.Seats.{seats_at}
-use Rattle.radio_listing.specs.declared.rows.ListenerRow.{ListenerRow}
+use Rattle.radio_listing.specs.declared.rows.ListedListener.{ListedListener}
 use Rattle.radio_events.specs.declared.command.Listing.{Listing}
 use Rattle.radio_events.specs.declared.command.Listing.TheVariants.{Status, Stats, Mounts, Clients, Streams}
 use Rattle.radio_house.specs.Facts.{fallback_of}
@@ -75,10 +75,10 @@ module _ (w : World) where
     nobody = λ e. ap (option_map user_of) e;
   }
 
-  abbrev rows_at : List Listener → List ℕ → List ListenerRow
+  abbrev rows_at : List Listener → List ℕ → List ListedListener
   rows_at seats mount = map (listener_row w.house.time) (guests_at seats mount)
 
-  -- whoever sits there has his row
+  -- whoever sits there has its row
   module _ (mount : List ℕ) (listener : Listener) (seats : List Listener) (rest : TellOfListeners w (seats_at seats mount) (rows_at seats mount)) where
     by_mount : (seat : Seat) (here : Bool) → listener.seating ≡ Sits seat → bytes_eq seat.mount mount ≡ here
         → TellOfListeners w (seats_at (listener ∷ seats) mount) (rows_at (listener ∷ seats) mount)

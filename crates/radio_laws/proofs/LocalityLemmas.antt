@@ -115,7 +115,7 @@ module _ (within : List ℕ → Bool) (w : World) (live : List Session) (seats :
     by_home true e = all_agree (near.home e) (Raise id mount shown)
     by_home false e = let given = heard_by_all id mount shown in rw e (record { house = refl; sessions = given.0; listeners = given.1 })
 
-  -- a block comes, and who is too far behind loses his seat
+  -- a block comes, and who is too far behind loses its seat
   receives : (mount block : List ℕ) → within mount ≡ true → Agree (Receive mount block)
   receives mount block near =
       let longer = fed_alike within live w.house.live r mount block w.house.time in

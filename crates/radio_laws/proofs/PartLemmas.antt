@@ -39,7 +39,7 @@ use Rattle.radio_core.proofs.DrawLemmas.{hands_out_at, draws_so}
 use Rattle.radio_laws.specs.Parts.{seat_if, is_at, seat_at, IsPartOf, part_heard, is_mount_of, IsPartsStep, DrawsByItsPart}
 use Rattle.radio_laws.proofs.LeftAlone.{left_alone}
 
--- who keeps his seat when those lose theirs of whom this holds
+-- who keeps its seat when those lose theirs of whom this holds
 module _ (p : Seat → Bool) where
   others_keep : (seats : List Listener) (id : ℕ) → seat_of (with_ended seats p Lagged) id ≡ seat_if (λ seat. not (p seat)) (seat_of seats id)
   others_keep seats id = ap seat_in (have_ended p Lagged seats id) ∙ by_listener (listener_of seats id) where

@@ -23,9 +23,9 @@ use Rattle.radio_fallback.proofs.Faring.{Faring, HasStayed, HasGone, HasLost, fa
 pub data RowStep (before later : Option Listener) : Type 0 where
   -- it is as it was
   IsSame : later ≡ before → RowStep before later
-  -- he had a seat, and has one
+  -- it had a seat, and has one
   SitsOn : (seat now : Seat) → seat_in before ≡ Some seat → seat_in later ≡ Some now → RowStep before later
-  -- he had a seat, and has lost it where he sat
+  -- it had a seat, and has lost it where it sat
   LosesIt : (seat : Seat) (rule : Rule) (number : ℕ) → seat_in before ≡ Some seat
       → later ≡ Some (record { id = number; seating = HasLostIt rule seat.mount }) → RowStep before later
 
@@ -35,7 +35,7 @@ none_changed before later (IsSame same) none = same
 none_changed before later (SitsOn seat now had sits) none = let both : None ≡ Some seat = sym none ∙ had in cc
 none_changed before later (LosesIt seat rule number had lost) none = let both : None ≡ Some seat = sym none ∙ had in cc
 
--- and who is left without a seat sat last where he had it
+-- and who is left without a seat sat last where it had it
 pub last_at : (before later : Option Listener) → RowStep before later → (seat : Seat) → seat_in before ≡ Some seat → seat_in later ≡ None
     → option_map (λ listener. last_mount listener.seating) later ≡ Some seat.mount
 last_at before later (IsSame same) seat has none = let both : None ≡ Some seat = sym none ∙ ap seat_in same ∙ has in cc
@@ -86,7 +86,7 @@ module _ (seats : List Listener) (id : ℕ) where
       (ap (seat_of (with_place seats him place)) (sym same) ∙ has_heard seats him place seat has))
       (λ apart. IsSame (beside_moved seats him id apart place))
 
-  -- who hears a session that has begun at his mount sits there still
+  -- who hears a session that has begun at its mount sits there still
   pub step_given : (mount : List ℕ) (session : ℕ) (later : Option Listener) → RowStep (listener_of (with_session_at seats mount session) id) later
       → RowStep (listener_of seats id) later
   step_given mount session later step =

@@ -4,7 +4,7 @@ use Rattle.std.specs.Prelude.{not, map, filter, length, flat_map, unwrap_or}
 use Rattle.std.specs.Str.Lossy.{utf8_lossy}
 use Rattle.radio_settings_values.specs.Options.{options_for}
 use Rattle.radio_listing.specs.declared.rows.MountRow.{MountRow}
-use Rattle.radio_listing.specs.declared.rows.ListenerRow.{ListenerRow}
+use Rattle.radio_listing.specs.declared.rows.ListedListener.{ListedListener}
 use Rattle.radio_listing.specs.declared.rows.PublicRow.{PublicRow}
 use Rattle.radio_listing.specs.Admin.{stats_text, mounts_text}
 use Rattle.radio_listing.specs.Laws.{LookAlike, mounts_named, shown_names, shown_urls, urls_told}
@@ -20,13 +20,13 @@ use Rattle.radio_events.specs.declared.event.ListenRequest.{ListenRequest}
 use Rattle.radio_settings_values.specs.Web.{web_path}
 use Rattle.radio_settings_values.specs.declared.web.WebPath.{WebPath}
 use Rattle.radio_settings_values.specs.declared.web.WebPath.TheVariants.{IcecastStatus}
-use Rattle.radio_listing.specs.declared.rows.Server.{Server}
+use Rattle.radio_listing.specs.declared.rows.ListedServer.{ListedServer}
 use Rattle.radio_listing.specs.Icecast.{icecast_data, icecast_text}
 use Rattle.radio_core.specs.Pages.{IsShownBy, IsListing, IsAtPath}
 use Rattle.radio_status.specs.Pages.{page_at, server_as}
 use Rattle.radio_events.specs.declared.reply.Reply.TheVariants.{Text as SaysText}
-use Rattle.radio_events.specs.declared.text.Text.{Text}
-use Rattle.radio_events.specs.declared.text.Text.TheVariants.{Streams as StreamList}
+use Rattle.radio_events.specs.declared.text.ReplyText.{ReplyText}
+use Rattle.radio_events.specs.declared.text.ReplyText.TheVariants.{Streams as StreamList}
 use Rattle.radio_status.specs.Listings.{about_row, shown, mount_row, mount_rows, public_row}
 use Rattle.radio_parts.specs.Sessions.{Session}
 use Rattle.radio_core.specs.Step.{reply_to}
@@ -38,8 +38,8 @@ use Rattle.radio_laws.specs.Shown.{HiddenAreLeftOut, HiddenAreNotToldOnTheWeb}
 use Rattle.radio_laws.proofs.WebLaws.{is_on}
 
 -- a request for a listing that is answered by a text is answered by the listing
-module _ (w : World) (asked : CommandRequest) (listing : Listing) (text : Text) (is : asked.asked ≡ AsksFor listing) where
-  shown_so : (event : Event) (told : Text) → IsShownBy w event told → event ≡ Command asked → shown w listing ≡ told
+module _ (w : World) (asked : CommandRequest) (listing : Listing) (text : ReplyText) (is : asked.asked ≡ AsksFor listing) where
+  shown_so : (event : Event) (told : ReplyText) → IsShownBy w event told → event ≡ Command asked → shown w listing ≡ told
   shown_so event told (IsListing other c) e =
       let one : Command c.asked ≡ Command asked = sym c.is_event ∙ e in
       let same : c.asked ≡ asked = cc in
@@ -59,8 +59,8 @@ module _ (w : World) (asked : CommandRequest) (listing : Listing) (text : Text) 
         cc
 
 -- and one for a path of the web site by what is there
-module _ (w : World) (asked : ListenRequest) (path : WebPath) (text : Text) (on : web_path w.house.settings.web asked.mount ≡ Some path) where
-  page_so : (event : Event) (told : Text) → IsShownBy w event told → event ≡ Listen asked → page_at w path asked.visit ≡ told
+module _ (w : World) (asked : ListenRequest) (path : WebPath) (text : ReplyText) (on : web_path w.house.settings.web asked.mount ≡ Some path) where
+  page_so : (event : Event) (told : ReplyText) → IsShownBy w event told → event ≡ Listen asked → page_at w path asked.visit ≡ told
   page_so event told (IsListing other c) e = let other = sym c.is_event ∙ e in cc
   page_so event told (IsAtPath request there is_event is_on) e =
       let one : Listen request ≡ Listen asked = sym is_event ∙ e in
@@ -136,7 +136,7 @@ module _ (w : World) where
       streams = λ is. sym (is_told w asked Streams text is d) ∙ ap (λ (bytes : List ℕ). StreamList bytes) all_lines;
     }
 
-  module _ (urls : (server : Server) (rows : List MountRow) → urls_told (icecast_data server rows) ≡ shown_urls server.base_url rows) where
+  module _ (urls : (server : ListedServer) (rows : List MountRow) → urls_told (icecast_data server rows) ≡ shown_urls server.base_url rows) where
     pub hidden_are_not_told_on_the_web : HiddenAreNotToldOnTheWeb w
     hidden_are_not_told_on_the_web asked text is d =
         let server = server_as w.house.settings asked.visit in (
@@ -158,7 +158,7 @@ module _ (alike : (rows others : List MountRow) → rows_shown rows ≡ rows_sho
       let server : server_as w.house.settings asked.visit ≡ server_as v.house.settings other.visit = rw (visit, url, address, port) refl in
       ap body_of (sym (is_visited w asked IcecastStatus text there d))
       ∙ (look_alike same).icecast (server_as w.house.settings asked.visit)
-      ∙ ap (λ (s : Server). icecast_text s (mount_rows v)) server
+      ∙ ap (λ (s : ListedServer). icecast_text s (mount_rows v)) server
       ∙ ap body_of (is_visited v other IcecastStatus said (is_on v other.mount IcecastStatus its) e)
 
   pub sight_is_kept : SightIsKept w v
@@ -169,5 +169,5 @@ module _ (alike : (rows others : List MountRow) → rows_shown rows ≡ rows_sho
     stats = λ rows count. answered w v Stats
         (ap (λ (n : ℕ). stats_text n (mount_rows w)) count ∙ ap (λ (all : List MountRow). stats_text (length v.house.clients) all) rows);
     mounts = λ rows. answered w v Mounts (ap (λ (all : List MountRow). mounts_text all) rows);
-    listeners = λ mount rows. answered w v (Clients mount) (ap (λ (all : List ListenerRow). listeners_text mount all) rows);
+    listeners = λ mount rows. answered w v (Clients mount) (ap (λ (all : List ListedListener). listeners_text mount all) rows);
   }

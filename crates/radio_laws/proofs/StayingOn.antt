@@ -24,7 +24,7 @@ use Rattle.radio_seats_rows.proofs.Lists.{one, held, passing_removed}
 use Rattle.radio_seats_rows.proofs.SeatLaws.{beside_left, is_no_listener}
 use Rattle.radio_parts.proofs.NumberOrder.{order_left, same_order}
 use Rattle.radio_fallback.specs.declared.moves.Move.TheVariants.{Ended}
-use Rattle.radio_fallback.specs.declared.moves.Turn.TheVariants.{Stays, GoesTo, IsOut}
+use Rattle.radio_fallback.specs.declared.moves.MoveEffect.TheVariants.{Stays, GoesTo, IsOut}
 use Rattle.radio_fallback.specs.declared.walking.Landing.TheVariants.{Lands}
 use Rattle.radio_fallback.specs.Walk.{Sight, is_full, is_full_for, is_twice_for, sits_already, landing, landing_here, next_mount, onward, walk}
 use Rattle.radio_fallback.specs.Carry.{Carry, walks_on, turn_in, turn_of, after_turn, numbers_of, at_first, at_his_turn}
@@ -37,7 +37,7 @@ use Rattle.radio_fallback.proofs.WalkLaws.{landing_is}
 use Rattle.radio_laws.proofs.LimitLemmas.{sent_as}
 use Rattle.radio_laws.proofs.ListenerDenials.{some_one, seat_there}
 
--- a listener of the table is the one of his number
+-- a listener of the table is the one of its number
 above_in : (k : ℕ) (him : Listener) (xs : List Listener) → AllByRecursion (λ m. nat_cmp k m ≡ Less) (map (λ (x : Listener). x.id) xs) → Has him xs
     → nat_cmp k him.id ≡ Less
 above_in k him [] all has = absurd has
@@ -59,7 +59,7 @@ found_own him (x ∷ xs) order (inr later) =
     find_later (is_listener him.id) x xs (less_apart x.id him.id (above_in x.id him xs (sorted_head nat_cmp x.id numbers order) later))
     ∙ found_own him xs (sorted_tail nat_cmp x.id numbers order) later
 
--- whoever sits at the mount whose session has ended goes where his walk lands
+-- whoever sits at the mount whose session has ended goes where its walk lands
 pub walks_from : (sight : Sight) (others : List Listener) (mount : List ℕ) (seat : Seat) → seat.mount ≡ mount
     → turn_in sight others (Ended mount) (Some seat) ≡ walks_on (landing sight others seat.pair mount)
 walks_from sight others mount seat there = chosen (bytes_eq seat.mount mount) ((bytes_eq-Decides seat.mount mount).1 there) where
@@ -67,7 +67,7 @@ walks_from sight others mount seat there = chosen (bytes_eq seat.mount mount) ((
   chosen true e = refl
   chosen false e = cc
 
--- his own seat is one of those at his mount
+-- its own seat is one of those at its mount
 module _ (mount : List ℕ) where
   abbrev at_mount : Listener → Bool
   at_mount listener = is_seat_at mount listener.seating
@@ -155,7 +155,7 @@ module _ (sight : Sight) (mount : List ℕ) (seats : List Listener) (order : Are
     order_then : AreByNumber then_seats
     order_then = same_order seats then_seats none_came.same order
 
-    -- one who is left when he is taken out is another
+    -- one who is left when it is taken out is another
     not_himself : (other : Listener) → listener_of others other.id ≡ Some other → other.id ≡ id → {A : Type 0} → A
     not_himself other found same =
         let none : listener_of others other.id ≡ None = ap (listener_of others) same ∙ is_no_listener then_seats id in cc
@@ -179,7 +179,7 @@ module _ (sight : Sight) (mount : List ℕ) (seats : List Listener) (order : Are
               room : (count most : ℕ) → count < most → not (nat_lt count most) ≡ false
               room count most below = grind (arith, nat_tests)
 
-      -- nobody else sits there as his user
+      -- nobody else sits there as its user
       nobody_else : (sent : Credentials) → seat.pair ≡ Some sent → sight.allows_duplicates mount ≡ false → sits_there others mount sent.user ≡ false
       nobody_else sent his off = by_there (sits_there others mount sent.user) refl where
         by_there : (b : Bool) → sits_there others mount sent.user ≡ b → sits_there others mount sent.user ≡ false

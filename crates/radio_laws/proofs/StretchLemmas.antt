@@ -61,7 +61,7 @@ IsNext sent (Some seat) bytes = IsSlice sent (sitting_in seat) bytes
 abbrev IsCutSo : (ℕ → List ℕ) → Option Seat → List Sitting → Cut ℕ → Type 0
 IsCutSo sent seat sittings cut = IsNext sent seat cut.before × AreSlices sent sittings cut.each
 
--- what an event hands out, and does to his seat, goes before what comes then; all that is sent in the end begins with what was sent so far
+-- what an event hands out, and does to its seat, goes before what comes then; all that is sent in the end begins with what was sent so far
 module _ (w : World) (s : IsSound w) (sent more : ℕ → List ℕ) (whole : (mount : List ℕ) (session : Session) → heard_at w.house mount ≡ Some session
     → session.stream.bytes ≡ sent session.number) where
   abbrev all : ℕ → List ℕ

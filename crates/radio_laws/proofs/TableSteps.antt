@@ -47,22 +47,22 @@ pub data TableStep (w : World) (event : Event) : List Listener → Type 0 where
   IsUntouched : TableStep w event w.seats
   -- those lose their seats of whom the test holds
   AreEnded : (p : Seat → Bool) (rule : Rule) → TableStep w event (with_ended w.seats p rule)
-  -- one loses his seat
+  -- one loses its seat
   IsEnded : (him : ℕ) (rule : Rule) → TableStep w event (with_end w.seats him rule)
   -- a move carries listeners, in a house of the same settings
   AreCarried : (house : House) (move : Move) → house.settings ≡ w.house.settings → TableStep w event (carried (sight_of house) move w.seats).seats
   -- those at the mount are given a session that has begun there, and then others are called home, where it calls them
   AreGiven : (house : House) (mount : List ℕ) (session : ℕ) → house.settings ≡ w.house.settings
       → TableStep w event (called_home (world house (with_session_at w.seats mount session)) mount).seats
-  -- one sits down where his walk lands
+  -- one sits down where its walk lands
   SitsDown : (asked : ListenRequest) (peer : Peer) (session : Session) → standing_of w asked.id ≡ Undecided peer
       → walks_to w.house w.seats asked.mount asked.pair ≡ Lands session.mount → heard_at w.house session.mount ≡ Some session
       → TableStep w event (with_seat w.seats asked.id (first_seat w.house asked peer session))
-  -- one is handed data, and his place moves on
+  -- one is handed data, and its place moves on
   IsHanded : (him place : ℕ) (seat : Seat) → seat_of w.seats him ≡ Some seat → TableStep w event (with_place w.seats him place)
   -- one who leaves has no row any more
   IsGone : (him : ℕ) → Leaving w him event → TableStep w event (without_listener w.seats him)
-  -- the session of a source who leaves has ended, and he has no row either
+  -- the session of a source who leaves has ended, and it has no row either
   SourceIsGone : (him : ℕ) (mount : List ℕ) → Leaving w him event → TableStep w event (without_listener (session_ended w mount).seats him)
   -- the clock ends seats, and then sessions, one after another
   HasTicked : (ms : ℕ) → event ≡ Clock ms → TableStep w event (ticked w ms).seats

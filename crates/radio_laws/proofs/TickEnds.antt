@@ -30,9 +30,9 @@ use Rattle.radio_laws.proofs.WalkLemmas.{falls_nowhere}
 use Rattle.radio_laws.proofs.WalkingOnLemmas.{walk_on}
 
 module _ (w : World) (s : IsSound w) (l : Within w) (let_in : SittersAreLetIn w) (ms : ℕ) where
-  -- a relay feeds his mount on demand
+  -- a relay feeds its mount on demand
   module _ (id : ℕ) (seat : Seat) (on_demand : is_on_demand w.house.settings seat.mount ≡ true) where
-    -- his seat when he waits
+    -- its seat when it waits
     abbrev waiting : Seat
     waiting = record seat { session = 0; place = 0 }
 
@@ -45,7 +45,7 @@ module _ (w : World) (s : IsSound w) (l : Within w) (let_in : SittersAreLetIn w)
           subst (λ (v : World). Brings w (Clock ms) (SessionEnds session.mount) (session_over v session.mount)) (sym way.have_ended)
           (BySilence ms way.before sessions session way.are_all)
 
-      -- at the end of its session he goes on there, and waits
+      -- at the end of its session it goes on there, and waits
       waits_there : (now : Seat) → now.mount ≡ session.mount → seat.mount ≡ session.mount → seat_of during.seats id ≡ Some now
           → seat_of (session_ended during session.mount).seats id ≡ Some (record now { session = 0; place = 0 })
       waits_there now at there has =

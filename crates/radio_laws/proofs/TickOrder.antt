@@ -17,8 +17,8 @@ use Rattle.radio_seats_rows.proofs.EndLaws.{LosesSeat, have_ended, same_or_loses
 use Rattle.radio_seats_rows.proofs.SeatLaws.{listener_seated}
 use Rattle.radio_seats_rows.specs.Seats.{listener_of, seat_held, seat_in, seat_of, ended_if, finished_if, without_listener, AreByNumber}
 use Rattle.radio_fallback.specs.declared.moves.Move.TheVariants.{Ended as SessionEnds}
-use Rattle.radio_fallback.specs.declared.moves.Turn.TheVariants.{Stays as TurnStays, GoesTo, IsOut}
-use Rattle.radio_fallback.specs.declared.walking.Found.{Found}
+use Rattle.radio_fallback.specs.declared.moves.MoveEffect.TheVariants.{Stays as TurnStays, GoesTo, IsOut}
+use Rattle.radio_fallback.specs.declared.walking.WalkFinding.{WalkFinding}
 use Rattle.radio_fallback.specs.declared.walking.Landing.{Landing}
 use Rattle.radio_fallback.specs.declared.walking.Landing.TheVariants.{Lands, Stops}
 use Rattle.radio_fallback.specs.Walk.{found_at, stop_of, stop_in, landing}
@@ -163,7 +163,7 @@ module _ (w : World) (s : IsSound w) (ms : ℕ) where
         let feeds : standing_of w session.number ≡ Feeds mount = feeding in cc
 
   module _ (id : ℕ) (seat : Seat) where
-    -- whoever sits elsewhere keeps his seat when a session ends
+    -- whoever sits elsewhere keeps its seat when a session ends
     pub still_there : (during : World) (mount : List ℕ) → AreByNumber during.seats → seat_of during.seats id ≡ Some seat
         → bytes_eq seat.mount mount ≡ false → seat_of (session_ended during mount).seats id ≡ Some seat
     still_there during mount order has away =
@@ -181,7 +181,7 @@ module _ (w : World) (s : IsSound w) (ms : ℕ) where
           by_fare (HasGone old to turn had concerned fits now) = concerns_another old had concerned
           by_fare (HasLost old rule turn had concerned now) = concerns_another old had concerned
 
-    -- whose time is not over has his seat when the silent sessions begin to end
+    -- whose time is not over has its seat when the silent sessions begin to end
     pub sits_at_first : seat_of w.seats id ≡ Some seat → has_sat_out w.house.settings ms seat ≡ false → seat_of (before_silence w ms).seats id ≡ Some seat
     sits_at_first has not_out = by_loss (same_or_loses (has_sat_out w.house.settings ms) TimeOver w.seats id) where
       by_loss : (listener_of (before_silence w ms).seats id ≡ listener_of w.seats id)
@@ -194,7 +194,7 @@ module _ (w : World) (s : IsSound w) (ms : ℕ) where
           let out : has_sat_out w.house.settings ms seat ≡ true = ap (has_sat_out w.house.settings ms) (sym one) ∙ loses.holds in
           cc
 
-    -- and where that of his mount was one of them, he does not have it when they have ended
+    -- and where that of its mount was one of them, it does not have it when they have ended
     pub sits_no_more : (session : Session) → seat_of w.seats id ≡ Some seat → session_of w.house.live seat.mount ≡ Some session
         → is_silent w.house.settings.limits.source_timeout ms session ≡ true → seat_of (ticked w ms).seats id ≡ Some seat → {A : Type 0} → A
     sits_no_more session has live silent still =
@@ -211,13 +211,13 @@ module _ (w : World) (s : IsSound w) (ms : ℕ) where
         let no : (0 == 0) ≡ false = ap (λ (n : ℕ). n == 0) (sym zero) ∙ sits_past_zero w s id seat session has live in
         cc)
 
-  -- where a listener's mount has no fallback, and no relay feeds it on demand, he sits there until its session ends, and is finished then
+  -- where a listener's mount has no fallback, and no relay feeds it on demand, it sits there until its session ends, and is finished then
   module _ (id : ℕ) (seat : Seat) (no_fallback : fallback_of w.house seat.mount ≡ None) (never : is_on_demand w.house.settings seat.mount ≡ false) where
-    -- the seat that he has still, or that he has finished since his mount is not live any more
+    -- the seat that it has still, or that it has finished since its mount is not live any more
     abbrev IsStillOrOut : World → Type 0
     IsStillOrOut now = (seat_of now.seats id ≡ Some seat) ⊎ (standing_of now id ≡ Finished NotLive)
 
-    -- a move takes him nowhere
+    -- a move takes it nowhere
     out_by_turn : (during : World) (mount : List ℕ) → during.house.settings ≡ w.house.settings → during.house.fallbacks ≡ w.house.fallbacks → seat_of during.seats id ≡ Some seat → seat.mount ≡ mount
         → his_turn (session_over during mount) (SessionEnds mount) id ≡ IsOut NotLive
     out_by_turn during mount same set has there =
@@ -241,7 +241,7 @@ module _ (w : World) (s : IsSound w) (ms : ℕ) where
           falls_in settings fallbacks m =
               option_map_or (λ (x : Fallback). x.fallback) (set_for fallbacks m) (options_for settings m).listeners.fallback_mount
 
-          idle : (found : Found) → found.is_live ≡ false → stop_of found ≡ Some NotLive
+          idle : (found : WalkFinding) → found.is_live ≡ false → stop_of found ≡ Some NotLive
           idle found e = rw e refl
 
           stops : (l : Landing) → stop_in l ≡ Some NotLive → walks_on l ≡ IsOut NotLive

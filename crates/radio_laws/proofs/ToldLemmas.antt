@@ -14,7 +14,7 @@ use Rattle.radio_core.proofs.SoundRuns.{sound_after, sound_opening}
 use Rattle.radio_laws.specs.FinishesTold.{WasFinished, FinishedAreTold}
 use Rattle.radio_core.proofs.FinishLemmas.{finish_step, finished_told}
 
--- from any state on: who stands finished in the end stood so at the start, or one of the events has finished him
+-- from any state on: who stands finished in the end stood so at the start, or one of the events has finished it
 record Put (w : World) (events : List Event) (id : ℕ) (rule : Rule) : Type 0 where
   before : List Event
   event : Event

@@ -25,7 +25,7 @@ use Rattle.radio_events.specs.declared.command.Command.{Command as TheCommand}
 use Rattle.radio_events.specs.declared.command.Command.TheVariants.{AddUser, DeleteUser}
 use Rattle.radio_events.specs.declared.event.Event.{Event}
 use Rattle.radio_events.specs.declared.reply.Reply.TheVariants.{Text as SaysText}
-use Rattle.radio_events.specs.declared.text.Text.TheVariants.{Ended}
+use Rattle.radio_events.specs.declared.text.ReplyText.TheVariants.{Ended}
 use Rattle.radio_house.specs.Clients.{client_of}
 use Rattle.radio_house.specs.Outsiders.{is_shut_out}
 use Rattle.radio_house.specs.Relays.{relay_of}
@@ -75,7 +75,7 @@ module _ (lists : Lists) (mount : List ℕ) (seats : List Listener) where
       passing_mapped (λ (x : Listener). is_seat_at mount x.seating) (finished_if (is_shut_out lists mount) ListenerPassword)
       (λ (x : Listener). holds_of (is_shut_out lists mount) x.seating) (λ x. one_here x.seating) seats
 
-  -- who has a seat still is let in by them, if he sits there
+  -- who has a seat still is let in by them, if it sits there
   pub still_let_in : (id : ℕ) (seat : Seat) → seat_of left id ≡ Some seat → seat.mount ≡ mount → lets_in lists mount seat.pair ≡ true
   still_let_in id seat has at = let_in_there lists mount seat (kept_seat (is_shut_out lists mount) ListenerPassword seats id seat has) at
 

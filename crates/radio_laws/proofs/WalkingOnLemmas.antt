@@ -11,7 +11,7 @@ use Rattle.radio_settings_values.specs.Options.{options_for}
 use Rattle.radio_tables.proofs.KeyLaws.{by_number}
 use Rattle.radio_fallback.specs.declared.moves.Move.{Move}
 use Rattle.radio_fallback.specs.declared.moves.Move.TheVariants.{Ended, Up}
-use Rattle.radio_fallback.specs.declared.moves.Turn.TheVariants.{Stays, GoesTo, IsOut}
+use Rattle.radio_fallback.specs.declared.moves.MoveEffect.TheVariants.{Stays, GoesTo, IsOut}
 use Rattle.radio_fallback.specs.Fares.{seat_at_end}
 use Rattle.radio_fallback.proofs.Faring.{Faring, HasStayed, HasGone, HasLost, fares, nobody_stays}
 use Rattle.radio_seats_rows.specs.declared.seat.Seat.{Seat}
@@ -65,7 +65,7 @@ found_there : {A : Type 0} (found : Option A) → is_some found ≡ true → (x 
 found_there None e = cc
 found_there (Some x) e = (x, refl)
 
--- the limits hold, and nobody sits where he is not let in
+-- the limits hold, and nobody sits where it is not let in
 abbrev AreInPlace : World → Type 0
 AreInPlace w = Within w × SittersAreLetIn w
 
@@ -135,7 +135,7 @@ module _ (before : World) (move : Move) (order : AreByNumber before.seats) (plac
         ap (λ (m : Move). his_turn before m id) same ∙ waits_on before mount order (place mount same) id seat has there on_demand;
   }
 
--- a move leaves nobody where he is not let in
+-- a move leaves nobody where it is not let in
 let_in_ended : (w : World) (mount : List ℕ) → SittersAreLetIn w → SittersAreLetIn (session_ended w mount)
 let_in_ended w mount all id seat has =
     by_way (had_seats (sight_of (session_over w mount).house) (Ended mount) w.seats id seat has) where

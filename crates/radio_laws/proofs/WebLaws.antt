@@ -16,9 +16,9 @@ use Rattle.radio_events.specs.declared.event.Event.{Event}
 use Rattle.radio_events.specs.declared.event.Event.TheVariants.{Listen}
 use Rattle.radio_events.specs.declared.event.ListenRequest.{ListenRequest}
 use Rattle.radio_events.specs.declared.event.SourceRequest.{SourceRequest}
-use Rattle.radio_events.specs.declared.event.Visit.{Visit}
+use Rattle.radio_events.specs.declared.event.PageVisit.{PageVisit}
 use Rattle.radio_events.specs.declared.reply.Reply.TheVariants.{Text as SaysText, Deny}
-use Rattle.radio_events.specs.declared.text.Text.{Text}
+use Rattle.radio_events.specs.declared.text.ReplyText.{ReplyText}
 use Rattle.radio_changes.specs.declared.change.Change.TheVariants.{Answer}
 use Rattle.radio_core.specs.declared.outcome.Outcome.{Outcome}
 use Rattle.radio_house.specs.declared.standing.Standing.{Standing}
@@ -80,7 +80,7 @@ is_path w asked path e =
     by_side (inr h) = subst (IsPath w asked) (sym h.0) (PageIsOn ((bytes_eq-Decides asked (codes "/")).0 h.1.named) h.1.put_on)
 
 -- what is shown tells what is there
-pub tells_at : (w : World) (path : WebPath) (visit : Visit) → TellsAt w path visit (page_at w path visit)
+pub tells_at : (w : World) (path : WebPath) (visit : PageVisit) → TellsAt w path visit (page_at w path visit)
 tells_at w IcecastStatus visit = record {
   rows = mount_rows w;
   of_the_live = rows_tell w;
@@ -110,7 +110,7 @@ module _ (w : World) (asked : ListenRequest) (path : WebPath) (on : web_path w.h
   unfolding world_after
   later_there = ap (λ (o : Outcome). changed w o.change) visited
 
-  pub shown_there : (event : Event) (text : Text) → event ≡ Listen asked → page_at w path asked.visit ≡ text → IsShownAtPath w event text
+  pub shown_there : (event : Event) (text : ReplyText) → event ≡ Listen asked → page_at w path asked.visit ≡ text → IsShownAtPath w event text
   shown_there event text is told = record {
     asked = asked;
     is_event = is;

@@ -30,8 +30,8 @@ pub record IsEarliestStart (stream : WholeStream) (burst queue place : ℕ) : Ty
   pub in_the_queue : end_of stream - place ≤ queue
   pub earliest : (other : ℕ) → IsBlockStart stream other → end_of stream - other ≤ burst → end_of stream - other ≤ queue → place ≤ other
 
--- the listener has a seat in the session of a mount by which his walk came, which was live when he asked, or waited for a session, since a relay feeds it on
--- demand, and let him in, is shown what it shows, and begins at the earliest block start that this mount's `burst-size` and the `queue-size` allow
+-- the listener has a seat in the session of a mount by which its walk came, which was live when it asked, or waited for a session, since a relay feeds it on
+-- demand, and let it in, is shown what it shows, and begins at the earliest block start that this mount's `burst-size` and the `queue-size` allow
 -- rule: Seat of a newcomer; Start of the burst; Waiting mount
 pub record IsSeated (w : World) (event : Event) (interval : Option ℕ) (head : StreamHead) : Type 0 where
   pub asked : ListenRequest
@@ -44,7 +44,7 @@ pub record IsSeated (w : World) (event : Event) (interval : Option ℕ) (head : 
   pub readers : head.allow_origin ≡ w.house.settings.web.allow_origin
   pub seat : Seat
   pub has_the_seat : seat_of (world_after w event).seats asked.id ≡ Some seat
-  -- at a mount by which a walk comes from the one that he asked for, among the first ten; the one that he asked for is his home
+  -- at a mount by which a walk comes from the one that it asked for, among the first ten; the one that it asked for is its home
   pub steps : ℕ
   pub not_too_far : steps < 10
   pub on_his_way : ComesBy w asked.mount steps seat.mount
@@ -52,16 +52,16 @@ pub record IsSeated (w : World) (event : Event) (interval : Option ℕ) (head : 
   pub at_the_mount : seat.mount ≡ session.mount
   pub his_home : seat.home ≡ asked.mount
   pub in_the_session : seat.session ≡ session.number
-  -- from the address from which he came, with the pair that he sent, from now on
+  -- from the address from which it came, with the pair that it sent, from now on
   pub his_address : standing_of w asked.id ≡ Undecided seat.peer
   pub his_pair : seat.pair ≡ asked.pair
   pub from_now : seat.since ≡ w.house.time
-  -- if he asked for metadata, at the interval of the mount that he asked for
+  -- if it asked for metadata, at the interval of the mount that it asked for
   pub his_interval : seat.interval ≡ interval
   pub with_metadata : asked.wants_metadata ≡ true → interval ≡ Some (options_for w.house.settings asked.mount).stream.mp3_metadata_interval
   pub without_metadata : asked.wants_metadata ≡ false → interval ≡ None
   pub starts : IsEarliestStart session.stream (options_for w.house.settings seat.mount).stream.burst_size w.house.settings.limits.queue_size seat.place
 
--- only who asks to hear a mount is seated, and he begins where his burst begins
+-- only who asks to hear a mount is seated, and it begins where its burst begins
 abbrev pub BeginsAtABlock : World → Event → Type 0
 BeginsAtABlock w event = (interval : Option ℕ) (head : StreamHead) → reply_to w event ≡ Seated interval head → IsSeated w event interval head

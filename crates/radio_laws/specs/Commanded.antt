@@ -17,8 +17,8 @@ use Rattle.radio_events.specs.declared.command.CommandRequest.{CommandRequest}
 use Rattle.radio_events.specs.declared.event.Event.{Event}
 use Rattle.radio_events.specs.declared.event.Event.TheVariants.{Command}
 use Rattle.radio_events.specs.declared.reply.Reply.TheVariants.{Text as SaysText}
-use Rattle.radio_events.specs.declared.text.Text.{Text}
-use Rattle.radio_events.specs.declared.text.Text.TheVariants.{Done, Moved, Ended as EndedText}
+use Rattle.radio_events.specs.declared.text.ReplyText.{ReplyText}
+use Rattle.radio_events.specs.declared.text.ReplyText.TheVariants.{Done, Moved, Ended as EndedText}
 use Rattle.radio_events.specs.Texts.{IsShort}
 use Rattle.radio_house.specs.declared.standing.Standing.TheVariants.{Undecided, Answered, Finished}
 use Rattle.radio_core.specs.Allowed.{IsCommanded}
@@ -50,8 +50,8 @@ pub data MayGive (w : World) (pair : Credentials) : TheCommand → Type 0 where
 abbrev pub IsLive : World → List ℕ → Type 0
 IsLive w mount = (session : Session) × (session_of w.house.live mount ≡ Some session)
 
--- what a command needs is there: a live mount; to move its listeners, another one; to finish a listener, that he sits there; to change users, a mount
--- that has users, live or not, and to take one away, that he is one of them
+-- what a command needs is there: a live mount; to move its listeners, another one; to finish a listener, that it sits there; to change users, a mount
+-- that has users, live or not, and to take one away, that it is one of them
 -- rule: Commands are done
 abbrev pub IsThere : World → TheCommand → Type 0
 IsThere w (MoveClients mount destination) = IsLive w mount × IsLive w destination × (mount ≡ destination → ⊥)
@@ -67,7 +67,7 @@ IsThere w (DeleteUser mount user) = has_user_at w.house.lists mount user ≡ tru
 abbrev pub WhoMayIsServed : World → Type 0
 WhoMayIsServed w = (asked : CommandRequest) (peer : Peer) (command : TheCommand) (pair : Credentials) → standing_of w asked.id ≡ Undecided peer
     → asked.asked ≡ Asks command → asked.pair ≡ Some pair → MayGive w pair command → IsThere w command
-    → (text : Text) × (reply_to w (Command asked) ≡ SaysText text) × IsShort text
+    → (text : ReplyText) × (reply_to w (Command asked) ≡ SaysText text) × IsShort text
 
 -- a command was given by one who may, and what it needs was there
 pub record IsGivenByRight (w : World) (event : Event) : Type 0 where
@@ -83,7 +83,7 @@ pub record IsGivenByRight (w : World) (event : Event) : Type 0 where
 -- that a command was done is told only to one who may give it, where what it needs was there
 -- rule: Who may command
 abbrev pub OnlyWhoMayCommands : World → Event → Type 0
-OnlyWhoMayCommands w event = (text : Text) → reply_to w event ≡ SaysText text → IsShort text → IsGivenByRight w event
+OnlyWhoMayCommands w event = (text : ReplyText) → reply_to w event ≡ SaysText text → IsShort text → IsGivenByRight w event
 
 -- a source is finished by a command that ends its session
 pub record IsSourceKilled (w later : World) (mount : List ℕ) : Type 0 where
@@ -92,7 +92,7 @@ pub record IsSourceKilled (w later : World) (mount : List ℕ) : Type 0 where
   pub is_over : session_of later.house.live mount ≡ None
   pub has_finished : standing_of later session.number ≡ Finished SourceKilled
 
--- how one fares who sat at a mount whose users have changed: he keeps his seat where they let him in, and else has lost it by `listener-password`
+-- how one fares who sat at a mount whose users have changed: it keeps its seat where they let it in, and else has lost it by `listener-password`
 pub data FaresByUsers (later : World) (mount : List ℕ) (id : ℕ) (seat : Seat) : Type 0 where
   IsLetIn : lets_in later.house.lists mount seat.pair ≡ true → seat_of later.seats id ≡ Some seat → FaresByUsers later mount id seat
   IsShutOut : lets_in later.house.lists mount seat.pair ≡ false → seat_of later.seats id ≡ None → standing_of later id ≡ Finished ListenerPassword
@@ -152,7 +152,7 @@ pub record StaysBeside (w later : World) (mount : List ℕ) : Type 0 where
   pub addresses : (peer : Address) → passes later.house.lists peer ≡ passes w.house.lists peer
   pub time : later.house.time ≡ w.house.time
 
--- a command that the policy allows is done, the client who gave it has had his answer, and nothing changes beyond the mount that it names
+-- a command that the policy allows is done, the client who gave it has had its answer, and nothing changes beyond the mount that it names
 pub record IsCommandKept (w : World) (event : Event) (command : TheCommand) (id : ℕ) : Type 0 where
   pub done : HasDone w event command
   pub answered : standing_of (world_after w event) id ≡ Answered

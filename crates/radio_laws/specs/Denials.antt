@@ -29,7 +29,7 @@ use Rattle.radio_core.specs.Ways.{rows_for, IsUndecided}
 use Rattle.radio_house.specs.World.{World, standing_of}
 use Rattle.radio_laws.specs.Shown.{IsPath}
 
--- the state as it was, but that the client who asked, if he had asked for nothing before, has had his answer
+-- the state as it was, but that the client who asked, if it had asked for nothing before, has had its answer
 pub record IsOnlyAnswered (w later : World) (client : Option ℕ) : Type 0 where
   pub time : later.house.time ≡ w.house.time
   pub settings : later.house.settings ≡ w.house.settings

@@ -14,7 +14,7 @@ use Rattle.radio_core.specs.Moves.{Brings}
 use Rattle.radio_core.specs.Step.{world_after}
 use Rattle.radio_laws.specs.Gone.{Leaving}
 
--- of whoever has a seat it is his seat's
+-- of whoever has a seat it is its seat's
 abbrev pub IsLastWhereHeSits : World → Type 0
 IsLastWhereHeSits w = (id : ℕ) (seat : Seat) → seat_of w.seats id ≡ Some seat → last_mount_of w.seats id ≡ Some seat.mount
 
@@ -27,15 +27,15 @@ FinishedWhereHeSat w event = ((ms : ℕ) → event ≡ Clock ms → ⊥) → (id
 -- and so did those whom a clock ends that does not go back: it does several things, one after another
 -- rule: Last mount
 pub record EndedByClockWhereTheySat (w : World) (ms : ℕ) : Type 0 where
-  -- first it ends whoever has sat as long as the mount allows that he asked for
+  -- first it ends whoever has sat as long as the mount allows that it asked for
   pub sat_out : nat_lt ms w.house.time ≡ false → (id : ℕ) (seat : Seat) → seat_of w.seats id ≡ Some seat → has_sat_out w.house.settings ms seat ≡ true
       → last_mount_of (world_after w (Clock ms)).seats id ≡ Some seat.mount
-  -- then sessions: whom the end of one leaves without a seat sat last where he had it just before, be it that the end of an earlier one took him there
+  -- then sessions: whom the end of one leaves without a seat sat last where it had it just before, be it that the end of an earlier one took it there
   pub left_out : nat_lt ms w.house.time ≡ false → (move : Move) (before : World) → Brings w (Clock ms) move before → (id : ℕ) (seat : Seat)
       → seat_of before.seats id ≡ Some seat → seat_of (carried_along before move).seats id ≡ None
       → last_mount_of (world_after w (Clock ms)).seats id ≡ Some seat.mount
 
--- and whoever was finished has the same row, with the rule and the mount where he sat last, whatever happens, until he leaves
+-- and whoever was finished has the same row, with the rule and the mount where it sat last, whatever happens, until it leaves
 -- rule: Last mount
 abbrev pub FinishedRowsStay : World → Event → Type 0
 FinishedRowsStay w event = (id : ℕ) (rule : Rule) → standing_of w id ≡ Finished rule → (Leaving w id event → ⊥)

@@ -1,4 +1,4 @@
--- Where a listener is denied by a limit, by the mount at which his walk was stopped.
+-- Where a listener is denied by a limit, by the mount at which its walk was stopped.
 use Rattle.std.specs.Prelude.{◌≡◌, ℕ, ◌<◌, ◌≤◌, false, List, length, Option}
 use Rattle.radio_creds.specs.Credentials.{Credentials}
 use Rattle.radio_policy.specs.declared.rule.Rule.TheVariants.{TooManyClients, TooManySources, MountFull, UserTwice, FallbackDepth}
@@ -28,14 +28,14 @@ pub record HasUserAt (w : World) (mount : List ℕ) (pair : Option Credentials) 
   pub at_the_mount : seat.mount ≡ mount
   pub his_user : SentUser user seat.pair
 
--- a listener asked, and one of the first ten mounts by which his walk comes is such
+-- a listener asked, and one of the first ten mounts by which its walk comes is such
 -- rule: Mount full
 abbrev pub ByAMount : World → Event → (ListenRequest → List ℕ → Type 0) → Type 0
 ByAMount w event P = (asked : ListenRequest) × (event ≡ Listen asked) × (steps : ℕ) × (mount : List ℕ) × (steps < 10) × ComesBy w asked.mount steps mount
     × P asked mount
 
 -- clients and sources are denied as too many only where there are as many as there may be, a mount as full only where a walk comes to one that is full, a user
--- as one who sits there only where it comes to a mount where he does, and a walk as too long only where ten mounts have handed it on
+-- as one who sits there only where it comes to a mount where it does, and a walk as too long only where ten mounts have handed it on
 -- rule: Too many clients; Too many sources
 pub record DeniesByLimits (w : World) (event : Event) : Type 0 where
   pub clients : reply_to w event ≡ Deny TooManyClients → w.house.settings.limits.clients ≤ length w.house.clients

@@ -58,11 +58,11 @@ pub record WalksWithin (w : World) (within : List ℕ → Bool) (mount : List �
   pub there : within mount ≡ true
   pub onward : FallBackWithin w within
 
--- the mount that the client, or the relay, of this number feeds, if he feeds one
+-- the mount that the client, or the relay, of this number feeds, if it feeds one
 abbrev pub FeedsWithin : World → (List ℕ → Bool) → ℕ → Type 0
 FeedsWithin w within id = (mount : List ℕ) → standing_of w id ≡ Feeds mount → within mount ≡ true
 
--- the mount that he feeds, and those by which its listeners may come once it has ended
+-- the mount that it feeds, and those by which its listeners may come once it has ended
 abbrev pub EndsWithin : World → (List ℕ → Bool) → ℕ → Type 0
 EndsWithin w within id = (mount : List ℕ) → standing_of w id ≡ Feeds mount → WalksWithin w within mount
 
@@ -111,7 +111,7 @@ pub record IsWithin (w : World) (within : List ℕ → Bool) (event : Event) : T
   pub reached : ReachesWithin w within event
   pub client : (id : ℕ) → client_in event ≡ Some id → LastWithin w within id
 
--- beyond reach each mount has the session that it had, and those sit there who sat there, each in his seat
+-- beyond reach each mount has the session that it had, and those sit there who sat there, each in its seat
 pub record IsLeftAlone (within : List ℕ → Bool) (w later : World) : Type 0 where
   pub sessions : (mount : List ℕ) → within mount ≡ false → session_of later.house.live mount ≡ session_of w.house.live mount
   pub seats : (id : ℕ) (seat : Seat) → within seat.mount ≡ false → (seat_of later.seats id ≡ Some seat) ↔ (seat_of w.seats id ≡ Some seat)

@@ -6,9 +6,9 @@ use Rattle.radio_parts.specs.Sessions.{Session}
 use Rattle.radio_house.specs.World.{World}
 use Rattle.radio_house.specs.Waiting.{heard_at}
 
--- the mount where the listener of this number sits is open to him: it is live, in the session in which he was seated, or waits for one, as he does; his
--- address passes the address lists; the mount has no users, or they accept the pair that he sent; and where each user may sit once, nobody else who sits
--- there sent his user
+-- the mount where the listener of this number sits is open to it: it is live, in the session in which it was seated, or waits for one, as it does; its
+-- address passes the address lists; the mount has no users, or they accept the pair that it sent; and where each user may sit once, nobody else who sits
+-- there sent its user
 -- rule: Open to the listener
 pub record IsOpenTo (w : World) (id : ℕ) (seat : Seat) : Type 0 where
   pub session : Session

@@ -22,16 +22,16 @@ seat_if p (Some seat) = (if p seat then Some seat else None)
 abbrev pub is_at : List ℕ → Seat → Bool
 is_at mount seat = bytes_eq seat.mount mount
 
--- the seat of the listener of this number, if he sits there
+-- the seat of the listener of this number, if it sits there
 abbrev pub seat_at : List ℕ → List Listener → ℕ → Option Seat
 seat_at mount listeners id = seat_if (is_at mount) (seat_of listeners id)
 
--- The part is what stands at its mount: its session, and those who sit there, each in his seat. It may have other listeners, or none but them.
+-- The part is what stands at its mount: its session, and those who sit there, each in its seat. It may have other listeners, or none but them.
 pub record IsPartOf (w : World) (p : Part) : Type 0 where
   pub live : session_of w.house.live p.mount ≡ p.session
   pub seats : (id : ℕ) → seat_at p.mount p.listeners id ≡ seat_at p.mount w.seats id
 
--- he has heard the stream up to this place
+-- it has heard the stream up to this place
 abbrev pub part_heard : Part → ℕ → ℕ → Part
 part_heard p him place = record p { listeners = with_place p.listeners him place }
 
@@ -44,7 +44,7 @@ pub record IsPartsStep (w later : World) (p after : Part) : Type 0 where
   pub here : IsPartOf later after
   pub there : IsLeftAlone (is_mount_of p) w later
 
--- what he is handed goes by the part alone, which alone changes
+-- what it is handed goes by the part alone, which alone changes
 pub record DrawsByItsPart (w : World) (p : Part) (id room : ℕ) : Type 0 where
   pub by_part : outcome w (Draw id room) ≡ part_draws (as_heard w.house p) id room
   pub step : (place : ℕ) → (part_draws (as_heard w.house p) id room).change ≡ Advance id place

@@ -12,10 +12,10 @@ use Rattle.radio_seats_rows.specs.declared.seat.Listener.{Listener}
 use Rattle.radio_seats_rows.specs.declared.seat.Seating.TheVariants.{Sits}
 use Rattle.radio_seats_rows.specs.Seats.{seats_at, count_at}
 use Rattle.radio_listing.specs.declared.rows.MountRow.{MountRow}
-use Rattle.radio_listing.specs.declared.rows.Server.{Server}
+use Rattle.radio_listing.specs.declared.rows.ListedServer.{ListedServer}
 use Rattle.radio_listing.specs.Icecast.{icecast_data, icecast_text}
 use Rattle.radio_listing.specs.Reached.{base_url}
-use Rattle.radio_listing.specs.declared.rows.ListenerRow.{ListenerRow}
+use Rattle.radio_listing.specs.declared.rows.ListedListener.{ListedListener}
 use Rattle.radio_listing.specs.Admin.{stats_text, mounts_text}
 use Rattle.radio_listing.specs.Laws.{mounts_named, urls_told}
 use Rattle.radio_listing.specs.Listeners.{listeners_text}
@@ -28,11 +28,11 @@ use Rattle.radio_events.specs.declared.event.Event.{Event}
 use Rattle.radio_events.specs.declared.event.Event.TheVariants.{Source, Listen, Command}
 use Rattle.radio_events.specs.declared.event.SourceRequest.{SourceRequest}
 use Rattle.radio_events.specs.declared.event.ListenRequest.{ListenRequest}
-use Rattle.radio_events.specs.declared.event.Visit.{Visit}
+use Rattle.radio_events.specs.declared.event.PageVisit.{PageVisit}
 use Rattle.radio_events.specs.declared.reply.Reply.TheVariants.{Text as SaysText, Deny}
 use Rattle.radio_policy.specs.declared.rule.Rule.TheVariants.{BadMount}
-use Rattle.radio_events.specs.declared.text.Text.{Text}
-use Rattle.radio_events.specs.declared.text.Text.TheVariants.{Done, Moved, Ended, Json, Streams as StreamList, Public, Page}
+use Rattle.radio_events.specs.declared.text.ReplyText.{ReplyText}
+use Rattle.radio_events.specs.declared.text.ReplyText.TheVariants.{Done, Moved, Ended, Json, Streams as StreamList, Public, Page}
 use Rattle.radio_events.specs.Texts.{IsShort}
 use Rattle.radio_house.specs.declared.standing.Standing.TheVariants.{Undecided, Answered}
 use Rattle.radio_status.specs.Listings.{about_row, mount_rows, listener_rows}
@@ -79,21 +79,21 @@ TellOf w (fed ∷ live) (row ∷ rows) = TellsOf w fed row × TellOf w live rows
 TellOf w [] (row ∷ rows) = ⊥
 TellOf w (fed ∷ live) [] = ⊥
 
--- what a row tells of a listener who sits: the user that he sent, and never his password
-pub record TellsOfListener (w : World) (listener : Listener) (row : ListenerRow) : Type 0 where
+-- what a row tells of a listener who sits: the user that it sent, and never its password
+pub record TellsOfListener (w : World) (listener : Listener) (row : ListedListener) : Type 0 where
   pub id : row.id ≡ listener.id
   pub seat : Seat
   pub sits : listener.seating ≡ Sits seat
   pub home : row.home ≡ seat.home
   pub peer : row.peer ≡ seat.peer
-  -- whole seconds since he was seated
+  -- whole seconds since it was seated
   pub seconds_past : row.seconds * 1000 ≤ w.house.time - seat.since
   pub no_more : w.house.time - seat.since < (row.seconds + 1) * 1000
   pub user : (pair : Credentials) → seat.pair ≡ Some pair → row.user ≡ Some pair.user
   pub nobody : seat.pair ≡ None → row.user ≡ None
 
 -- rows tell of these listeners, one of each, in their order
-abbrev pub TellOfListeners : World → List Listener → List ListenerRow → Type 0
+abbrev pub TellOfListeners : World → List Listener → List ListedListener → Type 0
 TellOfListeners w [] [] = Unit {0}
 TellOfListeners w (listener ∷ them) (row ∷ rows) = TellsOfListener w listener row × TellOfListeners w them rows
 TellOfListeners w [] (row ∷ rows) = ⊥
@@ -101,16 +101,16 @@ TellOfListeners w (listener ∷ them) [] = ⊥
 
 -- the text tells what is there; who asks is counted among the clients
 -- rule: Who may see; Waiting is not live
-abbrev pub Tells : World → Listing → Text → Type 0
+abbrev pub Tells : World → Listing → ReplyText → Type 0
 Tells w Status text =
     (rows : List MountRow) × TellOf w w.house.live rows × (text ≡ Public (status_text rows) w.house.settings.web.allow_origin)
 Tells w Stats text = (rows : List MountRow) × TellOf w w.house.live rows × (text ≡ Json (stats_text (length w.house.clients) rows))
 Tells w Mounts text = (rows : List MountRow) × TellOf w w.house.live rows × (text ≡ Json (mounts_text rows))
-Tells w (Clients mount) text = (rows : List ListenerRow) × TellOfListeners w (seats_at w.seats mount) rows × (text ≡ Json (listeners_text mount rows))
+Tells w (Clients mount) text = (rows : List ListedListener) × TellOfListeners w (seats_at w.seats mount) rows × (text ≡ Json (listeners_text mount rows))
 Tells w Streams text = (rows : List MountRow) × TellOf w w.house.live rows × (text ≡ StreamList (stream_text rows))
 
--- a listing is shown: to one who may see it, who has had his answer then, where what it needs is there; it tells what is there, and nothing changes but that
-pub record IsShownByRight (w : World) (event : Event) (text : Text) : Type 0 where
+-- a listing is shown: to one who may see it, who has had its answer then, where what it needs is there; it tells what is there, and nothing changes but that
+pub record IsShownByRight (w : World) (event : Event) (text : ReplyText) : Type 0 where
   pub asked : CommandRequest
   pub is_event : event ≡ Command asked
   pub listing : Listing
@@ -130,10 +130,10 @@ pub data IsPath (w : World) (path : List ℕ) : WebPath → Type 0 where
 
 -- the text tells what is there in Icecast's words on this visit: with the public URL of the settings, or else by the host by which the client calls the
 -- server, and with the moment at which the server started, if the program says it
-pub record TellsAsIcecast (w : World) (visit : Visit) (text : Text) : Type 0 where
+pub record TellsAsIcecast (w : World) (visit : PageVisit) (text : ReplyText) : Type 0 where
   pub rows : List MountRow
   pub of_the_live : TellOf w w.house.live rows
-  pub server : Server
+  pub server : ListedServer
   pub name : server.name ≡ codes "radiod"
   pub base : server.base_url
       ≡ unwrap_or w.house.settings.web.public_url (base_url visit.host w.house.settings.listen.address w.house.settings.listen.port)
@@ -141,12 +141,12 @@ pub record TellsAsIcecast (w : World) (visit : Visit) (text : Text) : Type 0 whe
   pub says : text ≡ Public (icecast_text server rows) w.house.settings.web.allow_origin
 
 -- rule: Web page
-abbrev pub TellsAt : World → WebPath → Visit → Text → Type 0
+abbrev pub TellsAt : World → WebPath → PageVisit → ReplyText → Type 0
 TellsAt w IcecastStatus visit text = TellsAsIcecast w visit text
 TellsAt w AtPage visit text = text ≡ Page w.house.settings.web.allow_origin
 
--- what is at a path of the web site is shown to one who asks for it, who has had his answer then, and nothing changes but that
-pub record IsShownAtPath (w : World) (event : Event) (text : Text) : Type 0 where
+-- what is at a path of the web site is shown to one who asks for it, who has had its answer then, and nothing changes but that
+pub record IsShownAtPath (w : World) (event : Event) (text : ReplyText) : Type 0 where
   pub asked : ListenRequest
   pub is_event : event ≡ Listen asked
   pub path : WebPath
@@ -159,18 +159,18 @@ pub record IsShownAtPath (w : World) (event : Event) (text : Text) : Type 0 wher
 -- what is no short text is a listing, or is at a path of the web site
 abbrev pub OnlyWhoMayIsShown : World → Event → Type 0
 OnlyWhoMayIsShown w event =
-    (text : Text) → reply_to w event ≡ SaysText text → (IsShort text → ⊥) → IsShownByRight w event text ⊎ IsShownAtPath w event text
+    (text : ReplyText) → reply_to w event ≡ SaysText text → (IsShort text → ⊥) → IsShownByRight w event text ⊎ IsShownAtPath w event text
 
 -- one who has asked for nothing yet, and may see the listing, is shown it where what it needs is there
 abbrev pub WhoMayIsShown : World → Type 0
 WhoMayIsShown w = (asked : CommandRequest) (peer : Peer) (listing : Listing) → standing_of w asked.id ≡ Undecided peer → asked.asked ≡ AsksFor listing
-    → MaySee w listing asked.pair → IsThereToSee w listing → (text : Text) × (reply_to w (Command asked) ≡ SaysText text) × Tells w listing text
+    → MaySee w listing asked.pair → IsThereToSee w listing → (text : ReplyText) × (reply_to w (Command asked) ≡ SaysText text) × Tells w listing text
 
 -- one who has asked for nothing yet, and asks for a path of the web site, is shown what is there
 -- rule: Web page
 abbrev pub WhoVisitsIsShown : World → Type 0
 WhoVisitsIsShown w = (asked : ListenRequest) (peer : Peer) (path : WebPath) → standing_of w asked.id ≡ Undecided peer → IsPath w asked.mount path
-    → (text : Text) × (reply_to w (Listen asked) ≡ SaysText text) × TellsAt w path asked.visit text
+    → (text : ReplyText) × (reply_to w (Listen asked) ≡ SaysText text) × TellsAt w path asked.visit text
 
 -- and nobody feeds a mount of that name
 -- rule: Paths of the web site
@@ -200,7 +200,7 @@ abbrev pub seen_by_all : World → List Seen
 seen_by_all w = map (seen w) (public_live w)
 
 -- the bytes of a listing, without the headers that go before them
-abbrev pub body_of : Text → List ℕ
+abbrev pub body_of : ReplyText → List ℕ
 body_of (Json bytes) = bytes
 body_of (StreamList bytes) = bytes
 body_of (Public bytes origin) = bytes
@@ -211,17 +211,17 @@ body_of (Ended count) = []
 
 -- in two states the two requests are answered by the same bytes
 abbrev pub AreAnsweredAlike : World → World → Listing → Type 0
-AreAnsweredAlike w v listing = (asked other : CommandRequest) (text said : Text) → asked.asked ≡ AsksFor listing → other.asked ≡ AsksFor listing
+AreAnsweredAlike w v listing = (asked other : CommandRequest) (text said : ReplyText) → asked.asked ≡ AsksFor listing → other.asked ≡ AsksFor listing
     → reply_to w (Command asked) ≡ SaysText text → reply_to v (Command other) ≡ SaysText said → body_of text ≡ body_of said
 
 -- in two states those who ask for Icecast's status on equal visits are answered by the same bytes, if the servers have one address and one public URL
 abbrev pub AreVisitedAlike : World → World → Type 0
-AreVisitedAlike w v = (asked other : ListenRequest) (text said : Text) → IsPath w asked.mount IcecastStatus → IsPath v other.mount IcecastStatus → asked.visit ≡ other.visit
+AreVisitedAlike w v = (asked other : ListenRequest) (text said : ReplyText) → IsPath w asked.mount IcecastStatus → IsPath v other.mount IcecastStatus → asked.visit ≡ other.visit
     → w.house.settings.web.public_url ≡ v.house.settings.web.public_url → w.house.settings.listen.address ≡ v.house.settings.listen.address → w.house.settings.listen.port ≡ v.house.settings.listen.port
     → reply_to w (Listen asked) ≡ SaysText text → reply_to v (Listen other) ≡ SaysText said → body_of text ≡ body_of said
 
 -- two states that agree on what everybody may see of the live mounts show everybody and every relay the same bytes, whatever else they hold; and those with
--- equal rows for a viewer show him the same
+-- equal rows for a viewer show it the same
 -- rule: Hidden mounts
 pub record SightIsKept (w v : World) : Type 0 where
   pub status : seen_by_all w ≡ seen_by_all v → AreAnsweredAlike w v Status
@@ -233,18 +233,18 @@ pub record SightIsKept (w v : World) : Type 0 where
 
 -- no hidden mount is in the status or in the list of streams: they name the live mounts that are not hidden, in their order
 -- rule: Hidden mounts
-pub record NoHiddenIsNamed (w : World) (asked : CommandRequest) (text : Text) : Type 0 where
+pub record NoHiddenIsNamed (w : World) (asked : CommandRequest) (text : ReplyText) : Type 0 where
   pub status : asked.asked ≡ AsksFor Status → (rows : List MountRow) × (text ≡ Public (status_text rows) w.house.settings.web.allow_origin)
       × (mounts_named (status_data rows) ≡ Some (map (λ (session : Session). Some (utf8_lossy session.mount)) (public_live w)))
   pub streams : asked.asked ≡ AsksFor Streams → text ≡ StreamList (flat_map (λ session. session.mount ++ 13 ∷ 10 ∷ []) (public_live w))
 
 abbrev pub HiddenAreLeftOut : World → Type 0
-HiddenAreLeftOut w = (asked : CommandRequest) (text : Text) → reply_to w (Command asked) ≡ SaysText text → NoHiddenIsNamed w asked text
+HiddenAreLeftOut w = (asked : CommandRequest) (text : ReplyText) → reply_to w (Command asked) ≡ SaysText text → NoHiddenIsNamed w asked text
 
 -- nor in Icecast's words, which tell where those mounts are heard
 -- rule: Paths of the web site
 abbrev pub HiddenAreNotToldOnTheWeb : World → Type 0
-HiddenAreNotToldOnTheWeb w = (asked : ListenRequest) (text : Text) → IsPath w asked.mount IcecastStatus → reply_to w (Listen asked) ≡ SaysText text
-    → (server : Server) × (rows : List MountRow) × (text ≡ Public (icecast_text server rows) w.house.settings.web.allow_origin)
+HiddenAreNotToldOnTheWeb w = (asked : ListenRequest) (text : ReplyText) → IsPath w asked.mount IcecastStatus → reply_to w (Listen asked) ≡ SaysText text
+    → (server : ListedServer) × (rows : List MountRow) × (text ≡ Public (icecast_text server rows) w.house.settings.web.allow_origin)
     × (urls_told (icecast_data server rows)
     ≡ Some (map (λ (session : Session). Some (utf8_lossy (server.base_url ++ session.mount))) (public_live w)))

@@ -18,7 +18,7 @@ use Rattle.radio_house.specs.Waiting.{heard_at}
 abbrev pub between : ℕ → ℕ → List ℕ → List ℕ
 between start stop bytes = take (stop - start) (drop start bytes)
 
--- a listener sits down: at this mount, in the session of this source, and this is the first place of its stream that he hears
+-- a listener sits down: at this mount, in the session of this source, and this is the first place of its stream that it hears
 pub record Sitting : Type 0 where
   pub mount : List ℕ
   pub source : ℕ
@@ -27,7 +27,7 @@ pub record Sitting : Type 0 where
 abbrev pub sitting_in : Seat → Sitting
 sitting_in seat = record { mount = seat.mount; source = seat.session; start = seat.place }
 
--- the sitting that begins where his seat was the one and is the other now: a seat in another session is a new sitting
+-- the sitting that begins where its seat was the one and is the other now: a seat in another session is a new sitting
 abbrev pub begun_sittings : Option Seat → Option Seat → List Sitting
 begun_sittings None (Some seat) = sitting_in seat ∷ []
 begun_sittings (Some old) (Some seat) = (if old.session == seat.session then [] else sitting_in seat ∷ [])
@@ -74,7 +74,7 @@ AreStretches sent [] bytes = bytes ≡ []
 AreStretches sent (sitting ∷ others) bytes = (stop : ℕ) × (rest : List ℕ) × (sitting.start ≤ stop) × (stop ≤ length (sent sitting.source))
     × (bytes ≡ between sitting.start stop (sent sitting.source) ++ rest) × AreStretches sent others rest
 
--- over every run, all that a listener is handed is stretches, one for each of his sittings, of what the source of that sitting delivered
+-- over every run, all that a listener is handed is stretches, one for each of its sittings, of what the source of that sitting delivered
 abbrev pub StretchesAreWhole : Settings → Lists → List Event → Type 0
 StretchesAreWhole settings lists events = (id : ℕ) → AreStretches (delivered (opening settings lists) events) (sittings (opening settings lists) events id)
     (handed (opening settings lists) events id)
@@ -85,9 +85,9 @@ abbrev pub StretchesAreCut : Settings → Lists → List Event → Type 0
 StretchesAreCut settings lists events = (id : ℕ) → let w = opening settings lists in let cut = cut_at_sittings (λ v event. handed_at v event id) w events id in
     (cut.before ≡ []) × AreSlices (delivered w events) (sittings w events id) cut.each
 
--- through an event, a listener who keeps a seat keeps all of it but his place, which does not go back; or a session begins at his mount, which waited for
--- one, and he hears it from its start; or a move that the event brings has taken him, at his turn, to the end of the stream of the mount where his walk
--- landed, and all else of his seat stays: the session in which he sat is over, or he is called home; and a seat is in the session that its mount has, or
+-- through an event, a listener who keeps a seat keeps all of it but its place, which does not go back; or a session begins at its mount, which waited for
+-- one, and it hears it from its start; or a move that the event brings has taken it, at its turn, to the end of the stream of the mount where its walk
+-- landed, and all else of its seat stays: the session in which it sat is over, or it is called home; and a seat is in the session that its mount has, or
 -- waits for one
 -- rule: Moved to the end; Session after a wait
 pub record KeepsItsMount (w : World) (event : Event) (id : ℕ) (seat : Seat) : Type 0 where

@@ -11,7 +11,7 @@ use Rattle.radio_events.specs.declared.command.Asked.TheVariants.{Command as Ask
 use Rattle.radio_events.specs.declared.command.Command.TheVariants.{SetTitle}
 use Rattle.radio_events.specs.declared.reply.Reply.{Reply}
 use Rattle.radio_events.specs.declared.reply.Reply.TheVariants.{Drawn, Noted, Text as SaysText}
-use Rattle.radio_events.specs.declared.text.Text.TheVariants.{Done}
+use Rattle.radio_events.specs.declared.text.ReplyText.TheVariants.{Done}
 use Rattle.radio_seats_rows.specs.declared.seat.Seat.{Seat}
 use Rattle.radio_core.specs.Handing.{is_number, of_client}
 use Rattle.radio_parts.specs.Sessions.{session_of}
@@ -66,7 +66,7 @@ titles_set w (event ∷ events) id = set_at w event id ++ titles_set (world_afte
 abbrev pub last_title : World → List Event → ℕ → Option (List ℕ)
 last_title w events id = last_or None (titles_set w events id)
 
--- after these events a listener draws, and the title is the last one that was set for the source in whose session he sits
+-- after these events a listener draws, and the title is the last one that was set for the source in whose session it sits
 pub record IsLastTitle (settings : Settings) (lists : Lists) (events : List Event) (event : Event) (title : Option (List ℕ)) : Type 0 where
   pub id : ℕ
   pub room : ℕ
@@ -75,7 +75,7 @@ pub record IsLastTitle (settings : Settings) (lists : Lists) (events : List Even
   pub has_the_seat : seat_of (run_after settings lists events).seats id ≡ Some seat
   pub is_last : title ≡ last_title (opening settings lists) events seat.session
 
--- over every run, a listener who is handed data is told the last title that was set for his source
+-- over every run, a listener who is handed data is told the last title that was set for its source
 -- rule: Title of a session
 abbrev pub TitlesAreTold : Settings → Lists → List Event → Event → Type 0
 TitlesAreTold settings lists events event = (bytes : List ℕ) (title : Option (List ℕ)) → reply_to (run_after settings lists events) event ≡ Drawn bytes title

@@ -16,21 +16,21 @@ use Rattle.radio_house.specs.World.{World}
 pub data LetInStep (w : World) (event : Event) (mount : List ℕ) (pair : Credentials) (before : Bool) : Bool → Type 0 where
   -- as before
   Stays : LetInStep w event mount pair before before
-  -- a command gives his user this password; he is let in then if what he sends has its MD5 digest
+  -- a command gives its user this password; it is let in then if what it sends has its MD5 digest
   IsSet : (password : List ℕ) (later : Bool) → IsCommanded w event (AddUser mount pair.user password)
       → (later ≡ true) ↔ (md5 pair.password ≡ md5 password) → LetInStep w event mount pair before later
-  -- a command takes his user away
+  -- a command takes its user away
   IsTakenAway : IsCommanded w event (DeleteUser mount pair.user) → LetInStep w event mount pair before false
 
 -- what an event does to who is let in
 pub record UsersStep (w : World) (event : Event) : Type 0 where
   pub pairs : (mount : List ℕ) (pair : Credentials)
       → LetInStep w event mount pair (lets_in w.house.lists mount (Some pair)) (lets_in (world_after w event).house.lists mount (Some pair))
-  -- whoever sends no pair is let in where he was
+  -- whoever sends no pair is let in where it was
   pub without : (mount : List ℕ) → lets_in (world_after w event).house.lists mount None ≡ lets_in w.house.lists mount None
   -- and the addresses are let in that were
   pub addresses : (peer : Address) → passes (world_after w event).house.lists peer ≡ passes w.house.lists peer
 
--- nobody sits at a mount whose users, as they are now, do not let him in
+-- nobody sits at a mount whose users, as they are now, do not let it in
 abbrev pub SittersAreLetIn : World → Type 0
 SittersAreLetIn w = (id : ℕ) (seat : Seat) → seat_of w.seats id ≡ Some seat → lets_in w.house.lists seat.mount seat.pair ≡ true

@@ -1,9 +1,9 @@
--- What a move makes of each listener, by what stands at his turn.
+-- What a move makes of each listener, by what stands at its turn.
 use Rattle.std.specs.Prelude.{◌≡◌, ℕ, true, List, Some}
 use Rattle.radio_policy.specs.declared.rule.Rule.{Rule}
 use Rattle.radio_fallback.specs.declared.moves.Move.{Move}
 use Rattle.radio_fallback.specs.declared.moves.Move.TheVariants.{Ended, To}
-use Rattle.radio_fallback.specs.declared.moves.Turn.TheVariants.{Stays, GoesTo, IsOut}
+use Rattle.radio_fallback.specs.declared.moves.MoveEffect.TheVariants.{Stays, GoesTo, IsOut}
 use Rattle.radio_values.specs.declared.field.Shown.{Shown}
 use Rattle.radio_seats_rows.specs.declared.seat.Seat.{Seat}
 use Rattle.radio_seats_rows.specs.declared.seat.Seating.TheVariants.{Finished}
@@ -22,8 +22,8 @@ use Rattle.radio_parts.specs.Stream.{end_of}
 use Rattle.radio_house.specs.World.{World}
 use Rattle.radio_house.specs.Waiting.{heard_at, is_on_demand}
 
--- one who had this seat before the move: he goes on at the end of the stream of the mount to which his turn takes him, or has finished where he
--- sat, by the rule that leaves him out, or keeps his seat; and where the session of his mount has ended he does not stay as he was, but at a mount that a relay feeds on demand he goes
+-- one who had this seat before the move: it goes on at the end of the stream of the mount to which its turn takes it, or has finished where it
+-- sat, by the rule that leaves it out, or keeps its seat; and where the session of its mount has ended it does not stay as it was, but at a mount that a relay feeds on demand it goes
 -- on, to wait there for the next one
 -- rule: Turns of a move; End at a waiting mount
 pub record FaresByHisTurn (before : World) (move : Move) (id : ℕ) (seat : Seat) : Type 0 where
@@ -36,7 +36,7 @@ pub record FaresByHisTurn (before : World) (move : Move) (id : ℕ) (seat : Seat
   pub waits : (mount : List ℕ) → move ≡ Ended mount → seat.mount ≡ mount → is_on_demand before.house.settings mount ≡ true
       → his_turn before move id ≡ GoesTo mount
 
--- a move that an event brings makes of each listener what his turn has in store for him
+-- a move that an event brings makes of each listener what its turn has in store for it
 -- rule: Turns of a move
 abbrev pub ListenersWalkOn : World → Event → Type 0
 ListenersWalkOn w event = (move : Move) (before : World) → Brings w event move before → (id : ℕ) (seat : Seat) → seat_of before.seats id ≡ Some seat

@@ -1,6 +1,6 @@
 -- When a line answers that its peer has closed.
 use Rattle.std.specs.Prelude.{ℕ, Bool, ◌-◌, ◌||◌, nat_le}
-use Rattle.radio_lines.specs.declared.closing.Closing.{Closing}
+use Rattle.radio_lines.specs.declared.closing.FoundClosing.{FoundClosing}
 
 -- it is held back for so many milliseconds at most
 abbrev pub most_held : ℕ
@@ -8,5 +8,5 @@ most_held = 500
 
 -- whether a closing is answered at this moment: all have drawn what had come at that many tellings of news
 -- rule: Closing of a source
-abbrev pub tells_closing : Closing → ℕ → ℕ → Bool
+abbrev pub tells_closing : FoundClosing → ℕ → ℕ → Bool
 tells_closing found drawn ms = nat_le found.told drawn || nat_le most_held (ms - found.ms)

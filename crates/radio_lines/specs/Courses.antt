@@ -8,9 +8,9 @@ use Rattle.radio_connections.specs.declared.line.Sent.TheVariants.{Took, Nothing
 use Rattle.radio_lines.specs.declared.activity.LineTurn.{LineTurn}
 use Rattle.radio_lines.specs.declared.activity.Need.{Need}
 use Rattle.radio_lines.specs.declared.activity.Need.TheVariants.{Nothing as NeedsNothing, Held as NeedsSome}
-use Rattle.radio_lines.specs.declared.closing.Closing.{Closing}
-use Rattle.radio_lines.specs.declared.course.Call.{Call}
-use Rattle.radio_lines.specs.declared.course.Call.TheVariants.{Made, Skipped, Held}
+use Rattle.radio_lines.specs.declared.closing.FoundClosing.{FoundClosing}
+use Rattle.radio_lines.specs.declared.course.ReadCall.{ReadCall}
+use Rattle.radio_lines.specs.declared.course.ReadCall.TheVariants.{Made, Skipped, Held}
 use Rattle.radio_lines.specs.declared.course.Course.{Course}
 use Rattle.radio_lines.specs.declared.course.Reading.{Reading}
 use Rattle.radio_lines.specs.declared.course.Writing.{Writing}
@@ -24,7 +24,7 @@ abbrev pub begun : Course
 begun = record { gave_ms = 0; gave = 0; closing = None }
 
 -- whether a socket is asked for bytes in a turn: not if it is not worth a read, and not if it is a source's that is held back
-abbrev pub call_of : Ready → LineTurn → Course → Call
+abbrev pub call_of : Ready → LineTurn → Course → ReadCall
 call_of ready turn course =
     if not (may_read turn.ms ready) then Skipped
     else if is_source course.gave ready.is_passed_over && holds turn.pace course.gave_ms turn.ms then Held else Made
@@ -42,7 +42,7 @@ abbrev pub passes_closing : Ready → Course → Bool
 passes_closing ready course = (course.gave == 0) || ready.is_passed_over
 
 -- the closing that was found first, in this turn if none was before
-abbrev pub closing_found : LineTurn → Course → Closing
+abbrev pub closing_found : LineTurn → Course → FoundClosing
 closing_found turn course = unwrap_or course.closing (record { ms = turn.ms; told = turn.news.told })
 
 -- a closing was found in this turn

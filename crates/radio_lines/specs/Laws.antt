@@ -1,19 +1,19 @@
 -- What holds of sources' ends, and of sockets that are asked. Moments and times are in milliseconds.
 use Rattle.std.specs.Prelude.{◌≡◌, ◌≤◌, ◌<◌, ◌+◌, ◌^◌, ℕ, Bool, true, false}
-use Rattle.radio_lines.specs.declared.closing.Closing.{Closing}
-use Rattle.radio_lines.specs.declared.ready.Notice.{Notice}
+use Rattle.radio_lines.specs.declared.closing.FoundClosing.{FoundClosing}
+use Rattle.radio_lines.specs.declared.ready.SocketReport.{SocketReport}
 use Rattle.radio_lines.specs.declared.ready.Ready.{Ready}
 use Rattle.radio_lines.specs.Closings.{tells_closing}
 use Rattle.radio_lines.specs.Ready.{after_read, after_told, brings_work, may_read, may_write, without_room}
 
 -- the end of a source is answered once all have drawn what came before, and half a second after it was found in any case
 abbrev pub EndsAreTold : Type 0
-EndsAreTold = (found : Closing) (drawn ms : ℕ)
+EndsAreTold = (found : FoundClosing) (drawn ms : ℕ)
     → (found.told ≤ drawn → tells_closing found drawn ms ≡ true) × (found.ms + 500 ≤ ms → tells_closing found drawn ms ≡ true)
 
 -- and not before
 abbrev pub EndsAreHeld : Type 0
-EndsAreHeld = (found : Closing) (drawn ms : ℕ) → drawn < found.told → ms < found.ms + 500 → tells_closing found drawn ms ≡ false
+EndsAreHeld = (found : FoundClosing) (drawn ms : ℕ) → drawn < found.told → ms < found.ms + 500 → tells_closing found drawn ms ≡ false
 
 -- what nobody wants is read once in a tenth of a second at most
 abbrev pub UnwantedWait : Type 0
@@ -22,7 +22,7 @@ UnwantedWait = (ready : Ready) (filled : Bool) (ms now : ℕ) → ready.is_passe
 
 -- and wakes nobody
 abbrev pub UnwantedWakeNobody : Type 0
-UnwantedWakeNobody = (ready : Ready) (notice : Notice) → ready.is_passed_over ≡ true → notice.writes ≡ false → notice.is_over ≡ false
+UnwantedWakeNobody = (ready : Ready) (notice : SocketReport) → ready.is_passed_over ≡ true → notice.writes ≡ false → notice.is_over ≡ false
     → brings_work notice ready ≡ false
 
 -- a line that took nothing is asked again after a second, and not before
@@ -32,4 +32,4 @@ StalledAreAskedAgain = (ready : Ready) (ms now : ℕ) → ms < 2 ^ 63
 
 -- unless the system tells of room
 abbrev pub RoomIsTaken : Type 0
-RoomIsTaken = (ready : Ready) (notice : Notice) (ms now : ℕ) → notice.writes ≡ true → may_write now (after_told notice (without_room ms ready)) ≡ true
+RoomIsTaken = (ready : Ready) (notice : SocketReport) (ms now : ℕ) → notice.writes ≡ true → may_write now (after_told notice (without_room ms ready)) ≡ true

@@ -4,14 +4,14 @@ use Rattle.mio.specs.declared.event.event.Event.{Event}
 use Rattle.mio.specs.Event.{is_readable, is_writable, is_error, is_read_closed, is_write_closed}
 use Rattle.radio_connections.specs.Moments.{later}
 use Rattle.radio_lines.specs.declared.ready.Ready.{Ready}
-use Rattle.radio_lines.specs.declared.ready.Notice.{Notice}
+use Rattle.radio_lines.specs.declared.ready.SocketReport.{SocketReport}
 
 -- nothing was told of it yet: it is to be asked, and what comes is wanted
 abbrev pub fresh : Ready
 fresh = record { is_readable = true; is_writable = true; is_over = false; is_passed_over = false; read_from_ms = 0; write_from_ms = 0 }
 
 -- the system has told this; a socket that is over is to be asked at once, since it tells so then
-abbrev pub after_told : Notice → Ready → Ready
+abbrev pub after_told : SocketReport → Ready → Ready
 after_told notice r = record r {
   is_readable = r.is_readable || notice.reads || notice.is_over;
   is_writable = r.is_writable || notice.writes || notice.is_over;
@@ -21,7 +21,7 @@ after_told notice r = record r {
 
 -- whether there is something to do then: it is over, or has room or bytes that it had not; but for bytes that are not wanted
 -- rule: Unwanted bytes
-abbrev pub brings_work : Notice → Ready → Bool
+abbrev pub brings_work : SocketReport → Ready → Bool
 brings_work notice r = notice.is_over || (notice.writes && not r.is_writable) || (notice.reads && not r.is_readable && not r.is_passed_over)
 
 -- a read gave bytes at this moment, and filled the buffer or not
@@ -56,5 +56,5 @@ abbrev pub may_write : ℕ → Ready → Bool
 may_write ms r = r.is_writable || nat_le r.write_from_ms ms
 
 -- what an event of the system tells: it is over if it has failed, or a side of it was closed
-abbrev pub notice_of : Event → Notice
+abbrev pub notice_of : Event → SocketReport
 notice_of e = record { reads = is_readable e; writes = is_writable e; is_over = is_error e || is_read_closed e || is_write_closed e }

@@ -17,7 +17,7 @@ pub struct NewsCount {
 
 /// A closing that was found.
 #[derive(Clone, Copy, Debug, PartialEq, Eq)]
-pub(crate) struct Closing {
+pub(crate) struct FoundClosing {
     /// When, in milliseconds.
     pub(crate) ms: u64,
     /// How often listeners had been told of news.
@@ -27,7 +27,7 @@ pub(crate) struct Closing {
 /// Returns whether a line answers at `ms` that its peer has closed: all have drawn what came before, or half a second has
 /// passed. Otherwise listeners would be finished with their source before they had its last bytes.
 // rule: Closing of a source
-pub(crate) fn tells_closing(found: Closing, drawn: u64, ms: u64) -> bool
+pub(crate) fn tells_closing(found: FoundClosing, drawn: u64, ms: u64) -> bool
     ensures { result ≡ tells_closing found drawn ms }
 {
     drawn >= found.told || ms.saturating_sub(found.ms) >= MOST_HELD_MS

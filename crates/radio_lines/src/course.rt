@@ -5,7 +5,7 @@ ghost use Rattle.radio_connections.specs.declared.line.Received.TheVariants.{Byt
 ghost use Rattle.radio_lines.specs.Courses.{after_bytes, after_closing, begun, call_of, closing_found, holds_closing, passes_closing, reading_of, source_bytes, writing_of};
 
 use crate::activity::{LineTurn, Need};
-use crate::closing::{Closing, tells_closing};
+use crate::closing::{FoundClosing, tells_closing};
 use crate::pace::is_source;
 use crate::ready::Ready;
 use radio_connections::{Received, Sent};
@@ -18,12 +18,12 @@ pub(crate) struct Course {
     /// How many bytes it gave.
     pub(crate) gave: u64,
     /// That the peer has closed, once it was found.
-    pub(crate) closing: Option<Closing>,
+    pub(crate) closing: Option<FoundClosing>,
 }
 
 /// Whether a socket is asked for bytes.
 #[derive(Clone, Copy, Debug, PartialEq, Eq)]
-pub(crate) enum Call {
+pub(crate) enum ReadCall {
     /// It is asked.
     Made,
     /// It is not, since it is not worth a read.
@@ -70,16 +70,16 @@ impl Course {
 
     /// Returns whether a socket that is so ready is asked for bytes in this turn.
     // rule: Unwanted bytes
-    pub(crate) fn call(self, ready: Ready, turn: LineTurn) -> Call
+    pub(crate) fn call(self, ready: Ready, turn: LineTurn) -> ReadCall
         ensures { result ≡ call_of ready turn self }
     {
         if !ready.may_read(turn.ms) {
-            return Call::Skipped;
+            return ReadCall::Skipped;
         }
         if is_source(self.gave, ready.is_passed_over) && turn.pace.holds(self.gave_ms, turn.ms) {
-            return Call::Held;
+            return ReadCall::Held;
         }
-        Call::Made
+        ReadCall::Made
     }
 
     /// Returns the course once so many bytes have come at `ms`.
@@ -112,12 +112,12 @@ impl Course {
     }
 
     /// Returns the closing that was found, in this turn if none was before.
-    fn closing_found(self, turn: LineTurn) -> Closing
+    fn closing_found(self, turn: LineTurn) -> FoundClosing
         ensures { result ≡ closing_found turn self }
     {
         match self.closing {
             Some(closing) => closing,
-            None => Closing {
+            None => FoundClosing {
                 ms: turn.ms,
                 told: turn.news.told,
             },

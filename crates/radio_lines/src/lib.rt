@@ -1,11 +1,11 @@
 //! TCP sockets as the lines of connections, each asked only where the system has told that it is ready.
 //!
 //! - [`Sockets`]: the sockets of one thread, as the system tells of them; it makes a line of each, and waits until one
-//!   has something to do ([`Heard`]).
+//!   has something to do ([`Polled`]).
 //! - [`SocketLine`]: the line of a socket, or of any stream that never waits and can [`Shut`].
 //! - [`Activity`]: what the lines of a thread share with its loop; [`Pace`]: how fast they give what sources send;
 //!   [`NewsCount`]: what listeners have drawn, by which a source's end is held back.
-//! - [`Reach`], [`SystemNet`]: the net; [`moment`], [`moment_us`]: the clock.
+//! - [`Network`], [`SystemNet`]: the net; [`moment`], [`moment_us`]: the clock.
 //! - [`ends_are_told`], [`sockets_are_left_alone`]: laws, which run no code.
 //!
 //! No clause says what a socket gives or takes, since the system holds it: what is proved is that a
@@ -31,8 +31,8 @@ pub use closing::NewsCount;
 pub use laws::{ends_are_told, sockets_are_left_alone};
 pub use line::SocketLine;
 pub use pace::Pace;
-pub use reach::{Reach, SystemNet};
-pub use sockets::{Heard, Sockets};
+pub use reach::{Network, SystemNet};
+pub use sockets::{Polled, Sockets};
 pub use stream::Shut;
 
 /// What a call answers where memory was refused.

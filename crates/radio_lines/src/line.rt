@@ -6,7 +6,7 @@ ghost use Rattle.radio_lines.specs.Courses.{begun};
 ghost use Rattle.radio_lines.specs.Streams.{IsGivenBy, IsTakenBy};
 
 use crate::activity::{Activity, Need};
-use crate::course::{Call, Course, Reading, writing_of};
+use crate::course::{Course, ReadCall, Reading, writing_of};
 use crate::readiness::Readiness;
 use crate::stream::{Shut, read_once, write_once};
 use radio_connections::{CallCount, History, Line, Received, Sent};
@@ -65,12 +65,12 @@ impl<S: Read + Write + Shut + Drop> SocketLine<S> {
         let turn = self.activity.turn();
         let mut ready = self.readiness.load();
         match self.course.call(ready, turn) {
-            Call::Skipped => return Received::Nothing,
-            Call::Held => {
+            ReadCall::Skipped => return Received::Nothing,
+            ReadCall::Held => {
                 self.activity.note(Need::Held, 0);
                 return Received::Nothing;
             }
-            Call::Made => (),
+            ReadCall::Made => (),
         }
         let received = read_once(&mut self.stream, buffer, &mut ready);
         let reading = self.course.reading(received, buffer.len(), ready, turn);

@@ -9,7 +9,7 @@ use std::io;
 use std::net::{Net, SocketAddr, ToSocketAddrs};
 
 /// The net, as threads reach it.
-pub trait Reach {
+pub trait Network {
     /// The addresses that the system knows of a host, with this port. None where it knows none, or memory is refused.
     fn addresses(&self, alloc: Global, host: &str, port: u16) -> Vec<SocketAddr>;
 
@@ -35,7 +35,7 @@ impl<'a, R: Net> SystemNet<'a, R> {
     }
 }
 
-impl<'a, R: Net> Reach for SystemNet<'a, R> {
+impl<'a, R: Net> Network for SystemNet<'a, R> {
     fn addresses(&self, alloc: Global, host: &str, port: u16) -> Vec<SocketAddr> {
         let mut addresses = Vec::new(alloc);
         if let Ok(found) = (host, port).to_socket_addrs(self.rt) {

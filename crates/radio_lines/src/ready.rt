@@ -31,7 +31,7 @@ pub(crate) struct Ready {
 
 /// What the system tells of a socket.
 #[derive(Clone, Copy, Debug, PartialEq, Eq)]
-pub(crate) struct Notice {
+pub(crate) struct SocketReport {
     /// That it may have something to read.
     pub(crate) reads: bool,
     /// That it may have room.
@@ -40,12 +40,12 @@ pub(crate) struct Notice {
     pub(crate) is_over: bool,
 }
 
-impl Notice {
+impl SocketReport {
     /// Returns what an event of the system tells.
-    pub(crate) fn of(event: &Event) -> Notice
+    pub(crate) fn of(event: &Event) -> SocketReport
         ensures { result ≡ notice_of event.now }
     {
-        Notice {
+        SocketReport {
             reads: event.is_readable(),
             writes: event.is_writable(),
             is_over: event.is_error() || event.is_read_closed() || event.is_write_closed(),
@@ -69,7 +69,7 @@ impl Ready {
     }
 
     /// Returns the readiness once the system has told this. A socket that is over tells so when it is asked.
-    pub(crate) fn after_told(self, notice: Notice) -> Ready
+    pub(crate) fn after_told(self, notice: SocketReport) -> Ready
         ensures { result ≡ after_told notice self }
     {
         Ready {
@@ -83,7 +83,7 @@ impl Ready {
 
     /// Returns whether there is something to do at once if the system tells this. For bytes that are not wanted there is not.
     // rule: Unwanted bytes
-    pub(crate) fn brings_work(self, notice: Notice) -> bool
+    pub(crate) fn brings_work(self, notice: SocketReport) -> bool
         ensures { result ≡ brings_work notice self }
     {
         notice.is_over

@@ -9,9 +9,9 @@ ghost use Rattle.radio_lines.specs.Waits.{ends_wait, heard_at, is_waker};
 
 use crate::activity::{Activity, Need};
 use crate::clock::moment_us;
-use crate::reach::Reach;
+use crate::reach::Network;
 use crate::readiness::Readiness;
-use crate::ready::{Notice, Ready};
+use crate::ready::{Ready, SocketReport};
 use crate::{OutOfMemory, SocketLine};
 use mio::net::TcpStream;
 use mio::{Events, Interest, Poll, Token, Waker};
@@ -33,7 +33,7 @@ const FEW_EVENTS: usize = 8;
 
 /// What was heard of the system.
 #[derive(Clone, Copy)]
-pub struct Heard {
+pub struct Polled {
     /// The clock's moment then, in milliseconds.
     pub ms: u64,
     /// The same moment, in microseconds.
@@ -46,17 +46,17 @@ pub struct Heard {
 
 /// What the system has told at once.
 #[derive(Clone, Copy)]
-struct Told {
+struct PollReport {
     is_ready: bool,
     is_called: bool,
 }
 
-impl Told {
+impl PollReport {
     /// Returns what was heard, at this moment in microseconds.
-    fn at(self, us: u64) -> Heard
+    fn at(self, us: u64) -> Polled
         ensures { result ≡ heard_at us self }
     {
-        Heard {
+        Polled {
             ms: us / 1000,
             us,
             is_ready: self.is_ready,
@@ -90,7 +90,7 @@ impl Sockets {
     /// thread; the system's fault where it tells nothing of sockets.
     ///
     /// `OutOfMemory` where memory was refused.
-    pub fn new<N: Reach>(
+    pub fn new<N: Network>(
         net: &N,
         alloc: Global,
     ) -> Result<io::Result<(Sockets, Waker)>, OutOfMemory>
@@ -108,14 +108,14 @@ impl Sockets {
 
     /// Those of one who has none yet, will have few, and is woken by nobody; the system's fault where it tells nothing of
     /// sockets, or memory was refused.
-    pub fn alone<N: Reach>(net: &N, alloc: Global) -> io::Result<Sockets>
+    pub fn alone<N: Network>(net: &N, alloc: Global) -> io::Result<Sockets>
         ensures { IfOk result (λ own. vec_len own.readiness ≡ 0) }
     {
         Sockets::with_room(net, alloc, FEW_EVENTS)?
     }
 
     /// Those of one who is told of so many at once.
-    fn with_room<N: Reach>(
+    fn with_room<N: Network>(
         net: &N,
         alloc: Global,
         events: usize,
@@ -146,7 +146,7 @@ impl Sockets {
 
     /// Hears from the system what is ready, and waits until a line has something to do or the waker is called, so many
     /// milliseconds at most. The system's fault where it tells nothing any more.
-    pub fn hear<C: Clock>(&mut self, clock: &C, wait_ms: u64) -> io::Result<Heard>
+    pub fn hear<C: Clock>(&mut self, clock: &C, wait_ms: u64) -> io::Result<Polled>
         ensures { IfOk result (λ heard. heard.ms ≡ heard.us / 1000) }
     {
         let mut us = moment_us(clock);
@@ -158,7 +158,7 @@ impl Sockets {
                 return Ok(told.at(us));
             }
         }
-        let nothing = Told {
+        let nothing = PollReport {
             is_ready: false,
             is_called: false,
         };
@@ -166,7 +166,7 @@ impl Sockets {
     }
 
     /// Notes what the system tells within so many milliseconds.
-    fn poll(&mut self, wait_ms: u64) -> io::Result<Told>
+    fn poll(&mut self, wait_ms: u64) -> io::Result<PollReport>
         ensures { IfOk result (λ told. told.is_called ≡ list_any (λ e. is_waker (event_token e)) (items self.new.events)) }
     {
         let wait = Duration::from_millis(wait_ms);
@@ -175,12 +175,12 @@ impl Sockets {
         for event in &self.events {
             if let Some(readiness) = self.readiness.get(event.token().0) {
                 let before = readiness.load();
-                let notice = Notice::of(event);
+                let notice = SocketReport::of(event);
                 readiness.store(before.after_told(notice));
                 is_ready = is_ready || before.brings_work(notice);
             }
         }
-        Ok(Told {
+        Ok(PollReport {
             is_ready,
             is_called: self.is_called(),
         })
@@ -195,7 +195,7 @@ impl Sockets {
 
     /// The line to this address. It is being connected: until it is, the line takes and gives nothing. The system's fault
     /// where it does not connect at all, or memory was refused.
-    pub fn connect<N: Reach>(
+    pub fn connect<N: Network>(
         &mut self,
         net: &N,
         address: SocketAddr,

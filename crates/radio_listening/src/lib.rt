@@ -4,7 +4,7 @@
 //!   says how.
 //! - [`BindFault`], [`ServeFault`]: why nothing was bound, and why a server ends.
 //!
-//! What radiod needs of the crates below to call it is here too: the net as relays reach it ([`Reach`], [`SystemNet`]), and
+//! What radiod needs of the crates below to call it is here too: the net as relays reach it ([`Network`], [`SystemNet`]), and
 //! what the settings say of answers ([`WebAnswers`]).
 #![tactic(auto)]
 
@@ -12,7 +12,7 @@ mod listening;
 mod working;
 
 pub use listening::{Listening, Service};
-pub use radio_lines::{Reach, SystemNet};
+pub use radio_lines::{Network, SystemNet};
 pub use radio_serving::WebAnswers;
 pub use radio_sockets::{BindFault, ServeFault};
 

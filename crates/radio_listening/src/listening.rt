@@ -10,15 +10,15 @@ use crate::working::work_together;
 use crate::{BindFault, ServeFault};
 use mio::net::TcpStream;
 use radio_addr::AddressList;
-use radio_board::{Board, Limits};
+use radio_board::{Limits, Shared};
 use radio_events::SharedServer;
 use radio_intake::{Intake, IntakePass};
-use radio_lines::{Reach, Sockets};
+use radio_lines::{Network, Sockets};
 use radio_outlet::LogQueue;
 use radio_proxy::Pending;
 use radio_serving::WebAnswers;
 use radio_settings_values::Settings;
-use radio_sockets::{Acceptor, Coming, Doors, open_desks};
+use radio_sockets::{Accepted, Acceptor, ListeningSocket, open_desks};
 use std::alloc::Global;
 use std::io;
 use std::net::{Net, SocketAddr};
@@ -47,13 +47,13 @@ pub struct Service {
 #[derive(Drop)]
 pub struct Listening {
     alloc: Global,
-    doors: Doors,
+    socket: ListeningSocket,
     /// Whose connections begin with a header that names their client.
     proxies: Option<AddressList>,
 }
 
 impl Listening {
-    /// Binds this address and port, with the faults of [`Doors::bind`].
+    /// Binds this address and port, with the faults of [`ListeningSocket::bind`].
     pub fn bind<R: Net>(
         rt: &R,
         alloc: Global,
@@ -62,10 +62,10 @@ impl Listening {
     ) -> Result<Listening, BindFault>
         ensures { IfErr result (λ fault. fault ≡ NoAddress → IsNoIp address.now) }
     {
-        let doors = Doors::bind(rt, alloc, address, port)?;
+        let socket = ListeningSocket::bind(rt, alloc, address, port)?;
         Ok(Listening {
             alloc,
-            doors,
+            socket,
             proxies: None,
         })
     }
@@ -77,14 +77,14 @@ impl Listening {
     {
         Listening {
             alloc: self.alloc,
-            doors: self.doors,
+            socket: self.socket,
             proxies,
         }
     }
 
     /// The address and port that were bound.
     pub fn address(&self) -> io::Result<SocketAddr> {
-        self.doors.address()
+        self.socket.address()
     }
 
     /// Accepts connections, and serves them by this server, until a fault. A worker that can't be started is left out;
@@ -105,17 +105,17 @@ impl Listening {
     ) -> ServeFault
     where
         R: Clock + Threads + Wait + Sync,
-        N: Reach + Sync,
+        N: Network + Sync,
         S: SharedServer + Sync,
         S::Pass: Send,
     {
         let Listening {
             alloc,
-            doors,
+            socket,
             proxies,
         } = self;
         let pending = pending_of(alloc, proxies, settings);
-        let acceptor = Acceptor::new(alloc, doors, pending);
+        let acceptor = Acceptor::new(alloc, socket, pending);
         let opened = open_board(net, alloc, &acceptor, service, log);
         serve_by(rt, net, opened, server, settings, service, acceptor)
     }
@@ -139,7 +139,7 @@ fn pending_of(
 fn serve_by<R, N, S>(
     rt: &R,
     net: &N,
-    opened: Result<(Board, Vec<Sockets>), ServeFault>,
+    opened: Result<(Shared, Vec<Sockets>), ServeFault>,
     server: &S,
     settings: &Settings,
     service: Service,
@@ -147,27 +147,27 @@ fn serve_by<R, N, S>(
 ) -> ServeFault
 where
     R: Clock + Threads + Wait + Sync,
-    N: Reach + Sync,
+    N: Network + Sync,
     S: SharedServer + Sync,
     S::Pass: Send,
     ensures { IfErr opened (λ fault. result ≡ fault) }
 {
     let mut acceptor = acceptor;
     let fault = match opened {
-        Ok((board, mut sockets)) => {
+        Ok((shared, mut sockets)) => {
             let fault = {
-                let station = Station {
+                let station = ServedStation {
                     rt,
                     net,
                     server,
                     settings,
                     service,
-                    board: &board,
+                    shared: &shared,
                 };
                 serve_all(&station, &mut sockets, &mut acceptor)
             };
             drop(sockets);
-            drop(board);
+            drop(shared);
             fault
         }
         Err(fault) => fault,
@@ -177,13 +177,13 @@ where
 }
 
 /// What the workers and the acceptor tell each other by, and the sockets of the workers.
-fn open_board<N: Reach>(
+fn open_board<N: Network>(
     net: &N,
     alloc: Global,
     acceptor: &Acceptor,
     service: Service,
     log: Arc<LogQueue>,
-) -> Result<(Board, Vec<Sockets>), ServeFault>
+) -> Result<(Shared, Vec<Sockets>), ServeFault>
     ensures { IfOk result (λ opened. 0 < vec_len opened.1) }
 {
     let (sockets, desks) = open_desks(net, alloc, service.workers)?;
@@ -192,36 +192,36 @@ fn open_board<N: Reach>(
         queue_size: service.queue_size,
     };
     match acceptor.waker() {
-        Ok(waker) => Ok((Board::new(alloc, desks, waker, limits, log), sockets)),
+        Ok(waker) => Ok((Shared::new(alloc, desks, waker, limits, log), sockets)),
         Err(_) => Err(ServeFault::Accept),
     }
 }
 
 /// What is served, how, and by what all threads tell each other.
 #[derive(Drop)]
-pub(crate) struct Station<'a, R, N: Reach, S> {
+pub(crate) struct ServedStation<'a, R, N: Network, S> {
     pub(crate) rt: &'a R,
     pub(crate) net: &'a N,
     pub(crate) server: &'a S,
     pub(crate) settings: &'a Settings,
     pub(crate) service: Service,
-    pub(crate) board: &'a Board,
+    pub(crate) shared: &'a Shared,
 }
 
 /// Serves connections through an intake, until all stop. `OutOfMemory` where memory was refused for it, or for the
-/// workers' seats.
+/// workers' slots.
 fn serve_all<R, N, S>(
-    station: &Station<'_, R, N, S>,
+    station: &ServedStation<'_, R, N, S>,
     sockets: &mut Vec<Sockets>,
     acceptor: &mut Acceptor,
 ) -> ServeFault
 where
     R: Clock + Threads + Wait + Sync,
-    N: Reach + Sync,
+    N: Network + Sync,
     S: SharedServer + Sync,
     S::Pass: Send,
 {
-    match Intake::new(station.board.alloc()) {
+    match Intake::new(station.shared.alloc()) {
         Ok((intake, mut pass)) => {
             let fault = serve_through(station, &intake, &mut pass, sockets, acceptor);
             drop(pass);
@@ -233,17 +233,17 @@ where
 }
 
 /// Serves connections through this intake, whose pass the acceptor and the workers share. `OutOfMemory` where memory was
-/// refused for the workers' seats.
+/// refused for the workers' slots.
 fn serve_through<R, N, S>(
-    station: &Station<'_, R, N, S>,
-    intake: &Intake<Coming>,
-    pass: &mut IntakePass<Coming>,
+    station: &ServedStation<'_, R, N, S>,
+    intake: &Intake<Accepted>,
+    pass: &mut IntakePass<Accepted>,
     sockets: &mut Vec<Sockets>,
     acceptor: &mut Acceptor,
 ) -> ServeFault
 where
     R: Clock + Threads + Wait + Sync,
-    N: Reach + Sync,
+    N: Network + Sync,
     S: SharedServer + Sync,
     S::Pass: Send,
     requires own { pass.old.intake ≡ intake.now }
@@ -256,7 +256,7 @@ where
     fault_of(fault, are_seated)
 }
 
-/// Returns why a server ends whose acceptor has ended so: if there was no memory for the workers' seats, that is why.
+/// Returns why a server ends whose acceptor has ended so: if there was no memory for the workers' slots, that is why.
 fn fault_of(fault: ServeFault, are_seated: bool) -> ServeFault
     ensures { result ≡ (if are_seated then fault else NoMemory) }
 {

@@ -5,32 +5,32 @@ ghost use Rattle.radio_intake.specs.Passes.{all_parts};
 ghost use Rattle.radio_workers.specs.Hands.{HasTakenMore};
 
 use crate::ServeFault;
-use crate::listening::Station;
+use crate::listening::ServedStation;
 use mio::net::TcpStream;
 use radio_events::SharedServer;
 use radio_intake::{Intake, IntakePass};
-use radio_lines::{Reach, SocketLine, Sockets};
+use radio_lines::{Network, SocketLine, Sockets};
 use radio_pullers::{has_relays, keep_relays};
 use radio_serving::OpenGate;
-use radio_sockets::{Acceptor, Coming, SocketPost, seats_of};
-use radio_workers::{Seat, Workplace, run_workers};
+use radio_sockets::{Accepted, Acceptor, SocketTurns, slots_of};
+use radio_workers::{WorkerSlot, Workplace, run_workers};
 use std::sync::Wait;
 use std::thread::{Threads, join_mut};
 use std::time::Clock;
 
-/// The acceptor puts connections into this intake by his hand, and workers with these sockets take them out by their pass,
-/// until all stop. His fault, and whether there was memory for the workers' seats.
+/// The acceptor puts connections into this intake by its hand, and workers with these sockets take them out by their pass,
+/// until all stop. Its fault, and whether there was memory for the workers' slots.
 pub(crate) fn work_together<R, N, S>(
-    station: &Station<'_, R, N, S>,
-    intake: &Intake<Coming>,
-    hand: &mut IntakePass<Coming>,
-    pass: &mut IntakePass<Coming>,
+    station: &ServedStation<'_, R, N, S>,
+    intake: &Intake<Accepted>,
+    hand: &mut IntakePass<Accepted>,
+    pass: &mut IntakePass<Accepted>,
     sockets: &mut Vec<Sockets>,
     acceptor: &mut Acceptor,
 ) -> (ServeFault, bool)
 where
     R: Clock + Threads + Wait + Sync,
-    N: Reach + Sync,
+    N: Network + Sync,
     S: SharedServer + Sync,
     S::Pass: Send,
     requires hand { hand.old.intake ≡ intake.now }
@@ -52,33 +52,33 @@ where
     )
 }
 
-/// The acceptor puts connections into this intake by his hand, until all stop. His fault.
+/// The acceptor puts connections into this intake by its hand, until all stop. Its fault.
 fn accept<R, N, S>(
-    station: &Station<'_, R, N, S>,
-    intake: &Intake<Coming>,
-    hand: &mut IntakePass<Coming>,
+    station: &ServedStation<'_, R, N, S>,
+    intake: &Intake<Accepted>,
+    hand: &mut IntakePass<Accepted>,
     acceptor: &mut Acceptor,
 ) -> ServeFault
 where
     R: Clock + Wait,
-    N: Reach,
+    N: Network,
     requires { hand.old.intake ≡ intake.now }
     ensures { hand.new.intake ≡ intake.now }
 {
-    acceptor.work(station.rt, station.board, intake, hand)
+    acceptor.work(station.rt, station.shared, intake, hand)
 }
 
 /// The workers with these sockets work, and relays are kept running beside them, if the settings wish some. Whether there
-/// was memory for the workers' seats.
+/// was memory for the workers' slots.
 fn work_beside_relays<R, N, S>(
-    station: &Station<'_, R, N, S>,
-    intake: &Intake<Coming>,
-    pass: &mut IntakePass<Coming>,
+    station: &ServedStation<'_, R, N, S>,
+    intake: &Intake<Accepted>,
+    pass: &mut IntakePass<Accepted>,
     sockets: &mut Vec<Sockets>,
 ) -> bool
 where
     R: Clock + Threads + Wait + Sync,
-    N: Reach + Sync,
+    N: Network + Sync,
     S: SharedServer + Sync,
     S::Pass: Send,
     requires own { pass.old.intake ≡ intake.now }
@@ -95,7 +95,7 @@ where
                 station.rt,
                 station.net,
                 station.server,
-                station.board,
+                station.shared,
                 station.settings,
             )
         },
@@ -107,55 +107,55 @@ where
     are_seated
 }
 
-/// The workers with these sockets work, until all are to stop. Whether there was memory for their seats.
+/// The workers with these sockets work, until all are to stop. Whether there was memory for their slots.
 fn work_at<R, N, S>(
-    station: &Station<'_, R, N, S>,
-    intake: &Intake<Coming>,
-    pass: &mut IntakePass<Coming>,
+    station: &ServedStation<'_, R, N, S>,
+    intake: &Intake<Accepted>,
+    pass: &mut IntakePass<Accepted>,
     sockets: &mut Vec<Sockets>,
 ) -> bool
 where
     R: Clock + Threads + Wait + Sync,
-    N: Reach + Sync,
+    N: Network + Sync,
     S: SharedServer + Sync,
     S::Pass: Send,
     requires own { pass.old.intake ≡ intake.now }
     requires parts { all_parts ≤ pass.old.parts + 1 }
     ensures { pass.new.intake ≡ intake.now }
 {
-    match seats_of(
+    match slots_of(
         station.rt,
         station.server,
-        station.board,
+        station.shared,
         intake,
         pass,
         sockets,
     ) {
-        Ok(mut seats) => {
-            run_at(station, intake, seats.as_mut_slice());
+        Ok(mut slots) => {
+            run_at(station, intake, slots.as_mut_slice());
             true
         }
         Err(_) => {
-            station.board.stop();
+            station.shared.stop();
             false
         }
     }
 }
 
-/// Workers at these seats work, until all are to stop.
+/// Workers at these slots work, until all are to stop.
 fn run_at<R, N, S>(
-    station: &Station<'_, R, N, S>,
-    intake: &Intake<Coming>,
-    seats: &mut [Seat<S::Pass, Coming, SocketPost<'_, R>>],
+    station: &ServedStation<'_, R, N, S>,
+    intake: &Intake<Accepted>,
+    slots: &mut [WorkerSlot<S::Pass, Accepted, SocketTurns<'_, R>>],
 )
 where
     R: Clock + Threads + Wait + Sync,
-    N: Reach + Sync,
+    N: Network + Sync,
     S: SharedServer + Sync,
     S::Pass: Send,
-    requires { All (λ seat. seat.hand.intake ≡ intake.now) seats.old }
-    // each tells behind what it told what was taken at its seat
-    ensures { (i : ℕ) (d : _) → i < length seats.old → HasTakenMore (slice_index_or seats.old i d).hand (slice_index_or seats.new i d).hand }
+    requires { All (λ slot. slot.hand.intake ≡ intake.now) slots.old }
+    // each tells behind what it told what was taken at its slot
+    ensures { (i : ℕ) (d : _) → i < length slots.old → HasTakenMore (slice_index_or slots.old i d).hand (slice_index_or slots.new i d).hand }
 {
     let place = Workplace {
         server: station.server,
@@ -166,10 +166,10 @@ where
         patience_s: station.service.patience_s,
         turns: u64::MAX,
     };
-    run_workers::<R, S, Coming, SocketLine<TcpStream>, SocketPost<'_, R>, OpenGate>(
+    run_workers::<R, S, Accepted, SocketLine<TcpStream>, SocketTurns<'_, R>, OpenGate>(
         station.rt,
-        station.board.alloc(),
+        station.shared.alloc(),
         &place,
-        seats,
+        slots,
     );
 }

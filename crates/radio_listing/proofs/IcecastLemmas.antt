@@ -7,7 +7,7 @@ use Rattle.serde_json.specs.Written.{has_float, members_have_float}
 use Rattle.radio_listing.specs.declared.rows.AboutRow.{AboutRow}
 use Rattle.radio_listing.specs.declared.rows.MountRow.{MountRow}
 use Rattle.radio_listing.specs.declared.rows.PublicRow.{PublicRow}
-use Rattle.radio_listing.specs.declared.rows.Server.{Server}
+use Rattle.radio_listing.specs.declared.rows.ListedServer.{ListedServer}
 use Rattle.radio_listing.specs.Icecast.{bitrate_data, icecast_data, mount_members, number_written, one_or_list, server_members, source_data, with_about, with_bitrate, with_text}
 use Rattle.radio_listing.specs.Json.{count, text}
 use Rattle.radio_listing.specs.Public.{rows_shown}
@@ -76,20 +76,20 @@ sources_shallow base (row ∷ next ∷ rows) = omega (arith, no_deeper (source_d
 
 -- ---- the whole
 
-members_quiet : (server : Server) (rows : List MountRow) → members_have_float (server_members server rows) ≡ false
+members_quiet : (server : ListedServer) (rows : List MountRow) → members_have_float (server_members server rows) ≡ false
 members_quiet server rows = rw (sources_quiet server.base_url (rows_shown rows)) refl
 
-told_quiet : (server : Server) (rows : List MountRow)
+told_quiet : (server : ListedServer) (rows : List MountRow)
     → members_have_float (with_text (codes "server_start_iso8601") server.start (server_members server rows)) ≡ false
 told_quiet server rows = text_quiet (codes "server_start_iso8601") server.start (server_members server rows) (members_quiet server rows)
 
-pub icecast_quiet : (server : Server) (rows : List MountRow) → has_float (icecast_data server rows) ≡ false
+pub icecast_quiet : (server : ListedServer) (rows : List MountRow) → has_float (icecast_data server rows) ≡ false
 icecast_quiet server rows = rw (told_quiet server rows) refl
 
-members_shallow : (server : Server) (rows : List MountRow) → members_depth (server_members server rows) ≤ 3
+members_shallow : (server : ListedServer) (rows : List MountRow) → members_depth (server_members server rows) ≤ 3
 members_shallow server rows = omega (arith, sources_shallow server.base_url (rows_shown rows))
 
-pub icecast_shallow : (server : Server) (rows : List MountRow) → depth (icecast_data server rows) ≤ max_depth
+pub icecast_shallow : (server : ListedServer) (rows : List MountRow) → depth (icecast_data server rows) ≤ max_depth
 icecast_shallow server rows =
     omega (
       arith,

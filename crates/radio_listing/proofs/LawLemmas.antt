@@ -10,7 +10,7 @@ use Rattle.serde_json.specs.View.{items_of}
 use Rattle.radio_listing.specs.declared.rows.AboutRow.{AboutRow}
 use Rattle.radio_listing.specs.declared.rows.MountRow.{MountRow}
 use Rattle.radio_listing.specs.declared.rows.PublicRow.{PublicRow}
-use Rattle.radio_listing.specs.declared.rows.Server.{Server}
+use Rattle.radio_listing.specs.declared.rows.ListedServer.{ListedServer}
 use Rattle.radio_listing.specs.Icecast.{bitrate_data, icecast_data, icecast_text, mount_members, one_or_list, server_members, source_data, with_about, with_bitrate, with_text}
 use Rattle.radio_listing.specs.Json.{text}
 use Rattle.radio_listing.specs.Laws.{LookAlike, mounts_named, names_of, not_hidden, shown_names, shown_urls, sources_in, urls_of, urls_told}
@@ -65,7 +65,7 @@ told base [] = refl
 told base (row ∷ []) = listed base (row ∷ [])
 told base (row ∷ next ∷ rows) = listed base (row ∷ next ∷ rows)
 
-pub icecast_urls : (server : Server) (rows : List MountRow) → urls_told (icecast_data server rows) ≡ shown_urls server.base_url rows
+pub icecast_urls : (server : ListedServer) (rows : List MountRow) → urls_told (icecast_data server rows) ≡ shown_urls server.base_url rows
 icecast_urls server rows =
     ap (option_map (λ source. urls_of (sources_in source))) (text_aside (codes "source") (codes "server_start_iso8601") server.start (server_members server rows) (λ e. cc))
     ∙ ap (λ urls. Some urls) (told server.base_url (rows_shown rows))

@@ -6,7 +6,7 @@ use Rattle.serde_json.specs.Data.{Data, Members, object, put}
 use Rattle.serde_json.specs.Written.{compact_text}
 use Rattle.radio_texts.specs.Numbers.{number_of}
 use Rattle.radio_listing.specs.declared.rows.AboutRow.{AboutRow}
-use Rattle.radio_listing.specs.declared.rows.Server.{Server}
+use Rattle.radio_listing.specs.declared.rows.ListedServer.{ListedServer}
 use Rattle.radio_listing.specs.declared.rows.MountRow.{MountRow}
 use Rattle.radio_listing.specs.declared.rows.PublicRow.{PublicRow}
 use Rattle.radio_listing.specs.Json.{text, count, list, fields, members}
@@ -65,16 +65,16 @@ one_or_list (value ∷ []) = value
 one_or_list (value ∷ next ∷ values) = list (value ∷ next ∷ values)
 
 -- what is told of each server
-abbrev pub server_members : Server → List MountRow → Members
+abbrev pub server_members : ListedServer → List MountRow → Members
 server_members server rows = members (
     (codes "server_id", text server.name)
     ∷ (codes "source", one_or_list (map (source_data server.base_url) (rows_shown rows)))
     ∷ [])
 
-abbrev pub icecast_data : Server → List MountRow → Data
+abbrev pub icecast_data : ListedServer → List MountRow → Data
 icecast_data server rows =
     fields ((codes "icestats", object (with_text (codes "server_start_iso8601") server.start (server_members server rows))) ∷ [])
 
 -- rule: Icecast status
-unfoldable pub icecast_text : Server → List MountRow → List ℕ
+unfoldable pub icecast_text : ListedServer → List MountRow → List ℕ
 icecast_text server rows = compact_text (icecast_data server rows)

@@ -4,7 +4,7 @@ use Rattle.std.specs.Option.{option_and_then, option_map}
 use Rattle.std.specs.Str.Lossy.{utf8_lossy}
 use Rattle.serde_json.specs.Data.{Data, Items, no_items, item}
 use Rattle.serde_json.specs.Find.{get, as_array, as_str}
-use Rattle.radio_listing.specs.declared.rows.Server.{Server}
+use Rattle.radio_listing.specs.declared.rows.ListedServer.{ListedServer}
 use Rattle.radio_listing.specs.declared.rows.MountRow.{MountRow}
 use Rattle.radio_listing.specs.declared.rows.PublicRow.{PublicRow}
 use Rattle.radio_listing.specs.Public.{rows_shown, status_text, stream_text}
@@ -14,7 +14,7 @@ use Rattle.radio_listing.specs.Icecast.{icecast_text}
 pub record LookAlike (rows others : List MountRow) : Type 0 where
   pub status : status_text rows ≡ status_text others
   pub streams : stream_text rows ≡ stream_text others
-  pub icecast : (server : Server) → icecast_text server rows ≡ icecast_text server others
+  pub icecast : (server : ListedServer) → icecast_text server rows ≡ icecast_text server others
 
 -- what the rows that are not hidden show, in their order
 abbrev pub not_hidden : List MountRow → List PublicRow

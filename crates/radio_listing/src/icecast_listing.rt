@@ -11,7 +11,7 @@ ghost use Rattle.radio_listing.specs.Objects.{members_in};
 ghost use Rattle.radio_listing.specs.Public.{rows_shown};
 
 use crate::object::{Object, one_member};
-use crate::{AboutRow, MountRow, OutOfMemory, PublicRow, Server, Text};
+use crate::{AboutRow, ListedServer, ListedText, MountRow, OutOfMemory, PublicRow};
 use radio_texts::read_number;
 use serde_json::Value;
 use std::alloc::Global;
@@ -31,7 +31,7 @@ const MAX_BITRATE: u64 = 4_294_967_295;
 #[tactic(auto, using(crate::proofs::IcecastLemmas::icecast_quiet, crate::proofs::IcecastLemmas::icecast_shallow), unfolding(crate::specs::Icecast::icecast_text))]
 pub fn icecast_status(
     alloc: Global,
-    server: &Server<'_>,
+    server: &ListedServer<'_>,
     rows: &[MountRow<'_>],
 ) -> Result<Vec<u8>, OutOfMemory>
     ensures text { IfOk result (λ bytes. bytes.items ≡ icecast_text server.now rows.now) }
@@ -43,7 +43,7 @@ pub fn icecast_status(
 
 fn icecast_value(
     alloc: Global,
-    server: &Server<'_>,
+    server: &ListedServer<'_>,
     rows: &[MountRow<'_>],
 ) -> Result<Value, OutOfMemory>
     ensures { IfOk result (λ value. view value ≡ icecast_data server.now rows.now) }
@@ -67,7 +67,11 @@ fn one_or_list(values: Vec<Value>) -> Value
     Value::Array(values)
 }
 
-fn sources(alloc: Global, base: &Text<'_>, rows: &[MountRow<'_>]) -> Result<Vec<Value>, OutOfMemory>
+fn sources(
+    alloc: Global,
+    base: &ListedText<'_>,
+    rows: &[MountRow<'_>],
+) -> Result<Vec<Value>, OutOfMemory>
     ensures { IfOk result (λ values. map view values.items ≡ map (source_data base.now) (rows_shown rows.now)) }
 {
     let mut values = Vec::new(alloc);
@@ -81,7 +85,7 @@ fn sources(alloc: Global, base: &Text<'_>, rows: &[MountRow<'_>]) -> Result<Vec<
 fn push_source(
     alloc: Global,
     values: &mut Vec<Value>,
-    base: &Text<'_>,
+    base: &ListedText<'_>,
     row: &MountRow<'_>,
 ) -> Result<(), OutOfMemory>
     ensures { OnOk result (map view values.new.items
@@ -95,7 +99,11 @@ fn push_source(
     Ok(())
 }
 
-fn source_value(alloc: Global, base: &Text<'_>, row: &PublicRow<'_>) -> Result<Value, OutOfMemory>
+fn source_value(
+    alloc: Global,
+    base: &ListedText<'_>,
+    row: &PublicRow<'_>,
+) -> Result<Value, OutOfMemory>
     ensures { IfOk result (λ value. view value ≡ source_data base.now row.now) }
 {
     let mut source = Object::new(alloc);
@@ -104,7 +112,11 @@ fn source_value(alloc: Global, base: &Text<'_>, row: &PublicRow<'_>) -> Result<V
 }
 
 /// The members of a mount.
-fn fill_source(source: &mut Object, base: &Text<'_>, row: &PublicRow<'_>) -> Result<(), OutOfMemory>
+fn fill_source(
+    source: &mut Object,
+    base: &ListedText<'_>,
+    row: &PublicRow<'_>,
+) -> Result<(), OutOfMemory>
     requires { members_in source.old ≡ no_members }
     ensures { OnOk result (object (members_in source.new) ≡ source_data base.now row.now) }
 {
@@ -127,7 +139,7 @@ fn put_about(source: &mut Object, about: &AboutRow<'_>) -> Result<(), OutOfMemor
     source.put_text_if_any("audio_info", &about.audio_info)
 }
 
-fn put_bitrate(source: &mut Object, bitrate: &Text<'_>) -> Result<(), OutOfMemory>
+fn put_bitrate(source: &mut Object, bitrate: &ListedText<'_>) -> Result<(), OutOfMemory>
     ensures { OnOk result (members_in source.new ≡ with_bitrate bitrate.now (members_in source.old)) }
 {
     if bitrate.as_bytes().is_empty() {
@@ -138,7 +150,7 @@ fn put_bitrate(source: &mut Object, bitrate: &Text<'_>) -> Result<(), OutOfMemor
 }
 
 /// A bit rate as a number if it is written as one, else as a text.
-fn bitrate_value(alloc: Global, bitrate: &Text<'_>) -> Result<Value, OutOfMemory>
+fn bitrate_value(alloc: Global, bitrate: &ListedText<'_>) -> Result<Value, OutOfMemory>
     ensures { IfOk result (λ value. view value ≡ bitrate_data bitrate.now) }
 {
     match number_written(alloc, bitrate.as_bytes())? {
@@ -162,7 +174,11 @@ fn number_written(alloc: Global, text: &[u8]) -> Result<Option<u64>, OutOfMemory
 }
 
 /// Where a mount is heard.
-fn put_url(source: &mut Object, base: &Text<'_>, mount: &Text<'_>) -> Result<(), OutOfMemory>
+fn put_url(
+    source: &mut Object,
+    base: &ListedText<'_>,
+    mount: &ListedText<'_>,
+) -> Result<(), OutOfMemory>
     ensures { OnOk result (members_in source.new ≡ with_member (codes "listenurl") (text (base.now ++ mount.now)) (members_in source.old)) }
 {
     let url = shown_url(source.alloc, base, mount)?;
@@ -170,7 +186,11 @@ fn put_url(source: &mut Object, base: &Text<'_>, mount: &Text<'_>) -> Result<(),
 }
 
 /// The base URL with the mount's name behind it.
-fn shown_url(alloc: Global, base: &Text<'_>, mount: &Text<'_>) -> Result<String, OutOfMemory>
+fn shown_url(
+    alloc: Global,
+    base: &ListedText<'_>,
+    mount: &ListedText<'_>,
+) -> Result<String, OutOfMemory>
     ensures { IfOk result (λ url. string_bytes url ≡ utf8_lossy (base.now ++ mount.now)) }
 {
     let mut bytes = Vec::new(alloc);

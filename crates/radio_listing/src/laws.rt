@@ -4,7 +4,7 @@
 //! A caller that needs a law in a proof calls the function, and cites its clause.
 ghost use Rattle.std.specs.Prelude.{◌≡◌, List};
 ghost use Rattle.radio_listing.specs.declared.rows.MountRow.{MountRow as Mount};
-ghost use Rattle.radio_listing.specs.declared.rows.Server.{Server};
+ghost use Rattle.radio_listing.specs.declared.rows.ListedServer.{ListedServer};
 ghost use Rattle.radio_listing.specs.Icecast.{icecast_data};
 ghost use Rattle.radio_listing.specs.Laws.{LookAlike, mounts_named, not_hidden, shown_names, shown_urls, urls_told};
 ghost use Rattle.radio_listing.specs.Public.{rows_shown, status_data};
@@ -21,5 +21,5 @@ pub fn sight_is_kept()
 pub fn hidden_mounts_are_left_out()
     ensures shown { (rows : List Mount) → rows_shown rows ≡ not_hidden rows }
     ensures status { (rows : List Mount) → mounts_named (status_data rows) ≡ shown_names rows }
-    ensures icecast { (server : Server) (rows : List Mount) → urls_told (icecast_data server rows) ≡ shown_urls server.base_url rows }
+    ensures icecast { (server : ListedServer) (rows : List Mount) → urls_told (icecast_data server rows) ≡ shown_urls server.base_url rows }
 {}

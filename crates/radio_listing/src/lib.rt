@@ -2,7 +2,7 @@
 //!
 //! - [`status`] and [`icecast_status`] are for everybody, [`stream_list`] for relays. They leave hidden mounts out.
 //! - [`stats`], [`list_mounts`] and [`list_clients`] are for operators.
-//! - [`MountRow`], with its [`PublicRow`], and [`ListenerRow`] are what they are written from; a [`Text`] is what they show.
+//! - [`MountRow`], with its [`PublicRow`], and [`ListedListener`] are what they are written from; a [`ListedText`] is what they show.
 //! - [`laws`] says what holds of all rows.
 //!
 //! Each listing writes the rows in the order in which they are given. Its bytes are those of `docs/FORMATS.md`, and in
@@ -24,8 +24,8 @@ pub use icecast_listing::icecast_status;
 pub use listener_listing::list_clients;
 pub use public_listings::{status, stream_list};
 pub use reached::{MAX_HOST, base_url};
-pub use rows::{AboutRow, ListenerRow, MountRow, PublicRow, Server};
-pub use text::Text;
+pub use rows::{AboutRow, ListedListener, ListedServer, MountRow, PublicRow};
+pub use text::ListedText;
 
 /// The error of each call that takes memory: there was none.
 pub type OutOfMemory = std::alloc::AllocError;

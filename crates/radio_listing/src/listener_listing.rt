@@ -9,7 +9,7 @@ ghost use Rattle.radio_listing.specs.Objects.{members_in};
 ghost use Rattle.radio_listing.specs.Listeners.{listener_data, listeners_data, listeners_text};
 
 use crate::object::Object;
-use crate::{ListenerRow, OutOfMemory, Text};
+use crate::{ListedListener, ListedText, OutOfMemory};
 use radio_addr::Peer;
 use serde_json::Value;
 use std::alloc::Global;
@@ -22,8 +22,8 @@ use std::alloc::Global;
 #[tactic(auto, using(crate::proofs::ListenerLemmas::listeners_quiet, crate::proofs::ListenerLemmas::listeners_shallow), unfolding(crate::specs::Listeners::listeners_text))]
 pub fn list_clients(
     alloc: Global,
-    mount: &Text<'_>,
-    rows: &[ListenerRow<'_>],
+    mount: &ListedText<'_>,
+    rows: &[ListedListener<'_>],
 ) -> Result<Vec<u8>, OutOfMemory>
     ensures text { IfOk result (λ bytes. bytes.items ≡ listeners_text mount.now rows.now) }
     ensures reads_back { IfOk result (λ bytes. read bytes.items ≡ Some (listeners_data mount.now rows.now)) }
@@ -34,8 +34,8 @@ pub fn list_clients(
 
 fn listeners_value(
     alloc: Global,
-    mount: &Text<'_>,
-    rows: &[ListenerRow<'_>],
+    mount: &ListedText<'_>,
+    rows: &[ListedListener<'_>],
 ) -> Result<Value, OutOfMemory>
     ensures { IfOk result (λ value. view value ≡ listeners_data mount.now rows.now) }
 {
@@ -50,8 +50,8 @@ fn listeners_value(
 
 fn listener_values(
     alloc: Global,
-    mount: &Text<'_>,
-    rows: &[ListenerRow<'_>],
+    mount: &ListedText<'_>,
+    rows: &[ListedListener<'_>],
 ) -> Result<Vec<Value>, OutOfMemory>
     ensures { IfOk result (λ values. map view values.items ≡ map (listener_data mount.now) rows.now) }
 {
@@ -64,8 +64,8 @@ fn listener_values(
 
 fn listener_value(
     alloc: Global,
-    mount: &Text<'_>,
-    row: &ListenerRow<'_>,
+    mount: &ListedText<'_>,
+    row: &ListedListener<'_>,
 ) -> Result<Value, OutOfMemory>
     ensures { IfOk result (λ value. view value ≡ listener_data mount.now row.now) }
 {
@@ -77,8 +77,8 @@ fn listener_value(
 /// The members of a listener.
 fn fill_listener(
     listener: &mut Object,
-    mount: &Text<'_>,
-    row: &ListenerRow<'_>,
+    mount: &ListedText<'_>,
+    row: &ListedListener<'_>,
 ) -> Result<(), OutOfMemory>
     requires { members_in listener.old ≡ no_members }
     ensures { OnOk result (object (members_in listener.new) ≡ listener_data mount.now row.now) }

@@ -7,7 +7,7 @@ ghost use Rattle.radio_listing.specs.Json.{text, count};
 ghost use Rattle.radio_listing.specs.Objects.{members_in};
 ghost use Rattle.radio_listing.specs.Public.{with_public};
 
-use crate::{OutOfMemory, PublicRow, Text};
+use crate::{ListedText, OutOfMemory, PublicRow};
 use serde_json::{Map, Value};
 use std::alloc::Global;
 
@@ -38,7 +38,7 @@ impl Object {
     }
 
     /// A text, with U+FFFD for what is not UTF-8.
-    pub(crate) fn put_text(&mut self, name: &str, shown: &Text<'_>) -> Result<(), OutOfMemory>
+    pub(crate) fn put_text(&mut self, name: &str, shown: &ListedText<'_>) -> Result<(), OutOfMemory>
         ensures { OnOk result (members_in self.new ≡ with_member name.now (text shown.now) (members_in self.old)) }
     {
         let shown = shown.shown(self.alloc)?;
@@ -49,7 +49,7 @@ impl Object {
     pub(crate) fn put_text_if_any(
         &mut self,
         name: &str,
-        shown: &Text<'_>,
+        shown: &ListedText<'_>,
     ) -> Result<(), OutOfMemory>
         ensures { OnOk result (members_in self.new ≡ with_text name.now shown.now (members_in self.old)) }
     {
@@ -63,13 +63,13 @@ impl Object {
     pub(crate) fn put_text_or_empty(
         &mut self,
         name: &str,
-        shown: &Option<Text<'_>>,
+        shown: &Option<ListedText<'_>>,
     ) -> Result<(), OutOfMemory>
         ensures { OnOk result (members_in self.new ≡ with_member name.now (text (unwrap_or shown.now [])) (members_in self.old)) }
     {
         match shown {
             Some(shown) => self.put_text(name, shown),
-            None => self.put_text(name, &Text::of(b"")),
+            None => self.put_text(name, &ListedText::of(b"")),
         }
     }
 

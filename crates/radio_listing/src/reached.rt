@@ -11,7 +11,7 @@ pub const MAX_HOST: usize = 255;
 
 /// What stands before a mount's name in its URL, as `http://radio.example:8000`.
 ///
-/// `host` is the `Host` that a client sent (RFC 9110, section 7.2), empty where he sent none. Of it the letters and digits of
+/// `host` is the `Host` that a client sent (RFC 9110, section 7.2), empty where it sent none. Of it the letters and digits of
 /// ASCII and `-`, `.`, `:`, `[`, `]` and `_` are kept, at most 255 bytes. Where nothing is left it is the address and the port
 /// where the server was told to listen, an address of IPv6 in brackets (RFC 3986, section 3.2.2).
 /// The only error is `OutOfMemory`.

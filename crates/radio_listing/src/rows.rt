@@ -1,21 +1,21 @@
 //! What listings are written from.
 
-use crate::Text;
+use crate::ListedText;
 use radio_addr::Peer;
 
 /// What everybody may see of a live mount.
 #[derive(Drop)]
 pub struct PublicRow<'a> {
     /// The name of the mount.
-    pub mount: Text<'a>,
+    pub mount: ListedText<'a>,
     /// The stream's name, empty where it has none.
-    pub name: Text<'a>,
+    pub name: ListedText<'a>,
     /// The stream's genre, empty where it has none.
-    pub genre: Text<'a>,
+    pub genre: ListedText<'a>,
     /// The stream's media type.
-    pub content_type: Text<'a>,
+    pub content_type: ListedText<'a>,
     /// The title that plays, empty where there is none.
-    pub title: Text<'a>,
+    pub title: ListedText<'a>,
     /// How many listen at the mount.
     pub listeners: u64,
     /// What else the stream says of itself.
@@ -26,13 +26,13 @@ pub struct PublicRow<'a> {
 #[derive(Drop)]
 pub struct AboutRow<'a> {
     /// The description.
-    pub description: Text<'a>,
+    pub description: ListedText<'a>,
     /// The URL of the station's web site.
-    pub url: Text<'a>,
+    pub url: ListedText<'a>,
     /// The bit rate in kbit/s.
-    pub bitrate: Text<'a>,
+    pub bitrate: ListedText<'a>,
     /// The parameters of the audio.
-    pub audio_info: Text<'a>,
+    pub audio_info: ListedText<'a>,
 }
 
 /// A live mount.
@@ -45,31 +45,31 @@ pub struct MountRow<'a> {
     /// The number of the session that feeds it.
     pub session: u64,
     /// The mount that its listeners fall back to; `None` where there is none.
-    pub fallback: Option<Text<'a>>,
+    pub fallback: Option<ListedText<'a>>,
 }
 
 /// A listener at a mount.
 #[derive(Drop)]
-pub struct ListenerRow<'a> {
-    /// The mount that he asked for.
-    pub home: Text<'a>,
-    /// His number.
+pub struct ListedListener<'a> {
+    /// The mount that it asked for.
+    pub home: ListedText<'a>,
+    /// Its number.
     pub id: u64,
-    /// The address that he listens from.
+    /// The address that it listens from.
     pub peer: Peer,
-    /// How many whole seconds he has sat.
+    /// How many whole seconds it has sat.
     pub seconds: u64,
-    /// The user of the pair that he sent; `None` where he sent none.
-    pub user: Option<Text<'a>>,
+    /// The user of the pair that it sent; `None` where it sent none.
+    pub user: Option<ListedText<'a>>,
 }
 
 /// The server, as it tells of itself.
 #[derive(Drop)]
-pub struct Server<'a> {
+pub struct ListedServer<'a> {
     /// The name of the program.
-    pub name: Text<'a>,
+    pub name: ListedText<'a>,
     /// What stands before a mount's name in its URL, as `http://radio.example:8000`.
-    pub base_url: Text<'a>,
+    pub base_url: ListedText<'a>,
     /// When it started (ISO 8601); empty if nobody is told.
-    pub start: Text<'a>,
+    pub start: ListedText<'a>,
 }

@@ -12,11 +12,11 @@ use std::marker::Model;
 ///
 /// In contracts a text is its bytes.
 #[derive(Drop)]
-pub struct Text<'a> {
+pub struct ListedText<'a> {
     bytes: &'a [u8],
 }
 
-impl<'a> Model for Text<'a> {
+impl<'a> Model for ListedText<'a> {
     ghost use Rattle.std.specs.Prelude.{ℕ, List};
 
     ghost Value = { List ℕ };
@@ -24,12 +24,12 @@ impl<'a> Model for Text<'a> {
     ghost view = { λ text. text.bytes.now };
 }
 
-impl<'a> Text<'a> {
+impl<'a> ListedText<'a> {
     /// The text of these bytes.
-    pub fn of(bytes: &'a [u8]) -> Text<'a>
+    pub fn of(bytes: &'a [u8]) -> ListedText<'a>
         ensures { result ≡ bytes.now }
     {
-        Text { bytes }
+        ListedText { bytes }
     }
 
     /// Its bytes.

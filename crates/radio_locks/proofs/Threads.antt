@@ -24,7 +24,7 @@ use Rattle.boxcar.proofs.tag.Tag.TheSendSync as tag
 use Rattle.radio_book.proofs.Threads.{book_send, mount_book_send}
 use Rattle.radio_book.specs.contracts.mount_book.MountBook as mount_book
 use Rattle.radio_chronicle.specs.declared.chronicle.Chronicle as chronicle
-use Rattle.radio_chronicle.specs.declared.house.House as house
+use Rattle.radio_chronicle.specs.declared.house.Origin as house
 use Rattle.radio_locks.proofs.mount_lists.MountLists.TheSendSync as mount_lists
 use Rattle.radio_locks.specs.contracts.hall.Hall as hall
 use Rattle.radio_locks.specs.contracts.locked_control.LockedControl as locked_control

@@ -1,12 +1,12 @@
 //! A hall, as its callers ask it.
 
 use crate::{Hall, OutOfMemory};
-use radio_book::{Chronicle, House, Pass};
+use radio_book::{Chronicle, Origin, Pass};
 use radio_events::{Event, Reply, SharedServer};
 use radio_values::MountName;
 use std::sync::Wait;
 
-impl<C: Chronicle, H: House> SharedServer for Hall<C, H> {
+impl<C: Chronicle, H: Origin> SharedServer for Hall<C, H> {
     type Pass = Pass<C, H>;
 
     ghost use Rattle.radio_locks.specs.Callers.{IsCalled, MayBeRefused};

@@ -19,7 +19,7 @@ use crate::locked_control::LockedControl;
 use crate::mount_lists::MountLists;
 use crate::mount_locks::MountLock;
 use radio_access::Lists;
-use radio_book::{Book, Chronicle, House, MountBook, Own, Pass, Receipt};
+use radio_book::{Book, Chronicle, MountBook, Origin, Own, Pass, Receipt};
 use radio_connections::Gate;
 use radio_events::{Asked, Command, Event, Reply};
 use radio_settings_values::Settings;
@@ -34,14 +34,14 @@ const TRIES: u32 = 64;
 /// The server that threads call: the book of the control and the book of each mount, each under a lock of its own. What
 /// a mount's part does by itself waits for nobody at another mount. The lock of list n is at place n - 1.
 #[derive(Drop)]
-pub struct Hall<C: Chronicle, H: House> {
+pub struct Hall<C: Chronicle, H: Origin> {
     pub(crate) alloc: Global,
     pub(crate) queue: u64,
     control: Mutex<LockedControl<C, H>>,
     pub(crate) mounts: boxcar::Vec<MountLock<C>>,
 }
 
-impl<C: Chronicle, H: House> Hall<C, H> {
+impl<C: Chronicle, H: Origin> Hall<C, H> {
     /// Returns a server of these settings and lists, in which nothing has happened yet. `OutOfMemory` if memory was refused.
     // rule: Legal history
     pub fn new(
@@ -349,7 +349,7 @@ fn take_each<C: Chronicle>(
 }
 
 /// An event of the control over what is lent, unless memory was refused for a mount's book.
-fn apply_lent<C: Chronicle, H: House>(
+fn apply_lent<C: Chronicle, H: Origin>(
     control: &mut Book<C, H>,
     lent: &mut Vec<MountBook<C>>,
     added: Result<(), OutOfMemory>,
@@ -384,7 +384,7 @@ fn is_fallback_set(applied: &Result<Receipt, OutOfMemory>) -> bool {
 }
 
 /// Forgets where the client or relay was whose connection the event closes, if it is such a one.
-fn forget_leaver<C: Chronicle, H: House>(pass: &mut Pass<C, H>, event: &Event)
+fn forget_leaver<C: Chronicle, H: Origin>(pass: &mut Pass<C, H>, event: &Event)
     ensures { pass.new ≡ pass.old }
 {
     if let Some(id) = leaver(event) {

@@ -7,13 +7,13 @@ ghost use Rattle.radio_locks.specs.Concerned.{IsOneAtMost};
 
 use crate::concerned::Concerned;
 use crate::mount_lists::MountLists;
-use radio_book::{Book, Chronicle, House, MountBook, Pass};
+use radio_book::{Book, Chronicle, MountBook, Origin, Pass};
 use radio_events::Event;
 
 /// The control's book, the books that are lent, of which there is none whenever the lock is free, and the list of each mount that
 /// has a book.
 #[derive(Drop)]
-pub(crate) struct LockedControl<C: Chronicle, H: House> {
+pub(crate) struct LockedControl<C: Chronicle, H: Origin> {
     pub(crate) control: Book<C, H>,
     pub(crate) lent: Vec<MountBook<C>>,
     pub(crate) lists: MountLists,
@@ -22,7 +22,7 @@ pub(crate) struct LockedControl<C: Chronicle, H: House> {
     pub(crate) ghost none: { vec_len lent ≡ 0 },
 }
 
-impl<C: Chronicle, H: House> LockedControl<C, H> {
+impl<C: Chronicle, H: Origin> LockedControl<C, H> {
     /// Returns the list of the mount that the client or relay feeds, or where it sits, or sat last, if there is one.
     pub(crate) fn list_of(&self, id: u64) -> Option<u64> {
         let mount = self.control.place_of(id)?;

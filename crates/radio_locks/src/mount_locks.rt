@@ -7,7 +7,7 @@ use crate::concerned::Concerned;
 use crate::list_numbers::ListNumbers;
 use crate::mount_lists::MountLists;
 use crate::{Hall, OutOfMemory};
-use radio_book::{Chronicle, House, MountBook};
+use radio_book::{Chronicle, MountBook, Origin};
 use radio_values::MountName;
 use std::alloc::AllocError;
 use std::sync::{Mutex, Wait};
@@ -15,7 +15,7 @@ use std::sync::{Mutex, Wait};
 /// A mount's lock, which holds its book, or nothing while that is lent.
 pub(crate) type MountLock<C> = Mutex<Option<MountBook<C>>>;
 
-impl<C: Chronicle, H: House> Hall<C, H> {
+impl<C: Chronicle, H: Origin> Hall<C, H> {
     /// Returns the lock of the mount of this list.
     pub(crate) fn lock_of(&self, list: u64) -> Option<&MountLock<C>> {
         let place = list.checked_sub(1)?;

@@ -3,7 +3,7 @@
 use crate::concerned::Concerned;
 use crate::list_numbers::ListNumbers;
 use crate::locked_control::LockedControl;
-use radio_book::{Chronicle, House};
+use radio_book::{Chronicle, Origin};
 use radio_events::{Asked, Command, ListenRequest, Listing};
 use radio_settings_values::{ListenerOptions, WebPath};
 use radio_values::MountName;
@@ -53,7 +53,7 @@ impl Reach {
     }
 }
 
-impl<C: Chronicle, H: House> LockedControl<C, H> {
+impl<C: Chronicle, H: Origin> LockedControl<C, H> {
     /// Returns what a source or a relay reaches that is to feed this mount, and where its client sat last, if it is one. All, if it
     /// calls its listeners home, since these may sit at any mount.
     pub(crate) fn reached_by_start(&self, path: &[u8], id: Option<u64>) -> Concerned {

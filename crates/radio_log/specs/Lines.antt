@@ -4,7 +4,7 @@ use Rattle.std.specs.List.{flat_map}
 use Rattle.radio_addr.specs.Writing.{written}
 use Rattle.radio_log.specs.declared.facts.ClientEnded.{ClientEnded as Client}
 use Rattle.radio_log.specs.declared.facts.Fact.{Fact}
-use Rattle.radio_log.specs.declared.facts.Fault.{Fault as FaultTold}
+use Rattle.radio_log.specs.declared.facts.FaultNote.{FaultNote as FaultTold}
 use Rattle.radio_log.specs.declared.facts.FaultyKey.{FaultyKey}
 use Rattle.radio_log.specs.declared.facts.KeyPlace.{KeyPlace}
 use Rattle.radio_log.specs.declared.facts.Fact.TheVariants.{Started, Ended, ClientEnded, SourceUp, SourceGone, RelayUp, RelayGone, RelayFailed, MountUp, MountGone, Title, Command, Warning, Fault, Lost}

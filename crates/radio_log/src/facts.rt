@@ -1,7 +1,7 @@
 //! What a line can tell. No fact has a field for a password.
 ghost use Rattle.std.specs.Prelude.{◌≡◌, []};
 
-use crate::Text;
+use crate::QuotedText;
 use radio_addr::Peer;
 
 /// What a line tells.
@@ -9,12 +9,12 @@ use radio_addr::Peer;
 pub enum Fact<'a> {
     /// The program has started, in this version, and listens at this address.
     Started {
-        version: Text<'a>,
-        address: Text<'a>,
+        version: QuotedText<'a>,
+        address: QuotedText<'a>,
     },
     /// The program has ended, for this reason.
     Ended {
-        why: Text<'a>,
+        why: QuotedText<'a>,
     },
     /// A client is gone.
     ClientEnded(ClientEnded<'a>),
@@ -30,21 +30,21 @@ pub enum Fact<'a> {
     RelayFailed(RelayFailed<'a>),
     /// A mount is live.
     MountUp {
-        mount: Text<'a>,
+        mount: QuotedText<'a>,
     },
     /// A mount is live no more, for this reason.
     MountGone {
-        mount: Text<'a>,
-        why: Text<'a>,
+        mount: QuotedText<'a>,
+        why: QuotedText<'a>,
     },
     /// A mount has a new title.
-    Title(Title<'a>),
+    Title(TitleNote<'a>),
     /// A command has changed something.
-    Command(Command<'a>),
+    Command(CommandNote<'a>),
     /// The settings bid something that an operator should know of.
     Warning(Warning<'a>),
     /// The program ends by a fault.
-    Fault(Fault<'a>),
+    Fault(FaultNote<'a>),
     /// So many lines before this one could not be written, and are lost.
     Lost {
         lines: u64,
@@ -54,50 +54,50 @@ pub enum Fact<'a> {
 /// A client who is gone.
 #[derive(Drop)]
 pub struct ClientEnded<'a> {
-    /// The address that he came from.
+    /// The address that it came from.
     pub peer: Peer,
-    /// The method of his request, empty where none came.
-    pub method: Text<'a>,
-    /// The path of his request, without its query.
-    pub path: Text<'a>,
-    /// The mount where he sat last, empty where he sat nowhere.
-    pub mount: Text<'a>,
-    /// The status that he was answered, 0 where he was answered nothing.
+    /// The method of its request, empty where none came.
+    pub method: QuotedText<'a>,
+    /// The path of its request, without its query.
+    pub path: QuotedText<'a>,
+    /// The mount where it sat last, empty where it sat nowhere.
+    pub mount: QuotedText<'a>,
+    /// The status that it was answered, 0 where it was answered nothing.
     pub status: u16,
-    /// The word of his end: the rule that denied or finished him, or `left`.
-    pub why: Text<'a>,
-    /// The user that he named, never his password; empty where he named none.
-    pub user: Text<'a>,
-    /// How many whole seconds he was there.
+    /// The word of its end: the rule that denied or finished it, or `left`.
+    pub why: QuotedText<'a>,
+    /// The user that it named, never its password; empty where it named none.
+    pub user: QuotedText<'a>,
+    /// How many whole seconds it was there.
     pub seconds: u64,
-    /// How many bytes he was handed.
+    /// How many bytes it was handed.
     pub bytes: u64,
-    /// His `User-Agent`, empty where he sent none.
-    pub agent: Text<'a>,
+    /// Its `User-Agent`, empty where it sent none.
+    pub agent: QuotedText<'a>,
 }
 
 /// A source that feeds a mount.
 #[derive(Drop)]
 pub struct SourceUp<'a> {
     /// The mount that it feeds.
-    pub mount: Text<'a>,
+    pub mount: QuotedText<'a>,
     /// The address that it came from.
     pub peer: Peer,
     /// The media type of its stream.
-    pub content_type: Text<'a>,
+    pub content_type: QuotedText<'a>,
     /// Its `User-Agent`, empty where it sent none.
-    pub agent: Text<'a>,
+    pub agent: QuotedText<'a>,
 }
 
 /// A source that feeds its mount no more.
 #[derive(Drop)]
 pub struct SourceGone<'a> {
     /// The mount that it fed.
-    pub mount: Text<'a>,
+    pub mount: QuotedText<'a>,
     /// The address that it came from.
     pub peer: Peer,
     /// The word of its end.
-    pub why: Text<'a>,
+    pub why: QuotedText<'a>,
     /// How many whole seconds it was there.
     pub seconds: u64,
     /// How many bytes of its stream came.
@@ -108,22 +108,22 @@ pub struct SourceGone<'a> {
 #[derive(Drop)]
 pub struct RelayUp<'a> {
     /// The mount that it feeds.
-    pub mount: Text<'a>,
+    pub mount: QuotedText<'a>,
     /// The server that it draws from, with its port.
-    pub master: Text<'a>,
+    pub master: QuotedText<'a>,
     /// The media type of its stream.
-    pub content_type: Text<'a>,
+    pub content_type: QuotedText<'a>,
 }
 
 /// A relay that feeds its mount no more.
 #[derive(Drop)]
 pub struct RelayGone<'a> {
     /// The mount that it fed.
-    pub mount: Text<'a>,
+    pub mount: QuotedText<'a>,
     /// The server that it drew from, with its port.
-    pub master: Text<'a>,
+    pub master: QuotedText<'a>,
     /// The word of its end.
-    pub why: Text<'a>,
+    pub why: QuotedText<'a>,
     /// How many whole seconds it was there.
     pub seconds: u64,
     /// How many bytes of its stream came.
@@ -134,48 +134,48 @@ pub struct RelayGone<'a> {
 #[derive(Drop)]
 pub struct RelayFailed<'a> {
     /// The mount that it was to feed.
-    pub mount: Text<'a>,
+    pub mount: QuotedText<'a>,
     /// The server that it was to draw from, with its port.
-    pub master: Text<'a>,
+    pub master: QuotedText<'a>,
     /// What failed.
-    pub why: Text<'a>,
+    pub why: QuotedText<'a>,
     /// How often it has failed so since the line before; 1 in a first line.
     pub times: u64,
 }
 
 /// A new title of a mount.
 #[derive(Drop)]
-pub struct Title<'a> {
+pub struct TitleNote<'a> {
     /// The mount.
-    pub mount: Text<'a>,
+    pub mount: QuotedText<'a>,
     /// What plays there now, empty where nothing is told of it.
-    pub title: Text<'a>,
+    pub title: QuotedText<'a>,
 }
 
 /// A command that has changed something.
 #[derive(Drop)]
-pub struct Command<'a> {
+pub struct CommandNote<'a> {
     /// The name of the command.
-    pub name: Text<'a>,
+    pub name: QuotedText<'a>,
     /// The mount that it was said of, empty where it was said of none.
-    pub mount: Text<'a>,
+    pub mount: QuotedText<'a>,
     /// What else it was told: a client's number, a mount to move to, a user; empty where it was told nothing.
-    pub argument: Text<'a>,
-    /// The user who gave it, never his password.
-    pub user: Text<'a>,
-    /// The address that he came from.
+    pub argument: QuotedText<'a>,
+    /// The user who gave it, never its password.
+    pub user: QuotedText<'a>,
+    /// The address that it came from.
     pub peer: Peer,
 }
 
-/// What an operator should know of his settings.
+/// What an operator should know of its settings.
 #[derive(Drop)]
 pub struct Warning<'a> {
     /// What it is, in a word.
-    pub why: Text<'a>,
+    pub why: QuotedText<'a>,
     /// The key of the settings.
-    pub key: Text<'a>,
+    pub key: QuotedText<'a>,
     /// The mount in whose table the key stands, empty where it stands in none.
-    pub mount: Text<'a>,
+    pub mount: QuotedText<'a>,
     /// What the system allows, 0 where that is not in question.
     pub limit: u64,
     /// Where the key stands, if it is passed over.
@@ -186,13 +186,13 @@ pub struct Warning<'a> {
 #[derive(Drop)]
 pub struct KeyPlace<'a> {
     /// The table in which the key stands, or `top`.
-    pub table: Text<'a>,
+    pub table: QuotedText<'a>,
     /// The line of the file, counted from 1; 0 where none is known.
     pub line: u64,
     /// The key of that table which may have been meant, empty where there is none.
-    pub did_you_mean: Text<'a>,
+    pub did_you_mean: QuotedText<'a>,
     /// The table that has a key of that name, empty where none has.
-    pub belongs_to: Text<'a>,
+    pub belongs_to: QuotedText<'a>,
 }
 
 impl KeyPlace<'static> {
@@ -201,29 +201,29 @@ impl KeyPlace<'static> {
         ensures { result ≡ record { table = []; line = 0; did_you_mean = []; belongs_to = [] } }
     {
         KeyPlace {
-            table: Text::of(b""),
+            table: QuotedText::of(b""),
             line: 0,
-            did_you_mean: Text::of(b""),
-            belongs_to: Text::of(b""),
+            did_you_mean: QuotedText::of(b""),
+            belongs_to: QuotedText::of(b""),
         }
     }
 }
 
 /// A fault by which the program ends, and what is known of it beside its words.
 #[derive(Drop)]
-pub struct Fault<'a> {
+pub struct FaultNote<'a> {
     /// Its words.
-    pub why: Text<'a>,
+    pub why: QuotedText<'a>,
     /// The file that it is in, empty where it is in none.
-    pub file: Text<'a>,
+    pub file: QuotedText<'a>,
     /// The line of the file, counted from 1; 0 where none is known.
     pub line: u64,
     /// The character of that line, counted from 1; 0 where none is known.
     pub column: u64,
     /// The address that was to be bound, with its port; empty where none was.
-    pub address: Text<'a>,
+    pub address: QuotedText<'a>,
     /// The reason that the system or the reader gives, empty where none is known.
-    pub reason: Text<'a>,
+    pub reason: QuotedText<'a>,
     /// Which key of the settings it is of.
     pub at: FaultyKey<'a>,
 }
@@ -232,11 +232,11 @@ pub struct Fault<'a> {
 #[derive(Drop)]
 pub struct FaultyKey<'a> {
     /// The table, or `top`.
-    pub table: Text<'a>,
+    pub table: QuotedText<'a>,
     /// The mount of the table, or the one that its relay feeds; empty where there is none.
-    pub mount: Text<'a>,
+    pub mount: QuotedText<'a>,
     /// What is there, nothing of a password.
-    pub value: Text<'a>,
+    pub value: QuotedText<'a>,
     /// What may be there.
-    pub allowed: Text<'a>,
+    pub allowed: QuotedText<'a>,
 }

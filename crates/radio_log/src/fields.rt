@@ -4,7 +4,7 @@ ghost use Rattle.radio_addr.specs.Writing.{written};
 ghost use Rattle.radio_log.specs.Lines.{spaced, word};
 
 use crate::shown::{push_count, push_shown};
-use crate::{OutOfMemory, Text};
+use crate::{OutOfMemory, QuotedText};
 use radio_addr::Peer;
 use std::alloc::Global;
 use std::fmt::Write;
@@ -75,7 +75,7 @@ impl Fields {
     }
 
     /// Adds a text.
-    pub(crate) fn put_text(&mut self, name: &str, text: &Text<'_>) -> Result<(), OutOfMemory>
+    pub(crate) fn put_text(&mut self, name: &str, text: &QuotedText<'_>) -> Result<(), OutOfMemory>
         ensures { OnOk result (self.new ≡ self.old ++ spaced (word (name.now, text.now))) }
     {
         self.put(name, text.as_bytes())

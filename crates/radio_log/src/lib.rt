@@ -1,7 +1,7 @@
 //! The log: one line for each thing that an operator should know of.
 //!
 //! - [`line`] writes a [`Note`]: a [`Moment`] in UTC and a [`Fact`].
-//! - `facts` has what each kind of fact holds; a [`Text`] is what others have said of themselves.
+//! - `facts` has what each kind of fact holds; a [`QuotedText`] is what others have said of themselves.
 //! - [`MOST_WAITING`]: how many bytes of lines wait at most, for those who keep lines.
 //! - [`laws`] says what holds of all lines: that they are lines, and how they are read back.
 //!
@@ -19,12 +19,12 @@ mod telling;
 mod text;
 
 pub use facts::{
-    ClientEnded, Command, Fact, Fault, FaultyKey, KeyPlace, RelayFailed, RelayGone, RelayUp,
-    SourceGone, SourceUp, Title, Warning,
+    ClientEnded, CommandNote, Fact, FaultNote, FaultyKey, KeyPlace, RelayFailed, RelayGone,
+    RelayUp, SourceGone, SourceUp, TitleNote, Warning,
 };
 pub use moment::{LAST_SECOND, Moment};
 pub use notes::{MOST_WAITING, Note, line};
-pub use text::Text;
+pub use text::QuotedText;
 
 /// The error of each call that takes memory: there was none.
 pub type OutOfMemory = std::alloc::AllocError;

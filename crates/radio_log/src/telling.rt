@@ -4,11 +4,11 @@ ghost use Rattle.radio_log.specs.Lines.{fault_fields, faulty_fields, fields_text
 ghost use Rattle.radio_log.specs.declared.facts.Fact.TheVariants as facts;
 
 use crate::facts::{
-    ClientEnded, Command, Fact, Fault, FaultyKey, KeyPlace, RelayFailed, RelayGone, RelayUp,
-    SourceGone, SourceUp, Title, Warning,
+    ClientEnded, CommandNote, Fact, FaultNote, FaultyKey, KeyPlace, RelayFailed, RelayGone,
+    RelayUp, SourceGone, SourceUp, TitleNote, Warning,
 };
 use crate::fields::Fields;
-use crate::{OutOfMemory, Text};
+use crate::{OutOfMemory, QuotedText};
 
 impl Fact<'_> {
     /// Adds the fact's word and its fields.
@@ -35,7 +35,11 @@ impl Fact<'_> {
     }
 }
 
-fn tell_start(to: &mut Fields, version: &Text<'_>, address: &Text<'_>) -> Result<(), OutOfMemory>
+fn tell_start(
+    to: &mut Fields,
+    version: &QuotedText<'_>,
+    address: &QuotedText<'_>,
+) -> Result<(), OutOfMemory>
     ensures { OnOk result (to.new ≡ to.old ++ told (facts.Started version.now address.now)) }
 {
     to.put_kind("started")?;
@@ -43,21 +47,25 @@ fn tell_start(to: &mut Fields, version: &Text<'_>, address: &Text<'_>) -> Result
     to.put_text("address", address)
 }
 
-fn tell_end(to: &mut Fields, why: &Text<'_>) -> Result<(), OutOfMemory>
+fn tell_end(to: &mut Fields, why: &QuotedText<'_>) -> Result<(), OutOfMemory>
     ensures { OnOk result (to.new ≡ to.old ++ told (facts.Ended why.now)) }
 {
     to.put_kind("ended")?;
     to.put_text("why", why)
 }
 
-fn tell_mount_up(to: &mut Fields, mount: &Text<'_>) -> Result<(), OutOfMemory>
+fn tell_mount_up(to: &mut Fields, mount: &QuotedText<'_>) -> Result<(), OutOfMemory>
     ensures { OnOk result (to.new ≡ to.old ++ told (facts.MountUp mount.now)) }
 {
     to.put_kind("mount-up")?;
     to.put_text("mount", mount)
 }
 
-fn tell_mount_gone(to: &mut Fields, mount: &Text<'_>, why: &Text<'_>) -> Result<(), OutOfMemory>
+fn tell_mount_gone(
+    to: &mut Fields,
+    mount: &QuotedText<'_>,
+    why: &QuotedText<'_>,
+) -> Result<(), OutOfMemory>
     ensures { OnOk result (to.new ≡ to.old ++ told (facts.MountGone mount.now why.now)) }
 {
     to.put_kind("mount-gone")?;
@@ -81,7 +89,7 @@ impl ClientEnded<'_> {
         self.tell_outcome(to)
     }
 
-    /// What he asked for.
+    /// What it asked for.
     fn tell_request(&self, to: &mut Fields) -> Result<(), OutOfMemory>
         ensures { OnOk result (to.new ≡ to.old ++ fields_text (request_fields self.now)) }
     {
@@ -165,7 +173,7 @@ impl RelayFailed<'_> {
     }
 }
 
-impl Title<'_> {
+impl TitleNote<'_> {
     fn tell(&self, to: &mut Fields) -> Result<(), OutOfMemory>
         ensures { OnOk result (to.new ≡ to.old ++ told (facts.Title self.now)) }
     {
@@ -175,7 +183,7 @@ impl Title<'_> {
     }
 }
 
-impl Command<'_> {
+impl CommandNote<'_> {
     fn tell(&self, to: &mut Fields) -> Result<(), OutOfMemory>
         ensures { OnOk result (to.new ≡ to.old ++ told (facts.Command self.now)) }
     {
@@ -212,7 +220,7 @@ impl KeyPlace<'_> {
     }
 }
 
-impl Fault<'_> {
+impl FaultNote<'_> {
     fn tell(&self, to: &mut Fields) -> Result<(), OutOfMemory>
         ensures { OnOk result (to.new ≡ to.old ++ told (facts.Fault self.now)) }
     {

@@ -7,11 +7,11 @@ use std::marker::Model;
 ///
 /// In contracts a text is its bytes.
 #[derive(Drop)]
-pub struct Text<'a> {
+pub struct QuotedText<'a> {
     bytes: &'a [u8],
 }
 
-impl<'a> Model for Text<'a> {
+impl<'a> Model for QuotedText<'a> {
     ghost use Rattle.std.specs.Prelude.{ℕ, List};
 
     ghost Value = { List ℕ };
@@ -19,12 +19,12 @@ impl<'a> Model for Text<'a> {
     ghost view = { λ text. text.bytes.now };
 }
 
-impl<'a> Text<'a> {
+impl<'a> QuotedText<'a> {
     /// The text of these bytes.
-    pub fn of(bytes: &'a [u8]) -> Text<'a>
+    pub fn of(bytes: &'a [u8]) -> QuotedText<'a>
         ensures { result ≡ bytes.now }
     {
-        Text { bytes }
+        QuotedText { bytes }
     }
 
     /// Its bytes.

@@ -25,7 +25,7 @@ kept_on OutOfMemory front bytes front' e = tt
 
 -- a turn in which bytes came, told of how the pull stands within
 pub turn_heard : {S : Type 0} (steps : Steps S) (pull before after : PullOver) (bytes : List ℕ) (from to : S) (turn : PullTurn) → before ≡ pull
-    → IsWritten before.owed before.taken after.owed after.taken → after.given ≡ before.given ++ bytes
+    → IsWritten before.outgoing before.taken after.outgoing after.taken → after.given ≡ before.given ++ bytes
     → Comes steps before.relay bytes from turn after.relay to → IsCalled turn before.calls after.calls
     → KeepsFront turn before.front bytes after.front → IsTurn steps pull from turn after to
 turn_heard steps pull before after bytes from to turn e written given comes called front =

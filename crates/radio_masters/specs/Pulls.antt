@@ -17,9 +17,9 @@ use Rattle.radio_masters.specs.declared.mount_pull.PullTurn.{PullTurn}
 use Rattle.radio_masters.specs.declared.mount_pull.PullTurn.TheVariants.{Running as GoesOn, Shut as IsShut, Closed, Failed, OutOfMemory}
 
 -- what was owed to a line and what it took became these: it took the front of what was owed
-pub record IsWritten (owed taken owed' taken' : List ℕ) : Type 0 where
+pub record IsWritten (outgoing taken outgoing' taken' : List ℕ) : Type 0 where
   pub part : List ℕ
-  pub front : owed ≡ part ++ owed'
+  pub front : outgoing ≡ part ++ outgoing'
   pub took : taken' ≡ taken ++ part
 
 -- a line that was written to has failed by that, or has not
@@ -44,7 +44,7 @@ status_in (Err fault) = None
 -- a pull over a line: what is still owed of the request, all that the line gave and took, how often it was called, and the front of the answer
 pub record PullOver : Type 0 where
   pub relay : Pulling
-  pub owed : List ℕ
+  pub outgoing : List ℕ
   pub given : List ℕ
   pub taken : List ℕ
   pub calls : Calls
@@ -103,7 +103,7 @@ module _ {S : Type 0} (steps : Steps S) where
   -- rule: Turn of a pull
   pub record IsTurn (pull : PullOver) (from : S) (turn : PullTurn) (pull' : PullOver) (to : S) : Type 0 where
     pub bytes : List ℕ
-    pub written : IsWritten pull.owed pull.taken pull'.owed pull'.taken
+    pub written : IsWritten pull.outgoing pull.taken pull'.outgoing pull'.taken
     pub given : pull'.given ≡ pull.given ++ bytes
     pub comes : Comes pull.relay bytes from turn pull'.relay to
     pub called : IsCalled turn pull.calls pull'.calls

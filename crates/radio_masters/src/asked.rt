@@ -15,12 +15,12 @@ use std::marker::Model;
 
 /// A server, as a relay asks it; what is done is told in the log. In contracts it is that server, and what is noted of the relay.
 #[derive(Drop)]
-pub struct Asked<S: Server + Drop> {
+pub struct RelayServer<S: Server + Drop> {
     server: S,
     log: RelayLog,
 }
 
-impl<S: Server + Drop> Model for Asked<S> {
+impl<S: Server + Drop> Model for RelayServer<S> {
     ghost use Rattle.radio_masters.specs.Askers.{AskedOf};
 
     ghost Value = { AskedOf S };
@@ -28,13 +28,17 @@ impl<S: Server + Drop> Model for Asked<S> {
     ghost view = { λ a. record { server = a.server; course = a.log.course } };
 }
 
-impl<S: Server + Drop> Asked<S> {
+impl<S: Server + Drop> RelayServer<S> {
     /// Returns this server, as this relay asks it. `OutOfMemory` if memory is refused; the server is gone then.
-    pub fn new(alloc: Global, server: S, relay: &RelaySetting) -> Result<Asked<S>, OutOfMemory>
+    pub fn new(
+        alloc: Global,
+        server: S,
+        relay: &RelaySetting,
+    ) -> Result<RelayServer<S>, OutOfMemory>
         ensures { IfOk result (λ asked. asked ≡ asked_of server) }
     {
         let log = RelayLog::new(alloc, relay)?;
-        Ok(Asked { server, log })
+        Ok(RelayServer { server, log })
     }
 
     /// Returns the server.
@@ -85,7 +89,7 @@ impl<S: Server + Drop> Asked<S> {
     }
 }
 
-impl<S: Server + Drop> Server for Asked<S> {
+impl<S: Server + Drop> Server for RelayServer<S> {
     ghost use Rattle.std.specs.Prelude.{◌≡◌, IfOk, OnErr};
     ghost use Rattle.radio_masters.specs.Askers.{AskedSteps};
 

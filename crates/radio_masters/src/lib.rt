@@ -6,7 +6,7 @@
 //! - [`read_list_answer`]: the list in a master's answer.
 //! - [`keep_first`]: how much of a list is relayed; [`ListLog`] tells where that is not all of it.
 //! - [`in_turn`]: which relays may be tried now, of those that wait for a place.
-//! - [`Asked`]: a server, as a relay asks it, and what the log tells of that ([`RelayLog`], [`RelayEnd`]); [`note_failure`] says
+//! - [`RelayServer`]: a server, as a relay asks it, and what the log tells of that ([`RelayLog`], [`RelayEnd`]); [`note_failure`] says
 //!   when it tells a failure.
 //!
 //! It opens no connection, knows no clock, and waits for nothing.
@@ -25,16 +25,16 @@ mod relay_end;
 mod relay_log;
 mod turns;
 
-pub use asked::Asked;
+pub use asked::RelayServer;
 pub use failing::{Failing, TOLD_AGAIN_MS, note_failure};
-pub use list_answer::{ListFault, MAX_LIST, read_list_answer};
+pub use list_answer::{MAX_LIST, MasterListFault, read_list_answer};
 pub use list_log::ListLog;
 pub use list_pull::ListPull;
 pub use listed::{MOST_LISTED, keep_first};
 pub use mount_pull::{MountPull, PullTurn};
 pub use relay_end::RelayEnd;
 pub use relay_log::{PullEnd, RelayLog};
-pub use turns::{Waiting, in_turn};
+pub use turns::{WaitingRelay, in_turn};
 
 /// What a call answers where memory was refused.
 pub type OutOfMemory = std::alloc::AllocError;

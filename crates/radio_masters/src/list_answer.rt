@@ -3,7 +3,7 @@
 ghost use Rattle.std.specs.Prelude.{◌≡◌, ◌≢◌, List, ℕ, Some, None, Ok, Err, IfOk, IfErr};
 ghost use Rattle.radio_texts.specs.Numbers.{number_of};
 ghost use Rattle.radio_relay.specs.StreamList.{names_listed};
-ghost use Rattle.radio_masters.specs.declared.list_answer.ListFault.TheVariants.{OutOfMemory as NoMemory};
+ghost use Rattle.radio_masters.specs.declared.list_answer.MasterListFault.TheVariants.{OutOfMemory as NoMemory};
 ghost use Rattle.radio_masters.specs.ListAnswers.{IsListBody, body_by, body_in, body_of_length, max_list};
 
 use crate::OutOfMemory;
@@ -20,7 +20,7 @@ pub const MAX_LIST: u64 = 1_048_576;
 
 /// Why an answer has no list.
 #[derive(Clone, Copy, Debug, PartialEq, Eq, Error)]
-pub enum ListFault {
+pub enum MasterListFault {
     /// The master answers with this status (RFC 9110, section 15), which is not 200.
     #[error("status {0}")]
     Status(u16),
@@ -38,15 +38,15 @@ pub enum ListFault {
     OutOfMemory,
 }
 
-impl From<OutOfMemory> for ListFault {
-    ghost use Rattle.radio_masters.specs.declared.list_answer.ListFault.TheVariants.{OutOfMemory as NoMemory};
+impl From<OutOfMemory> for MasterListFault {
+    ghost use Rattle.radio_masters.specs.declared.list_answer.MasterListFault.TheVariants.{OutOfMemory as NoMemory};
 
     ghost from_gives = { λ _ fault. fault ≡ NoMemory };
 
-    fn from(_error: OutOfMemory) -> ListFault
+    fn from(_error: OutOfMemory) -> MasterListFault
         ensures { result ≡ NoMemory }
     {
-        ListFault::OutOfMemory
+        MasterListFault::OutOfMemory
     }
 }
 
@@ -61,42 +61,46 @@ pub fn read_list_answer(
     alloc: Global,
     bytes: &[u8],
     has_closed: bool,
-) -> Result<BTreeSet<MountName>, ListFault>
+) -> Result<BTreeSet<MountName>, MasterListFault>
     ensures list { IfOk result (λ names. (body : List ℕ) × IsListBody bytes.now has_closed (Ok body) × (names.keys ≡ names_listed body)) }
     ensures fault { IfErr result (λ fault. fault ≢ NoMemory → IsListBody bytes.now has_closed (Err fault)) }
 {
     match body_of(bytes, has_closed) {
         Ok(body) => match read_stream_list(alloc, body) {
             Ok(names) => Ok(names),
-            Err(_) => Err(ListFault::OutOfMemory),
+            Err(_) => Err(MasterListFault::OutOfMemory),
         },
         Err(fault) => Err(fault),
     }
 }
 
 /// The body of the answer of which these bytes have come.
-fn body_of(bytes: &[u8], has_closed: bool) -> Result<&[u8], ListFault>
+fn body_of(bytes: &[u8], has_closed: bool) -> Result<&[u8], MasterListFault>
     ensures body { IfOk result (λ body. IsListBody bytes.now has_closed (Ok body.now)) }
     ensures fault { IfErr result (λ fault. IsListBody bytes.now has_closed (Err fault)) }
 {
     match read_response(bytes) {
-        Ok(Progress::More) => Err(ListFault::Cut),
+        Ok(Progress::More) => Err(MasterListFault::Cut),
         Ok(Progress::Whole(head, length)) => body_in(&head, &bytes[length..], has_closed),
-        Err(_) => Err(ListFault::BadHead),
+        Err(_) => Err(MasterListFault::BadHead),
     }
 }
 
 /// The body behind a whole head.
-fn body_in<'b>(head: &ResponseHead, rest: &'b [u8], has_closed: bool) -> Result<&'b [u8], ListFault>
+fn body_in<'b>(
+    head: &ResponseHead,
+    rest: &'b [u8],
+    has_closed: bool,
+) -> Result<&'b [u8], MasterListFault>
     ensures body { IfOk result (λ body. body_in has_closed head.now rest.now ≡ Ok body.now) }
     ensures fault { IfErr result (λ fault. body_in has_closed head.now rest.now ≡ Err fault) }
 {
     let status = head.status();
     if status != 200 {
-        return Err(ListFault::Status(status));
+        return Err(MasterListFault::Status(status));
     }
     if head.value("Transfer-Encoding").is_some() {
-        return Err(ListFault::BadHead);
+        return Err(MasterListFault::BadHead);
     }
     match head.value("Content-Length") {
         Some(text) => body_of_length(text, rest),
@@ -105,37 +109,37 @@ fn body_in<'b>(head: &ResponseHead, rest: &'b [u8], has_closed: bool) -> Result<
 }
 
 /// The body whose length this text tells.
-fn body_of_length<'b>(text: &[u8], rest: &'b [u8]) -> Result<&'b [u8], ListFault>
+fn body_of_length<'b>(text: &[u8], rest: &'b [u8]) -> Result<&'b [u8], MasterListFault>
     ensures body { IfOk result (λ body. body_of_length (number_of 10 max_list text.now) rest.now ≡ Ok body.now) }
     ensures fault { IfErr result (λ fault. body_of_length (number_of 10 max_list text.now) rest.now ≡ Err fault) }
 {
     match read_number(text, 10, MAX_LIST) {
         Some(length) => front(rest, length as usize),
-        None => Err(ListFault::TooLong),
+        None => Err(MasterListFault::TooLong),
     }
 }
 
 /// So many bytes, if they have come.
-fn front(rest: &[u8], length: usize) -> Result<&[u8], ListFault>
+fn front(rest: &[u8], length: usize) -> Result<&[u8], MasterListFault>
     ensures body { IfOk result (λ body. body_of_length (Some length) rest.now ≡ Ok body.now) }
     ensures fault { IfErr result (λ fault. body_of_length (Some length) rest.now ≡ Err fault) }
 {
     if rest.len() < length {
-        return Err(ListFault::Cut);
+        return Err(MasterListFault::Cut);
     }
     Ok(&rest[..length])
 }
 
 /// The body that ends where the master has closed.
-fn body_to_the_end(rest: &[u8], has_closed: bool) -> Result<&[u8], ListFault>
+fn body_to_the_end(rest: &[u8], has_closed: bool) -> Result<&[u8], MasterListFault>
     ensures body { IfOk result (λ body. body_by has_closed None rest.now ≡ Ok body.now) }
     ensures fault { IfErr result (λ fault. body_by has_closed None rest.now ≡ Err fault) }
 {
     if rest.len() as u64 > MAX_LIST {
-        return Err(ListFault::TooLong);
+        return Err(MasterListFault::TooLong);
     }
     if !has_closed {
-        return Err(ListFault::Cut);
+        return Err(MasterListFault::Cut);
     }
     Ok(rest)
 }

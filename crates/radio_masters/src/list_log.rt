@@ -4,7 +4,7 @@ ghost use Rattle.std.specs.Prelude.{◌≡◌, false};
 ghost use Rattle.radio_masters.specs.RelayFacts.{is_told, long_list};
 
 use crate::MOST_LISTED;
-use radio_log::{Fact, KeyPlace, Text, Warning};
+use radio_log::{Fact, KeyPlace, QuotedText, Warning};
 use radio_notes::Log;
 use std::alloc::Global;
 use std::marker::Model;
@@ -63,9 +63,9 @@ fn long_list() -> Fact<'static>
     ensures { result ≡ long_list }
 {
     Fact::Warning(Warning {
-        why: Text::of(b"long-list"),
-        key: Text::of(b"master-server"),
-        mount: Text::of(b""),
+        why: QuotedText::of(b"long-list"),
+        key: QuotedText::of(b"master-server"),
+        mount: QuotedText::of(b""),
         limit: MOST_LISTED as u64,
         place: KeyPlace::none(),
     })

@@ -3,13 +3,13 @@
 ghost use Rattle.std.specs.Prelude.{◌≡◌, ◌≢◌, ◌⊎◌, ◌+◌, ◌<◌, ◌++◌, [], List, ℕ, length, true, Ok, IfOk, IfErr, IfSome, OnOk};
 ghost use Rattle.radio_relay.specs.Request.{list_request};
 ghost use Rattle.radio_relay.specs.StreamList.{names_listed};
-ghost use Rattle.radio_masters.specs.declared.list_answer.ListFault.TheVariants.{OutOfMemory as NoMemory, TooLong};
+ghost use Rattle.radio_masters.specs.declared.list_answer.MasterListFault.TheVariants.{OutOfMemory as NoMemory, TooLong};
 ghost use Rattle.radio_masters.specs.ListAnswers.{IsListBody, WhyNoList, most_held};
 ghost use Rattle.radio_masters.specs.Pulls.{IsWritten};
 
 use crate::OutOfMemory;
 use crate::asking::Asking;
-use crate::list_answer::{ListFault, MAX_LIST, read_list_answer};
+use crate::list_answer::{MAX_LIST, MasterListFault, read_list_answer};
 use radio_connections::{Line, Received};
 use radio_relay::list_request;
 use radio_settings_values::SlaveSetting;
@@ -38,14 +38,14 @@ impl<L: Line> Model for ListPull<L> {
 
     ghost Value = { ListOver };
 
-    ghost view = { λ p. record { owed = p.asking; given = L.given p.line; taken = L.taken p.line; calls = L.calls p.line; came = p.held.items } };
+    ghost view = { λ p. record { outgoing = p.asking; given = L.given p.line; taken = L.taken p.line; calls = L.calls p.line; came = p.held.items } };
 }
 
 impl<L: Line> ListPull<L> {
     /// Asks the master of this slave over this line. Nothing was written. `OutOfMemory` where memory was refused; the line
     /// is closed then.
     pub fn new(alloc: Global, slave: &SlaveSetting, line: L) -> Result<ListPull<L>, OutOfMemory>
-        ensures { IfOk result (λ pull. pull ≡ record { owed = list_request slave.now; given = L.given line; taken = L.taken line; calls = L.calls line; came = [] }) }
+        ensures { IfOk result (λ pull. pull ≡ record { outgoing = list_request slave.now; given = L.given line; taken = L.taken line; calls = L.calls line; came = [] }) }
     {
         let text = list_request(alloc, slave)?;
         Ok(ListPull {
@@ -60,14 +60,17 @@ impl<L: Line> ListPull<L> {
     /// `None` until then. The faults are those of [`read_list_answer`], and `Cut` where the line has failed, `TooLong` where
     /// more has come than a list and its head.
     // rule: List of a slave
-    pub fn turn(&mut self, buffer: &mut [u8]) -> Result<Option<BTreeSet<MountName>>, ListFault>
-        ensures written { IsWritten self.old.owed self.old.taken self.new.owed self.new.taken }
+    pub fn turn(
+        &mut self,
+        buffer: &mut [u8],
+    ) -> Result<Option<BTreeSet<MountName>>, MasterListFault>
+        ensures written { IsWritten self.old.outgoing self.old.taken self.new.outgoing self.new.taken }
         ensures came { OnOk result ((bytes : List ℕ) × (self.new.given ≡ self.old.given ++ bytes) × (self.new.came ≡ self.old.came ++ bytes)) }
         ensures list { IfOk result (λ list. IfSome list (λ names. (body : List ℕ) × IsListBody self.new.came true (Ok body) × (names.keys ≡ names_listed body))) }
         ensures fault { IfErr result (λ fault. fault ≢ NoMemory → WhyNoList fault self.old self.new) }
     {
         if !self.asking.write(&mut self.line) {
-            return Err(ListFault::Cut);
+            return Err(MasterListFault::Cut);
         }
         match self.line.read(buffer) {
             Received::Bytes(count) => match hold(&mut self.held, &buffer[..count]) {
@@ -79,21 +82,21 @@ impl<L: Line> ListPull<L> {
                 Ok(names) => Ok(Some(names)),
                 Err(fault) => Err(fault),
             },
-            Received::Fault => Err(ListFault::Cut),
+            Received::Fault => Err(MasterListFault::Cut),
         }
     }
 }
 
 /// These bytes have come behind those that are held.
-fn hold(held: &mut Vec<u8>, bytes: &[u8]) -> Result<(), ListFault>
+fn hold(held: &mut Vec<u8>, bytes: &[u8]) -> Result<(), MasterListFault>
     ensures held { OnOk result (held.new.items ≡ held.old.items ++ bytes.now) }
     ensures fault { IfErr result (λ fault. (fault ≡ NoMemory) ⊎ ((fault ≡ TooLong) × (most_held < length held.old.items + length bytes.now))) }
 {
     if bytes.len() > MOST_HELD.saturating_sub(held.len()) {
-        return Err(ListFault::TooLong);
+        return Err(MasterListFault::TooLong);
     }
     match held.extend_from_slice(bytes) {
         Ok(()) => Ok(()),
-        Err(_) => Err(ListFault::OutOfMemory),
+        Err(_) => Err(MasterListFault::OutOfMemory),
     }
 }

@@ -54,7 +54,7 @@ impl<L: Line> Model for MountPull<L> {
 
     ghost Value = { PullOver };
 
-    ghost view = { λ p. record { relay = p.relay; owed = p.asking; given = L.given p.line; taken = L.taken p.line; calls = L.calls p.line; front = p.front.items } };
+    ghost view = { λ p. record { relay = p.relay; outgoing = p.asking; given = L.given p.line; taken = L.taken p.line; calls = L.calls p.line; front = p.front.items } };
 }
 
 impl<L: Line> MountPull<L> {
@@ -63,7 +63,7 @@ impl<L: Line> MountPull<L> {
     pub fn new(alloc: Global, relay: &RelaySetting, line: L) -> Result<MountPull<L>, OutOfMemory>
         ensures { IfOk result (λ pull. pull ≡ record {
           relay = begun relay.now.local_mount;
-          owed = request_text relay.now;
+          outgoing = request_text relay.now;
           given = L.given line;
           taken = L.taken line;
           calls = L.calls line;

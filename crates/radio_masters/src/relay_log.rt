@@ -10,7 +10,7 @@ use crate::failing::Failing;
 use crate::relay_course::{EndLine, RelayCourse, Saying};
 use crate::{OutOfMemory, RelayEnd};
 use radio_events::{Event, Reply};
-use radio_log::{Fact, RelayFailed, RelayGone, RelayUp, Text, Title};
+use radio_log::{Fact, QuotedText, RelayFailed, RelayGone, RelayUp, TitleNote};
 use radio_notes::Log;
 use radio_settings_values::RelaySetting;
 use radio_values::MountName;
@@ -84,7 +84,7 @@ impl RelayLog {
                 self.log
                     .note(up_fact(mount, master, content_type.as_slice()));
                 self.log.note(Fact::MountUp {
-                    mount: Text::of(mount),
+                    mount: QuotedText::of(mount),
                 });
             }
             Saying::Title(title) => self.log.note(title_fact(mount, title.as_slice())),
@@ -154,9 +154,9 @@ fn up_fact<'a>(mount: &'a [u8], master: &'a [u8], content_type: &'a [u8]) -> Fac
     ensures { result ≡ up_fact mount.now master.now content_type.now }
 {
     Fact::RelayUp(RelayUp {
-        mount: Text::of(mount),
-        master: Text::of(master),
-        content_type: Text::of(content_type),
+        mount: QuotedText::of(mount),
+        master: QuotedText::of(master),
+        content_type: QuotedText::of(content_type),
     })
 }
 
@@ -164,9 +164,9 @@ fn up_fact<'a>(mount: &'a [u8], master: &'a [u8], content_type: &'a [u8]) -> Fac
 fn title_fact<'a>(mount: &'a [u8], title: &'a [u8]) -> Fact<'a>
     ensures { result ≡ title_fact mount.now title.now }
 {
-    Fact::Title(Title {
-        mount: Text::of(mount),
-        title: Text::of(title),
+    Fact::Title(TitleNote {
+        mount: QuotedText::of(mount),
+        title: QuotedText::of(title),
     })
 }
 
@@ -181,9 +181,9 @@ fn gone_fact<'a>(
     ensures { result ≡ gone_fact mount.now master.now why.now end.now sound }
 {
     Fact::RelayGone(RelayGone {
-        mount: Text::of(mount),
-        master: Text::of(master),
-        why: Text::of(why),
+        mount: QuotedText::of(mount),
+        master: QuotedText::of(master),
+        why: QuotedText::of(why),
         seconds: end.seconds,
         bytes: sound,
     })
@@ -194,8 +194,8 @@ fn mount_gone_fact<'a>(mount: &'a [u8], end: &PullEnd) -> Fact<'a>
     ensures { result ≡ mount_gone_fact mount.now end.now }
 {
     Fact::MountGone {
-        mount: Text::of(mount),
-        why: Text::of(end.why.word_of_mount().as_bytes()),
+        mount: QuotedText::of(mount),
+        why: QuotedText::of(end.why.word_of_mount().as_bytes()),
     }
 }
 
@@ -204,9 +204,9 @@ fn failed_fact<'a>(mount: &'a [u8], master: &'a [u8], why: &'a [u8], times: u64)
     ensures { result ≡ failed_fact mount.now master.now why.now times }
 {
     Fact::RelayFailed(RelayFailed {
-        mount: Text::of(mount),
-        master: Text::of(master),
-        why: Text::of(why),
+        mount: QuotedText::of(mount),
+        master: QuotedText::of(master),
+        why: QuotedText::of(why),
         times,
     })
 }

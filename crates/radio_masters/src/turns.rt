@@ -7,7 +7,7 @@ use crate::OutOfMemory;
 
 /// A relay that waits for a place: from which moment on it may be tried, in milliseconds, and its number in the queue.
 #[derive(Clone, Copy, Debug, PartialEq, Eq, PartialOrd, Ord)]
-pub struct Waiting {
+pub struct WaitingRelay {
     /// From this moment on it may be tried, in milliseconds; 0 if it was never tried.
     pub due_ms: u64,
     /// Its number in the queue: of those that are due alike, the one with the lowest comes first.
@@ -19,7 +19,11 @@ pub struct Waiting {
 ///
 /// `OutOfMemory` if memory was refused.
 // rule: Relay places
-pub fn in_turn(waiting: Vec<Waiting>, places: usize, ms: u64) -> Result<Vec<Waiting>, OutOfMemory>
+pub fn in_turn(
+    waiting: Vec<WaitingRelay>,
+    places: usize,
+    ms: u64,
+) -> Result<Vec<WaitingRelay>, OutOfMemory>
     ensures { IfOk result (λ chosen. HaveTheirTurn ms places waiting.items chosen.items) }
 {
     let mut queue = waiting;

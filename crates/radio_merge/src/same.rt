@@ -11,7 +11,8 @@ use commands::is_same_request;
 use data::is_same_data;
 use radio_addr::Peer;
 use radio_events::{
-    CommandRequest, Event, ListenRequest, MomentText, Reply, SourceRequest, StreamHead, Text, Visit,
+    CommandRequest, Event, ListenRequest, MomentText, PageVisit, Reply, ReplyText, SourceRequest,
+    StreamHead,
 };
 use radio_values::Shown;
 use values::{
@@ -186,7 +187,7 @@ fn is_same_listener(a: &ListenRequest, b: &ListenRequest) -> bool
         && is_same_visit(&a.visit, &b.visit)
 }
 
-fn is_same_visit(a: &Visit, b: &Visit) -> bool
+fn is_same_visit(a: &PageVisit, b: &PageVisit) -> bool
     ensures { IsTrue result ↔ a.now ≡ b.now }
 {
     is_same_moment(&a.server_start, &b.server_start)
@@ -210,26 +211,27 @@ fn are_same(a: u64, x: &[u8], b: u64, y: &[u8]) -> bool
     a == b && is_same_bytes(x, y)
 }
 
-fn is_same_text(a: &Text, b: &Text) -> bool
+fn is_same_text(a: &ReplyText, b: &ReplyText) -> bool
     ensures { IsTrue result ↔ a.now ≡ b.now }
 {
     match (a, b) {
-        (Text::Done, Text::Done) => true,
-        (Text::Moved(a), Text::Moved(b)) => *a == *b,
-        (Text::Ended(a), Text::Ended(b)) => *a == *b,
-        (Text::Json(a), Text::Json(b)) => is_same_bytes(a.as_slice(), b.as_slice()),
-        (Text::Streams(a), Text::Streams(b)) => is_same_bytes(a.as_slice(), b.as_slice()),
+        (ReplyText::Done, ReplyText::Done) => true,
+        (ReplyText::Moved(a), ReplyText::Moved(b)) => *a == *b,
+        (ReplyText::Ended(a), ReplyText::Ended(b)) => *a == *b,
+        (ReplyText::Json(a), ReplyText::Json(b)) => is_same_bytes(a.as_slice(), b.as_slice()),
+        (ReplyText::Streams(a), ReplyText::Streams(b)) => is_same_bytes(a.as_slice(), b.as_slice()),
         (
-            Text::Public {
+            ReplyText::Public {
                 bytes: a,
                 allow_origin: x,
             },
-            Text::Public {
+            ReplyText::Public {
                 bytes: b,
                 allow_origin: y,
             },
         ) => is_same_bytes(a.as_slice(), b.as_slice()) && is_same_origin(x, y),
-        (Text::Page { allow_origin: a }, Text::Page { allow_origin: b }) => is_same_origin(a, b),
+        (ReplyText::Page { allow_origin: a }, ReplyText::Page { allow_origin: b }) =>
+            is_same_origin(a, b),
         _ => false,
     }
 }

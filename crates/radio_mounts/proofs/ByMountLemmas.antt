@@ -90,7 +90,7 @@ module _ (new : Attachment) where
   put_there id his [] = find_here (is_attached id) new [] his
   put_there id his (x ∷ xs) = put_there_at id x xs (new.id == x.id) (comes_before new.id x.id) refl his (put_there id his xs)
 
--- a row that was taken is his
+-- a row that was taken is its
 abbrev pub IsHis : ℕ → Option Attachment → Type 0
 IsHis id None = Unit {0}
 IsHis id (Some row) = is_attached id row ≡ true
@@ -130,7 +130,7 @@ module _ (id : ℕ) (from to : List ℕ) (mounts : List MountAttachments) where
       stays_so to (with_boxed boxed) (λ x. refl) other (with_alike id other apart boxed his) cleared at
       ∙ stays_so to (without_id id) (λ x. refl) other (without_alike id other apart) taken_out at ∙ detached_others at other apart
 
-  -- and he is at that place, or not attached there
+  -- and it is at that place, or not attached there
   pub shifted_there : (place : ℕ) (boxed : Option Attachment) → IsHis id boxed → IsAt (places_in (put_back_in (option_map (at_place place) boxed)) to id) place
   shifted_there place boxed his = subst (λ (found : Option MountAttachments). IsAt (option_map (λ (row : Attachment). row.place) (found_in id found)) place) (sym found)
       (by_found (find (is_of_mount to) taken_out) boxed his) where
@@ -163,7 +163,7 @@ part_stays mount f same xs at = by_mount (bytes_eq mount at) refl where
       (ap (λ (found : Option MountAttachments). is_some found) (changed_here mount f same xs) ∙ still_some f (find (is_of_mount mount) xs))
   by_mount false e = ap (λ (found : Option MountAttachments). is_some found) (changed_there mount f same at e xs)
 
--- nobody of his number is left where he was taken out
+-- nobody of its number is left where it was taken out
 none_left : (id : ℕ) (found : Option MountAttachments) → option_map (λ (row : Attachment). row.place) (found_in id (option_map (without_id id) found)) ≡ None
 none_left id None = refl
 none_left id (Some x) = ap (option_map (λ (row : Attachment). row.place)) (find_removed (is_attached id) (is_attached id) x.attachments)

@@ -3,7 +3,7 @@
 use radio_attachments::{AttachmentTree, BoxedAttachment};
 use radio_mount_part::ListedPart;
 use radio_seats::Seats;
-use radio_tables::{Change, Swap};
+use radio_tables::{RowChange, Swap};
 use radio_values::MountName;
 use std::mem;
 
@@ -58,7 +58,7 @@ pub(crate) struct Advances {
     pub(crate) place: u64,
 }
 
-impl Change<ListedPart> for Advances {
+impl RowChange<ListedPart> for Advances {
     ghost use Rattle.std.specs.Prelude.{refl};
     ghost use Rattle.radio_mount_part.specs.Attached.{on_part, advanced_there};
 
@@ -104,7 +104,7 @@ pub(crate) struct DetachesOthers<'a> {
     pub(crate) mount: &'a MountName,
 }
 
-impl Change<ListedPart> for DetachesOthers<'_> {
+impl RowChange<ListedPart> for DetachesOthers<'_> {
     ghost use Rattle.std.specs.Prelude.{refl};
     ghost use Rattle.radio_mount_part.specs.Attached.{on_part, with_sitters};
 

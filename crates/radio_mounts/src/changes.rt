@@ -4,7 +4,7 @@ use crate::OutOfMemory;
 use radio_blocks::Block;
 use radio_mount_part::ListedPart;
 use radio_parts::NewSession;
-use radio_tables::{Swap, Visit};
+use radio_tables::{RowVisit, Swap};
 use radio_values::Title;
 
 /// The mount's session delivers a block at this moment, and of its stream the last blocks are kept
@@ -17,7 +17,7 @@ pub(crate) struct Delivers {
     pub(crate) limit: u64,
 }
 
-impl Visit<ListedPart> for Delivers {
+impl RowVisit<ListedPart> for Delivers {
     type Given = Block;
 
     /// Where the stream ends then.

@@ -31,12 +31,12 @@ pub struct MountParts {
     /// No session's stream goes further than this.
     pub(crate) furthest: u64,
     /// How parts keep lists, if they do.
-    pub(crate) listing: Option<Listing>,
+    pub(crate) listing: Option<ListKeeping>,
 }
 
 /// How parts keep lists.
 #[derive(Clone, Copy)]
-pub(crate) struct Listing {
+pub(crate) struct ListKeeping {
     pub(crate) alloc: Global,
     /// How many bytes of a stream are kept at least.
     pub(crate) queue: u64,
@@ -69,7 +69,7 @@ impl MountParts {
     pub fn keep_lists(&mut self, alloc: Global, queue: u64)
         ensures { self.new ≡ self.old }
     {
-        self.listing = Some(Listing { alloc, queue });
+        self.listing = Some(ListKeeping { alloc, queue });
     }
 
     /// Returns the part of a mount that is not live, and to which nobody is attached.
@@ -77,7 +77,7 @@ impl MountParts {
         ensures { result ≡ record { mount = mount; session = None; attachments = []; lagged = [] } }
     {
         match self.listing {
-            Some(Listing { alloc, queue }) => ListedPart::listed(alloc, mount, queue),
+            Some(ListKeeping { alloc, queue }) => ListedPart::listed(alloc, mount, queue),
             None => ListedPart::unlisted(MountPart::new(mount)),
         }
     }

@@ -1,8 +1,8 @@
 -- What of a reply is noted.
 use Rattle.radio_events.specs.declared.reply.Reply.{Reply}
 use Rattle.radio_events.specs.declared.reply.Reply.TheVariants.{Noted, Feeding, Seated, Text, Deny}
-use Rattle.radio_events.specs.declared.text.Text.{Text as TextOf}
-use Rattle.radio_events.specs.declared.text.Text.TheVariants.{Done, Moved, Ended}
+use Rattle.radio_events.specs.declared.text.ReplyText.{ReplyText as TextOf}
+use Rattle.radio_events.specs.declared.text.ReplyText.TheVariants.{Done, Moved, Ended}
 use Rattle.radio_notes.specs.declared.told.Told.{Told}
 use Rattle.radio_notes.specs.declared.told.Told.TheVariants.{Nothing, Noted as IsNoted, Feeding as Feeds, Seated as Sits, Text as IsAnswered, Shown, Denied}
 

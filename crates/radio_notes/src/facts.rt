@@ -8,7 +8,7 @@ use crate::OutOfMemory;
 use crate::lines::line_at;
 use radio_addr::Peer;
 use radio_events::{Command, SourceRequest};
-use radio_log::{Command as CommandTold, Fact, Moment, SourceUp, Text, Title};
+use radio_log::{CommandNote, Fact, Moment, QuotedText, SourceUp, TitleNote};
 use radio_values::MountName;
 use std::alloc::Global;
 
@@ -24,13 +24,13 @@ pub(crate) fn source_lines(
 {
     let mount = request.mount.as_slice();
     let up = Fact::SourceUp(SourceUp {
-        mount: Text::of(mount),
+        mount: QuotedText::of(mount),
         peer,
-        content_type: Text::of(request.shown.content_type.as_bytes()),
-        agent: Text::of(agent),
+        content_type: QuotedText::of(request.shown.content_type.as_bytes()),
+        agent: QuotedText::of(agent),
     });
     let live = Fact::MountUp {
-        mount: Text::of(mount),
+        mount: QuotedText::of(mount),
     };
     with_line(line_at(alloc, moment, up)?, alloc, moment, live)
 }
@@ -49,9 +49,9 @@ pub(crate) fn command_lines(
     let given = command_line(alloc, moment, peer, user, command)?;
     match command {
         Command::SetTitle { mount, title } => {
-            let title = Fact::Title(Title {
-                mount: Text::of(mount.as_bytes()),
-                title: Text::of(title.as_slice()),
+            let title = Fact::Title(TitleNote {
+                mount: QuotedText::of(mount.as_bytes()),
+                title: QuotedText::of(title.as_slice()),
             });
             with_line(given, alloc, moment, title)
         }
@@ -104,11 +104,11 @@ fn command_line(
     ensures { IfOk result (λ line. line.items ≡ line_at moment (command_fact peer user.now command.now)) }
 {
     let argument = argument_of(alloc, command)?;
-    let given = Fact::Command(CommandTold {
-        name: Text::of(name_of(command).as_bytes()),
-        mount: Text::of(mount_of(command).as_bytes()),
-        argument: Text::of(argument.as_slice()),
-        user: Text::of(user),
+    let given = Fact::Command(CommandNote {
+        name: QuotedText::of(name_of(command).as_bytes()),
+        mount: QuotedText::of(mount_of(command).as_bytes()),
+        argument: QuotedText::of(argument.as_slice()),
+        user: QuotedText::of(user),
         peer,
     });
     line_at(alloc, moment, given)

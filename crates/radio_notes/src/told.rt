@@ -3,7 +3,7 @@
 ghost use Rattle.std.specs.Prelude.{◌≡◌};
 ghost use Rattle.radio_notes.specs.Replies.{told_of, told_of_text};
 
-use radio_events::{Reply, Text};
+use radio_events::{Reply, ReplyText};
 use radio_policy::Rule;
 
 /// What of a reply is noted.
@@ -43,11 +43,14 @@ impl Told {
     }
 }
 
-fn of_text(text: &Text) -> Told
+fn of_text(text: &ReplyText) -> Told
     ensures { result ≡ told_of_text text.now }
 {
     match text {
-        Text::Done | Text::Moved(_) | Text::Ended(_) => Told::Text,
-        Text::Json(_) | Text::Streams(_) | Text::Public { .. } | Text::Page { .. } => Told::Shown,
+        ReplyText::Done | ReplyText::Moved(_) | ReplyText::Ended(_) => Told::Text,
+        ReplyText::Json(_)
+        | ReplyText::Streams(_)
+        | ReplyText::Public { .. }
+        | ReplyText::Page { .. } => Told::Shown,
     }
 }

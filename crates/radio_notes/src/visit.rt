@@ -10,7 +10,7 @@ use crate::Told;
 use crate::ends::{End, code_of, end_word, mount_word};
 use crate::heard::Heard;
 use radio_addr::Peer;
-use radio_log::{ClientEnded, Fact, SourceGone, Text};
+use radio_log::{ClientEnded, Fact, QuotedText, SourceGone};
 use radio_values::MountName;
 use std::alloc::Global;
 
@@ -148,15 +148,15 @@ impl Visit {
     {
         ClientEnded {
             peer,
-            method: Text::of(heard.method()),
-            path: Text::of(heard.path()),
-            mount: Text::of(self.mount(heard.path(), last)),
+            method: QuotedText::of(heard.method()),
+            path: QuotedText::of(heard.path()),
+            mount: QuotedText::of(self.mount(heard.path(), last)),
             status: self.status,
-            why: Text::of(end_word(self.end).as_bytes()),
-            user: Text::of(heard.user()),
+            why: QuotedText::of(end_word(self.end).as_bytes()),
+            user: QuotedText::of(heard.user()),
             seconds: self.seconds(ms),
             bytes: self.handed,
-            agent: Text::of(heard.agent()),
+            agent: QuotedText::of(heard.agent()),
         }
     }
 
@@ -166,9 +166,9 @@ impl Visit {
         ensures { result ≡ source_gone peer ms self heard.now }
     {
         SourceGone {
-            mount: Text::of(heard.path()),
+            mount: QuotedText::of(heard.path()),
             peer,
-            why: Text::of(end_word(self.end).as_bytes()),
+            why: QuotedText::of(end_word(self.end).as_bytes()),
             seconds: self.seconds(ms),
             bytes: self.fed,
         }
@@ -180,8 +180,8 @@ impl Visit {
         ensures { result ≡ MountGone (kept_of heard.now).path (mount_word self.end) }
     {
         Fact::MountGone {
-            mount: Text::of(heard.path()),
-            why: Text::of(mount_word(self.end).as_bytes()),
+            mount: QuotedText::of(heard.path()),
+            why: QuotedText::of(mount_word(self.end).as_bytes()),
         }
     }
 }

@@ -2,7 +2,7 @@
 
 ghost use Rattle.std.specs.Prelude.{◌≡◌, ◌≤◌, length, drop, position, []};
 ghost use Rattle.radio_outlet.specs.Batches.{InHand, next_bytes, written, cut_off, lost_by_cut, place_behind, behind_line, is_line_end};
-ghost use Rattle.radio_outlet.specs.declared.batch.Place.TheVariants.{LineStart};
+ghost use Rattle.radio_outlet.specs.declared.batch.LinePlace.TheVariants.{LineStart};
 
 use std::alloc::Global;
 use std::marker::Model;
@@ -11,7 +11,7 @@ const LINE_END: u8 = b'\n';
 
 /// Where the last byte that was written stands.
 #[derive(Clone, Copy, PartialEq, Eq)]
-pub enum Place {
+pub enum LinePlace {
     /// At the end of a line, or nothing was written yet.
     LineStart,
     /// Within a line that goes on.
@@ -25,7 +25,7 @@ pub enum Place {
 pub struct Batch {
     lines: Vec<u8>,
     start: usize,
-    place: Place,
+    place: LinePlace,
 }
 
 impl Model for Batch {
@@ -47,7 +47,7 @@ impl Batch {
         Batch {
             lines: Vec::new(alloc),
             start: 0,
-            place: Place::LineStart,
+            place: LinePlace::LineStart,
         }
     }
 
@@ -64,8 +64,8 @@ impl Batch {
         ensures { result.now ≡ next_bytes self.now }
     {
         match self.place {
-            Place::TornLine => &b"\n"[..],
-            Place::LineStart | Place::WithinLine => &self.lines[self.start..],
+            LinePlace::TornLine => &b"\n"[..],
+            LinePlace::LineStart | LinePlace::WithinLine => &self.lines[self.start..],
         }
     }
 
@@ -78,8 +78,8 @@ impl Batch {
             return;
         }
         match self.place {
-            Place::TornLine => self.place = Place::LineStart,
-            Place::LineStart | Place::WithinLine => {
+            LinePlace::TornLine => self.place = LinePlace::LineStart,
+            LinePlace::LineStart | LinePlace::WithinLine => {
                 let rest = &self.lines[self.start..];
                 self.place = place_behind(rest[count - 1]);
                 self.start += count;
@@ -94,10 +94,10 @@ impl Batch {
         ensures lost { result ≡ lost_by_cut self.old.place }
     {
         match self.place {
-            Place::LineStart | Place::TornLine => 0,
-            Place::WithinLine => {
+            LinePlace::LineStart | LinePlace::TornLine => 0,
+            LinePlace::WithinLine => {
                 self.start += behind_line(&self.lines[self.start..]);
-                self.place = Place::TornLine;
+                self.place = LinePlace::TornLine;
                 1
             }
         }
@@ -105,13 +105,13 @@ impl Batch {
 }
 
 /// Returns the place behind this byte.
-fn place_behind(byte: u8) -> Place
+fn place_behind(byte: u8) -> LinePlace
     ensures { result ≡ place_behind byte }
 {
     if byte == LINE_END {
-        Place::LineStart
+        LinePlace::LineStart
     } else {
-        Place::WithinLine
+        LinePlace::WithinLine
     }
 }
 

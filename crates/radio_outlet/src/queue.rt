@@ -1,21 +1,21 @@
 //! The queue between the threads that have lines for the log and the one that writes them.
 
-use crate::Waiting;
+use crate::WaitingLines;
 use std::alloc::Global;
 use std::sync::{Condvar, Mutex, Wait};
 use std::time::{Clock, Duration};
 
 /// What the threads share under the lock.
 #[derive(Drop)]
-struct Shared {
-    waiting: Waiting,
+struct QueueContents {
+    waiting: WaitingLines,
     /// Whether lines were taken that are not written yet.
     is_writing: bool,
     /// Whether nothing is written any more.
     is_closed: bool,
 }
 
-impl Shared {
+impl QueueContents {
     /// Whether the thread that writes has nothing to do.
     fn is_idle(&self) -> bool {
         self.waiting.is_empty()
@@ -41,7 +41,7 @@ pub(crate) struct Taken {
 /// lines 65,536 bytes wait at most; more are lost, and a line `lost` reports how many.
 #[derive(Drop)]
 pub struct LogQueue {
-    shared: Mutex<Shared>,
+    shared: Mutex<QueueContents>,
     has_lines: Condvar,
     is_written: Condvar,
 }
@@ -50,8 +50,8 @@ impl LogQueue {
     /// Returns an empty queue. It takes no memory.
     pub(crate) fn new(alloc: Global) -> LogQueue {
         LogQueue {
-            shared: Mutex::new(Shared {
-                waiting: Waiting::new(alloc),
+            shared: Mutex::new(QueueContents {
+                waiting: WaitingLines::new(alloc),
                 is_writing: false,
                 is_closed: false,
             }),

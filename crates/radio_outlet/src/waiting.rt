@@ -13,14 +13,14 @@ const LINE_END: u8 = b'\n';
 
 /// The lines that wait to be written, and how many were lost since the last report of a loss. In contracts it is a `Queue`.
 #[derive(Drop)]
-pub struct Waiting {
+pub struct WaitingLines {
     alloc: Global,
     lines: Vec<u8>,
     lost: u64,
     seconds: u64,
 }
 
-impl Model for Waiting {
+impl Model for WaitingLines {
     ghost use Rattle.std.specs.Prelude.{◌≤◌, length};
     ghost use Rattle.radio_log.specs.Lines.{most_waiting};
     ghost use Rattle.radio_outlet.specs.Queues.{Queue};
@@ -32,12 +32,12 @@ impl Model for Waiting {
     ghost invariant = { λ w. length w.lines.items ≤ most_waiting };
 }
 
-impl Waiting {
+impl WaitingLines {
     /// Returns an empty queue. It takes no memory.
-    pub fn new(alloc: Global) -> Waiting
+    pub fn new(alloc: Global) -> WaitingLines
         ensures { result ≡ record { lines = []; lost = 0; seconds = 0 } }
     {
-        Waiting {
+        WaitingLines {
             alloc,
             lines: Vec::new(alloc),
             lost: 0,

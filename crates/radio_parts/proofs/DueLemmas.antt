@@ -1,4 +1,4 @@
--- before it is due, nothing at a mount has had its time; and who is carried along, or loses his seat, is due no earlier
+-- before it is due, nothing at a mount has had its time; and who is carried along, or loses its seat, is due no earlier
 use Rattle.std.proofs.Common.{◌≡◌, ℕ, ◌+◌, ◌*◌, ◌<◌, ◌≤◌, ◌==◌, Bool, true, false, Option, Some, None, List, [], ◌∷◌, min, refl, arith}
 use Rattle.std.specs.Prelude.{if◌then◌else◌, fold}
 use Rattle.std.specs.Option.{option_map_or}
@@ -57,7 +57,7 @@ duration_by_last None since = omega arith
 duration_by_last (Some seconds) since = due_by_last seconds since
 
 module _ (moment : ℕ) (last : moment ≤ last_moment) where
-  -- who loses his seat is due no more, and anybody else as before
+  -- who loses its seat is due no more, and anybody else as before
   pub ended_due : (settings : Settings) (rule : Rule) (id : ℕ) (seating : Seating) (ends : Bool) → moment ≤ listener_due settings (record { id = id; seating = seating })
       → moment ≤ listener_due settings (record { id = id; seating = (if ends then lost_by rule seating else seating) })
   ended_due settings rule id (Sits seat) true h = last
@@ -69,7 +69,7 @@ module _ (moment : ℕ) (last : moment ≤ last_moment) where
   heard_due settings place id (Sits seat) h = h
   heard_due settings place id (Finished rule mount) h = h
 
-  -- who is carried along is due as before, since his home and the moment of his seat stay
+  -- who is carried along is due as before, since its home and the moment of its seat stay
   pub moved_due : (settings : Settings) (to : List ℕ) (session place id : ℕ) (seating : Seating)
       → moment ≤ listener_due settings (record { id = id; seating = seating })
       → moment ≤ listener_due settings (moved to session place (record { id = id; seating = seating }))

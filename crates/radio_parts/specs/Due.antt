@@ -17,7 +17,7 @@ last_moment = 2 ^ 64 - 1
 abbrev pub due_at : ℕ → ℕ → ℕ
 due_at seconds moment = (if seconds == 0 then 0 else min (moment + 1000 * seconds) last_moment)
 
--- who was seated at this moment is due if the mount sets a duration that he asked for
+-- who was seated at this moment is due if the mount sets a duration that it asked for
 abbrev pub home_due : Settings → List ℕ → ℕ → ℕ
 home_due settings home since = option_map_or (λ seconds. due_at seconds since) (options_for settings home).listeners.max_listener_duration last_moment
 

@@ -16,7 +16,7 @@ lies_back seconds moment now = nat_le (1000 * seconds) (now - moment)
 abbrev pub lags_behind : List ℕ → ℕ → ℕ → Seat → Bool
 lags_behind mount end queue seat = bytes_eq seat.mount mount && nat_lt queue (end - seat.place)
 
--- the listener has sat as long as the mount allows that he asked for
+-- the listener has sat as long as the mount allows that it asked for
 -- rule: Time over
 abbrev pub has_sat_out : Settings → ℕ → Seat → Bool
 has_sat_out settings now seat =

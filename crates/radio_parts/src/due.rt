@@ -21,7 +21,7 @@ pub fn due_at(seconds: u32, moment: u64) -> u64
     }
 }
 
-/// When one is due who has a seat, by the mount that he asked for.
+/// When one is due who has a seat, by the mount that it asked for.
 #[derive(Clone, Copy)]
 pub struct GuestDue<'a> {
     /// The settings, which have each mount's longest duration.

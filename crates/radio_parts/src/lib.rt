@@ -3,9 +3,9 @@
 //! - [`Session`]: what a source feeds to a mount. The parts of `radio_mounts` have them. A [`NewSession`] is one that begins.
 //! - [`Stream`]: the data of a session, of which the last blocks are kept.
 //! - [`lies_back`]: whether a moment lies so many seconds back; [`HasSatOut`] says of
-//!   a listener that he has had his time.
+//!   a listener that it has had its time.
 //! - [`due_at`]: from which moment on another lies so many seconds back; [`seat_due`] and
-//!   [`GuestDue`] say it of a listener, by the mount that he asked for.
+//!   [`GuestDue`] say it of a listener, by the mount that it asked for.
 #![tactic(auto)]
 
 mod due;

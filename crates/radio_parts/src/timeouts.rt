@@ -13,7 +13,7 @@ pub fn lies_back(seconds: u32, moment: u64, now: u64) -> bool
     now.saturating_sub(moment) >= 1000 * u64::from(seconds)
 }
 
-/// A listener has sat as long as the mount allows that he asked for.
+/// A listener has sat as long as the mount allows that it asked for.
 #[derive(Drop)]
 pub struct HasSatOut<'a> {
     /// The settings, which have each mount's longest duration.

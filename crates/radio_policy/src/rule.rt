@@ -71,11 +71,11 @@ pub enum Rule {
     BadHead,
     /// The method is none that the server serves.
     BadMethod,
-    /// A listener is more than the queue's size behind his stream.
+    /// A listener is more than the queue's size behind its stream.
     Lagged,
-    /// A listener has sat as long as his mount allows.
+    /// A listener has sat as long as its mount allows.
     TimeOver,
-    /// A client has asked for nothing in the time that he has for it.
+    /// A client has asked for nothing in the time that it has for it.
     HeaderTimeout,
     /// A source has sent nothing in the time that it has for it.
     SourceSilent,

@@ -6,10 +6,10 @@ use Rattle.std.proofs.lemmas.List.{take-append-drop, take_at}
 use Rattle.radio_proxy.proofs.LawLemmas.{any_pieces}
 use Rattle.radio_proxy.specs.Greetings.{IsGreeted}
 use Rattle.radio_proxy.specs.Headers.{header_of}
-use Rattle.radio_proxy.specs.declared.greeting.Greeting.TheVariants.{Named as NamedBy}
+use Rattle.radio_proxy.specs.declared.greeting.HeaderLook.TheVariants.{Named as NamedBy}
 use Rattle.radio_proxy.specs.declared.header.Header.{Header}
 use Rattle.radio_proxy.specs.declared.header.Header.TheVariants.{Partial, Whole, Bad}
-use Rattle.radio_proxy.specs.declared.header.Named.{Named}
+use Rattle.radio_proxy.specs.declared.header.NamedClient.{NamedClient}
 
 -- what their front decides, the bytes decide
 decided : (bytes front : List ℕ) (header : Header) → StartsWith bytes front → header_of front ≡ header → (header ≡ Partial → ⊥) → header_of bytes ≡ header
@@ -17,7 +17,7 @@ decided bytes front header starts is some =
     let whole : front ++ drop (length front) bytes ≡ bytes = ap (λ t. t ++ drop (length front) bytes) (sym starts) ∙ take-append-drop (length front) bytes in
     ap header_of (sym whole) ∙ (any_pieces front (drop (length front) bytes) (λ e. some (sym is ∙ e)) ∙ is)
 
-pub greeted : (before after : Option (List ℕ)) (front taken : List ℕ) (len : ℕ) (named : Named) → IfSome before (λ bytes. StartsWith bytes front)
+pub greeted : (before after : Option (List ℕ)) (front taken : List ℕ) (len : ℕ) (named : NamedClient) → IfSome before (λ bytes. StartsWith bytes front)
     → Consumes before after taken → length taken ≡ len → header_of front ≡ Whole len named → IsGreeted before after (NamedBy named)
 greeted None after front taken len named starts consumes counted is = tt
 greeted (Some bytes) None front taken len named starts consumes counted is = absurd consumes

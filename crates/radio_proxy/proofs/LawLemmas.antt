@@ -12,10 +12,10 @@ use Rattle.radio_addr.specs.declared.address.Address.{Address}
 use Rattle.radio_proxy.specs.Headers.{address_in, by_family, fields_of, header_by, header_of, header_with, is_port, line_text, named_by, named_in, tcp_of, unended}
 use Rattle.radio_proxy.specs.Laws.{AreTcpFields, Behind as BehindFamily, IsHeader, IsIgnored, Names, Nothing, ByNone, ByTcp, family_word}
 use Rattle.radio_proxy.specs.declared.header.Header.TheVariants.{Partial, Whole, Bad}
-use Rattle.radio_proxy.specs.declared.header.Family.{Family}
-use Rattle.radio_proxy.specs.declared.header.Family.TheVariants.{V4, V6}
-use Rattle.radio_proxy.specs.declared.header.Named.{Named}
-use Rattle.radio_proxy.specs.declared.header.Named.TheVariants.{Client, Nobody}
+use Rattle.radio_proxy.specs.declared.header.AddressFamily.{AddressFamily}
+use Rattle.radio_proxy.specs.declared.header.AddressFamily.TheVariants.{V4, V6}
+use Rattle.radio_proxy.specs.declared.header.NamedClient.{NamedClient}
+use Rattle.radio_proxy.specs.declared.header.NamedClient.TheVariants.{Client, Nobody}
 
 abbrev Parts : Type 0
 Parts = Option (List ℕ × List ℕ)
@@ -59,7 +59,7 @@ any_pieces bytes more some = decided bytes more (cut 10 (take 107 bytes)) (nat_l
 
 -- ---- the line
 
-first_line : (bytes : List ℕ) (len : ℕ) (named : Named) (line rest : List ℕ) (o : Option Named) → cut 10 (take 107 bytes) ≡ Some (line, rest)
+first_line : (bytes : List ℕ) (len : ℕ) (named : NamedClient) (line rest : List ℕ) (o : Option NamedClient) → cut 10 (take 107 bytes) ≡ Some (line, rest)
     → named_in line ≡ o → header_with (length line + 1) o ≡ Whole len named → IsHeader bytes len named
 first_line bytes len named line rest None is names e = cc
 first_line bytes len named line rest (Some other) is names e =
@@ -79,20 +79,20 @@ first_line bytes len named line rest (Some other) is names e =
       names = cc;
     }
 
-by_line : (bytes : List ℕ) (len : ℕ) (named : Named) (o : Parts) (b : Bool) → cut 10 (take 107 bytes) ≡ o → nat_lt (length (take 107 bytes)) 107 ≡ b
+by_line : (bytes : List ℕ) (len : ℕ) (named : NamedClient) (o : Parts) (b : Bool) → cut 10 (take 107 bytes) ≡ o → nat_lt (length (take 107 bytes)) 107 ≡ b
     → header_by (length (take 107 bytes)) o ≡ Whole len named → IsHeader bytes len named
 by_line bytes len named (Some (line, rest)) b is few e = first_line bytes len named line rest (named_in line) is refl e
 by_line bytes len named None true is few e = let no : unended (length (take 107 bytes)) ≡ Partial = rw few refl in cc
 by_line bytes len named None false is few e = let no : unended (length (take 107 bytes)) ≡ Bad = rw few refl in cc
 
-is_line : (bytes : List ℕ) (len : ℕ) (named : Named) → header_of bytes ≡ Whole len named → IsHeader bytes len named
+is_line : (bytes : List ℕ) (len : ℕ) (named : NamedClient) → header_of bytes ≡ Whole len named → IsHeader bytes len named
 unfolding header_of
 is_line bytes len named e = by_line bytes len named (cut 10 (take 107 bytes)) (nat_lt (length (take 107 bytes)) 107) refl refl e
 
 front_line : (line rest : List ℕ) (n : ℕ) → 107 - length line ≡ suc n → length line ≤ 107 → take 107 (line ++ 10 ∷ rest) ≡ line ++ 10 ∷ take n rest
 front_line line rest n left short = front_more 107 line (10 ∷ rest) ∙ rw (take_all 107 line short, left) refl
 
-is_read : (bytes : List ℕ) (len : ℕ) (named : Named) → IsHeader bytes len named → header_of bytes ≡ Whole len named
+is_read : (bytes : List ℕ) (len : ℕ) (named : NamedClient) → IsHeader bytes len named → header_of bytes ≡ Whole len named
 unfolding header_of
 is_read bytes len named h =
     let n = 106 - length h.line in
@@ -101,16 +101,16 @@ is_read bytes len named h =
     let is : cut 10 (take 107 bytes) ≡ Some (h.line, take n h.rest) = (cut-first 10 (take 107 bytes) h.line (take n h.rest)).1 (looked, h.first) in
     rw (is, h.names, h.counted) refl
 
-pub lines : (bytes : List ℕ) (len : ℕ) (named : Named)
+pub lines : (bytes : List ℕ) (len : ℕ) (named : NamedClient)
     → (header_of bytes ≡ Whole len named → IsHeader bytes len named) × (IsHeader bytes len named → header_of bytes ≡ Whole len named)
 lines bytes len named = (is_line bytes len named, is_read bytes len named)
 
 -- a header is no longer than the bytes that begin with it
-pub within : (bytes : List ℕ) (len : ℕ) (named : Named) → header_of bytes ≡ Whole len named → len ≤ length bytes
+pub within : (bytes : List ℕ) (len : ℕ) (named : NamedClient) → header_of bytes ≡ Whole len named → len ≤ length bytes
 within bytes len named e = let h = is_line bytes len named e in omega (arith, h.counted, ap length h.are_bytes, length-append h.line (10 ∷ h.rest))
 
 -- no line begins with bytes that are bad
-pub bad : (bytes more : List ℕ) (len : ℕ) (named : Named) → header_of bytes ≡ Bad → IsHeader (bytes ++ more) len named → ⊥
+pub bad : (bytes more : List ℕ) (len : ℕ) (named : NamedClient) → header_of bytes ≡ Bad → IsHeader (bytes ++ more) len named → ⊥
 bad bytes more len named is h =
     let whole = is_read (bytes ++ more) len named h in
     let same : header_of (bytes ++ more) ≡ header_of bytes = any_pieces bytes more (λ e. cc) in
@@ -141,19 +141,19 @@ has_end text =
     rw (n, last, front) refl
 
 -- the fields behind the word
-data Behind (fields : List ℕ) : Named → Type 0 where
-  tcp : (family : Family) (rest : List ℕ) (peer : Address) → AreTcpFields family rest peer → fields ≡ family_word family ++ 32 ∷ rest → Behind fields (Client peer)
+data Behind (fields : List ℕ) : NamedClient → Type 0 where
+  tcp : (family : AddressFamily) (rest : List ℕ) (peer : Address) → AreTcpFields family rest peer → fields ≡ family_word family ++ 32 ∷ rest → Behind fields (Client peer)
   none : (ignored : List ℕ) → IsIgnored ignored → fields ≡ codes "UNKNOWN" ++ ignored → Behind fields Nobody
 
-by_ports : (peer : Address) (named : Named) (b c : Bool) → cond (b && c) (Some (Client peer)) None ≡ Some named → (b ≡ true) × (c ≡ true) × (named ≡ Client peer)
+by_ports : (peer : Address) (named : NamedClient) (b c : Bool) → cond (b && c) (Some (Client peer)) None ≡ Some named → (b ≡ true) × (c ≡ true) × (named ≡ Client peer)
 by_ports peer named true true e = (refl, refl, cc)
 by_ports peer named true false e = cc
 by_ports peer named false c e = cc
 
-abbrev IsTcp : Family → List ℕ → Named → Type 0
+abbrev IsTcp : AddressFamily → List ℕ → NamedClient → Type 0
 IsTcp family fields named = (peer : Address) × AreTcpFields family fields peer × (named ≡ Client peer)
 
-is_tcp : (family : Family) (fields : List ℕ) (named : Named) → tcp_of family fields ≡ Some named → IsTcp family fields named
+is_tcp : (family : AddressFamily) (fields : List ℕ) (named : NamedClient) → tcp_of family fields ≡ Some named → IsTcp family fields named
 unfolding tcp_of
 is_tcp family fields named e =
     option_and_then_some _ (cut 32 fields) named e (λ client is_client e1.
@@ -181,7 +181,7 @@ is_tcp family fields named e =
       are_ports.2,
     ))))))
 
-reads_tcp : (family : Family) (fields : List ℕ) (peer : Address) → AreTcpFields family fields peer → tcp_of family fields ≡ Some (Client peer)
+reads_tcp : (family : AddressFamily) (fields : List ℕ) (peer : Address) → AreTcpFields family fields peer → tcp_of family fields ≡ Some (Client peer)
 unfolding tcp_of
 reads_tcp family fields peer f =
     let at_client : cut 32 fields ≡ Some (f.client, f.server ++ 32 ∷ (f.client_port ++ 32 ∷ f.server_port)) =
@@ -193,20 +193,20 @@ reads_tcp family fields peer f =
     rw (at_client, at_server, at_ports, f.client_is, f.server_is, f.are_ports.0, f.are_ports.1) refl
 
 -- a family, and what is behind it
-abbrev IsChosen : List ℕ → List ℕ → Named → Type 0
-IsChosen word rest named = ((word ≡ codes "UNKNOWN") × (named ≡ Nobody)) ⊎ ((family : Family) × (word ≡ family_word family) × IsTcp family rest named)
+abbrev IsChosen : List ℕ → List ℕ → NamedClient → Type 0
+IsChosen word rest named = ((word ≡ codes "UNKNOWN") × (named ≡ Nobody)) ⊎ ((family : AddressFamily) × (word ≡ family_word family) × IsTcp family rest named)
 
-is_chosen : (word rest : List ℕ) (named : Named) (a b c : Bool) → bytes_eq word (codes "UNKNOWN") ≡ a → bytes_eq word (codes "TCP4") ≡ b
+is_chosen : (word rest : List ℕ) (named : NamedClient) (a b c : Bool) → bytes_eq word (codes "UNKNOWN") ≡ a → bytes_eq word (codes "TCP4") ≡ b
     → bytes_eq word (codes "TCP6") ≡ c → fields_of word rest ≡ Some named → IsChosen word rest named
 is_chosen word rest named true b c u v w e = let nobody : Some Nobody ≡ Some named = rw u at e in inl ((bytes_eq-Decides word (codes "UNKNOWN")).0 u, cc)
 is_chosen word rest named false true c u v w e = inr (V4, (bytes_eq-Decides word (codes "TCP4")).0 v, is_tcp V4 rest named (rw (u, v) at e))
 is_chosen word rest named false false true u v w e = inr (V6, (bytes_eq-Decides word (codes "TCP6")).0 w, is_tcp V6 rest named (rw (u, v, w) at e))
 is_chosen word rest named false false false u v w e = let none : None ≡ Some named = rw (u, v, w) at e in cc
 
-no_fields : (family : Family) (peer : Address) → AreTcpFields family [] peer → ⊥
+no_fields : (family : AddressFamily) (peer : Address) → AreTcpFields family [] peer → ⊥
 no_fields family peer f = let n = ap length f.are_fields in omega (arith, length-append f.client (32 ∷ (f.server ++ 32 ∷ (f.client_port ++ 32 ∷ f.server_port))), n)
 
-is_behind : (fields : List ℕ) (named : Named) (o : Parts) → cut 32 fields ≡ o → by_family fields o ≡ Some named → Behind fields named
+is_behind : (fields : List ℕ) (named : NamedClient) (o : Parts) → cut 32 fields ≡ o → by_family fields o ≡ Some named → Behind fields named
 is_behind fields named None is e = ⊎_elim
     (λ u. subst (Behind fields) (sym u.1) (none [] Nothing u.0))
     (λ t. absurd (no_fields t.0 t.2.0 t.2.1))
@@ -218,7 +218,7 @@ is_behind fields named (Some (word, rest)) is e =
     (λ t. subst (Behind fields) (sym t.2.2) (tcp t.0 rest t.2.0 t.2.1 (found.0 ∙ ap (λ w. w ++ 32 ∷ rest) t.1)))
     (is_chosen word rest named _ _ _ refl refl refl e)
 
-named_behind : (fields : List ℕ) (named : Named) → named_by fields ≡ Some named → Behind fields named
+named_behind : (fields : List ℕ) (named : NamedClient) → named_by fields ≡ Some named → Behind fields named
 unfolding named_by
 named_behind fields named e = is_behind fields named (cut 32 fields) refl e
 
@@ -235,17 +235,17 @@ unfolding named_by
 reads_none _ Nothing = refl
 reads_none _ (BehindFamily more) = refl
 
-reads_family : (family : Family) (rest : List ℕ) (peer : Address) → AreTcpFields family rest peer → named_by (family_word family ++ 32 ∷ rest) ≡ Some (Client peer)
+reads_family : (family : AddressFamily) (rest : List ℕ) (peer : Address) → AreTcpFields family rest peer → named_by (family_word family ++ 32 ∷ rest) ≡ Some (Client peer)
 reads_family V4 rest peer f = reads_v4 rest peer f
 reads_family V6 rest peer f = reads_v6 rest peer f
 
 -- the whole line
-whole : (line fields : List ℕ) (named : Named) → line ≡ codes "PROXY " ++ (fields ++ 13 ∷ []) → Behind fields named → Names line named
+whole : (line fields : List ℕ) (named : NamedClient) → line ≡ codes "PROXY " ++ (fields ++ 13 ∷ []) → Behind fields named → Names line named
 whole line fields _ is (tcp family rest peer f at) =
     ByTcp family rest peer f (is ∙ ap (λ t. codes "PROXY " ++ t) (ap (λ t. t ++ 13 ∷ []) at ∙ append_assoc (family_word family) (32 ∷ rest) (13 ∷ [])))
 whole line fields _ is (none ignored i at) = ByNone ignored i (is ∙ ap (λ t. codes "PROXY " ++ (t ++ 13 ∷ [])) at)
 
-with_word : (line text word fields : List ℕ) (named : Named) (b : Bool) → bytes_eq word (codes "PROXY") ≡ b → line_text line ≡ Some text
+with_word : (line text word fields : List ℕ) (named : NamedClient) (b : Bool) → bytes_eq word (codes "PROXY") ≡ b → line_text line ≡ Some text
     → cut 32 text ≡ Some (word, fields) → cond b (named_by fields) None ≡ Some named → Names line named
 with_word line text word fields named false is ends cuts e = cc
 with_word line text word fields named true is ends cuts e =
@@ -255,7 +255,7 @@ with_word line text word fields named true is ends cuts e =
     ends_with line text (nat_eq (slice_index line (length line - 1)) 13) refl ends ∙ ap (λ t. t ++ 13 ∷ []) (found.0 ∙ ap (λ w. w ++ 32 ∷ fields) proxy) in
     whole line fields named all (named_behind fields named e)
 
-is_named : (line : List ℕ) (named : Named) → named_in line ≡ Some named → Names line named
+is_named : (line : List ℕ) (named : NamedClient) → named_in line ≡ Some named → Names line named
 unfolding named_in
 is_named line named e =
     option_and_then_some _ (line_text line) named e (λ text ends e1.
@@ -266,11 +266,11 @@ reads_line : (line fields : List ℕ) → line ≡ codes "PROXY " ++ (fields ++ 
 unfolding named_in
 reads_line line fields is = let ends : line_text line ≡ Some (codes "PROXY " ++ fields) = ap line_text is ∙ has_end (codes "PROXY " ++ fields) in rw ends refl
 
-reads_names : (line : List ℕ) (named : Named) → Names line named → named_in line ≡ Some named
+reads_names : (line : List ℕ) (named : NamedClient) → Names line named → named_in line ≡ Some named
 reads_names line _ (ByTcp family fields peer f is) =
     reads_line line (family_word family ++ 32 ∷ fields) (is ∙ ap (λ t. codes "PROXY " ++ t) (sym (append_assoc (family_word family) (32 ∷ fields) (13 ∷ []))))
     ∙ reads_family family fields peer f
 reads_names line _ (ByNone ignored i is) = reads_line line (codes "UNKNOWN" ++ ignored) is ∙ reads_none ignored i
 
-pub names : (line : List ℕ) (named : Named) → (named_in line ≡ Some named → Names line named) × (Names line named → named_in line ≡ Some named)
+pub names : (line : List ℕ) (named : NamedClient) → (named_in line ≡ Some named → Names line named) × (Names line named → named_in line ≡ Some named)
 names line named = (is_named line named, reads_names line named)

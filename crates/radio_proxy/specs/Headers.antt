@@ -7,29 +7,29 @@ use Rattle.radio_texts.specs.Cuts.{cut}
 use Rattle.radio_texts.specs.Numbers.{number_of}
 use Rattle.radio_addr.specs.Addresses.{peer_of}
 use Rattle.radio_addr.specs.declared.address.Address.{Address}
-use Rattle.radio_proxy.specs.declared.header.Family.{Family}
-use Rattle.radio_proxy.specs.declared.header.Family.TheVariants.{V4, V6}
+use Rattle.radio_proxy.specs.declared.header.AddressFamily.{AddressFamily}
+use Rattle.radio_proxy.specs.declared.header.AddressFamily.TheVariants.{V4, V6}
 use Rattle.radio_proxy.specs.declared.header.Header.{Header}
 use Rattle.radio_proxy.specs.declared.header.Header.TheVariants.{Partial, Whole, Bad}
-use Rattle.radio_proxy.specs.declared.header.Named.{Named}
-use Rattle.radio_proxy.specs.declared.header.Named.TheVariants.{Client, Nobody}
+use Rattle.radio_proxy.specs.declared.header.NamedClient.{NamedClient}
+use Rattle.radio_proxy.specs.declared.header.NamedClient.TheVariants.{Client, Nobody}
 
 -- a decimal number to 65535 with no needless zero in front
 unfoldable pub is_port : List ℕ → Bool
 is_port text = if nat_lt 1 (length text) && slice_index text 0 == 48 then false else is_some (number_of 10 65535 text)
 
 -- the peer of a text of this family: an IPv6 address has a colon, and an IPv4 address has none
-abbrev pub peer_if : Family → Option (List ℕ × List ℕ) → List ℕ → Option Address
+abbrev pub peer_if : AddressFamily → Option (List ℕ × List ℕ) → List ℕ → Option Address
 peer_if V4 None text = peer_of text
 peer_if V4 (Some parts) text = None
 peer_if V6 None text = None
 peer_if V6 (Some parts) text = peer_of text
 
-unfoldable pub address_in : Family → List ℕ → Option Address
+unfoldable pub address_in : AddressFamily → List ℕ → Option Address
 address_in family text = peer_if family (cut 58 text) text
 
 -- `CLIENT SERVER CLIENT-PORT SERVER-PORT`
-unfoldable pub tcp_of : Family → List ℕ → Option Named
+unfoldable pub tcp_of : AddressFamily → List ℕ → Option NamedClient
 tcp_of family fields =
     option_and_then (λ client. option_and_then (λ server. option_and_then (λ ports.
     option_and_then (λ peer. option_and_then (λ other. if is_port ports.0 && is_port ports.1 then Some (Client peer) else None)
@@ -37,7 +37,7 @@ tcp_of family fields =
     (cut 32 server.1)) (cut 32 client.1)) (cut 32 fields)
 
 -- a family, and what it needs: behind `UNKNOWN` anything may come
-abbrev pub fields_of : List ℕ → List ℕ → Option Named
+abbrev pub fields_of : List ℕ → List ℕ → Option NamedClient
 fields_of family rest =
     if bytes_eq family (codes "UNKNOWN") then Some Nobody
     else if bytes_eq family (codes "TCP4") then tcp_of V4 rest
@@ -45,11 +45,11 @@ fields_of family rest =
     else None
 
 -- the fields behind `PROXY`
-abbrev pub by_family : List ℕ → Option (List ℕ × List ℕ) → Option Named
+abbrev pub by_family : List ℕ → Option (List ℕ × List ℕ) → Option NamedClient
 by_family fields None = fields_of fields []
 by_family fields (Some parts) = fields_of parts.0 parts.1
 
-unfoldable pub named_by : List ℕ → Option Named
+unfoldable pub named_by : List ℕ → Option NamedClient
 named_by fields = by_family fields (cut 32 fields)
 
 -- a line without the carriage return at its end, if it has one
@@ -57,13 +57,13 @@ abbrev pub line_text : List ℕ → Option (List ℕ)
 line_text line = if slice_index line (length line - 1) == 13 then Some (take (length line - 1) line) else None
 
 -- whom a line names, which is given without its LF
-unfoldable pub named_in : List ℕ → Option Named
+unfoldable pub named_in : List ℕ → Option NamedClient
 named_in line =
     option_and_then (λ text. option_and_then (λ word. if bytes_eq word.0 (codes "PROXY") then named_by word.1 else None) (cut 32 text))
     (line_text line)
 
 -- the header of a line, with its LF
-abbrev pub header_with : ℕ → Option Named → Header
+abbrev pub header_with : ℕ → Option NamedClient → Header
 header_with len None = Bad
 header_with len (Some named) = Whole len named
 
@@ -86,6 +86,6 @@ header_of bytes = header_by (length (take 107 bytes)) (cut 10 (take 107 bytes))
 
 -- the peer of a connection by its header: the client that is named, or else the other end of the connection
 -- rule: Proxy header
-abbrev pub peer_by : Named → Address → Address
+abbrev pub peer_by : NamedClient → Address → Address
 peer_by (Client peer) own = peer
 peer_by Nobody own = own

@@ -3,14 +3,14 @@ use Rattle.std.specs.Prelude.{◌≡◌, ◌≤◌, ℕ, ◌+◌, true, List, []
 use Rattle.std.specs.List.{Contains}
 use Rattle.radio_addr.specs.declared.address.Address.{Address}
 use Rattle.radio_proxy.specs.Headers.{address_in, is_port, named_in}
-use Rattle.radio_proxy.specs.declared.header.Family.{Family}
-use Rattle.radio_proxy.specs.declared.header.Family.TheVariants.{V4, V6}
-use Rattle.radio_proxy.specs.declared.header.Named.{Named}
-use Rattle.radio_proxy.specs.declared.header.Named.TheVariants.{Client, Nobody}
+use Rattle.radio_proxy.specs.declared.header.AddressFamily.{AddressFamily}
+use Rattle.radio_proxy.specs.declared.header.AddressFamily.TheVariants.{V4, V6}
+use Rattle.radio_proxy.specs.declared.header.NamedClient.{NamedClient}
+use Rattle.radio_proxy.specs.declared.header.NamedClient.TheVariants.{Client, Nobody}
 
 -- the bytes begin with a line of so many bytes, with CR LF at its end and no LF before it, that names this
 -- rule: Proxy header
-pub record IsHeader (bytes : List ℕ) (len : ℕ) (named : Named) : Type 0 where
+pub record IsHeader (bytes : List ℕ) (len : ℕ) (named : NamedClient) : Type 0 where
   pub line : List ℕ
   pub rest : List ℕ
   pub are_bytes : bytes ≡ line ++ 10 ∷ rest
@@ -19,12 +19,12 @@ pub record IsHeader (bytes : List ℕ) (len : ℕ) (named : Named) : Type 0 wher
   pub short : len ≤ 107
   pub names : named_in line ≡ Some named
 
-abbrev pub family_word : Family → List ℕ
+abbrev pub family_word : AddressFamily → List ℕ
 family_word V4 = codes "TCP4"
 family_word V6 = codes "TCP6"
 
 -- `CLIENT SERVER CLIENT-PORT SERVER-PORT`, with single spaces between them: two addresses of the family, and two ports
-pub record AreTcpFields (family : Family) (fields : List ℕ) (peer : Address) : Type 0 where
+pub record AreTcpFields (family : AddressFamily) (fields : List ℕ) (peer : Address) : Type 0 where
   pub client : List ℕ
   pub server : List ℕ
   pub client_port : List ℕ
@@ -43,7 +43,7 @@ pub data IsIgnored : List ℕ → Type 0 where
 
 -- a line, without its LF, names somebody: `PROXY TCP4` or `PROXY TCP6` and the fields, or `PROXY UNKNOWN`; each ends with CR
 -- rule: Proxy header
-pub data Names (line : List ℕ) : Named → Type 0 where
-  ByTcp : (family : Family) (fields : List ℕ) (peer : Address) → AreTcpFields family fields peer
+pub data Names (line : List ℕ) : NamedClient → Type 0 where
+  ByTcp : (family : AddressFamily) (fields : List ℕ) (peer : Address) → AreTcpFields family fields peer
       → line ≡ codes "PROXY " ++ (family_word family ++ 32 ∷ (fields ++ 13 ∷ [])) → Names line (Client peer)
   ByNone : (ignored : List ℕ) → IsIgnored ignored → line ≡ codes "PROXY UNKNOWN" ++ (ignored ++ 13 ∷ []) → Names line Nobody

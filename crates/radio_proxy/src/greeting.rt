@@ -5,17 +5,17 @@ ghost use Rattle.std.specs.Io.{StartsWith};
 ghost use Rattle.std.specs.Io.KnownBytes.{Consumes, Keeps};
 ghost use Rattle.radio_proxy.specs.Greetings.{IsGreeted};
 
-use crate::header::{Header, MOST_BYTES, Named, read_header};
+use crate::header::{Header, MOST_BYTES, NamedClient, read_header};
 use crate::peek::Peek;
 use std::io::{ErrorKind, Read};
 
 /// What a look at a stream comes to whose header is awaited.
 #[derive(Clone, Copy, Debug, PartialEq, Eq)]
-pub enum Greeting {
+pub enum HeaderLook {
     /// Its header has not come whole.
     Waits,
     /// Its header has come, was read, and names this.
-    Named(Named),
+    Named(NamedClient),
     /// What has come is no header.
     Bad,
     /// Its peer has closed, or it has failed.
@@ -25,32 +25,32 @@ pub enum Greeting {
 /// Reads the header that the stream begins with, if it has come whole, and no byte behind it. What is no header, or no whole
 /// one, is left where it is.
 // rule: Proxy header
-pub fn take_header<S: Peek>(stream: &mut S) -> Greeting
+pub fn take_header<S: Peek>(stream: &mut S) -> HeaderLook
     ensures { IsGreeted (S.remaining stream.old) (S.remaining stream.new) result }
 {
     let mut buffer = [0u8; MOST_BYTES];
     match stream.peek_front(&mut buffer) {
-        Ok(0) => Greeting::Over,
+        Ok(0) => HeaderLook::Over,
         Ok(count) => greet(stream, &mut buffer[..count]),
-        Err(error) if error.kind() == ErrorKind::WouldBlock => Greeting::Waits,
-        Err(_) => Greeting::Over,
+        Err(error) if error.kind() == ErrorKind::WouldBlock => HeaderLook::Waits,
+        Err(_) => HeaderLook::Over,
     }
 }
 
 /// The same of a stream that begins with these bytes.
 // rule: Proxy header
-fn greet<S: Peek>(stream: &mut S, front: &mut [u8]) -> Greeting
+fn greet<S: Peek>(stream: &mut S, front: &mut [u8]) -> HeaderLook
     requires { IfSome (S.remaining stream.old) (λ bytes. StartsWith bytes front.old) }
     ensures { IsGreeted (S.remaining stream.old) (S.remaining stream.new) result }
 {
     match read_header(front) {
-        Header::Partial => Greeting::Waits,
-        Header::Bad => Greeting::Bad,
+        Header::Partial => HeaderLook::Waits,
+        Header::Bad => HeaderLook::Bad,
         Header::Whole { len, named } => {
             if take_off(stream, &mut front[..len]) {
-                Greeting::Named(named)
+                HeaderLook::Named(named)
             } else {
-                Greeting::Over
+                HeaderLook::Over
             }
         }
     }

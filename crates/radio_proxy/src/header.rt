@@ -5,7 +5,7 @@ ghost use Rattle.std.specs.Option.{option_map};
 ghost use Rattle.radio_addr.specs.declared.address.Address.{Address};
 ghost use Rattle.radio_proxy.specs.Headers.{address_in, fields_of, header_in, header_of, is_port, line_text, named_by, named_in, tcp_of, unended};
 ghost use Rattle.radio_proxy.specs.declared.header.Header.TheVariants.{Whole};
-ghost use Rattle.radio_proxy.specs.declared.header.Named.{Named as NamedOf};
+ghost use Rattle.radio_proxy.specs.declared.header.NamedClient.{NamedClient as NamedOf};
 
 use radio_addr::{Peer, read_peer};
 use radio_texts::{cut, read_number};
@@ -16,7 +16,7 @@ pub const MOST_BYTES: usize = 107;
 
 /// Whom a header names.
 #[derive(Clone, Copy, Debug, PartialEq, Eq)]
-pub enum Named {
+pub enum NamedClient {
     /// A client at this address.
     Client(Peer),
     /// Nobody: the connection is the proxy's own, or of a protocol that it does not know.
@@ -29,21 +29,21 @@ pub enum Header {
     /// A part of a header: more bytes decide.
     Partial,
     /// A whole header of `len` bytes, with its CR LF, and whom it names.
-    Whole { len: usize, named: Named },
+    Whole { len: usize, named: NamedClient },
     /// No header, whatever follows.
     Bad,
 }
 
 /// A family of addresses.
 #[derive(Clone, Copy)]
-enum Family {
+enum AddressFamily {
     /// IPv4, as `TCP4` says.
     V4,
     /// IPv6, as `TCP6` says.
     V6,
 }
 
-impl Named {
+impl NamedClient {
     ghost use Rattle.radio_proxy.specs.Headers.{peer_by};
 
     /// Returns the peer of a connection whose header names this, and whose other end is at `own`: the client that is named, or
@@ -53,8 +53,8 @@ impl Named {
         ensures { result ≡ peer_by self own }
     {
         match self {
-            Named::Client(peer) => peer,
-            Named::Nobody => own,
+            NamedClient::Client(peer) => peer,
+            NamedClient::Nobody => own,
         }
     }
 }
@@ -118,7 +118,7 @@ fn header_in(line: &[u8]) -> Header
 
 /// Returns whom this line names. `None` if it is no header.
 #[tactic(auto, unfolding(crate::specs::Headers::named_in))]
-fn named_in(line: &[u8]) -> Option<Named>
+fn named_in(line: &[u8]) -> Option<NamedClient>
     ensures { result ≡ named_in line.now }
 {
     let text = line_text(line)?;
@@ -142,7 +142,7 @@ fn line_text(line: &[u8]) -> Option<&[u8]>
 
 /// Returns whom the fields behind the word `PROXY` name: a family of addresses, and what it needs.
 #[tactic(auto, unfolding(crate::specs::Headers::named_by))]
-fn named_by(fields: &[u8]) -> Option<Named>
+fn named_by(fields: &[u8]) -> Option<NamedClient>
     ensures { result ≡ named_by fields.now }
 {
     match cut(fields, b' ') {
@@ -152,17 +152,17 @@ fn named_by(fields: &[u8]) -> Option<Named>
 }
 
 /// Returns whom the fields behind this family name. Behind `UNKNOWN` anything may come.
-fn fields_of(family: &[u8], rest: &[u8]) -> Option<Named>
+fn fields_of(family: &[u8], rest: &[u8]) -> Option<NamedClient>
     ensures { result ≡ fields_of family.now rest.now }
 {
     if family == b"UNKNOWN".as_slice() {
-        return Some(Named::Nobody);
+        return Some(NamedClient::Nobody);
     }
     if family == b"TCP4".as_slice() {
-        return tcp_of(Family::V4, rest);
+        return tcp_of(AddressFamily::V4, rest);
     }
     if family == b"TCP6".as_slice() {
-        return tcp_of(Family::V6, rest);
+        return tcp_of(AddressFamily::V6, rest);
     }
     None
 }
@@ -170,7 +170,7 @@ fn fields_of(family: &[u8], rest: &[u8]) -> Option<Named>
 /// Returns whom these fields name: the address of the client, that of the server, and the port of each.
 // rule: Proxy header
 #[tactic(auto, unfolding(crate::specs::Headers::tcp_of))]
-fn tcp_of(family: Family, fields: &[u8]) -> Option<Named>
+fn tcp_of(family: AddressFamily, fields: &[u8]) -> Option<NamedClient>
     ensures { result ≡ tcp_of family fields.now }
 {
     let (client, rest) = cut(fields, b' ')?;
@@ -179,21 +179,21 @@ fn tcp_of(family: Family, fields: &[u8]) -> Option<Named>
     let peer = family.address(client)?;
     let _server = family.address(server)?;
     if is_port(client_port) && is_port(server_port) {
-        Some(Named::Client(peer))
+        Some(NamedClient::Client(peer))
     } else {
         None
     }
 }
 
-impl Family {
+impl AddressFamily {
     /// Returns the peer of a text of this family: an IPv6 address has a colon, and an IPv4 address has none.
     #[tactic(auto, unfolding(crate::specs::Headers::address_in))]
     fn address(self, text: &[u8]) -> Option<Peer>
         ensures { result ≡ address_in self text.now }
     {
         match (self, cut(text, b':')) {
-            (Family::V4, None) | (Family::V6, Some(_)) => read_peer(text),
-            (Family::V4, Some(_)) | (Family::V6, None) => None,
+            (AddressFamily::V4, None) | (AddressFamily::V6, Some(_)) => read_peer(text),
+            (AddressFamily::V4, Some(_)) | (AddressFamily::V6, None) => None,
         }
     }
 }

@@ -14,7 +14,7 @@ pub mod laws;
 mod peek;
 mod pending;
 
-pub use greeting::{Greeting, take_header};
-pub use header::{Header, MOST_BYTES, Named, read_header};
+pub use greeting::{HeaderLook, take_header};
+pub use header::{Header, MOST_BYTES, NamedClient, read_header};
 pub use peek::Peek;
-pub use pending::{Outcome, Pending, Settled};
+pub use pending::{HeaderOutcome, Pending, Settled};

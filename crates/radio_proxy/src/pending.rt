@@ -4,17 +4,17 @@ ghost use Rattle.std.specs.Prelude.{◌≡◌, ◌≤◌, ◌<◌, ◌+◌, ◌-
 ghost use Rattle.std.specs.List.{position};
 ghost use Rattle.radio_proxy.specs.Pending.{IsEnded, due, is_proxy, overdue};
 
-use crate::greeting::{Greeting, take_header};
-use crate::header::Named;
+use crate::greeting::{HeaderLook, take_header};
+use crate::header::NamedClient;
 use crate::peek::Peek;
 use radio_addr::{AddressList, Peer};
 use std::alloc::Global;
 
 /// What became of a connection whose header was awaited.
 #[derive(Clone, Copy, Debug, PartialEq, Eq)]
-pub enum Outcome {
+pub enum HeaderOutcome {
     /// Its header has come, and names this.
-    Named(Named),
+    Named(NamedClient),
     /// What came is no header, or none came in time.
     Bad,
     /// Its peer has closed before its header was whole, or the stream has failed.
@@ -31,7 +31,7 @@ pub struct Settled<S: Drop> {
     /// When it was accepted, in milliseconds.
     pub since_ms: u64,
     /// What became of it.
-    pub outcome: Outcome,
+    pub outcome: HeaderOutcome,
 }
 
 /// A connection that is awaited.
@@ -68,27 +68,27 @@ impl<S: Peek + Drop> Awaited<S> {
     }
 
     /// Looks at it. Returns what became of it by this moment; `None` if it is awaited on.
-    fn look(&mut self, ms: u64, patience_ms: u64) -> Option<Outcome>
+    fn look(&mut self, ms: u64, patience_ms: u64) -> Option<HeaderOutcome>
         ensures proxy { self.new.proxy ≡ self.old.proxy }
         ensures ended { IsEnded (S.remaining self.old.stream) (S.remaining self.new.stream) result }
     {
         self.is_readable = false;
         match take_header(&mut self.stream) {
-            Greeting::Named(named) => Some(Outcome::Named(named)),
-            Greeting::Bad => Some(Outcome::Bad),
-            Greeting::Over => Some(Outcome::Left),
-            Greeting::Waits => self.overdue(ms, patience_ms),
+            HeaderLook::Named(named) => Some(HeaderOutcome::Named(named)),
+            HeaderLook::Bad => Some(HeaderOutcome::Bad),
+            HeaderLook::Over => Some(HeaderOutcome::Left),
+            HeaderLook::Waits => self.overdue(ms, patience_ms),
         }
     }
 
     /// Returns what became of it if no header came by this moment.
-    fn overdue(&self, ms: u64, patience_ms: u64) -> Option<Outcome>
+    fn overdue(&self, ms: u64, patience_ms: u64) -> Option<HeaderOutcome>
         ensures { result ≡ overdue self.now.is_over self.now.since_ms ms patience_ms }
     {
         if self.is_over {
-            Some(Outcome::Left)
+            Some(HeaderOutcome::Left)
         } else if ms.saturating_sub(self.since_ms) >= patience_ms {
-            Some(Outcome::Bad)
+            Some(HeaderOutcome::Bad)
         } else {
             None
         }
@@ -249,7 +249,7 @@ impl<S: Drop> Awaited<S> {
 }
 
 /// Returns the connection as one that is awaited no more.
-fn settled_as<S: Drop>(awaited: Awaited<S>, outcome: Outcome) -> Settled<S>
+fn settled_as<S: Drop>(awaited: Awaited<S>, outcome: HeaderOutcome) -> Settled<S>
     ensures proxy { result.proxy ≡ awaited.proxy }
     ensures stream { result.stream ≡ awaited.stream }
     ensures outcome { result.outcome ≡ outcome }

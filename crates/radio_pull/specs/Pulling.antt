@@ -6,8 +6,8 @@ use Rattle.radio_events.specs.declared.reply.Reply.{Reply}
 use Rattle.radio_events.specs.declared.reply.Reply.TheVariants.{Arrived, Deny, Finished}
 use Rattle.radio_relay.specs.declared.items.PullItem.{PullItem}
 use Rattle.radio_relay.specs.declared.items.PullItem.TheVariants.{Up, Sound, Title as TitleItem}
-use Rattle.radio_relay.specs.declared.pull.Stage.{Stage}
-use Rattle.radio_relay.specs.declared.pull.Stage.TheVariants.{Head}
+use Rattle.radio_relay.specs.declared.pull.PullStage.{PullStage}
+use Rattle.radio_relay.specs.declared.pull.PullStage.TheVariants.{Head}
 use Rattle.radio_events.specs.declared.state.State.{State}
 use Rattle.radio_events.specs.declared.state.State.TheVariants.{Running, Shut}
 use Rattle.radio_events.specs.declared.state.Ending.{Ending}
@@ -17,7 +17,7 @@ use Rattle.radio_events.specs.declared.state.Ending.TheVariants.{By}
 pub record Pulling : Type 0 where
   pub mount : List ℕ
   pub number : Option ℕ
-  pub stage : Stage
+  pub stage : PullStage
 
 -- nothing has come
 abbrev pub begun : List ℕ → Pulling

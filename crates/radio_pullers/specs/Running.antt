@@ -3,7 +3,7 @@ use Rattle.std.specs.Prelude.{◌≡◌, ◌<◌, ℕ, Bool, List, [], map, Opti
 use Rattle.std.specs.Str.{bytes_eq}
 use lib.Pointwise.{pointwise}
 use Rattle.radio_masters.specs.declared.failing.Failing.{Failing}
-use Rattle.radio_masters.specs.declared.turns.Waiting.{Waiting}
+use Rattle.radio_masters.specs.declared.turns.WaitingRelay.{WaitingRelay}
 use Rattle.radio_masters.specs.Turns.{HaveTheirTurn}
 use Rattle.radio_settings_values.specs.declared.settings.RelaySetting.{RelaySetting}
 use Rattle.radio_tries.specs.Tries.{free_places}
@@ -23,6 +23,6 @@ are_same names others = pointwise bytes_eq names others
 
 -- of those that wait these begin at a moment: they have their turn in the places that are free, by how many sources there may be,
 -- how many relays run, and how many places are kept
-pub record IsChosen (ms sources running kept : ℕ) (waiting chosen : List Waiting) : Type 0 where
+pub record IsChosen (ms sources running kept : ℕ) (waiting chosen : List WaitingRelay) : Type 0 where
   pub turn : 0 < free_places sources running kept → HaveTheirTurn ms (free_places sources running kept) waiting chosen
   pub full : free_places sources running kept ≡ 0 → chosen ≡ []

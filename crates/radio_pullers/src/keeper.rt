@@ -16,13 +16,13 @@ ghost use Rattle.radio_pullers.specs.Running.{IsChosen, are_same, mounts_of};
 use crate::OutOfMemory;
 use crate::roster::Roster;
 use crate::running::RunningRelay;
-use crate::station::Station;
+use crate::station::RelayedStation;
 use radio_events::SharedServer;
-use radio_lines::{Reach, moment};
-use radio_masters::Waiting;
+use radio_lines::{Network, moment};
+use radio_masters::WaitingRelay;
 use radio_relay::plan;
 use radio_settings_values::{RelaySetting, Settings};
-use radio_tries::{Outcome, REST_MS, Tries, after, free_places, wishes_of};
+use radio_tries::{REST_MS, RelayOutcome, Tries, after, free_places, wishes_of};
 use radio_values::MountName;
 use std::alloc::Global;
 use std::collections::BTreeSet;
@@ -43,7 +43,7 @@ pub(crate) struct Keeper {
     /// those that ran.
     wished: Vec<Arc<RelaySetting>>,
     /// Which of these begin now, the last one first.
-    chosen: Vec<Waiting>,
+    chosen: Vec<WaitingRelay>,
     roster: Roster,
     tries: Tries,
 }
@@ -70,10 +70,10 @@ impl Keeper {
 
     /// Finds out which relays may begin now, and stops those that are not wished any more. Where memory is refused, fewer
     /// begin.
-    pub(crate) fn look<R: Clock + Wait, N: Reach, S: SharedServer>(
+    pub(crate) fn look<R: Clock + Wait, N: Network, S: SharedServer>(
         &mut self,
         rt: &R,
-        station: &Station<'_, N, S>,
+        station: &RelayedStation<'_, N, S>,
     ) {
         self.note_ends(rt);
         if let Some(names) = station.list.lock(rt).take() {
@@ -109,7 +109,7 @@ impl Keeper {
     fn note_end(
         &mut self,
         mount: &MountName,
-        outcome: Outcome,
+        outcome: RelayOutcome,
         was_stopped: bool,
     ) -> Result<(), OutOfMemory>
         ensures planned { self.new.is_planned ≡ (self.old.is_planned && not was_stopped) }

@@ -4,11 +4,11 @@ ghost use Rattle.std.specs.Prelude.{◌≡◌, ◌↔◌, ◌<◌, length, IfSom
 ghost use Rattle.radio_masters.specs.Listed.{most_listed};
 ghost use Rattle.radio_pullers.specs.Lists.{IsListOfAnswer};
 
-use crate::station::Station;
+use crate::station::RelayedStation;
 use crate::waits::waits_until;
 use mio::net::TcpStream;
-use radio_board::Board;
-use radio_lines::{Reach, SocketLine, Sockets, moment};
+use radio_board::Shared;
+use radio_lines::{Network, SocketLine, Sockets, moment};
 use radio_masters::{ListLog, ListPull, keep_first};
 use radio_settings_values::SlaveSetting;
 use radio_tries::{MOST_SILENT_MS, Pause, after, list_due_ms, pause_at};
@@ -27,27 +27,27 @@ const WAIT_MS: u64 = 500;
 
 /// Asks the master of this slave for its list, again after each interval, until all are to stop. Each list that comes whole is
 /// handed over; one that does not leaves the last one in force.
-pub(crate) fn keep_list<R: Clock + Wait, N: Reach, S>(
+pub(crate) fn keep_list<R: Clock + Wait, N: Network, S>(
     rt: &R,
-    station: &Station<'_, N, S>,
+    station: &RelayedStation<'_, N, S>,
     slave: &SlaveSetting,
 ) {
-    let mut log = ListLog::new(station.board.alloc());
+    let mut log = ListLog::new(station.shared.alloc());
     'lists: for _ in rt.forever() {
         let next_ms = list_due_ms(moment(rt), slave.master_update_interval.get());
-        if let Some(names) = fetch(rt, station.net, station.board, slave) {
+        if let Some(names) = fetch(rt, station.net, station.shared, slave) {
             hand_over(rt, station, &mut log, names);
         }
-        if !waits_until(rt, station.board, None, next_ms) {
+        if !waits_until(rt, station.shared, None, next_ms) {
             return;
         }
     }
 }
 
 /// Hands the front of a list over, and tells in the log if there was more of it.
-fn hand_over<R: Clock + Wait, N: Reach, S>(
+fn hand_over<R: Clock + Wait, N: Network, S>(
     rt: &R,
-    station: &Station<'_, N, S>,
+    station: &RelayedStation<'_, N, S>,
     log: &mut ListLog,
     names: BTreeSet<MountName>,
 )
@@ -65,25 +65,25 @@ fn hand_over<R: Clock + Wait, N: Reach, S>(
     log.note_list(has_others);
     let lines = log.lines().take();
     if !lines.is_empty() {
-        station.board.add_lines(rt, lines.as_slice(), seconds);
+        station.shared.add_lines(rt, lines.as_slice(), seconds);
     }
 }
 
 /// Returns the list of the first address of the master that answers.
 // rule: List of a slave
-fn fetch<R: Clock + Wait, N: Reach>(
+fn fetch<R: Clock + Wait, N: Network>(
     rt: &R,
     net: &N,
-    board: &Board,
+    shared: &Shared,
     slave: &SlaveSetting,
 ) -> Option<BTreeSet<MountName>>
     ensures { IfSome result (λ names. IsListOfAnswer names.keys) }
 {
-    let mut sockets = Sockets::alone(net, board.alloc()).ok()?;
+    let mut sockets = Sockets::alone(net, shared.alloc()).ok()?;
     let master = &slave.master;
     let port = master.port.get() as u16;
-    'addresses: for address in net.addresses(board.alloc(), master.server.as_str(), port) {
-        if let Some(names) = fetch_at(rt, net, board, slave, &mut sockets, address) {
+    'addresses: for address in net.addresses(shared.alloc(), master.server.as_str(), port) {
+        if let Some(names) = fetch_at(rt, net, shared, slave, &mut sockets, address) {
             return Some(names);
         }
     }
@@ -91,10 +91,10 @@ fn fetch<R: Clock + Wait, N: Reach>(
 }
 
 /// Returns the list of the master at this address, if it comes whole and in time.
-fn fetch_at<R: Clock + Wait, N: Reach>(
+fn fetch_at<R: Clock + Wait, N: Network>(
     rt: &R,
     net: &N,
-    board: &Board,
+    shared: &Shared,
     slave: &SlaveSetting,
     sockets: &mut Sockets,
     address: SocketAddr,
@@ -102,14 +102,14 @@ fn fetch_at<R: Clock + Wait, N: Reach>(
     ensures { IfSome result (λ names. IsListOfAnswer names.keys) }
 {
     let line = sockets.connect(net, address).ok()?;
-    let mut pull = ListPull::new(board.alloc(), slave, line).ok()?;
-    list_in(rt, board, sockets, &mut pull)
+    let mut pull = ListPull::new(shared.alloc(), slave, line).ok()?;
+    list_in(rt, shared, sockets, &mut pull)
 }
 
 /// Returns the list, if it comes whole and in time.
 fn list_in<R: Clock + Wait>(
     rt: &R,
-    board: &Board,
+    shared: &Shared,
     sockets: &mut Sockets,
     pull: &mut ListPull<SocketLine<TcpStream>>,
 ) -> Option<BTreeSet<MountName>>
@@ -120,7 +120,7 @@ fn list_in<R: Clock + Wait>(
     'turns: for _ in rt.forever() {
         let wait_ms = sockets.activity().wait_ms(WAIT_MS);
         let heard = sockets.hear(rt, wait_ms).ok()?;
-        let pause = pause_at(board.is_over(), heard.ms, ends_ms);
+        let pause = pause_at(shared.is_over(), heard.ms, ends_ms);
         if !matches!(pause, Pause::Waits(_)) {
             return None;
         }

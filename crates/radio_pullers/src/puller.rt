@@ -11,15 +11,15 @@ ghost use Rattle.radio_pullers.specs.Turns.{MayTurn};
 
 use crate::OutOfMemory;
 use crate::running::RunningRelay;
-use crate::station::Station;
+use crate::station::RelayedStation;
 use crate::waits::waits_until;
 use mio::net::TcpStream;
-use radio_board::{Board, NewsFor};
+use radio_board::{NewsFor, Shared};
 use radio_events::{Caller, SharedServer};
-use radio_lines::{Reach, SocketLine, Sockets, moment, moment_us};
-use radio_masters::{Asked, MountPull, RelayEnd};
+use radio_lines::{Network, SocketLine, Sockets, moment, moment_us};
+use radio_masters::{MountPull, RelayEnd, RelayServer};
 use radio_serving::{Server, Take, Watched};
-use radio_tries::{Outcome, REST_MS, after, end_of, is_last_pull, pull_end};
+use radio_tries::{REST_MS, RelayOutcome, after, end_of, is_last_pull, pull_end};
 use std::alloc::Global;
 use std::io;
 use std::net::SocketAddr;
@@ -35,13 +35,13 @@ const WAIT_MS: u64 = 500;
 
 /// A relay's thread.
 #[derive(Drop)]
-struct Puller<'a, R: Clock + Wait, N: Reach, S: Server + Drop> {
+struct Puller<'a, R: Clock + Wait, N: Network, S: Server + Drop> {
     rt: &'a R,
     net: &'a N,
-    board: &'a Board,
+    shared: &'a Shared,
     relay: &'a RunningRelay,
     sockets: Sockets,
-    asked: Asked<Watched<S>>,
+    asked: RelayServer<Watched<S>>,
     /// When the pull began, in milliseconds.
     began_ms: u64,
     /// The moment that the log was told, in seconds since 1970.
@@ -50,9 +50,9 @@ struct Puller<'a, R: Clock + Wait, N: Reach, S: Server + Drop> {
 
 /// Pulls this relay in, with a pass of its own, until it is to stop, or a try to bring it up has failed. A pull that has ended
 /// of a relay that was up is begun again after five seconds.
-pub(crate) fn pull_relay<R: Clock + Wait, N: Reach, S: SharedServer>(
+pub(crate) fn pull_relay<R: Clock + Wait, N: Network, S: SharedServer>(
     rt: &R,
-    station: &Station<'_, N, S>,
+    station: &RelayedStation<'_, N, S>,
     relay: &RunningRelay,
 ) {
     let outcome = match Puller::begun(rt, station, relay) {
@@ -63,11 +63,11 @@ pub(crate) fn pull_relay<R: Clock + Wait, N: Reach, S: SharedServer>(
 }
 
 /// Returns how a relay's thread has ended that was refused memory, a pass or a socket before anything was tried.
-fn not_begun<R: Clock>(rt: &R, relay: &RunningRelay) -> Outcome
+fn not_begun<R: Clock>(rt: &R, relay: &RunningRelay) -> RelayOutcome
     ensures why { result.why ≡ NoMemory }
     ensures failing { result.failing ≡ relay.now.failing }
 {
-    Outcome {
+    RelayOutcome {
         why: RelayEnd::OutOfMemory,
         ms: moment(rt),
         failing: relay.failing(),
@@ -79,50 +79,50 @@ fn asked_for<S: Server + Drop>(
     alloc: Global,
     relay: &RunningRelay,
     server: S,
-) -> Result<Asked<Watched<S>>, OutOfMemory>
+) -> Result<RelayServer<Watched<S>>, OutOfMemory>
     ensures server { IfOk result (λ asked. asked.server ≡ watched_of server) }
     ensures failing { IfOk result (λ asked. asked.course.failing ≡ relay.now.failing) }
 {
-    let mut asked = Asked::new(alloc, Watched::new(alloc, server), relay.setting())?;
+    let mut asked = RelayServer::new(alloc, Watched::new(alloc, server), relay.setting())?;
     asked.set_failing(relay.failing());
     Ok(asked)
 }
 
-impl<'a, R: Clock + Wait, N: Reach, S: SharedServer> Puller<'a, R, N, Caller<'a, R, S>> {
+impl<'a, R: Clock + Wait, N: Network, S: SharedServer> Puller<'a, R, N, Caller<'a, R, S>> {
     /// Returns the thread of this relay, with a pass of its own; `None` if there is none, or memory or a socket was refused.
     fn begun(
         rt: &'a R,
-        station: &Station<'a, N, S>,
+        station: &RelayedStation<'a, N, S>,
         relay: &'a RunningRelay,
     ) -> Option<Puller<'a, R, N, Caller<'a, R, S>>>
         ensures { IfSome result (λ puller. puller.began_ms ≡ 0) }
     {
         let pass = station.server.pass(rt)?;
         let caller = Caller::new(rt, station.server, pass);
-        Puller::new(rt, station.net, station.board, relay, caller).ok()
+        Puller::new(rt, station.net, station.shared, relay, caller).ok()
     }
 }
 
-impl<'a, R: Clock + Wait, N: Reach, S: Server + Drop> Puller<'a, R, N, S> {
+impl<'a, R: Clock + Wait, N: Network, S: Server + Drop> Puller<'a, R, N, S> {
     /// Returns the thread of this relay, which asks this server. The system's fault where it tells nothing of sockets, or
     /// memory was refused.
     fn new(
         rt: &'a R,
         net: &'a N,
-        board: &'a Board,
+        shared: &'a Shared,
         relay: &'a RunningRelay,
         server: S,
     ) -> io::Result<Puller<'a, R, N, S>>
         ensures server { IfOk result (λ puller. puller.asked.server ≡ watched_of server) }
         ensures began { IfOk result (λ puller. puller.began_ms ≡ 0) }
     {
-        let alloc = board.alloc();
+        let alloc = shared.alloc();
         let asked = asked_for(alloc, relay, server)?;
         let sockets = Sockets::alone(net, alloc)?;
         Ok(Puller {
             rt,
             net,
-            board,
+            shared,
             relay,
             sockets,
             asked,
@@ -132,7 +132,7 @@ impl<'a, R: Clock + Wait, N: Reach, S: Server + Drop> Puller<'a, R, N, S> {
     }
 
     /// Pulls again and again, until it is to stop, or a pull has not brought it up. Returns how it has ended.
-    fn work(&mut self) -> Outcome {
+    fn work(&mut self) -> RelayOutcome {
         let mut why = RelayEnd::NotWished;
         'pulls: for _ in self.rt.forever() {
             why = self.pull();
@@ -151,15 +151,15 @@ impl<'a, R: Clock + Wait, N: Reach, S: Server + Drop> Puller<'a, R, N, S> {
         let was_up = self.asked.is_up();
         self.tell_end(why);
         let until_ms = after(moment(self.rt), REST_MS);
-        was_up && waits_until(self.rt, self.board, Some(self.relay), until_ms)
+        was_up && waits_until(self.rt, self.shared, Some(self.relay), until_ms)
     }
 
     /// Returns how the thread has ended whose last pull has ended so.
-    fn outcome(&self, why: RelayEnd) -> Outcome
+    fn outcome(&self, why: RelayEnd) -> RelayOutcome
         ensures { (result.why ≡ why) ⊎ (result.why ≡ NotWished) }
     {
         let failing = self.asked.failing();
-        Outcome::of(self.relay.is_stopped(), why, moment(self.rt), failing)
+        RelayOutcome::of(self.relay.is_stopped(), why, moment(self.rt), failing)
     }
 
     /// Pulls from the first address of the master that answers. Returns why the pull has ended.
@@ -179,7 +179,7 @@ impl<'a, R: Clock + Wait, N: Reach, S: Server + Drop> Puller<'a, R, N, S> {
         let master = &self.relay.setting().master;
         let port = master.port.get() as u16;
         self.net
-            .addresses(self.board.alloc(), master.server.as_str(), port)
+            .addresses(self.shared.alloc(), master.server.as_str(), port)
     }
 
     /// Pulls from this address. Returns why the pull has ended; then the relay is down.
@@ -199,13 +199,13 @@ impl<'a, R: Clock + Wait, N: Reach, S: Server + Drop> Puller<'a, R, N, S> {
     /// memory was refused.
     fn begin(&mut self, address: SocketAddr) -> Result<MountPull<SocketLine<TcpStream>>, RelayEnd>
         ensures asked { self.new.asked ≡ self.old.asked }
-        ensures pull { IfOk result (λ pull. (pull.relay ≡ begun self.old.relay.now.setting.local_mount) × (pull.owed ≡ request_text self.old.relay.now.setting) × (pull.front ≡ [])) }
+        ensures pull { IfOk result (λ pull. (pull.relay ≡ begun self.old.relay.now.setting.local_mount) × (pull.outgoing ≡ request_text self.old.relay.now.setting) × (pull.front ≡ [])) }
         ensures why { IfErr result (λ why. (why ≡ NoAnswer) ⊎ (why ≡ NoMemory)) }
     {
         let Ok(line) = self.sockets.connect(self.net, address) else {
             return Err(RelayEnd::NoAnswer);
         };
-        match MountPull::new(self.board.alloc(), self.relay.setting(), line) {
+        match MountPull::new(self.shared.alloc(), self.relay.setting(), line) {
             Ok(pull) => Ok(pull),
             Err(_) => Err(RelayEnd::OutOfMemory),
         }
@@ -215,11 +215,11 @@ impl<'a, R: Clock + Wait, N: Reach, S: Server + Drop> Puller<'a, R, N, S> {
     /// gone down already is not known any more.
     fn go_down(&mut self, pull: &MountPull<SocketLine<TcpStream>>) {
         'asking: for _ in self.rt.forever() {
-            if self.end(pull).is_ok() || self.board.is_over() {
+            if self.end(pull).is_ok() || self.shared.is_over() {
                 return;
             }
             let until_ms = after(moment(self.rt), WAIT_MS);
-            let _ = waits_until(self.rt, self.board, None, until_ms);
+            let _ = waits_until(self.rt, self.shared, None, until_ms);
         }
     }
 
@@ -258,7 +258,7 @@ impl<'a, R: Clock + Wait, N: Reach, S: Server + Drop> Puller<'a, R, N, S> {
         let Some(ms) = self.hear() else {
             return Some(RelayEnd::Left);
         };
-        if self.relay.is_stopped() || self.board.is_over() {
+        if self.relay.is_stopped() || self.shared.is_over() {
             return Some(RelayEnd::NotWished);
         }
         let turn = pull.turn(&mut self.asked, buffer);
@@ -276,7 +276,7 @@ impl<'a, R: Clock + Wait, N: Reach, S: Server + Drop> Puller<'a, R, N, S> {
         let heard = self.sockets.hear(self.rt, wait_ms).ok()?;
         self.sockets
             .activity()
-            .begin_turn(heard.ms, self.board.pace(), self.board.news_count());
+            .begin_turn(heard.ms, self.shared.pace(), self.shared.news_count());
         if let Ok(since) = self.rt.since_1970() {
             self.seconds = since.as_secs();
             self.asked.log().lines().set_moment(self.seconds);
@@ -289,10 +289,11 @@ impl<'a, R: Clock + Wait, N: Reach, S: Server + Drop> Puller<'a, R, N, S> {
         let found = self.asked.server().take_found(Take::News);
         let received = self.sockets.activity().take_received();
         let news = NewsFor::from(found.has_news);
-        self.board.note_received(received, news, moment_us(self.rt));
+        self.shared
+            .note_received(received, news, moment_us(self.rt));
         let lines = self.asked.log().lines().take();
         if !lines.is_empty() {
-            self.board
+            self.shared
                 .add_lines(self.rt, lines.as_slice(), self.seconds);
         }
     }

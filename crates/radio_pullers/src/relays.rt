@@ -7,10 +7,10 @@ use crate::keeper::Keeper;
 use crate::list_fetch::keep_list;
 use crate::puller::pull_relay;
 use crate::running::RunningRelay;
-use crate::station::Station;
-use radio_board::Board;
+use crate::station::RelayedStation;
+use radio_board::Shared;
 use radio_events::SharedServer;
-use radio_lines::{Reach, moment};
+use radio_lines::{Network, moment};
 use radio_settings_values::{Settings, SlaveSetting};
 use std::sync::{Arc, Mutex, Wait};
 use std::thread;
@@ -35,18 +35,18 @@ pub fn keep_relays<'x, R, N, S>(
     rt: &'x R,
     net: &'x N,
     server: &'x S,
-    board: &'x Board,
+    shared: &'x Shared,
     settings: &'x Settings,
 )
 where
     R: Clock + Threads + Wait + Sync,
-    N: Reach + Sync,
+    N: Network + Sync,
     S: SharedServer + Sync,
     S::Pass: Send,
 {
-    let keeper = &mut Keeper::new(board.alloc());
+    let keeper = &mut Keeper::new(shared.alloc());
     let list = Mutex::new(None);
-    let station = &Station::new(net, server, board, settings, &list);
+    let station = &RelayedStation::new(net, server, shared, settings, &list);
     thread::scope(
         thread::scope_env(),
         rt,
@@ -61,17 +61,17 @@ fn start_relays<'s, E, R, N, S>(
     scope: &Scope<'s, E>,
     keeper: &mut Keeper,
     rt: &'s R,
-    station: &'s Station<'s, N, S>,
+    station: &'s RelayedStation<'s, N, S>,
 )
 where
     R: Clock + Threads + Wait + Sync,
-    N: Reach + Sync,
+    N: Network + Sync,
     S: SharedServer + Sync,
     S::Pass: Send,
 {
     let mut slave = station.settings.slave.as_ref();
     'rounds: for _ in rt.forever() {
-        if station.board.is_over() {
+        if station.shared.is_over() {
             return;
         }
         slave = begin_list(scope, rt, station, slave);
@@ -85,11 +85,11 @@ fn start_due<'s, E, R, N, S>(
     scope: &Scope<'s, E>,
     keeper: &mut Keeper,
     rt: &'s R,
-    station: &'s Station<'s, N, S>,
+    station: &'s RelayedStation<'s, N, S>,
 )
 where
     R: Clock + Threads + Wait + Sync,
-    N: Reach + Sync,
+    N: Network + Sync,
     S: SharedServer + Sync,
     S::Pass: Send,
 {
@@ -109,12 +109,12 @@ where
 fn begin_list<'s, E, R, N, S>(
     scope: &Scope<'s, E>,
     rt: &'s R,
-    station: &'s Station<'s, N, S>,
+    station: &'s RelayedStation<'s, N, S>,
     slave: Option<&'s SlaveSetting>,
 ) -> Option<&'s SlaveSetting>
 where
     R: Clock + Threads + Wait + Sync,
-    N: Reach + Sync,
+    N: Network + Sync,
     S: SharedServer + Sync,
     S::Pass: Send,
 {
@@ -129,12 +129,12 @@ where
 fn begin<'s, E, R, N, S>(
     scope: &Scope<'s, E>,
     rt: &'s R,
-    station: &'s Station<'s, N, S>,
+    station: &'s RelayedStation<'s, N, S>,
     relay: Arc<RunningRelay>,
 ) -> bool
 where
     R: Clock + Threads + Wait + Sync,
-    N: Reach + Sync,
+    N: Network + Sync,
     S: SharedServer + Sync,
     S::Pass: Send,
 {

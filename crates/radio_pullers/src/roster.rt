@@ -10,7 +10,7 @@ use crate::OutOfMemory;
 use crate::running::RunningRelay;
 use radio_masters::Failing;
 use radio_settings_values::RelaySetting;
-use radio_tries::Outcome;
+use radio_tries::RelayOutcome;
 use radio_values::MountName;
 use std::alloc::Global;
 use std::sync::atomic::Ordering;
@@ -20,7 +20,7 @@ use std::sync::{Arc, Wait};
 #[derive(Drop)]
 pub(crate) struct Ended {
     pub(crate) relay: Arc<RunningRelay>,
-    pub(crate) outcome: Outcome,
+    pub(crate) outcome: RelayOutcome,
 }
 
 /// The relays that run.
@@ -118,7 +118,11 @@ impl Roster {
 }
 
 /// Returns how the thread of the relay at this place has ended, if there is one and it has.
-fn outcome_at<W: Wait>(running: &[Arc<RunningRelay>], place: usize, waits: &W) -> Option<Outcome>
+fn outcome_at<W: Wait>(
+    running: &[Arc<RunningRelay>],
+    place: usize,
+    waits: &W,
+) -> Option<RelayOutcome>
     ensures { IfSome result (λ outcome. place < length running.now) }
 {
     let relay = running.get(place)?;

@@ -5,7 +5,7 @@ ghost use Rattle.std.specs.Arc.{arc_value};
 
 use radio_masters::Failing;
 use radio_settings_values::RelaySetting;
-use radio_tries::Outcome;
+use radio_tries::RelayOutcome;
 use radio_values::MountName;
 use std::marker::Model;
 use std::sync::atomic::{AtomicBool, Ordering};
@@ -21,7 +21,7 @@ pub(crate) struct RunningRelay {
     /// Whether it is to stop.
     pub(crate) is_stopped: AtomicBool,
     /// How its thread has ended, once it has.
-    pub(crate) outcome: Mutex<Option<Outcome>>,
+    pub(crate) outcome: Mutex<Option<RelayOutcome>>,
 }
 
 impl Model for RunningRelay {

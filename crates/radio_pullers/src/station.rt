@@ -2,8 +2,8 @@
 
 ghost use Rattle.std.specs.Prelude.{◌≡◌};
 
-use radio_board::Board;
-use radio_lines::Reach;
+use radio_board::Shared;
+use radio_lines::Network;
 use radio_settings_values::Settings;
 use radio_values::MountName;
 use std::collections::BTreeSet;
@@ -15,29 +15,29 @@ pub(crate) type NewestList = Mutex<Option<BTreeSet<MountName>>>;
 /// A station whose relays are kept running: the net over which their masters are reached, the server that they feed, by
 /// what its threads tell each other, its settings, and where the slave's list is handed over.
 #[derive(Drop)]
-pub(crate) struct Station<'a, N: Reach, S> {
+pub(crate) struct RelayedStation<'a, N: Network, S> {
     pub(crate) net: &'a N,
     pub(crate) server: &'a S,
-    pub(crate) board: &'a Board,
+    pub(crate) shared: &'a Shared,
     pub(crate) settings: &'a Settings,
     pub(crate) list: &'a NewestList,
 }
 
-impl<'a, N: Reach, S> Station<'a, N, S> {
+impl<'a, N: Network, S> RelayedStation<'a, N, S> {
     /// Returns the station of these.
     pub(crate) fn new(
         net: &'a N,
         server: &'a S,
-        board: &'a Board,
+        shared: &'a Shared,
         settings: &'a Settings,
         list: &'a NewestList,
-    ) -> Station<'a, N, S>
+    ) -> RelayedStation<'a, N, S>
         ensures { result.settings.now ≡ settings.entry.now }
     {
-        Station {
+        RelayedStation {
             net,
             server,
-            board,
+            shared,
             settings,
             list,
         }

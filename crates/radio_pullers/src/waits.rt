@@ -1,7 +1,7 @@
 //! How threads of relays wait.
 
 use crate::running::RunningRelay;
-use radio_board::Board;
+use radio_board::Shared;
 use radio_lines::moment;
 use radio_tries::{Pause, pause_at};
 use std::thread::sleep;
@@ -11,12 +11,12 @@ use std::time::{Clock, Duration};
 /// stop before.
 pub(crate) fn waits_until<R: Clock>(
     rt: &R,
-    board: &Board,
+    shared: &Shared,
     relay: Option<&RunningRelay>,
     until_ms: u64,
 ) -> bool {
     for _ in 0..u64::MAX {
-        let is_over = board.is_over() || relay.is_some_and(|relay| relay.is_stopped());
+        let is_over = shared.is_over() || relay.is_some_and(|relay| relay.is_stopped());
         match pause_at(is_over, moment(rt), until_ms) {
             Pause::Stops => return false,
             Pause::Past => return true,

@@ -12,10 +12,10 @@ use Rattle.radio_heads.specs.Response.{ResponseParts, ShowsResponse}
 use Rattle.radio_heads.specs.Laws.{ReadingsAgree, IsSettled, HeadsLieWithin}
 use Rattle.radio_icy.specs.Unweaving.{Unweaving, heard, after_feeding, heard_by_pieces, after_pieces}
 use Rattle.radio_relay.specs.declared.fault.PullFault.{PullFault}
-use Rattle.radio_relay.specs.declared.pull.Stage.{Stage}
-use Rattle.radio_relay.specs.declared.pull.Stage.TheVariants.{Head, Behind, Over}
-use Rattle.radio_relay.specs.declared.stream.Stream.{Stream}
-use Rattle.radio_relay.specs.declared.stream.Stream.TheVariants.{Plain, Woven}
+use Rattle.radio_relay.specs.declared.pull.PullStage.{PullStage}
+use Rattle.radio_relay.specs.declared.pull.PullStage.TheVariants.{Head, Behind, Over}
+use Rattle.radio_relay.specs.declared.stream.PulledStream.{PulledStream}
+use Rattle.radio_relay.specs.declared.stream.PulledStream.TheVariants.{Plain, Woven}
 use Rattle.radio_relay.specs.Answer.{interval_in, shown_by}
 use Rattle.radio_relay.specs.Pulled.{Part, ShownPart, SoundPart, parts_of_atom, parts_heard, stream_parts, after_bytes, stream_with}
 use Rattle.radio_relay.specs.Pulled.{Standing, GoesOn, Stops, Pulled, goes_on}
@@ -51,7 +51,7 @@ abbrev pub AfterPieces : Type 0
 AfterPieces = (u : Unweaving) (pieces : List (List ℕ)) → after_pieces u pieces ≡ after_feeding u (concat pieces)
 
 module _ (in_pieces : HeardInPieces) (after : AfterPieces) where
-  pub parts-cut : (stream : Stream) (one two : List ℕ) → stream_parts stream (one ++ two) ≡ stream_parts stream one ++ stream_parts (after_bytes stream one) two
+  pub parts-cut : (stream : PulledStream) (one two : List ℕ) → stream_parts stream (one ++ two) ≡ stream_parts stream one ++ stream_parts (after_bytes stream one) two
   parts-cut Plain one two = map-append (λ b. SoundPart b) one two
   parts-cut (Woven reader) one two =
       let first = heard reader one in
@@ -61,14 +61,14 @@ module _ (in_pieces : HeardInPieces) (after : AfterPieces) where
       ∙ ap (λ atoms. first ++ atoms) (append-nil second) in
       ap parts_heard joined ∙ flat_map-append parts_of_atom first second
 
-  pub after-cut : (stream : Stream) (one two : List ℕ) → after_bytes stream (one ++ two) ≡ after_bytes (after_bytes stream one) two
+  pub after-cut : (stream : PulledStream) (one two : List ℕ) → after_bytes stream (one ++ two) ≡ after_bytes (after_bytes stream one) two
   after-cut Plain one two = refl
   after-cut (Woven reader) one two =
       ap Woven (ap (λ (bytes : List ℕ). after_feeding reader (one ++ bytes)) (sym (append-nil two)) ∙ sym (after reader (one ∷ two ∷ [])))
 
   -- bytes of a stream in two pieces
-  stream-cut : (before : List Part) (stream : Stream) (one two : List ℕ) (Next : Stage → Pulled → Type 0) (cut : Pulled)
-      → ((stage : Stage) (rest : Pulled) → Next stage rest → IsPulledAt stage two rest)
+  stream-cut : (before : List Part) (stream : PulledStream) (one two : List ℕ) (Next : PullStage → Pulled → Type 0) (cut : Pulled)
+      → ((stage : PullStage) (rest : Pulled) → Next stage rest → IsPulledAt stage two rest)
       → Continues (before ++ stream_parts stream one) (GoesOn (Behind (after_bytes stream one))) Next cut
       → cut ≡ stream_pulled before stream (one ++ two)
   stream-cut before stream one two Next cut next (rest, h, e) =
@@ -79,11 +79,11 @@ module _ (in_pieces : HeardInPieces) (after : AfterPieces) where
       append_assoc before first second ∙ ap (λ (parts : List Part). before ++ parts) (sym (parts-cut stream one two)) in
       e ∙ ap (behind (before ++ first)) late
       ∙ ap (λ (parts : List Part). goes_on parts (Behind (after_bytes (after_bytes stream one) two))) parts
-      ∙ ap (λ (s : Stream). goes_on (before ++ stream_parts stream (one ++ two)) (Behind s)) (sym (after-cut stream one two))
+      ∙ ap (λ (s : PulledStream). goes_on (before ++ stream_parts stream (one ++ two)) (Behind s)) (sym (after-cut stream one two))
 
   -- bytes behind a head in two pieces
-  answer-cut : (head : ResponseParts) (interval : Result (Option ℕ) PullFault) (one two : List ℕ) (Next : Stage → Pulled → Type 0) (cut : Pulled)
-      → ((stage : Stage) (rest : Pulled) → Next stage rest → IsPulledAt stage two rest)
+  answer-cut : (head : ResponseParts) (interval : Result (Option ℕ) PullFault) (one two : List ℕ) (Next : PullStage → Pulled → Type 0) (cut : Pulled)
+      → ((stage : PullStage) (rest : Pulled) → Next stage rest → IsPulledAt stage two rest)
       → Continues (pulled_by_interval head one interval).parts (pulled_by_interval head one interval).standing Next cut
       → cut ≡ pulled_by_interval head (one ++ two) interval
   answer-cut head (Err fault) one two Next cut next e = e
@@ -91,8 +91,8 @@ module _ (in_pieces : HeardInPieces) (after : AfterPieces) where
 
   module _ (settled : IsSettled ShowsResponse) (fits : HeadsLieWithin ShowsResponse) where
     -- a head in two pieces, by what the first is read as
-    head-cut : (held one two : List ℕ) (r : Result (Progress ResponseParts) HeadFault) (Next : Stage → Pulled → Type 0) (cut : Pulled)
-        → IsReading ShowsResponse (held ++ one) r → ((stage : Stage) (rest : Pulled) → Next stage rest → IsPulledAt stage two rest)
+    head-cut : (held one two : List ℕ) (r : Result (Progress ResponseParts) HeadFault) (Next : PullStage → Pulled → Type 0) (cut : Pulled)
+        → IsReading ShowsResponse (held ++ one) r → ((stage : PullStage) (rest : Pulled) → Next stage rest → IsPulledAt stage two rest)
         → Continues (pulled_as (held ++ one) r).parts (pulled_as (held ++ one) r).standing Next cut → IsPulled (held ++ (one ++ two)) cut
     head-cut held one two (Ok More) Next cut read next (rest, h, e) =
         let late : IsPulled ((held ++ one) ++ two) rest = next (Head (held ++ one)) rest h in
@@ -111,8 +111,8 @@ module _ (in_pieces : HeardInPieces) (after : AfterPieces) where
         (Err fault, subst (λ (xs : List ℕ). IsReading ShowsResponse xs (Err fault)) (append_assoc held one two) longer, c)
 
     -- two pieces at any stage
-    stage-cut : (stage : Stage) (one two : List ℕ) (first : Pulled) (Next : Stage → Pulled → Type 0) (cut : Pulled) → IsPulledAt stage one first
-        → ((stage : Stage) (rest : Pulled) → Next stage rest → IsPulledAt stage two rest) → Continues first.parts first.standing Next cut
+    stage-cut : (stage : PullStage) (one two : List ℕ) (first : Pulled) (Next : PullStage → Pulled → Type 0) (cut : Pulled) → IsPulledAt stage one first
+        → ((stage : PullStage) (rest : Pulled) → Next stage rest → IsPulledAt stage two rest) → Continues first.parts first.standing Next cut
         → IsPulledAt stage (one ++ two) cut
     stage-cut (Head held) one two first Next cut h next c =
         head-cut held one two h.0 Next cut h.1 next (subst (λ (p : Pulled). Continues p.parts p.standing Next cut) h.2 c)
@@ -131,7 +131,7 @@ module _ (in_pieces : HeardInPieces) (after : AfterPieces) where
         let d : Continues first.parts (Stops fault) (IsPulledIn []) cut = subst (λ s. Continues first.parts s (IsPulledIn []) cut) is c in
         d ∙ ap (λ (s : Standing). record first { standing = s }) (sym is)
 
-    in_order : (piece : List ℕ) (pieces : List (List ℕ)) (stage : Stage) (cut : Pulled) → IsPulledIn (piece ∷ pieces) stage cut
+    in_order : (piece : List ℕ) (pieces : List (List ℕ)) (stage : PullStage) (cut : Pulled) → IsPulledIn (piece ∷ pieces) stage cut
         → IsPulledAt stage (concat (piece ∷ pieces)) cut
     in_order piece [] stage cut (first, h, c) =
         let same = at_end first cut c first.standing refl in

@@ -7,9 +7,9 @@ use Rattle.radio_heads.specs.Reading.{IsReading}
 use Rattle.radio_heads.specs.Response.{ShowsResponse}
 use Rattle.radio_relay.specs.declared.items.PullItem.{PullItem}
 use Rattle.radio_relay.specs.declared.items.PullItem.TheVariants.{Sound}
-use Rattle.radio_relay.specs.declared.pull.Stage.{Stage}
-use Rattle.radio_relay.specs.declared.pull.Stage.TheVariants.{Head, Behind}
-use Rattle.radio_relay.specs.declared.stream.Stream.{Stream}
+use Rattle.radio_relay.specs.declared.pull.PullStage.{PullStage}
+use Rattle.radio_relay.specs.declared.pull.PullStage.TheVariants.{Head, Behind}
+use Rattle.radio_relay.specs.declared.stream.PulledStream.{PulledStream}
 use Rattle.radio_relay.specs.Pulled.{goes_on, stream_pulled, stream_parts, after_bytes}
 use Rattle.radio_relay.specs.Items.{Gathered, nothing_gathered, all_items, with_parts, items_of, IsAnswered}
 
@@ -27,7 +27,7 @@ answered-more held bytes all kept items none empty together same reading = (
 )
 
 -- bytes of a stream are answered by the items that they bring
-pub answered-stream : {X E : Type 0} (r : Result X E) (items : X → List PullItem) (stage : X → Stage) (old : Stage) (stream : Stream) (bytes : List ℕ)
+pub answered-stream : {X E : Type 0} (r : Result X E) (items : X → List PullItem) (stage : X → PullStage) (old : PullStage) (stream : PulledStream) (bytes : List ℕ)
     (start : Gathered) → old ≡ Behind stream → start ≡ nothing_gathered
     → IfOk r (λ x. items x ≡ all_items (with_parts start (stream_parts stream bytes))) → IfOk r (λ x. stage x ≡ Behind (after_bytes stream bytes))
     → IfOk r (λ x. IsAnswered old bytes (items x) (stage x))

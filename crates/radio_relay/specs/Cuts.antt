@@ -1,8 +1,8 @@
 -- An answer that comes in pieces.
 use Rattle.std.specs.Prelude.{◌≡◌, ℕ, List, [], ◌∷◌, ◌++◌}
 use Rattle.std.specs.List.{concat}
-use Rattle.radio_relay.specs.declared.pull.Stage.{Stage}
-use Rattle.radio_relay.specs.declared.pull.Stage.TheVariants.{Head}
+use Rattle.radio_relay.specs.declared.pull.PullStage.{PullStage}
+use Rattle.radio_relay.specs.declared.pull.PullStage.TheVariants.{Head}
 use Rattle.radio_relay.specs.Pulled.{Part, Standing, GoesOn, Stops, Pulled, goes_on, IsPulled, IsPulledAt}
 
 -- what is pulled in behind these parts
@@ -10,12 +10,12 @@ abbrev pub behind : List Part → Pulled → Pulled
 behind parts pulled = record { parts = parts ++ pulled.parts; standing = pulled.standing }
 
 -- these parts were pulled in, and the pull stands so: where it goes on, this comes next
-abbrev pub Continues : List Part → Standing → (Stage → Pulled → Type 0) → Pulled → Type 0
+abbrev pub Continues : List Part → Standing → (PullStage → Pulled → Type 0) → Pulled → Type 0
 Continues parts (GoesOn stage) Next pulled = (rest : Pulled) × Next stage rest × (pulled ≡ behind parts rest)
 Continues parts (Stops fault) Next pulled = pulled ≡ record { parts = parts; standing = Stops fault }
 
 -- the pieces come one after another, up to a fault, and this is pulled in
-abbrev pub IsPulledIn : List (List ℕ) → Stage → Pulled → Type 0
+abbrev pub IsPulledIn : List (List ℕ) → PullStage → Pulled → Type 0
 IsPulledIn [] stage pulled = pulled ≡ goes_on [] stage
 IsPulledIn (piece ∷ pieces) stage pulled =
     (one : Pulled) × IsPulledAt stage piece one × Continues one.parts one.standing (IsPulledIn pieces) pulled

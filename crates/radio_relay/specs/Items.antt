@@ -4,7 +4,7 @@ use Rattle.radio_blocks.specs.Cutting.{blocks_of}
 use Rattle.radio_relay.specs.declared.fault.PullFault.{PullFault}
 use Rattle.radio_relay.specs.declared.items.PullItem.{PullItem}
 use Rattle.radio_relay.specs.declared.items.PullItem.TheVariants.{Up, Sound, Title}
-use Rattle.radio_relay.specs.declared.pull.Stage.{Stage}
+use Rattle.radio_relay.specs.declared.pull.PullStage.{PullStage}
 use Rattle.radio_relay.specs.Pulled.{Part, ShownPart, SoundPart, TitlePart, Pulled, GoesOn, stops, IsPulledAt}
 
 -- items that are gathered: those that are complete, and the sound after them
@@ -43,14 +43,14 @@ abbrev pub items_of : List Part → List PullItem
 items_of parts = all_items (with_parts nothing_gathered parts)
 
 -- a feed answers the items of what is pulled in, and the pull goes on so
-pub record Answers (pulled : Pulled) (items : List PullItem) (next : Stage) : Type 0 where
+pub record Answers (pulled : Pulled) (items : List PullItem) (next : PullStage) : Type 0 where
   pub brought : items ≡ items_of pulled.parts
   pub goes_on : pulled.standing ≡ GoesOn next
 
 -- at this stage the bytes are answered by these items, and the pull goes on so
-abbrev pub IsAnswered : Stage → List ℕ → List PullItem → Stage → Type 0
+abbrev pub IsAnswered : PullStage → List ℕ → List PullItem → PullStage → Type 0
 IsAnswered stage bytes items next = (pulled : Pulled) × IsPulledAt stage bytes pulled × Answers pulled items next
 
 -- at this stage the bytes are answered by this fault
-abbrev pub IsRefused : Stage → List ℕ → PullFault → Type 0
+abbrev pub IsRefused : PullStage → List ℕ → PullFault → Type 0
 IsRefused stage bytes fault = IsPulledAt stage bytes (stops fault)

@@ -13,10 +13,10 @@ use Rattle.radio_icy.specs.Unweaving.{Atom, SoundByte, WholeText, new_unweaving,
 use Rattle.radio_values.specs.declared.field.Shown.{Shown}
 use Rattle.radio_relay.specs.declared.fault.PullFault.{PullFault}
 use Rattle.radio_relay.specs.declared.fault.PullFault.TheVariants.{BadHead, Failed}
-use Rattle.radio_relay.specs.declared.pull.Stage.{Stage}
-use Rattle.radio_relay.specs.declared.pull.Stage.TheVariants.{Head, Behind, Over}
-use Rattle.radio_relay.specs.declared.stream.Stream.{Stream}
-use Rattle.radio_relay.specs.declared.stream.Stream.TheVariants.{Plain, Woven}
+use Rattle.radio_relay.specs.declared.pull.PullStage.{PullStage}
+use Rattle.radio_relay.specs.declared.pull.PullStage.TheVariants.{Head, Behind, Over}
+use Rattle.radio_relay.specs.declared.stream.PulledStream.{PulledStream}
+use Rattle.radio_relay.specs.declared.stream.PulledStream.TheVariants.{Plain, Woven}
 use Rattle.radio_relay.specs.Answer.{interval_in, shown_by}
 
 -- One thing that is pulled in: what the head shows, a byte of sound, or a title.
@@ -39,23 +39,23 @@ abbrev pub parts_heard : List Atom → List Part
 parts_heard atoms = flat_map parts_of_atom atoms
 
 -- what bytes of the stream behind a head bring: without an interval all are sound, and with one sound and titles
-abbrev pub stream_parts : Stream → List ℕ → List Part
+abbrev pub stream_parts : PulledStream → List ℕ → List Part
 stream_parts Plain bytes = map (λ b. SoundPart b) bytes
 stream_parts (Woven reader) bytes = parts_heard (heard reader bytes)
 
 -- the stream after these bytes
-abbrev pub after_bytes : Stream → List ℕ → Stream
+abbrev pub after_bytes : PulledStream → List ℕ → PulledStream
 after_bytes Plain bytes = Plain
 after_bytes (Woven reader) bytes = Woven (after_feeding reader bytes)
 
 -- a stream from its start, with a metadata block after each interval, if there is one
-abbrev pub stream_with : Option ℕ → Stream
+abbrev pub stream_with : Option ℕ → PulledStream
 stream_with None = Plain
 stream_with (Some n) = Woven (new_unweaving n)
 
 -- how a pull stands: it goes on, or it stops with a fault
 pub data Standing : Type 0 where
-  GoesOn : Stage → Standing
+  GoesOn : PullStage → Standing
   Stops : PullFault → Standing
 
 -- what is pulled in, in order, and how the pull stands then
@@ -63,14 +63,14 @@ pub record Pulled : Type 0 where
   pub parts : List Part
   pub standing : Standing
 
-abbrev pub goes_on : List Part → Stage → Pulled
+abbrev pub goes_on : List Part → PullStage → Pulled
 goes_on parts stage = record { parts = parts; standing = GoesOn stage }
 
 abbrev pub stops : PullFault → Pulled
 stops fault = record { parts = []; standing = Stops fault }
 
 -- these parts, and then those bytes of a stream
-abbrev pub stream_pulled : List Part → Stream → List ℕ → Pulled
+abbrev pub stream_pulled : List Part → PulledStream → List ℕ → Pulled
 stream_pulled before stream bytes = goes_on (before ++ stream_parts stream bytes) (Behind (after_bytes stream bytes))
 
 -- a head with this interval or this fault, and the bytes behind it
@@ -96,7 +96,7 @@ IsPulled bytes pulled =
 
 -- what the next bytes pull in, at each stage
 -- rule: Pulled stream
-abbrev pub IsPulledAt : Stage → List ℕ → Pulled → Type 0
+abbrev pub IsPulledAt : PullStage → List ℕ → Pulled → Type 0
 IsPulledAt (Head held) bytes pulled = IsPulled (held ++ bytes) pulled
 IsPulledAt (Behind stream) bytes pulled = pulled ≡ stream_pulled [] stream bytes
 IsPulledAt Over bytes pulled = pulled ≡ stops Failed

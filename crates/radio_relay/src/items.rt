@@ -28,7 +28,7 @@ pub enum PullItem {
 
 /// Items in order, and the sound after them.
 #[derive(Drop)]
-pub(crate) struct Items {
+pub(crate) struct PulledItems {
     alloc: Global,
     /// The most bytes of sound that a run may have.
     expected: usize,
@@ -36,7 +36,7 @@ pub(crate) struct Items {
     run: Gathering,
 }
 
-impl Model for Items {
+impl Model for PulledItems {
     ghost use Rattle.radio_relay.specs.Items.{Gathered};
 
     ghost Value = { Gathered };
@@ -44,12 +44,12 @@ impl Model for Items {
     ghost view = { λ i. record { complete = i.complete.items; run = i.run } };
 }
 
-impl Items {
+impl PulledItems {
     /// No items yet; at most so many bytes of sound are expected, and room is made for no more.
-    pub(crate) fn new(alloc: Global, expected: usize) -> Items
+    pub(crate) fn new(alloc: Global, expected: usize) -> PulledItems
         ensures { result ≡ nothing_gathered }
     {
-        Items {
+        PulledItems {
             alloc,
             expected,
             complete: Vec::new(alloc),
@@ -125,7 +125,7 @@ impl Items {
     pub(crate) fn into_items(self) -> Result<Vec<PullItem>, OutOfMemory>
         ensures { IfOk result (λ items. items.items ≡ all_items self) }
     {
-        let Items { complete, run, .. } = self;
+        let PulledItems { complete, run, .. } = self;
         let mut items = complete;
         push_blocks(run.into_blocks()?, &mut items)?;
         Ok(items)

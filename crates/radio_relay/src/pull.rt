@@ -3,12 +3,12 @@ ghost use Rattle.std.specs.Prelude.{◌≡◌, ◌≢◌, ◌≤◌, [], drop, l
 ghost use Rattle.radio_relay.specs.Items.{IsAnswered, IsRefused, Answers, all_items, with_parts};
 ghost use Rattle.radio_relay.specs.Pulled.{answer_pulled, stops, stream_parts, after_bytes};
 ghost use Rattle.radio_relay.specs.declared.fault.PullFault.TheVariants.{OutOfMemory as NoMemory, Failed};
-ghost use Rattle.radio_relay.specs.declared.pull.Stage.TheVariants.{Head, Behind, Over};
+ghost use Rattle.radio_relay.specs.declared.pull.PullStage.TheVariants.{Head, Behind, Over};
 
 use crate::PullFault;
 use crate::answer::{interval_in, shown_by};
-use crate::items::{Items, PullItem};
-use crate::stream::Stream;
+use crate::items::{PullItem, PulledItems};
+use crate::stream::PulledStream;
 use radio_blocks::laws::blocks_are_the_data;
 use radio_heads::{Progress, ResponseHead, read_response_from};
 use std::alloc::Global;
@@ -34,11 +34,11 @@ impl Model for HeldHead {
 
 /// How far the answer has come.
 #[derive(Drop)]
-pub(crate) enum Stage {
+pub(crate) enum PullStage {
     /// Its head has not ended.
     Head(HeldHead),
     /// Its head has come, and this is the stream behind it.
-    Behind(Stream),
+    Behind(PulledStream),
     /// A feed answered a fault.
     Over,
 }
@@ -48,7 +48,7 @@ pub(crate) enum Stage {
 /// In contracts it is its stage: the bytes of a head that has not ended, the stream behind one, or that it is over.
 pub struct Pull {
     alloc: Global,
-    stage: Stage,
+    stage: PullStage,
 }
 
 impl Drop for Pull {
@@ -59,9 +59,9 @@ impl Drop for Pull {
 }
 
 impl Model for Pull {
-    ghost use Rattle.radio_relay.specs.declared.pull.Stage.{Stage};
+    ghost use Rattle.radio_relay.specs.declared.pull.PullStage.{PullStage};
 
-    ghost Value = { Stage };
+    ghost Value = { PullStage };
 
     ghost view = { λ p. p.stage };
 }
@@ -69,7 +69,7 @@ impl Model for Pull {
 /// What a feed brings, and the stage after it.
 struct Brought {
     items: Vec<PullItem>,
-    stage: Stage,
+    stage: PullStage,
 }
 
 impl Pull {
@@ -79,7 +79,7 @@ impl Pull {
     {
         Pull {
             alloc,
-            stage: Stage::Head(HeldHead {
+            stage: PullStage::Head(HeldHead {
                 bytes: Vec::new(alloc),
             }),
         }
@@ -104,7 +104,7 @@ impl Pull {
         ensures fails { OnErr result (self.new ≡ Over) }
         ensures failed { self.old ≡ Over → result ≡ Err Failed }
     {
-        let stage = mem::replace(&mut self.stage, Stage::Over);
+        let stage = mem::replace(&mut self.stage, PullStage::Over);
         match brought_at(self.alloc, stage, bytes) {
             Ok(Brought { items, stage }) => {
                 self.stage = stage;
@@ -115,15 +115,19 @@ impl Pull {
     }
 }
 
-fn brought_at(alloc: Global, stage: Stage, bytes: &[u8]) -> Result<Brought, PullFault>
+fn brought_at(alloc: Global, stage: PullStage, bytes: &[u8]) -> Result<Brought, PullFault>
     ensures brings { IfOk result (λ brought. IsAnswered stage bytes.now brought.items.items brought.stage) }
     ensures fault { IfErr result (λ fault. fault ≢ NoMemory → IsRefused stage bytes.now fault) }
     ensures over { stage ≡ Over → result ≡ Err Failed }
 {
     match stage {
-        Stage::Head(held) => read_head(alloc, held, bytes),
-        Stage::Behind(stream) => read_stream(Items::new(alloc, bytes.len()), stream, bytes),
-        Stage::Over => Err(PullFault::Failed),
+        PullStage::Head(held) => read_head(alloc, held, bytes),
+        PullStage::Behind(stream) => read_stream(
+            PulledItems::new(alloc, bytes.len()),
+            stream,
+            bytes,
+        ),
+        PullStage::Over => Err(PullFault::Failed),
     }
 }
 
@@ -139,7 +143,7 @@ fn read_head(alloc: Global, held: HeldHead, bytes: &[u8]) -> Result<Brought, Pul
     match read_response_from(held.as_slice(), seen) {
         Ok(Progress::More) => Ok(Brought {
             items: Vec::new(alloc),
-            stage: Stage::Head(HeldHead { bytes: held }),
+            stage: PullStage::Head(HeldHead { bytes: held }),
         }),
         Ok(Progress::Whole(head, length)) => read_answer(alloc, &head, behind(&held, length)),
         Err(_) => Err(PullFault::BadHead),
@@ -161,16 +165,16 @@ fn read_answer(alloc: Global, head: &ResponseHead, rest: &[u8]) -> Result<Brough
 {
     match interval_in(head) {
         Ok(interval) => {
-            let mut items = Items::new(alloc, rest.len());
+            let mut items = PulledItems::new(alloc, rest.len());
             items.add_shown(shown_by(alloc, head)?)?;
-            read_stream(items, Stream::new(alloc, interval), rest)
+            read_stream(items, PulledStream::new(alloc, interval), rest)
         }
         Err(fault) => Err(fault),
     }
 }
 
 /// Bytes of a stream, behind items that came before them.
-fn read_stream(items: Items, stream: Stream, bytes: &[u8]) -> Result<Brought, PullFault>
+fn read_stream(items: PulledItems, stream: PulledStream, bytes: &[u8]) -> Result<Brought, PullFault>
     ensures items { IfOk result (λ brought. brought.items.items ≡ all_items (with_parts items (stream_parts stream bytes.now))) }
     ensures stage { IfOk result (λ brought. brought.stage ≡ Behind (after_bytes stream bytes.now)) }
     ensures fault { IfErr result (λ fault. fault ≡ NoMemory) }
@@ -180,6 +184,6 @@ fn read_stream(items: Items, stream: Stream, bytes: &[u8]) -> Result<Brought, Pu
     stream.read(bytes, &mut items)?;
     Ok(Brought {
         items: items.into_items()?,
-        stage: Stage::Behind(stream),
+        stage: PullStage::Behind(stream),
     })
 }

@@ -8,7 +8,7 @@ use toml_parser::{Key, ParseError, dotted_key};
 
 /// A key of a table, and its line.
 #[derive(Drop)]
-pub struct Entry {
+pub struct KeyEntry {
     /// The name of the table; empty for the keys above all tables.
     pub table: String,
     /// Which of a list of tables it is, counted from 1; 0 for a table that is in no list.
@@ -22,7 +22,7 @@ pub struct Entry {
 #[derive(Drop)]
 pub struct Entries {
     alloc: Global,
-    list: Vec<Entry>,
+    list: Vec<KeyEntry>,
     /// The table whose keys come next: its name, which of a list it is, and whether it is a part of that table.
     table: String,
     number: usize,
@@ -161,7 +161,7 @@ impl Entries {
         key: String,
         line: u64,
     ) -> Result<(), OutOfMemory> {
-        self.list.push(Entry {
+        self.list.push(KeyEntry {
             table,
             number,
             key,
@@ -171,7 +171,7 @@ impl Entries {
     }
 }
 
-impl Entry {
+impl KeyEntry {
     fn is_at(&self, table: &str, number: usize, key: &str) -> bool {
         self.table.as_str() == table && self.number == number && self.key.as_str() == key
     }

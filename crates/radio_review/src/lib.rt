@@ -12,7 +12,7 @@ mod locating;
 mod meant;
 mod unknown;
 
-pub use entries::{Entries, Entry, entries_of};
+pub use entries::{Entries, KeyEntry, entries_of};
 pub use locating::{FaultPlace, locate};
 pub use meant::{Meant, meant_by};
 pub use unknown::{UnknownKey, unknown_keys};

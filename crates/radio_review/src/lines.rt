@@ -2,7 +2,7 @@
 
 /// What the bytes so far are part of.
 #[derive(Clone, Copy, PartialEq, Eq)]
-enum Within {
+enum LinePart {
     /// A key, a value, a bracket or blanks.
     Plain,
     /// A comment, which ends with its line.
@@ -22,7 +22,7 @@ enum Within {
 /// What is known behind some bytes of a text.
 #[derive(Drop)]
 pub struct Scan {
-    within: Within,
+    within: LinePart,
     /// How many brackets and braces are open.
     depth: usize,
 }
@@ -31,14 +31,14 @@ impl Scan {
     /// At the start of a text.
     pub fn new() -> Scan {
         Scan {
-            within: Within::Plain,
+            within: LinePart::Plain,
             depth: 0,
         }
     }
 
     /// Whether what comes next is part of no value.
     pub fn is_between(&self) -> bool {
-        self.within == Within::Plain && self.depth == 0
+        self.within == LinePart::Plain && self.depth == 0
     }
 
     /// Passes over a line, and over its end.
@@ -51,7 +51,7 @@ impl Scan {
 
     fn step(&mut self, byte: u8) {
         self.within = after(self.within, byte);
-        if self.within == Within::Plain {
+        if self.within == LinePart::Plain {
             match byte {
                 b'[' | b'{' => self.depth = self.depth.saturating_add(1),
                 b']' | b'}' => self.depth = self.depth.saturating_sub(1),
@@ -62,72 +62,72 @@ impl Scan {
 }
 
 /// What a byte makes of what the bytes before it are part of.
-fn after(within: Within, byte: u8) -> Within {
+fn after(within: LinePart, byte: u8) -> LinePart {
     match within {
-        Within::Plain => after_plain(byte),
-        Within::Comment => after_comment(byte),
-        Within::Opening { quote, quotes } => after_quotes(quote, quotes, byte),
-        Within::Line { quote } => after_line(quote, byte),
-        Within::LineEscape => Within::Line { quote: b'"' },
-        Within::Block { quote, quotes } => after_block(quote, quotes, byte),
-        Within::BlockEscape => Within::Block {
+        LinePart::Plain => after_plain(byte),
+        LinePart::Comment => after_comment(byte),
+        LinePart::Opening { quote, quotes } => after_quotes(quote, quotes, byte),
+        LinePart::Line { quote } => after_line(quote, byte),
+        LinePart::LineEscape => LinePart::Line { quote: b'"' },
+        LinePart::Block { quote, quotes } => after_block(quote, quotes, byte),
+        LinePart::BlockEscape => LinePart::Block {
             quote: b'"',
             quotes: 0,
         },
     }
 }
 
-fn after_plain(byte: u8) -> Within {
+fn after_plain(byte: u8) -> LinePart {
     match byte {
-        b'#' => Within::Comment,
-        b'"' | b'\'' => Within::Opening {
+        b'#' => LinePart::Comment,
+        b'"' | b'\'' => LinePart::Opening {
             quote: byte,
             quotes: 1,
         },
-        _ => Within::Plain,
+        _ => LinePart::Plain,
     }
 }
 
-fn after_comment(byte: u8) -> Within {
+fn after_comment(byte: u8) -> LinePart {
     if byte == b'\n' {
-        Within::Plain
+        LinePart::Plain
     } else {
-        Within::Comment
+        LinePart::Comment
     }
 }
 
 /// The third quote begins a string of several lines; anything else behind two of them stands behind an empty string.
-fn after_quotes(quote: u8, quotes: u8, byte: u8) -> Within {
+fn after_quotes(quote: u8, quotes: u8, byte: u8) -> LinePart {
     match (byte == quote, quotes) {
-        (true, 1) => Within::Opening { quote, quotes: 2 },
-        (true, _) => Within::Block { quote, quotes: 0 },
+        (true, 1) => LinePart::Opening { quote, quotes: 2 },
+        (true, _) => LinePart::Block { quote, quotes: 0 },
         (false, 1) => after_line(quote, byte),
         (false, _) => after_plain(byte),
     }
 }
 
-fn after_line(quote: u8, byte: u8) -> Within {
+fn after_line(quote: u8, byte: u8) -> LinePart {
     if byte == quote {
-        Within::Plain
+        LinePart::Plain
     } else if byte == b'\\' && quote == b'"' {
-        Within::LineEscape
+        LinePart::LineEscape
     } else {
-        Within::Line { quote }
+        LinePart::Line { quote }
     }
 }
 
 /// Three quotes or more end it, of which the last three are its end.
-fn after_block(quote: u8, quotes: u8, byte: u8) -> Within {
+fn after_block(quote: u8, quotes: u8, byte: u8) -> LinePart {
     if byte == quote {
-        Within::Block {
+        LinePart::Block {
             quote,
             quotes: quotes.saturating_add(1),
         }
     } else if quotes >= 3 {
         after_plain(byte)
     } else if byte == b'\\' && quote == b'"' {
-        Within::BlockEscape
+        LinePart::BlockEscape
     } else {
-        Within::Block { quote, quotes: 0 }
+        LinePart::Block { quote, quotes: 0 }
     }
 }

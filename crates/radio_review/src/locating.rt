@@ -4,7 +4,7 @@ use crate::OutOfMemory;
 use crate::entries::entries_of;
 use crate::unknown::{mount_of, place_word, text_at};
 use radio_keys::{Key, SettingsFault};
-use radio_settings::{Place, Section, ValueKind, faulty_table, key_of};
+use radio_settings::{Section, TablePlace, ValueKind, faulty_table, key_of};
 use std::alloc::Global;
 use toml::{Table, Value};
 
@@ -41,9 +41,9 @@ pub fn locate(alloc: Global, text: &str, fault: &SettingsFault) -> Option<FaultP
 }
 
 /// The name of a table is a key above all tables.
-fn named_at(place: Place, key: Key) -> Place {
+fn named_at(place: TablePlace, key: Key) -> TablePlace {
     if place.number == 0 && place.section.word() == key.word() {
-        return Place {
+        return TablePlace {
             section: Section::Top,
             number: 0,
         };
@@ -52,13 +52,13 @@ fn named_at(place: Place, key: Key) -> Place {
 }
 
 /// The first table whose key names a path of the web site.
-fn site_named_at(document: &Table, key: Key) -> Option<Place> {
+fn site_named_at(document: &Table, key: Key) -> Option<TablePlace> {
     let section = section_of_name(key)?;
     let mut number: usize = 0;
     for table in document.get(section.word())?.as_array()?.as_slice() {
         number = number.saturating_add(1);
         if names_site(document, table, key) {
-            return Some(Place { section, number });
+            return Some(TablePlace { section, number });
         }
     }
     None
@@ -107,11 +107,11 @@ fn describe(
     alloc: Global,
     text: &str,
     document: &Table,
-    place: Place,
+    place: TablePlace,
     key: Key,
 ) -> Result<FaultPlace, OutOfMemory> {
     let entries = entries_of(alloc, text)?;
-    let Place { section, number } = place;
+    let TablePlace { section, number } = place;
     let word = place_word(section);
     let table = table_of(document, place);
     let value = value_at(table, key);
@@ -140,7 +140,7 @@ fn mount_in(alloc: Global, section: Section, table: Option<&Table>) -> Result<St
 }
 
 /// The table of a place; `None` where the document has none there.
-fn table_of(document: &Table, place: Place) -> Option<&Table> {
+fn table_of(document: &Table, place: TablePlace) -> Option<&Table> {
     if place.section == Section::Top {
         return Some(document);
     }

@@ -17,7 +17,7 @@ use Rattle.radio_seats_rows.proofs.Lists.{passing_same, map_both}
 abbrev pub hearing : ℕ → ℕ → ListenerRow → ListenerRow
 hearing number session row = with_state (hears number session row.state) row
 
--- each sits where he sat, and names the mount that he named
+-- each sits where it sat, and names the mount that it named
 sits_still : (number session k : ℕ) (state : RowState) → state_at k (hears number session state) ≡ state_at k state
 sits_still number session k (Seated seat) = refl
 sits_still number session k (Ended rule mount) = refl
@@ -37,7 +37,7 @@ counted_hearing mounts rows number session counted = record {
       omega (arith, counted.naming k, same);
 }
 
--- and what is shown of him follows
+-- and what is shown of it follows
 module _ (name : ℕ → List ℕ) (mount : List ℕ) (number session : ℕ) (only : (k : ℕ) → bytes_eq (name k) mount ≡ (k == number)) where
   hears_shown : (state : RowState) → named_state name (hears number session state) ≡ in_session_at mount session (named_state name state)
   hears_shown (Seated seat) =

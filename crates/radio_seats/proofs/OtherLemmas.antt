@@ -16,7 +16,7 @@ use Rattle.radio_seats_rows.specs.Seats.{is_listener, listener_of, seat_held, se
 use Rattle.radio_seats_rows.proofs.Lists.{one, held, passing_removed, map_any, map_found, any_filtered}
 use Rattle.radio_seats.proofs.RowLemmas.{user_at, no_user}
 
--- one sits at the mount exactly where he counts there
+-- one sits at the mount exactly where it counts there
 held_seat : (mount : List ℕ) (seating : Seating) → one (is_seat_at mount seating) ≡ one (option_map_or (λ seat. bytes_eq seat.mount mount) (seat_held seating) false)
 held_seat mount (Sits seat) = refl
 held_seat mount (Finished rule last) = refl
@@ -41,7 +41,7 @@ pub count_all : (seats : List Listener) (id : ℕ) (mount : List ℕ) → AreByN
     → count_at (without_listener seats id) mount ≡ count_at seats mount
 count_all seats id mount rising sits = let all = count_by seats id mount rising in let his = ap one sits in omega (arith, all, his)
 
--- the same user beside him, among rows
+-- the same user beside it, among rows
 module _ (name : ℕ → List ℕ) (mount user : List ℕ) (id : ℕ) where
   pub other_user_there : (number : ℕ) → ((k : ℕ) → bytes_eq (name k) mount ≡ (k == number)) → (rows : List ListenerRow)
       → sits_there (without_listener (map (named name) rows) id) mount user
@@ -63,7 +63,7 @@ module _ (name : ℕ → List ℕ) (mount user : List ℕ) (id : ℕ) where
     none_in [] = refl
     none_in (x ∷ xs) = rw (and_false (not (is_row id x)) (is_user_at mount user (named name x).seating) (no_user name mount only user x.state)) (none_in xs)
 
--- the next one, as rows tell him
+-- the next one, as rows tell it
 pub next_shown : (name : ℕ → List ℕ) (last : Option ℕ) (rows : List ListenerRow)
     → next_number (map (named name) rows) last ≡ option_map (λ (row : ListenerRow). row.id) (find (λ (row : ListenerRow). is_past nat_cmp last row.id) rows)
 next_shown name last rows =

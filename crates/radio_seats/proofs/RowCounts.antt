@@ -59,7 +59,7 @@ no_more_sit k (row ∷ rows) =
 -- one of the two counts
 module _ (counts : ℕ → ListenerRow → Bool) (number_by : Option ListenerRow → Option ℕ)
     (held_by : (row : Option ListenerRow) (k : ℕ) → held (counts k) row ≡ one_at (number_by row) k) (rows : List ListenerRow) where
-  -- who is found is counted at his mount
+  -- who is found is counted at its mount
   pub counted_there : (id k : ℕ) → one_at (number_by (find (is_row id) rows)) k ≤ passing (counts k) rows
   counted_there id k = by_found (find (is_row id) rows) refl where
     by_count : (row : ListenerRow) → find (is_row id) rows ≡ Some row → (b : Bool) → counts k row ≡ b → held (counts k) (Some row) ≤ passing (counts k) rows
@@ -76,7 +76,7 @@ module _ (counts : ℕ → ListenerRow → Bool) (number_by : Option ListenerRow
   pub his_counts : (id : ℕ) (from : Option ℕ) → from ≡ number_by (find (is_row id) rows) → (k : ℕ) → one_at from k ≤ passing (counts k) rows
   his_counts id from his k = let some = counted_there id k in let number = ap (λ n. one_at n k) his in omega (arith, some, number)
 
-  -- his row is changed in its place
+  -- its row is changed in its place
   pub follows_him : (id : ℕ) (f : ListenerRow → ListenerRow) (k : ℕ)
       → passing (counts k) (update_first (is_row id) f rows) + one_at (number_by (find (is_row id) rows)) k
       ≡ passing (counts k) rows + one_at (number_by (option_map f (find (is_row id) rows))) k
@@ -175,7 +175,7 @@ module _ (p : Guest → Bool) (rule : Rule) (number : ℕ) where
   stays_elsewhere k apart (Seated seat) = seat_stays k seat (seat.mount == number) (p seat.guest) refl apart
   stays_elsewhere k apart (Ended other mount) = refl
 
-  -- each names his mount as before
+  -- each names its mount as before
   seat_names : (k : ℕ) (seat : NumberedSeat) (b c : Bool) → (seat.mount == number) ≡ b
       → (last_number (if b && c then Ended rule number else Seated seat) == k) ≡ (seat.mount == k)
   seat_names k seat true true e = ap (λ n. n == k) (sym (eqb-true seat.mount number e))
@@ -236,7 +236,7 @@ module _ (number session place : ℕ) where
     by_state (Seated seat) h = (refl, refl)
     by_state (Ended rule mount) h = cc
 
-  -- one who sits goes there, and his row names it from then on
+  -- one who sits goes there, and its row names it from then on
   module _ (rows : List ListenerRow) (id : ℕ) (from : Option ℕ) (old : ℕ) (his : from ≡ number_in (find (is_row id) rows)) (sits : from ≡ Some old) where
     last : from ≡ last_in (find (is_row id) rows)
     last = sits ∙ sym (sits_last (find (is_row id) rows) old (sym his ∙ sits))

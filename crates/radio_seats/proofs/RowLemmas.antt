@@ -68,7 +68,7 @@ shown_same name later rows names = shown_alike name later rows (λ k some. names
 pub listener_shown : (name : ℕ → List ℕ) (rows : List ListenerRow) (id : ℕ) → listener_of (map (named name) rows) id ≡ option_map (named name) (find (is_row id) rows)
 listener_shown name rows id = map_found (named name) (is_row id) (is_listener id) (λ row. refl) rows
 
--- where he sits, or sat last
+-- where it sits, or sat last
 last_shown : (name : ℕ → List ℕ) (state : RowState) → last_mount (named_state name state) ≡ name (last_number state)
 last_shown name (Seated seat) = refl
 last_shown name (Ended rule mount) = refl

@@ -1,4 +1,4 @@
--- Who sits at a mount, and what of him stays as it is wherever he sits.
+-- Who sits at a mount, and what of it stays as it is wherever it sits.
 use Rattle.std.specs.Prelude.{ℕ, ◌==◌, if◌then◌else◌, List, filter_map, Option, Some, None}
 use Rattle.std.specs.Str.{bytes_eq}
 use Rattle.radio_seats.specs.declared.listed.LentListener.{LentListener}
@@ -23,7 +23,7 @@ listed id guest = record { id = id; guest = guest }
 abbrev pub lent_guest : LentListener → ListedGuest
 lent_guest listener = listed listener.id listener.guest.now
 
--- the listener of this number, if he sits at the mount
+-- the listener of this number, if it sits at the mount
 abbrev pub guest_sitting : List ℕ → ℕ → Seating → Option ListedGuest
 guest_sitting mount id (Sits seat) = if bytes_eq seat.mount mount then Some (listed id (guest_in seat)) else None
 guest_sitting mount id (Finished rule last) = None
@@ -36,7 +36,7 @@ guest_at mount listener = guest_sitting mount listener.id listener.seating
 abbrev pub guests_at : List Listener → List ℕ → List ListedGuest
 guests_at seats mount = filter_map (guest_at mount) seats
 
--- the listener of a row, if he sits at the mount of this number
+-- the listener of a row, if it sits at the mount of this number
 abbrev pub row_sitting : ℕ → ℕ → RowState → Option ListedGuest
 row_sitting number id (Seated seat) = if seat.mount == number then Some (listed id seat.guest) else None
 row_sitting number id (Ended rule last) = None

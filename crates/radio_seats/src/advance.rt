@@ -6,15 +6,15 @@ ghost use Rattle.radio_seats_rows.specs.Seats.{with_place};
 use crate::Seats;
 use radio_blocks::Place;
 use radio_seats_rows::{KeepsUser, ListenerRow, RowState};
-use radio_tables::Change;
+use radio_tables::RowChange;
 
 /// The place up to which a listener has heard its mount's stream, if it has a seat.
 #[derive(Drop)]
-struct Advances {
+struct AdvancesSeat {
     place: Place,
 }
 
-impl Change<ListenerRow> for Advances {
+impl RowChange<ListenerRow> for AdvancesSeat {
     ghost use Rattle.std.specs.Prelude.{refl};
     ghost use Rattle.radio_seats_rows.specs.Rows.{with_state};
     ghost use Rattle.radio_seats.specs.Further.{heard_to_place};
@@ -30,7 +30,7 @@ impl Change<ListenerRow> for Advances {
     }
 }
 
-impl KeepsUser for Advances {
+impl KeepsUser for AdvancesSeat {
     ghost use Rattle.radio_seats.specs.Further.{further_same};
 
     ghost same_user = { λ change row. further_same change.place row };
@@ -42,6 +42,6 @@ impl Seats {
     pub fn advance(&mut self, id: u64, place: Place)
         ensures { self.new ≡ record self.old { seats = with_place self.old.seats id place } }
     {
-        self.rows.change(id, &Advances { place });
+        self.rows.change(id, &AdvancesSeat { place });
     }
 }

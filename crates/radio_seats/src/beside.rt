@@ -1,4 +1,4 @@
-//! What the table tells one of its listeners: who comes after him, and who sits beside him.
+//! What the table tells one of its listeners: who comes after it, and who sits beside it.
 
 ghost use Rattle.std.specs.Prelude.{◌≡◌, length};
 ghost use Rattle.radio_seats_rows.specs.Board.{is_prepared};
@@ -29,7 +29,7 @@ impl Seats {
     /// time grows as the logarithm of the number of listeners.
     pub fn next(&self, last: Option<u64>) -> Option<u64>
         ensures next { result ≡ next_number self.now.seats last }
-        // so that each has his turn once
+        // so that each has its turn once
         ensures rising { AreByNumber self.now.seats }
     {
         match self.rows.after(last) {

@@ -8,7 +8,7 @@ use crate::Seats;
 use radio_values::MountName;
 
 impl Seats {
-    /// The mount where the listener of this number sits, or sat last if he has finished; none where
+    /// The mount where the listener of this number sits, or sat last if it has finished; none where
     /// there is no such listener.
     // rule: Last mount
     pub fn last_mount(&self, id: u64) -> Option<&MountName>

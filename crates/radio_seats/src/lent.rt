@@ -8,11 +8,11 @@ use radio_values::MountName;
 /// A seat that a table lends.
 #[derive(Clone, Copy)]
 pub struct LentSeat<'a> {
-    /// How far he has heard the stream of his session.
+    /// How far it has heard the stream of its session.
     pub place: Place,
-    /// The mount that he hears.
+    /// The mount that it hears.
     pub mount: &'a MountName,
-    /// The number of the session that he hears.
+    /// The number of the session that it hears.
     pub session: u64,
     /// Who has the seat.
     pub guest: &'a Guest,
@@ -21,8 +21,8 @@ pub struct LentSeat<'a> {
 /// How one stands who was admitted as a listener.
 #[derive(Clone, Copy)]
 pub enum ListenerStanding {
-    /// He has a seat.
+    /// It has a seat.
     HasSeat,
-    /// He has lost his seat by the rule.
+    /// It has lost its seat by the rule.
     HasLost(Rule),
 }

@@ -1,4 +1,4 @@
-//! The table of listeners: who sits at which mount, and who has lost his seat where, and by which
+//! The table of listeners: who sits at which mount, and who has lost its seat where, and by which
 //! rule.
 //!
 //! - [`Seats`]: the table. Contracts see it as a board: the names of the mounts that were prepared,
@@ -8,7 +8,7 @@
 //! - [`Seats::guests_at`]: who sits at a mount, each as a [`LentListener`].
 //! - [`Seats::last_mount`]: where a listener sits, or sat last.
 //! - [`Seats::next`], [`Seats::count_beside`], [`Seats::user_beside`]: what a move asks, which takes listeners
-//!   in the order of their numbers, and leaves his own seat out of account.
+//!   in the order of their numbers, and leaves its own seat out of account.
 #![tactic(auto)]
 
 mod advance;

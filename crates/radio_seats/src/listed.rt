@@ -9,12 +9,12 @@ use radio_seats_rows::{Guest, ListenerRow, OutOfMemory, RowState, Rows};
 use radio_values::MountName;
 use std::alloc::Global;
 
-/// A listener who sits, as the table lends him.
+/// A listener who sits, as the table lends it.
 #[derive(Clone, Copy)]
 pub struct LentListener<'a> {
-    /// His number.
+    /// Its number.
     pub id: u64,
-    /// What stays as it is of him wherever he sits.
+    /// What stays as it is of it wherever it sits.
     pub guest: &'a Guest,
 }
 
@@ -48,7 +48,7 @@ fn guests_in(alloc: Global, rows: &Rows, number: u64) -> Result<Vec<LentListener
     Ok(found)
 }
 
-/// The listener, if he sits at the mount of this number.
+/// The listener, if it sits at the mount of this number.
 fn guest_by(row: &ListenerRow, number: u64) -> Option<LentListener<'_>>
     ensures { option_map lent_guest result ≡ row_guest number row.now }
 {

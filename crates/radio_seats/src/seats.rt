@@ -19,8 +19,8 @@ use crate::{LentSeat, ListenerStanding};
 use radio_blocks::Place;
 use radio_policy::Rule;
 use radio_seats_rows::{
-    Ends, FinishesAt, GuestMoment, Hears, ListenerRow, Mounts, Moves, OutOfMemory, RowState, Rows,
-    Seat, SeatTest, UserAt,
+    Ends, FinishesAt, GuestMoment, ListenerRow, Mounts, Moves, OutOfMemory, RowState, Rows, Seat,
+    SeatTest, SetSession, UserAt,
 };
 use radio_values::MountName;
 use std::alloc::Global;
@@ -87,7 +87,7 @@ impl Seats {
         }
     }
 
-    /// The seat of the listener of this number, if he has one.
+    /// The seat of the listener of this number, if it has one.
     pub fn seat(&self, id: u64) -> Option<LentSeat<'_>>
         ensures { option_map lent_seat result ≡ seat_of self.now.seats id }
     {
@@ -142,7 +142,7 @@ impl Seats {
         Ok(())
     }
 
-    /// All who sit at the mount hear this session from now on, each from the place where he is. It
+    /// All who sit at the mount hear this session from now on, each from the place where it is. It
     /// takes no memory.
     // rule: Session after a wait
     pub fn give_session(&mut self, mount: &MountName, session: u64)
@@ -151,11 +151,11 @@ impl Seats {
         let Some(number) = self.mounts.number(mount) else {
             return;
         };
-        self.rows.change_all(&Hears { number, session });
+        self.rows.change_all(&SetSession { number, session });
     }
 
     /// The listener sits at the mount from now on, in this session and from this place on. Nothing
-    /// changes where he has no seat. It takes no memory.
+    /// changes where it has no seat. It takes no memory.
     pub fn shift(&mut self, id: u64, mount: &MountName, session: u64, place: Place)
         requires { is_prepared self.old.prepared mount.now ≡ true }
         ensures { self.new ≡ record self.old { seats = with_move self.old.seats id mount.now session place } }
@@ -180,7 +180,7 @@ impl Seats {
         self.mounts.gain(number);
     }
 
-    /// The listener loses his seat by the rule, and sat there last. Nothing changes where he has
+    /// The listener loses its seat by the rule, and sat there last. Nothing changes where it has
     /// none. It takes no memory.
     pub fn end(&mut self, id: u64, rule: Rule)
         ensures { self.new ≡ record self.old { seats = with_end self.old.seats id rule } }

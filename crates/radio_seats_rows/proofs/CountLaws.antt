@@ -97,7 +97,7 @@ pub record NobodyCame (seats later : List Listener) : Type 0 where
 pub nobody_came : (seats : List Listener) → NobodyCame seats seats
 nobody_came seats = record { no_more = λ mount. omega arith; sat = λ id mount user sits. sits }
 
--- he heard on
+-- it heard on
 still_at : (mount : List ℕ) (place : ℕ) (seating : Seating) → is_seat_at mount (heard_to place seating) ≡ true → is_seat_at mount seating ≡ true
 still_at mount place (Sits seat) e = e
 still_at mount place (Finished rule last) e = e
@@ -116,7 +116,7 @@ nobody_came_hearing seats him place old has = record {
       (λ other. (sits.0, sym (ap seat_in (beside_moved seats him id other place)) ∙ sits.1, sits.2, sits.3));
 }
 
--- he left
+-- it left
 pub nobody_came_leaving : (seats : List Listener) (him : ℕ) → NobodyCame seats (without_listener seats him)
 nobody_came_leaving seats him = record {
   no_more = λ mount. no_more_filtered (λ listener. is_seat_at mount listener.seating) (λ listener. not (is_listener him listener)) seats;
@@ -127,7 +127,7 @@ nobody_came_leaving seats him = record {
       (λ other. (sits.0, sym (ap seat_in (beside_left seats him id other)) ∙ sits.1, sits.2, sits.3));
 }
 
--- one has come: one more at the most sits at his mount, and no more at any other
+-- one has come: one more at the most sits at its mount, and no more at any other
 pub one_more_at : (seats : List Listener) (id : ℕ) (seat : Seat) (mount : List ℕ)
     → length (seats_at (with_seat seats id seat) mount) ≤ length (seats_at seats mount) + 1
 one_more_at seats id seat mount = one_more_placed (λ listener. is_seat_at mount listener.seating) by_listener (seated id seat) seats

@@ -1,4 +1,4 @@
--- who keeps his seat, and who loses it, where all seats end of which something holds
+-- who keeps its seat, and who loses it, where all seats end of which something holds
 use Rattle.std.proofs.Common.{◌≡◌, ◌⊎◌, inl, inr, Bool, true, false, ℕ, Option, Some, None, List, refl, ap, sym, ◌∙◌}
 use Rattle.std.specs.Prelude.{if◌then◌else◌}
 use Rattle.std.specs.Option.{option_map}
@@ -11,7 +11,7 @@ use Rattle.radio_seats_rows.specs.declared.seat.Seating.TheVariants.{Sits, Finis
 use Rattle.radio_seats_rows.specs.Seats.{is_listener, listener_of, seat_held, seat_in, seat_of, is_seat_at, holds_of, lost_by, ended_if, finished_if, with_ended}
 use Rattle.radio_seats_rows.proofs.CountLaws.{NobodyCame, no_more_mapped}
 
--- the listener had a seat of which it holds, and has finished where he sat
+-- the listener had a seat of which it holds, and has finished where it sat
 pub record LosesSeat (p : Seat → Bool) (rule : Rule) (before later : Option Listener) : Type 0 where
   pub seat : Seat
   pub had_a_seat : seat_in before ≡ Some seat
@@ -23,7 +23,7 @@ module _ (p : Seat → Bool) (rule : Rule) where
   pub have_ended : (seats : List Listener) (id : ℕ) → listener_of (with_ended seats p rule) id ≡ option_map (finished_if p rule) (listener_of seats id)
   have_ended seats id = find_mapped (is_listener id) (finished_if p rule) (λ x. refl) seats
 
-  -- a listener is as he was, or loses his seat
+  -- a listener is as it was, or loses its seat
   abbrev IsSameOrLoses : Option Listener → Option Listener → Type 0
   IsSameOrLoses before later = (later ≡ before) ⊎ LosesSeat p rule before later
 

@@ -11,7 +11,7 @@ use Rattle.radio_seats_rows.specs.declared.seat.Seating.TheVariants.{Sits, Finis
 use Rattle.radio_seats_rows.specs.Seats.{is_listener, listener_of, seat_held, seat_in, seat_of, hears_session, in_session_at, with_session_at}
 use Rattle.radio_seats_rows.specs.Seats.{is_seat_at, seats_at, count_at, is_user_at, sits_there}
 
--- the seat of one who hears the session, if he sits at the mount
+-- the seat of one who hears the session, if it sits at the mount
 abbrev pub seat_hearing : List ℕ → ℕ → Seat → Seat
 seat_hearing mount session seat = record seat { session = (if bytes_eq seat.mount mount then session else seat.session) }
 
@@ -29,7 +29,7 @@ module _ (mount : List ℕ) (session : ℕ) where
   in_hearing None = refl
   in_hearing (Some listener) = held_hearing listener.seating
 
-  -- each has the seat that he had, in the new session where it is at the mount
+  -- each has the seat that it had, in the new session where it is at the mount
   pub seat_of_hearing : (seats : List Listener) (id : ℕ)
       → seat_of (with_session_at seats mount session) id ≡ option_map (seat_hearing mount session) (seat_of seats id)
   seat_of_hearing seats id = ap seat_in (listener_hearing seats id) ∙ in_hearing (listener_of seats id)

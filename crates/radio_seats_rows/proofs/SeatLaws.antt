@@ -28,7 +28,7 @@ module _ (seats : List Listener) (him id : ℕ) (other : (him == id) ≡ false) 
       find_placed nat_cmp nat_cmp_total (λ (listener : Listener). listener.id) is_listener (λ k listener. number_is k listener.id) id (seated him seat) seats
       ∙ rw other refl
 
--- and he himself as the change has made him
+-- and it itself as the change has made it
 pub has_moved : (seats : List Listener) (id place : ℕ) (listener : Listener) → listener_of seats id ≡ Some listener
     → listener_of (with_place seats id place) id ≡ Some (advanced place listener)
 has_moved seats id place listener e = find_same (is_listener id) (advanced place) (λ x. refl) seats listener e
@@ -50,7 +50,7 @@ listener_seated seats id seat e = by_found (listener_of seats id) refl where
   by_found None none = let is_none : seat_of seats id ≡ None = ap seat_in none in cc
   by_found (Some listener) found = (listener, found, sym (ap seat_in found) ∙ e)
 
--- and his seat is the same, further on
+-- and its seat is the same, further on
 pub has_heard : (seats : List Listener) (id place : ℕ) (seat : Seat) → seat_of seats id ≡ Some seat
     → seat_of (with_place seats id place) id ≡ Some (record seat { place = place })
 has_heard seats id place seat has =

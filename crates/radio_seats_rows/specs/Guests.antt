@@ -1,4 +1,4 @@
--- A seat and its guest: what stays as it is wherever he sits.
+-- A seat and its guest: what stays as it is wherever it sits.
 use Rattle.std.specs.Prelude.{ℕ, Bool, ◌&&◌, min, List, fold}
 use Rattle.std.specs.Str.{bytes_eq}
 use Rattle.radio_seats_rows.specs.declared.seat.Guest.{Guest}

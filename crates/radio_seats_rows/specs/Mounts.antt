@@ -44,7 +44,7 @@ abbrev pub is_number : Option ℕ → ℕ → Bool
 is_number None number = false
 is_number (Some found) number = number == found
 
--- one where that is the number of his mount, and none elsewhere
+-- one where that is the number of its mount, and none elsewhere
 abbrev pub one_at : Option ℕ → ℕ → ℕ
 one_at None number = 0
 one_at (Some his) number = (if his == number then 1 else 0)

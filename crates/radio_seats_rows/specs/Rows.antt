@@ -13,27 +13,27 @@ use Rattle.radio_seats_rows.specs.Seats.{has_user}
 abbrev pub is_row : ℕ → ListenerRow → Bool
 is_row id row = row.id == id
 
--- where he sits, or sat last
+-- where it sits, or sat last
 abbrev pub last_number : RowState → ℕ
 last_number (Seated seat) = seat.mount
 last_number (Ended rule mount) = mount
 
--- where he sits
+-- where it sits
 abbrev pub number_of : RowState → Option ℕ
 number_of (Seated seat) = Some seat.mount
 number_of (Ended rule mount) = None
 
--- he sits at this mount now, from this place of this session on
+-- it sits at this mount now, from this place of this session on
 abbrev pub shifted : ℕ → ℕ → ℕ → RowState → RowState
 shifted mount session place (Seated seat) = Seated (record seat { mount = mount; session = session; place = place })
 shifted mount session place (Ended rule last) = Ended rule last
 
--- he hears this session, if he sits at the mount of this number
+-- it hears this session, if it sits at the mount of this number
 abbrev pub hears : ℕ → ℕ → RowState → RowState
 hears number session (Seated seat) = Seated (record seat { session = (if seat.mount == number then session else seat.session) })
 hears number session (Ended rule mount) = Ended rule mount
 
--- he has lost his seat by the rule
+-- it has lost its seat by the rule
 abbrev pub ended : Rule → RowState → RowState
 ended rule (Seated seat) = Ended rule seat.mount
 ended rule (Ended other mount) = Ended other mount

@@ -1,4 +1,4 @@
--- what is done to a row leaves its listener's user as he is
+-- what is done to a row leaves its listener's user as it is
 use Rattle.std.proofs.Common.{ℕ, Bool, true, false, refl}
 use Rattle.std.specs.Prelude.{if◌then◌else◌}
 use Rattle.radio_policy.specs.declared.rule.Rule.{Rule}

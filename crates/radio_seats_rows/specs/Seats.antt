@@ -1,4 +1,4 @@
--- The listeners, each with his seat, or with the rule by which he has lost it and the mount where that was.
+-- The listeners, each with its seat, or with the rule by which it has lost it and the mount where that was.
 use Rattle.std.specs.Prelude.{◌≡◌, ℕ, Bool, true, false, ◌==◌, ◌&&◌, not, if◌then◌else◌, List, length, Option, Some, None, find, filter, map}
 use Rattle.std.specs.Option.{option_map, option_map_or}
 use Rattle.std.specs.declared.cmp.Ordering.{Ordering}
@@ -18,7 +18,7 @@ use Rattle.radio_tables.specs.Past.{is_past}
 abbrev pub is_listener : ℕ → Listener → Bool
 is_listener id listener = listener.id == id
 
--- the listener of this number, if he is one
+-- the listener of this number, if it is one
 abbrev pub listener_of : List Listener → ℕ → Option Listener
 listener_of seats id = find (is_listener id) seats
 
@@ -31,7 +31,7 @@ abbrev pub seat_in : Option Listener → Option Seat
 seat_in None = None
 seat_in (Some listener) = seat_held listener.seating
 
--- the seat of the listener of this number, if he has one
+-- the seat of the listener of this number, if it has one
 abbrev pub seat_of : List Listener → ℕ → Option Seat
 seat_of seats id = seat_in (listener_of seats id)
 
@@ -59,7 +59,7 @@ heard_to place (Finished rule mount) = Finished rule mount
 abbrev pub advanced : ℕ → Listener → Listener
 advanced place listener = record listener { seating = heard_to place listener.seating }
 
--- the listener has heard his stream up to this place
+-- the listener has heard its stream up to this place
 abbrev pub with_place : List Listener → ℕ → ℕ → List Listener
 with_place seats id place = update_first (is_listener id) (advanced place) seats
 
@@ -71,7 +71,7 @@ moved_to mount session place (Finished rule last) = Finished rule last
 abbrev pub moved : List ℕ → ℕ → ℕ → Listener → Listener
 moved mount session place listener = record listener { seating = moved_to mount session place listener.seating }
 
--- the listener sits there now, if he had a seat
+-- the listener sits there now, if it had a seat
 abbrev pub with_move : List Listener → ℕ → List ℕ → ℕ → ℕ → List Listener
 with_move seats id mount session place = update_first (is_listener id) (moved mount session place) seats
 
@@ -84,12 +84,12 @@ in_session_at mount session (Finished rule last) = Finished rule last
 abbrev pub hears_session : List ℕ → ℕ → Listener → Listener
 hears_session mount session listener = record listener { seating = in_session_at mount session listener.seating }
 
--- all who sit at the mount hear this session, each from the place where he is
+-- all who sit at the mount hear this session, each from the place where it is
 -- rule: Session after a wait
 abbrev pub with_session_at : List Listener → List ℕ → ℕ → List Listener
 with_session_at seats mount session = map (hears_session mount session) seats
 
--- a seat is lost by the rule, at its mount; who has finished before has finished by his own
+-- a seat is lost by the rule, at its mount; who has finished before has finished by its own
 abbrev pub lost_by : Rule → Seating → Seating
 lost_by rule (Sits seat) = Finished rule seat.mount
 lost_by rule (Finished other mount) = Finished other mount
@@ -97,7 +97,7 @@ lost_by rule (Finished other mount) = Finished other mount
 abbrev pub loses : Rule → Listener → Listener
 loses rule listener = record listener { seating = lost_by rule listener.seating }
 
--- the listener has lost his seat by the rule, if he had one
+-- the listener has lost its seat by the rule, if it had one
 abbrev pub with_end : List Listener → ℕ → Rule → List Listener
 with_end seats id rule = update_first (is_listener id) (loses rule) seats
 
@@ -133,12 +133,12 @@ seats_at seats mount = filter (λ listener. is_seat_at mount listener.seating) s
 abbrev pub count_at : List Listener → List ℕ → ℕ
 count_at seats mount = length (seats_at seats mount)
 
--- where he sits, or sat last
+-- where it sits, or sat last
 abbrev pub last_mount : Seating → List ℕ
 last_mount (Sits seat) = seat.mount
 last_mount (Finished rule mount) = mount
 
--- the mount where the listener of this number sits, or sat last, if he is one
+-- the mount where the listener of this number sits, or sat last, if it is one
 -- rule: Last mount
 abbrev pub last_mount_of : List Listener → ℕ → Option (List ℕ)
 last_mount_of seats id = option_map (λ listener. last_mount listener.seating) (listener_of seats id)

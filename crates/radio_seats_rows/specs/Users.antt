@@ -50,7 +50,7 @@ IsUserOf user (Ended rule mount) = Unit {0}
 abbrev pub HasItsUser : ListenerRow → Type 0
 HasItsUser row = IsUserOf row.user row.state
 
--- the row's listener is of the same user later, or has lost his seat
+-- the row's listener is of the same user later, or has lost its seat
 pub record IsSameUser (row later : ListenerRow) : Type 0 where
   pub user : later.user ≡ row.user
   pub own : HasItsUser row → HasItsUser later

@@ -1,4 +1,4 @@
-//! What is done to a listener in his place in the table.
+//! What is done to a listener in its place in the table.
 
 ghost use Rattle.std.specs.Prelude.{◌≡◌};
 
@@ -6,27 +6,27 @@ use crate::Guest;
 use crate::row::{ListenerRow, RowState};
 use radio_blocks::Place;
 use radio_policy::Rule;
-use radio_tables::Change;
+use radio_tables::RowChange;
 
-/// A change of a row after which its listener is of the same user, or has lost his seat.
-pub trait KeepsUser: Change<ListenerRow> {
+/// A change of a row after which its listener is of the same user, or has lost its seat.
+pub trait KeepsUser: RowChange<ListenerRow> {
     ghost use Rattle.radio_seats_rows.specs.declared.row.ListenerRow.{ListenerRow};
     ghost use Rattle.radio_seats_rows.specs.Users.{IsSameUser};
 
-    // He is.
+    // It is.
     ghost same_user: { (change : Self) (row : ListenerRow) → IsSameUser row (Self.gives change row) };
 }
 
 /// A listener who sits at the mount of this number hears this session from now on.
 #[derive(Drop)]
-pub struct Hears {
+pub struct SetSession {
     /// The number of the mount.
     pub number: u64,
     /// The number of the session.
     pub session: u64,
 }
 
-impl Hears {
+impl SetSession {
     ghost use Rattle.std.specs.Prelude.{◌==◌, if◌then◌else◌};
 
     /// The session of one who sits at the mount of this number, and has heard the other.
@@ -41,7 +41,7 @@ impl Hears {
     }
 }
 
-impl Change<ListenerRow> for Hears {
+impl RowChange<ListenerRow> for SetSession {
     ghost use Rattle.std.specs.Prelude.{refl};
     ghost use Rattle.radio_seats_rows.specs.Rows.{hears, with_state};
 
@@ -56,7 +56,7 @@ impl Change<ListenerRow> for Hears {
     }
 }
 
-impl KeepsUser for Hears {
+impl KeepsUser for SetSession {
     ghost use Rattle.radio_seats_rows.specs.SameUsers.{hears_same};
 
     ghost same_user = { λ change row. hears_same change.number change.session row };
@@ -67,13 +67,13 @@ impl KeepsUser for Hears {
 pub struct Moves {
     /// The number of the mount.
     pub mount: u64,
-    /// The number of the session that he hears there.
+    /// The number of the session that it hears there.
     pub session: u64,
-    /// The place from which on he hears it.
+    /// The place from which on it hears it.
     pub place: Place,
 }
 
-impl Change<ListenerRow> for Moves {
+impl RowChange<ListenerRow> for Moves {
     ghost use Rattle.std.specs.Prelude.{refl};
     ghost use Rattle.radio_seats_rows.specs.Rows.{shifted, with_state};
 
@@ -96,14 +96,14 @@ impl KeepsUser for Moves {
     ghost same_user = { λ change row. shifted_same change.mount change.session change.place row };
 }
 
-/// The listener loses his seat by the rule.
+/// The listener loses its seat by the rule.
 #[derive(Drop)]
 pub struct Ends {
     /// The rule.
     pub rule: Rule,
 }
 
-impl Change<ListenerRow> for Ends {
+impl RowChange<ListenerRow> for Ends {
     ghost use Rattle.std.specs.Prelude.{refl};
     ghost use Rattle.radio_seats_rows.specs.Rows.{ended, with_state};
 
@@ -154,7 +154,7 @@ pub trait GuestMoment {
         ensures { result ≡ gives self.now guest.now };
 }
 
-/// A listener who sits at the mount of this number, and of whom the test holds, loses his seat by
+/// A listener who sits at the mount of this number, and of whom the test holds, loses its seat by
 /// the rule.
 #[derive(Drop)]
 pub struct FinishesAt<'a, T: SeatTest> {
@@ -166,7 +166,7 @@ pub struct FinishesAt<'a, T: SeatTest> {
     pub rule: Rule,
 }
 
-impl<T: SeatTest> Change<ListenerRow> for FinishesAt<'_, T> {
+impl<T: SeatTest> RowChange<ListenerRow> for FinishesAt<'_, T> {
     ghost use Rattle.std.specs.Prelude.{refl};
     ghost use Rattle.radio_seats_rows.specs.Rows.{ended_where};
 

@@ -3,11 +3,11 @@
 //!
 //! - [`Listener`], [`Seating`], [`Seat`]: the listeners as contracts see them, and as the
 //!   definitions of `specs/Seats` change them.
-//! - [`ListenerRow`], [`RowState`], [`NumberedSeat`], [`Guest`]: a listener as he is kept, small, and
+//! - [`ListenerRow`], [`RowState`], [`NumberedSeat`], [`Guest`]: a listener as it is kept, small, and
 //!   moved without memory.
-//! - [`Hears`], [`Moves`], [`Ends`], [`FinishesAt`]: what is done to a row. Each leaves the
-//!   listener's user as he is ([`KeepsUser`]). A [`SeatTest`] asks something of a [`Guest`], and a
-//!   [`GuestMoment`] is a moment of his.
+//! - [`SetSession`], [`Moves`], [`Ends`], [`FinishesAt`]: what is done to a row. Each leaves the
+//!   listener's user as it is ([`KeepsUser`]). A [`SeatTest`] asks something of a [`Guest`], and a
+//!   [`GuestMoment`] is a moment of its.
 //! - [`Rows`]: the rows in the order of their numbers, and an index of them by user; [`UserAt`] is
 //!   whom it is asked for.
 //! - [`Mounts`]: the prepared mounts, each with its number, its name and the counts of those who sit
@@ -25,7 +25,7 @@ mod rows;
 mod seat;
 mod users;
 
-pub use changes::{Ends, FinishesAt, GuestMoment, Hears, KeepsUser, Moves, SeatTest};
+pub use changes::{Ends, FinishesAt, GuestMoment, KeepsUser, Moves, SeatTest, SetSession};
 pub use kept_name::KeptName;
 pub use kept_user::KeptUser;
 pub use mounts::{Mount, Mounts};

@@ -7,7 +7,7 @@ ghost use Rattle.radio_seats_rows.specs.Board.{is_prepared};
 ghost use Rattle.radio_seats_rows.specs.Mounts.{is_numbered, name_in, sitting_in, naming_in, is_number, one_at, IsThere};
 
 use crate::OutOfMemory;
-use radio_tables::{Change, Row, Table};
+use radio_tables::{Row, RowChange, Table};
 use radio_values::MountName;
 use std::alloc::{AllocError, Global};
 use std::marker::Model;
@@ -73,7 +73,7 @@ struct Counts {
     naming: u64,
 }
 
-impl Change<Mount> for Counts {
+impl RowChange<Mount> for Counts {
     ghost use Rattle.std.specs.Prelude.{refl};
 
     ghost gives = { λ change mount. record mount { sitting = change.sitting; naming = change.naming } };
@@ -248,7 +248,7 @@ impl Mounts {
         }
     }
 
-    /// One has left his seat at the mount of this number, if he had one, and sat there last.
+    /// One has left its seat at the mount of this number, if it had one, and sat there last.
     pub fn leave(&mut self, number: Option<u64>)
         ensures sitting { (other : _) → sitting_in self.new.mounts other ≡ sitting_in self.old.mounts other - one_at number other }
         ensures naming { (other : _) → naming_in self.new.mounts other ≡ naming_in self.old.mounts other }

@@ -12,11 +12,11 @@ use radio_tables::Row;
 #[derive(Drop)]
 pub struct NumberedSeat {
     // what a push and a draw read comes first, and lies together
-    /// How far he has heard the stream of his session.
+    /// How far it has heard the stream of its session.
     pub place: Place,
-    /// The number of the mount that he hears.
+    /// The number of the mount that it hears.
     pub mount: u64,
-    /// The number of the session that he hears.
+    /// The number of the session that it hears.
     pub session: u64,
     /// Who has the seat.
     pub guest: Guest,
@@ -25,19 +25,19 @@ pub struct NumberedSeat {
 /// Whether a listener sits.
 #[derive(Drop)]
 pub enum RowState {
-    /// He has this seat.
+    /// It has this seat.
     Seated(NumberedSeat),
-    /// He has lost his seat at the mount of this number by the rule.
+    /// It has lost its seat at the mount of this number by the rule.
     Ended {
         /// The rule.
         rule: Rule,
-        /// The number of the mount where he sat last.
+        /// The number of the mount where it sat last.
         mount: u64,
     },
 }
 
 impl RowState {
-    /// The number of the mount where he sits.
+    /// The number of the mount where it sits.
     pub fn mount(&self) -> Option<u64>
         ensures { result ≡ number_of self.now }
     {
@@ -47,7 +47,7 @@ impl RowState {
         }
     }
 
-    /// The number of the mount where he sits, or sat last.
+    /// The number of the mount where it sits, or sat last.
     pub fn last_mount(&self) -> u64
         ensures { result ≡ last_number self.now }
     {
@@ -98,14 +98,14 @@ impl RowState {
     }
 }
 
-/// A listener, as the table keeps him.
+/// A listener, as the table keeps it.
 #[derive(Drop)]
 pub struct ListenerRow {
-    /// His number.
+    /// Its number.
     pub id: u64,
-    /// The user that he sent when he sat down, if he did.
+    /// The user that it sent when it sat down, if it did.
     pub user: Option<KeptUser>,
-    /// Whether he sits.
+    /// Whether it sits.
     pub state: RowState,
 }
 

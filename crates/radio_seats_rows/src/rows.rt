@@ -15,7 +15,7 @@ ghost use Rattle.radio_seats_rows.specs.Users.{is_other, user_in};
 
 use crate::changes::KeepsUser;
 use crate::row::{ListenerRow, NumberedSeat, RowState};
-use crate::users::{UserAt, Users};
+use crate::users::{UserAt, UserIndex};
 use crate::{Guest, KeptUser, OutOfMemory, Seat};
 use radio_creds::Pair;
 use radio_tables::Table;
@@ -24,12 +24,12 @@ use std::collections::btree_map::Values;
 use std::marker::Model;
 
 /// The rows of listeners, each number once, in the order of the numbers. Beside them stands who
-/// sent which user, so that a question about a user looks at his rows alone. Contracts see the list
+/// sent which user, so that a question about a user looks at its rows alone. Contracts see the list
 /// of the rows.
 pub struct Rows {
     alloc: Global,
     rows: Table<ListenerRow>,
-    users: Users,
+    users: UserIndex,
 }
 
 impl Drop for Rows {
@@ -64,7 +64,7 @@ impl Rows {
         Rows {
             alloc,
             rows: Table::new(alloc),
-            users: Users::new(alloc),
+            users: UserIndex::new(alloc),
         }
     }
 
@@ -113,7 +113,7 @@ impl Rows {
         self.rows.change_all(change);
     }
 
-    /// The listener of this number sits at the mount of that number; of a row that he had, nothing
+    /// The listener of this number sits at the mount of that number; of a row that it had, nothing
     /// is left. `OutOfMemory` where memory was refused; nothing has changed then.
     pub fn insert(&mut self, id: u64, number: u64, seat: Seat) -> Result<(), OutOfMemory>
         ensures ok { OnOk result (self.new ≡ placed (λ (a b : RowOf). nat_cmp a.id b.id) (seated_row id number seat) self.old) }
@@ -144,7 +144,7 @@ impl Rows {
     }
 
     /// Whether one of the rows is of one who is asked for. The time grows as the number of the rows
-    /// of his user, and as the logarithm of the number of all.
+    /// of its user, and as the logarithm of the number of all.
     pub fn has_user(&self, asked: &UserAt<'_>) -> bool
         ensures { result ≡ list_any (is_other asked.now.own asked.now.number asked.now.user.now) self.now }
     {
@@ -154,7 +154,7 @@ impl Rows {
     }
 }
 
-/// The user of a row, if there is a row, and he sent one.
+/// The user of a row, if there is a row, and it sent one.
 fn user_of(row: Option<&ListenerRow>) -> Option<&KeptUser>
     ensures { option_copied result ≡ user_in (option_copied row.entry) }
 {
@@ -184,7 +184,7 @@ fn kept(alloc: Global, pair: Option<&Pair>) -> Result<Option<KeptUser>, OutOfMem
     }
 }
 
-/// The listener's row, where the mount of his seat has this number. `OutOfMemory` where memory was
+/// The listener's row, where the mount of its seat has this number. `OutOfMemory` where memory was
 /// refused.
 fn numbered(alloc: Global, id: u64, number: u64, seat: Seat) -> Result<ListenerRow, OutOfMemory>
     ensures { IfOk result (λ row. row ≡ seated_row id number seat) }

@@ -1,4 +1,4 @@
-//! A listener and his seat, as contracts see them.
+//! A listener and its seat, as contracts see them.
 
 ghost use Rattle.std.specs.Prelude.{◌≡◌};
 
@@ -12,34 +12,34 @@ use radio_values::MountName;
 /// A listener's seat at a mount.
 #[derive(Drop)]
 pub struct Seat {
-    /// How far he has heard the stream of his session.
+    /// How far it has heard the stream of its session.
     pub place: Place,
-    /// The mount that he hears.
+    /// The mount that it hears.
     pub mount: MountName,
-    /// The number of the session that he hears.
+    /// The number of the session that it hears.
     pub session: u64,
-    /// The mount that he asked for.
+    /// The mount that it asked for.
     pub home: KeptName,
-    /// The address that he came from.
+    /// The address that it came from.
     pub peer: Peer,
-    /// The user and the password that he sent, if he did.
+    /// The user and the password that it sent, if it did.
     pub pair: Option<Pair>,
-    /// After how many bytes of data he is sent a metadata block, if he asked for metadata.
+    /// After how many bytes of data it is sent a metadata block, if it asked for metadata.
     pub interval: Option<u32>,
-    /// The moment of his admission, in milliseconds.
+    /// The moment of its admission, in milliseconds.
     pub since: u64,
 }
 
 /// Whether a listener sits.
 #[derive(Drop)]
 pub enum Seating {
-    /// He has this seat.
+    /// It has this seat.
     Sits(Seat),
-    /// He has lost his seat at the mount by the rule, and is told it at his next event.
+    /// It has lost its seat at the mount by the rule, and is told it at its next event.
     Finished {
         /// The rule.
         rule: Rule,
-        /// The mount where he sat last.
+        /// The mount where it sat last.
         mount: MountName,
     },
 }
@@ -49,21 +49,21 @@ pub enum Seating {
 pub struct Listener {
     /// The client's number.
     pub id: u64,
-    /// His seat, or why he has none.
+    /// Its seat, or why it has none.
     pub seating: Seating,
 }
 
 /// What stays as it is of a seat, wherever the listener sits.
 pub struct Guest {
-    /// The mount that he asked for.
+    /// The mount that it asked for.
     pub home: KeptName,
-    /// The address that he came from.
+    /// The address that it came from.
     pub peer: Peer,
-    /// The user and the password that he sent, if he did.
+    /// The user and the password that it sent, if it did.
     pub pair: Option<Pair>,
-    /// After how many bytes of data he is sent a metadata block, if he asked for metadata.
+    /// After how many bytes of data it is sent a metadata block, if it asked for metadata.
     pub interval: Option<u32>,
-    /// The moment of his admission, in milliseconds.
+    /// The moment of its admission, in milliseconds.
     pub since: u64,
 }
 
@@ -84,7 +84,7 @@ impl Drop for Guest {
 impl Guest {
     ghost use Rattle.radio_seats_rows.specs.Seats.{has_user};
 
-    /// Whether he sent this user. Who sent no pair has no user.
+    /// Whether it sent this user. Who sent no pair has no user.
     pub fn has_user(&self, user: &[u8]) -> bool
         ensures { result ≡ has_user user.now self.now.pair }
     {

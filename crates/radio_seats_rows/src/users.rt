@@ -19,9 +19,9 @@ use std::collections::{BTreeMap, BTreeSet};
 /// Who is asked for.
 #[derive(Clone, Copy)]
 pub struct UserAt<'a> {
-    /// The number of the mount where he sits.
+    /// The number of the mount where it sits.
     pub number: u64,
-    /// The user that he sent.
+    /// The user that it sent.
     pub user: &'a [u8],
     /// The listener who is left out, if one is.
     pub own: Option<u64>,
@@ -57,23 +57,23 @@ fn is_own(own: Option<u64>, id: u64) -> bool
 }
 
 /// Users in the order of their bytes, each with the numbers of the listeners who sent it.
-pub(crate) struct Users {
+pub(crate) struct UserIndex {
     pub(crate) seats: BTreeMap<Vec<u8>, BTreeSet<u64>>,
 }
 
-impl Drop for Users {
+impl Drop for UserIndex {
     fn drop(self) {
-        let Users { seats } = self;
+        let UserIndex { seats } = self;
         drop(seats);
     }
 }
 
-impl Users {
+impl UserIndex {
     /// No users. It takes no memory.
-    pub(crate) fn new(alloc: Global) -> Users
+    pub(crate) fn new(alloc: Global) -> UserIndex
         ensures { result.seats.entries ≡ [] }
     {
-        Users {
+        UserIndex {
             seats: BTreeMap::new(alloc),
         }
     }
@@ -125,7 +125,7 @@ impl Users {
     }
 
     /// The listener is not kept under the user any more, if it is one, and not the one under which
-    /// he stays. It takes no memory.
+    /// it stays. It takes no memory.
     pub(crate) fn remove(&mut self, user: Option<&KeptUser>, id: u64, stays: Option<&KeptUser>)
         ensures { (other k : _) → is_kept self.new.seats other k
             ≡ (is_kept self.old.seats other k && not ((id == k) && is_user other (option_copied user.entry) && not (is_user other (option_copied stays.entry)))) }

@@ -35,7 +35,7 @@ module _ {S : Type 0} (steps : Steps S) where
   HasApplied refuses true from event to = (reply : Reply) × steps from event reply to
   HasApplied refuses false from event to = (to ≡ from) × refuses from event
 
-  -- the worker tells the server this moment, unless that is refused for want of memory; if it is known, he does not
+  -- the worker tells the server this moment, unless that is refused for want of memory; if it is known, it does not
   abbrev pub TicksUnless : Bool → (S → Event → Type 0) → ℕ → WorkerOf S → WorkerOf S → Type 0
   TicksUnless true refuses ms before after = after ≡ before
   TicksUnless false refuses ms before after =

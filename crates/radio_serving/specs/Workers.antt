@@ -2,7 +2,7 @@
 use Rattle.std.specs.Prelude.{ℕ}
 use Rattle.radio_answers.specs.declared.web_answers.WebAnswers.{WebAnswers}
 
--- whom he asks, what the settings say of answers, when he last told him the time, and for how long a line may take nothing of what it is owed, in milliseconds
+-- whom it asks, what the settings say of answers, when it last told it the time, and for how long a line may take nothing of what it is owed, in milliseconds
 -- rule: Reading
 pub record WorkerOf (S : Type 0) : Type 0 where
   pub server : S

@@ -18,8 +18,8 @@ mod worker;
 pub use found::{Found, Take};
 pub use laws::{news_is_found, open_sessions_have_not_failed, time_is_told};
 pub use radio_connections::{
-    CallCount, Conn, Fate, Gate, History, Line, OpenGate, OutOfMemory, Received, Sent, Server,
-    Status, WebAnswers, close_first_lingering, count_lingering,
+    CallCount, Conn, ConnStatus, Fate, Gate, History, Line, OpenGate, OutOfMemory, Received, Sent,
+    Server, WebAnswers, close_first_lingering, count_lingering,
 };
 pub use turn::Turn;
 pub use watched::Watched;

@@ -22,8 +22,8 @@ const TELL_AFTER_MS: u64 = 50;
 /// After how long a worker tells the server the time itself, in milliseconds, though others have.
 const TELL_ITSELF_AFTER_MS: u64 = 1000;
 
-/// A worker: whom he asks, when he last told him the time, and for how long he keeps a line that
-/// takes nothing. In contracts he is these three.
+/// A worker: whom it asks, when it last told it the time, and for how long it keeps a line that
+/// takes nothing. In contracts it is these three.
 #[derive(Drop)]
 pub struct Worker<S: Server + Drop> {
     alloc: Global,
@@ -63,7 +63,7 @@ impl<S: Server + Drop> Worker<S> {
         }
     }
 
-    /// Whom he asks.
+    /// Whom it asks.
     pub fn server(&self) -> &S
         ensures { result.now ≡ self.now.server }
     {
@@ -77,12 +77,12 @@ impl<S: Server + Drop> Worker<S> {
         self.told_ms
     }
 
-    /// The log of what he has served: whoever has him takes its lines, and tells it the time.
+    /// The log of what it has served: whoever has it takes its lines, and tells it the time.
     pub fn log(&self) -> &Log {
         &self.log
     }
 
-    /// Whom he asked, when he serves no more.
+    /// Whom it asked, when it serves no more.
     pub fn into_server(self) -> S
         ensures { result ≡ self.server }
     {
@@ -114,7 +114,7 @@ impl<S: Server + Drop> Worker<S> {
         Ok(())
     }
 
-    /// The connection of a peer who has come, as the server replies to his arrival.
+    /// The connection of a peer who has come, as the server replies to its arrival.
     fn arrival<L: Line>(&mut self, line: L, peer: Peer, ms: u64) -> Result<Conn<L>, OutOfMemory>
         ensures applied { IfOk result (λ conn. (reply : Reply) × S.steps self.old.server (Arrive peer) reply self.new.server
             × IsTakenIn (record { web = self.old.web; peer = peer; reply = reply }) (L.given line) (L.taken line) conn

@@ -8,7 +8,7 @@ use Rattle.radio_icy.specs.Unweaving.{new_unweaving, heard}
 use Rattle.radio_icy.specs.Bare.{bare, block_texts, sound_in, texts_in}
 use Rattle.radio_events.specs.declared.reply.Reply.{Reply}
 use Rattle.radio_events.specs.declared.reply.Reply.TheVariants.{Arrived, Feeding, Seated, Drawn, Noted, Text, Deny, Finished, Stray}
-use Rattle.radio_events.specs.declared.text.Text.{Text as CommandText}
+use Rattle.radio_events.specs.declared.text.ReplyText.{ReplyText as CommandText}
 use Rattle.radio_policy.specs.declared.rule.Rule.{Rule}
 use Rattle.radio_session.specs.declared.session.Says.{Says}
 use Rattle.radio_session.specs.declared.session.Closing.{Closing}
@@ -38,7 +38,7 @@ silent says rule e = rw e refl
 unsaid : (says : Says) (text : CommandText) → says.is_admitted ≡ true → (texted says text).bytes ≡ []
 unsaid says text e = rw e refl
 
--- on a listener's connection goes out what he draws
+-- on a listener's connection goes out what it draws
 pub draws_follow : (says : Says) (replies : List Reply) → says.is_admitted ≡ true → says.closing ≡ None → AdmitNobody replies
     → told says replies ≡ drawn_by says.weaver (draws_of replies)
 draws_follow says [] a c n = sym (no_draws says.weaver)

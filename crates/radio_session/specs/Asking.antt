@@ -21,7 +21,7 @@ use Rattle.radio_session.specs.Commands.{asked_in}
 use Rattle.radio_events.specs.declared.command.Asked.{Asked}
 use Rattle.radio_events.specs.declared.event.Event.{Event}
 use Rattle.radio_events.specs.declared.event.Event.TheVariants.{Source, Listen, Command}
-use Rattle.radio_events.specs.declared.event.Visit.{Visit}
+use Rattle.radio_events.specs.declared.event.PageVisit.{PageVisit}
 
 -- the user and the password that it sends, if its `Authorization` has them (RFC 7617)
 -- rule: Source request; Listen request
@@ -72,18 +72,18 @@ query_in request = unwrap_or request.query []
 abbrev pub is_for_commands : List ℕ → Bool
 is_for_commands path = starts_with nat_eq path (codes "/admin/") || bytes_eq path (path_of Status)
 
--- a client asks to feed the mount of his path
+-- a client asks to feed the mount of its path
 -- rule: Source request
 abbrev pub asks_to_feed : ℕ → RequestParts → Event
 asks_to_feed id request = Source (record { id = id; mount = path_in request; pair = pair_of request; shown = shown_by request })
 
--- the host by which the client calls the server, where he asks for what is told in full addresses
+-- the host by which the client calls the server, where it asks for what is told in full addresses
 -- rule: Address of a stream
 abbrev pub host_for : List ℕ → RequestParts → List ℕ
 host_for path request = if bytes_eq path (codes "/status-json.xsl") then value_or [] (codes "Host") request else []
 
 -- what a page may say of the server to a client that asks for this path
-abbrev pub visit_for : WebAnswers → List ℕ → RequestParts → Visit
+abbrev pub visit_for : WebAnswers → List ℕ → RequestParts → PageVisit
 visit_for web path request = record { host = host_for path request; server_start = web.server_start }
 
 -- a client asks to hear the mount of this path

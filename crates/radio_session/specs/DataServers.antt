@@ -13,7 +13,7 @@ HasOneReply {S} steps = (from to other : S) (event : Event) (reply again : Reply
     steps from event reply to → steps from event again other → (reply ≡ again) × (to ≡ other)
 
 module _ {S : Type 0} (steps : Steps S) (id : ℕ) where
-  -- What the client of this number is replied, as a source, goes by his data alone.
+  -- What the client of this number is replied, as a source, goes by its data alone.
   -- rule: Cuts do not matter
   pub record GoesByData : Type 0 where
     -- in a state, the reply to some data, and to their end once they have come

@@ -1,4 +1,4 @@
--- What a listener draws, as it goes out: with metadata blocks between the data, where he asked for them (ICY convention).
+-- What a listener draws, as it goes out: with metadata blocks between the data, where it asked for them (ICY convention).
 use Rattle.std.specs.Prelude.{ℕ, List, Option, None, Some, option_map}
 use Rattle.radio_answers.specs.Answers.{interval_told}
 use Rattle.radio_icy.specs.Weaving.{Call, Weaving, new_weaving, woven, after_weaving, woven_by_calls}
@@ -8,7 +8,7 @@ use Rattle.radio_icy.specs.Stream.{sound_of_calls}
 abbrev pub draw : List ℕ → Option (List ℕ) → Call
 draw bytes title = record { sound = bytes; title = title }
 
--- how his data are woven, before the first of them
+-- how its data are woven, before the first of them
 abbrev pub weaver_at : Option ℕ → Option Weaving
 weaver_at interval = option_map new_weaving (interval_told interval)
 

@@ -4,7 +4,7 @@ use Rattle.radio_policy.specs.declared.rule.Rule.{Rule}
 use Rattle.radio_policy.specs.declared.rule.Status.{Status}
 use Rattle.radio_policy.specs.Words.{word_of, status_of}
 use Rattle.radio_events.specs.declared.reply.Reply.TheVariants.{Noted, Text, Deny, Finished}
-use Rattle.radio_events.specs.declared.text.Text.{Text as CommandText}
+use Rattle.radio_events.specs.declared.text.ReplyText.{ReplyText as CommandText}
 use Rattle.radio_heads.specs.Answer.{denial_text, source_text}
 use Rattle.radio_session.specs.declared.session.Says.{Says}
 use Rattle.radio_session.specs.declared.session.LastWord.{LastWord}

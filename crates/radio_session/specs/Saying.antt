@@ -3,7 +3,7 @@ use Rattle.std.specs.Prelude.{ℕ, ◌-◌, ◌==◌, true, List, [], Option, No
 use Rattle.radio_policy.specs.declared.rule.Rule.{Rule}
 use Rattle.radio_events.specs.declared.reply.Reply.{Reply}
 use Rattle.radio_events.specs.declared.reply.Reply.TheVariants.{Arrived, Feeding, Seated, Drawn, Noted, Text, Deny, Finished, Stray}
-use Rattle.radio_events.specs.declared.text.Text.{Text as CommandText}
+use Rattle.radio_events.specs.declared.text.ReplyText.{ReplyText as CommandText}
 use Rattle.radio_heads.specs.Answer.{source_text, continue_text}
 use Rattle.radio_answers.specs.declared.web_answers.WebAnswers.{WebAnswers}
 use Rattle.radio_answers.specs.WebAnswers.{answered_by}
@@ -50,7 +50,7 @@ admitted says = counted (record says { is_admitted = true })
 abbrev pub seated : Says → Option ℕ → Says
 seated says interval = admitted (record says { weaver = weaver_at interval })
 
--- he has drawn
+-- it has drawn
 abbrev pub drew : Says → Call → Says
 drew says draw = counted (record says { weaver = after_draw says.weaver draw })
 

@@ -1,4 +1,4 @@
--- What is told on a listener's connection: his head, and then the data of his draws, with metadata between them where he asked for it.
+-- What is told on a listener's connection: its head, and then the data of its draws, with metadata between them where it asked for it.
 use Rattle.std.specs.Prelude.{◌≡◌, ℕ, List, [], ◌∷◌, ◌++◌, map, Option, None, Some}
 use Rattle.radio_icy.specs.Block.{title_text}
 use Rattle.radio_icy.specs.Weaving.{Call}
@@ -42,7 +42,7 @@ AdmitNobody (Feeding ∷ replies) = ⊥
 AdmitNobody (Seated interval head ∷ replies) = ⊥
 AdmitNobody (reply ∷ replies) = AdmitNobody replies
 
--- What follows a listener's head on his connection are the joined data of his draws, woven at the interval that the head tells.
+-- What follows a listener's head on its connection are the joined data of its draws, woven at the interval that the head tells.
 abbrev pub DrawsFollowTheHead : Type 0
 DrawsFollowTheHead = (says : Says) (interval : Option ℕ) (head : StreamHead) (replies : List Reply) →
     says.closing ≡ None → AdmitNobody replies →

@@ -50,7 +50,7 @@ fn answer<S: Server>(
     session.give(reply, out)
 }
 
-/// The client leaves, unless that is what he has just done.
+/// The client leaves, unless that is what it has just done.
 fn leave_after<S: Server>(server: &mut S, id: u64, has_left: bool) -> Result<(), OutOfMemory>
     ensures { IfOk result (λ _. LeavesAfter S.steps id has_left server.old server.new) }
 {

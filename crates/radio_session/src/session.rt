@@ -65,7 +65,7 @@ pub(crate) struct Says {
     /// What the settings say of it.
     pub(crate) web: WebAnswers,
     pub(crate) closing: Option<Closing>,
-    /// What puts metadata between a listener's data, if he is sent any.
+    /// What puts metadata between a listener's data, if it is sent any.
     pub(crate) weaver: Option<Weaver>,
     /// A source or a listener was admitted: a denial is told by closing alone.
     pub(crate) is_admitted: bool,

@@ -235,7 +235,7 @@ fn read_apart(
 
 /// The tables of streams, in the order of the text.
 #[derive(Drop)]
-struct Lists {
+struct StreamTables {
     mounts: Vec<MountSetting>,
     relays: Vec<RelaySetting>,
     slave: Option<SlaveSetting>,
@@ -247,11 +247,11 @@ fn read_lists(
     document: &Table,
     access: &AccessSettings,
     limits: &LimitSettings,
-) -> Result<Lists, SettingsFault>
+) -> Result<StreamTables, SettingsFault>
     ensures { let d = table_view document.now in
         ReadsAs (λ l. listed l.mounts.items l.relays.items l.slave) (lists_fault d) (listed_in access.now limits.now d) result }
 {
-    Ok(Lists {
+    Ok(StreamTables {
         mounts: mounts(alloc, document, access, limits)?,
         relays: relays(alloc, document)?,
         slave: optional_slave(alloc, document)?,

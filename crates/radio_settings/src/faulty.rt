@@ -19,7 +19,7 @@ use toml::Table;
 
 /// A table of a document.
 #[derive(Clone, Copy)]
-pub struct Place {
+pub struct TablePlace {
     pub section: Section,
     /// Which of a list of tables it is, counted from 1; 0 for a table that is in no list.
     pub number: usize,
@@ -27,7 +27,7 @@ pub struct Place {
 
 /// Returns the table in which a document has its first fault of a key. It asks the readers of the tables, in the order in
 /// which the settings are read. `None`: no key is at fault (names that stand twice are none of one key), or memory was refused.
-pub fn faulty_table(alloc: Global, document: &Table) -> Option<Place> {
+pub fn faulty_table(alloc: Global, document: &Table) -> Option<TablePlace> {
     let Ok(access) = access(alloc, document) else {
         return alone(Section::Top);
     };
@@ -38,7 +38,7 @@ pub fn faulty_table(alloc: Global, document: &Table) -> Option<Place> {
 }
 
 /// The first table at fault of those behind `[listen]`.
-fn faulty_below(alloc: Global, document: &Table, access: &AccessSettings) -> Option<Place> {
+fn faulty_below(alloc: Global, document: &Table, access: &AccessSettings) -> Option<TablePlace> {
     let Ok(limits) = limits(alloc, document) else {
         return alone(Section::Limits);
     };
@@ -49,17 +49,17 @@ fn faulty_below(alloc: Global, document: &Table, access: &AccessSettings) -> Opt
 }
 
 /// The table of this section, which is in no list.
-fn alone(section: Section) -> Option<Place>
+fn alone(section: Section) -> Option<TablePlace>
     ensures { result ≡ Some (record { section = section; number = 0 }) }
 {
-    Some(Place { section, number: 0 })
+    Some(TablePlace { section, number: 0 })
 }
 
 /// The table of this section whose list has so many tables before it.
-fn in_list(section: Section, before: usize) -> Place
+fn in_list(section: Section, before: usize) -> TablePlace
     ensures { result ≡ record { section = section; number = min (2 ^ 64 - 1) (before + 1) } }
 {
-    Place {
+    TablePlace {
         section,
         number: before.saturating_add(1),
     }
@@ -71,7 +71,7 @@ fn faulty_stream(
     document: &Table,
     access: &AccessSettings,
     limits: &LimitSettings,
-) -> Option<Place> {
+) -> Option<TablePlace> {
     let Ok(mounts) = tables_at(alloc, document, Key::Mount) else {
         return alone(Section::Mount);
     };
@@ -82,7 +82,7 @@ fn faulty_stream(
 }
 
 /// The first table at fault of those by which streams are pulled in: relays and the slave.
-fn faulty_pull(alloc: Global, document: &Table) -> Option<Place> {
+fn faulty_pull(alloc: Global, document: &Table) -> Option<TablePlace> {
     let Ok(relays) = tables_at(alloc, document, Key::Relay) else {
         return alone(Section::Relay);
     };
@@ -92,7 +92,7 @@ fn faulty_pull(alloc: Global, document: &Table) -> Option<Place> {
     faulty_slave(alloc, document)
 }
 
-fn faulty_slave(alloc: Global, document: &Table) -> Option<Place> {
+fn faulty_slave(alloc: Global, document: &Table) -> Option<TablePlace> {
     match table_at(document, Key::Slave) {
         Ok(Some(table)) if slave(alloc, table).is_ok() => None,
         Ok(None) => None,
@@ -105,7 +105,7 @@ fn faulty_mount(
     tables: &[&Table],
     access: &AccessSettings,
     limits: &LimitSettings,
-) -> Option<Place> {
+) -> Option<TablePlace> {
     for (before, table) in tables.iter().enumerate() {
         if mount(alloc, table, access, limits).is_err() {
             return Some(in_list(Section::Mount, before));
@@ -114,7 +114,7 @@ fn faulty_mount(
     None
 }
 
-fn faulty_relay(alloc: Global, tables: &[&Table]) -> Option<Place> {
+fn faulty_relay(alloc: Global, tables: &[&Table]) -> Option<TablePlace> {
     for (before, table) in tables.iter().enumerate() {
         if relay(alloc, table).is_err() {
             return Some(in_list(Section::Relay, before));

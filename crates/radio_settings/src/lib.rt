@@ -25,7 +25,7 @@ mod slave;
 mod web;
 
 pub use document::{read_answers, read_proxies, read_settings};
-pub use faulty::{Place, faulty_table, key_of};
+pub use faulty::{TablePlace, faulty_table, key_of};
 pub use radio_keys::{Key, SettingsFault};
 pub use radio_settings_values::{RelaySetting, Settings, SlaveSetting};
 pub use radio_values::{MountName, Shown};

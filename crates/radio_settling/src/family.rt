@@ -9,7 +9,7 @@ ghost use Rattle.radio_settling.specs.Settling.{IsSettled, Shows};
 use crate::settling::settle_family;
 use crate::{OutOfMemory, SettleFault};
 use radio_access::Lists;
-use radio_book::{Book, Entry, House, Kept, MountBook, Pass};
+use radio_book::{Book, Entry, Kept, MountBook, Origin, Pass};
 use radio_merge::{Family, MountList};
 use radio_settings_values::Settings;
 use std::alloc::Global;
@@ -20,7 +20,7 @@ use std::alloc::Global;
 /// are those of [`settle_family`]; `OutOfMemory` also if memory was refused for a mount's list. After a fault the books and the passes
 /// are gone.
 // rule: Settled history; Faults of settling
-pub fn settle_books<H: House>(
+pub fn settle_books<H: Origin>(
     alloc: Global,
     control: Book<Kept, H>,
     mounts: Vec<Option<MountBook<Kept>>>,
@@ -53,7 +53,7 @@ pub fn settle_books<H: House>(
 }
 
 /// The lists of all books. `OutOfMemory` if memory was refused, now or for a list.
-fn family_of_books<H: House>(
+fn family_of_books<H: Origin>(
     alloc: Global,
     control: Book<Kept, H>,
     mounts: Vec<Option<MountBook<Kept>>>,
@@ -75,7 +75,7 @@ fn family_of_books<H: House>(
 }
 
 /// The lists of the mounts' books. `OutOfMemory` if memory was refused, now or for a list.
-fn lists_of<H: House>(
+fn lists_of<H: Origin>(
     alloc: Global,
     control: &mut Book<Kept, H>,
     mounts: Vec<Option<MountBook<Kept>>>,
@@ -91,7 +91,7 @@ fn lists_of<H: House>(
 }
 
 /// The list of the mount's book; an empty one if there is no book. `OutOfMemory` if memory was refused, now or for the list.
-fn list_of<H: House>(
+fn list_of<H: Origin>(
     alloc: Global,
     control: &mut Book<Kept, H>,
     book: Option<MountBook<Kept>>,

@@ -10,7 +10,7 @@ ghost use Rattle.radio_settling.specs.Settling.{IsSettled, Shows};
 use crate::SettleFault;
 use crate::family::settle_books;
 use radio_access::Lists;
-use radio_book::{Entry, House, Kept, Pass};
+use radio_book::{Entry, Kept, Origin, Pass};
 use radio_locks::Hall;
 use radio_settings_values::Settings;
 use std::alloc::Global;
@@ -19,7 +19,7 @@ use std::alloc::Global;
 /// which a new core of these settings and lists, which are those of the hall, steps with the same replies. The faults are those of
 /// [`settle_books`]; after one the hall and the passes are gone.
 // rule: Settled history
-pub fn settle<H: House>(
+pub fn settle<H: Origin>(
     alloc: Global,
     hall: Hall<Kept, H>,
     passes: Vec<Pass<Kept, H>>,

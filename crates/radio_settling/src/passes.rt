@@ -6,12 +6,12 @@ ghost use Rattle.radio_settling.specs.Settling.{AllRise, AllStand, Falls, HasNoT
 
 use crate::OutOfMemory;
 use crate::places::stands_in;
-use radio_book::{House, Kept, Pass, Receipt, Stamp};
+use radio_book::{Kept, Origin, Pass, Receipt, Stamp};
 use radio_merge::Family;
 use std::alloc::Global;
 
 /// Returns the place of the first receipt whose entry is not there.
-pub(crate) fn find_strange<H: House>(family: &Family, passes: &[Pass<Kept, H>]) -> Option<Stamp>
+pub(crate) fn find_strange<H: Origin>(family: &Family, passes: &[Pass<Kept, H>]) -> Option<Stamp>
     ensures none { IfNone result (AllStand family.now.control.items family.now.mounts.items passes.now) }
     ensures some { IfSome result (λ at. Any (λ pass. Any (IsStrange family.now.control.items family.now.mounts.items at) pass) passes.now) }
 {
@@ -37,7 +37,7 @@ fn strange_in(family: &Family, receipts: &[Receipt]) -> Option<Stamp>
 }
 
 /// Returns the places of each pass. `OutOfMemory` if memory was refused.
-pub(crate) fn stamps_of<H: House>(
+pub(crate) fn stamps_of<H: Origin>(
     alloc: Global,
     passes: &[Pass<Kept, H>],
 ) -> Result<Vec<Vec<Stamp>>, OutOfMemory>
@@ -53,7 +53,7 @@ pub(crate) fn stamps_of<H: House>(
 }
 
 /// Returns the places of all receipts, sorted by list and serial. `OutOfMemory` if memory was refused.
-pub(crate) fn sorted_stamps<H: House>(
+pub(crate) fn sorted_stamps<H: Origin>(
     alloc: Global,
     passes: &[Pass<Kept, H>],
 ) -> Result<Vec<Stamp>, OutOfMemory>
@@ -93,7 +93,7 @@ pub(crate) fn find_twins(sorted: &[Stamp]) -> Option<Stamp>
 
 /// Returns the first two receipts of a pass, one after the other in a list, of which the second is not behind the first. There
 /// are so many lists.
-pub(crate) fn find_fall<H: House>(lists: u64, passes: &[Pass<Kept, H>]) -> Option<(Stamp, Stamp)>
+pub(crate) fn find_fall<H: Origin>(lists: u64, passes: &[Pass<Kept, H>]) -> Option<(Stamp, Stamp)>
     ensures none { IfNone result (AllRise lists passes.now) }
     ensures some { IfSome result (λ pair. OneFalls pair.0 pair.1 passes.now) }
 {

@@ -10,7 +10,7 @@ use crate::passes::{find_fall, find_strange, find_twins, sorted_stamps, stamps_o
 use crate::places::all_places;
 use crate::{OutOfMemory, SettleFault};
 use radio_access::Lists;
-use radio_book::{Entry, House, Kept, Pass, Stamp};
+use radio_book::{Entry, Kept, Origin, Pass, Stamp};
 use radio_merge::{Family, MergeFault, merge};
 use radio_settings_values::Settings;
 use std::alloc::Global;
@@ -22,7 +22,7 @@ use std::alloc::Global;
 /// `OutOfOrder` comes of one pass and one list first, and later of the merge, where it may come next to `Unlike`.
 /// `OutOfMemory` may come in place of each.
 // rule: Settled history; Faults of settling
-pub fn settle_family<H: House>(
+pub fn settle_family<H: Origin>(
     alloc: Global,
     settings: Settings,
     lists: Lists,
@@ -48,7 +48,7 @@ pub fn settle_family<H: House>(
 }
 
 /// Looks for the faults that places show; returns the places of all receipts, sorted.
-fn check_places<H: House>(
+fn check_places<H: Origin>(
     alloc: Global,
     family: &Family,
     passes: &[Pass<Kept, H>],
@@ -75,7 +75,7 @@ fn check_places<H: House>(
 }
 
 /// The same as `settle_family`, if the places show no fault.
-fn settle_placed<H: House>(
+fn settle_placed<H: Origin>(
     alloc: Global,
     settings: Settings,
     lists: Lists,
@@ -105,7 +105,7 @@ fn settle_placed<H: House>(
 }
 
 /// Merges all lists, in an order that keeps that of each pass.
-fn merge_all<H: House>(
+fn merge_all<H: Origin>(
     alloc: Global,
     settings: Settings,
     lists: Lists,

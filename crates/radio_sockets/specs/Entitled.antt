@@ -2,10 +2,10 @@
 use Rattle.std.specs.Prelude.{◌≡◌, List, Option, false}
 use Rattle.radio_addr.specs.declared.lines.AddressRange.{AddressRange}
 use Rattle.radio_proxy.specs.Pending.{is_proxy}
-use Rattle.radio_proxy.specs.declared.header.Named.TheVariants.{Nobody}
-use Rattle.radio_sockets.specs.declared.doors.Coming.{Coming}
+use Rattle.radio_proxy.specs.declared.header.NamedClient.TheVariants.{Nobody}
+use Rattle.radio_sockets.specs.declared.listening_socket.Accepted.{Accepted}
 
 -- a connection whose other end is none of these proxies names nobody: its peer is its other end
 -- rule: Proxy header
-abbrev pub IsEntitled : Option (List AddressRange) → Coming → Type 0
-IsEntitled proxies coming = is_proxy proxies coming.socket_peer ≡ false → coming.named ≡ Nobody
+abbrev pub IsEntitled : Option (List AddressRange) → Accepted → Type 0
+IsEntitled proxies newcomer = is_proxy proxies newcomer.socket_peer ≡ false → newcomer.named ≡ Nobody

@@ -2,12 +2,12 @@
 use Rattle.std.specs.Prelude.{ℕ, List, [], codes}
 use Rattle.radio_addr.specs.declared.address.Address.{Address}
 use Rattle.radio_log.specs.declared.facts.ClientEnded.{ClientEnded}
-use Rattle.radio_proxy.specs.declared.pending.Outcome.{Outcome}
-use Rattle.radio_proxy.specs.declared.pending.Outcome.TheVariants.{Named, Bad, Left}
+use Rattle.radio_proxy.specs.declared.pending.HeaderOutcome.{HeaderOutcome}
+use Rattle.radio_proxy.specs.declared.pending.HeaderOutcome.TheVariants.{Named, Bad, Left}
 
 -- the word of its end
 -- rule: Missing proxy header
-abbrev pub gone_word : Outcome → List ℕ
+abbrev pub gone_word : HeaderOutcome → List ℕ
 gone_word (Named named) = codes "left"
 gone_word Bad = codes "bad-proxy"
 gone_word Left = codes "left"

@@ -1,4 +1,4 @@
--- What holds of what a worker's post and the acceptor decide. Moments and times are in milliseconds.
+-- What holds of what a worker's turn source and the acceptor decide. Moments and times are in milliseconds.
 use Rattle.std.specs.Prelude.{◌≡◌, ◌⊎◌, ◌≤◌, ◌<◌, ◌+◌, ◌*◌, ◌^◌, ℕ, ℤ, pos, Bool, true, false, min}
 use Rattle.radio_sockets.specs.Steps.{acceptor_wait, called_of, has_to_do, is_turn_due, lacks_descriptors, weight_of}
 
@@ -12,7 +12,7 @@ PromptWorkersTakeAll = (waiting passed : ℕ) (were : Bool) → passed ≤ 50 �
 
 -- a newcomer, or the end of all, is something to do at once
 abbrev pub NewcomersAreToDo : Type 0
-NewcomersAreToDo = (news over : Bool) (left comings : ℕ) → (0 < comings) ⊎ (over ≡ true) → has_to_do news left comings over ≡ true
+NewcomersAreToDo = (news over : Bool) (left newcomers : ℕ) → (0 < newcomers) ⊎ (over ≡ true) → has_to_do news left newcomers over ≡ true
 
 -- a source counts as five connections
 abbrev pub SourcesCountAsFive : Type 0
@@ -29,4 +29,4 @@ TwoFaultsWantOne = (lacks_descriptors (pos 23) ≡ true) × (lacks_descriptors (
 
 -- the acceptor looks once a second at least, and at once if it is called
 abbrev pub AcceptorsLook : Type 0
-AcceptorsLook = (called may_accept : Bool) (comings : ℕ) → (acceptor_wait called may_accept comings ≤ 1000) × (acceptor_wait true may_accept comings ≡ 0)
+AcceptorsLook = (called may_accept : Bool) (newcomers : ℕ) → (acceptor_wait called may_accept newcomers ≤ 1000) × (acceptor_wait true may_accept newcomers ≡ 0)

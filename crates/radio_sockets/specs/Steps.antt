@@ -1,4 +1,4 @@
--- What a worker's post decides. Moments are in milliseconds.
+-- What a worker's turn source decides. Moments are in milliseconds.
 use Rattle.std.specs.Prelude.{ℕ, ℤ, pos, ◌+◌, ◌-◌, ◌*◌, ◌^◌, ◌==◌, min, max, nat_le, nat_lt, Bool, not, ◌&&◌, ◌||◌, if◌then◌else◌}
 use Rattle.std.specs.Ordering.{int_eq}
 use Rattle.radio_sockets.specs.declared.steps.Called.{Called}
@@ -34,7 +34,7 @@ news_for number may_tell = if may_tell then AllBut number else All
 
 -- for how long the acceptor waits: not at all if it is called, shorter if a connection may be accepted soon, or newcomers wait
 abbrev pub acceptor_wait : Bool → Bool → ℕ → ℕ
-acceptor_wait called may_accept comings = if called then 0 else if may_accept then 50 else if nat_lt 0 comings then 250 else 1000
+acceptor_wait called may_accept newcomers = if called then 0 else if may_accept then 50 else if nat_lt 0 newcomers then 250 else 1000
 
 -- no longer than until the first header is overdue; if one is, 50 milliseconds
 abbrev pub header_wait : ℕ → ℕ → ℕ
@@ -50,7 +50,7 @@ is_alone served has_acceptor = nat_lt 10000 served && not has_acceptor
 
 -- whether a worker has something to do, apart from its sockets: news that waits no more, newcomers, or the end of all
 abbrev pub has_to_do : Bool → ℕ → ℕ → Bool → Bool
-has_to_do news left comings over = (news && (left == 0)) || nat_lt 0 comings || over
+has_to_do news left newcomers over = (news && (left == 0)) || nat_lt 0 newcomers || over
 
 -- whether the worker's log is told the moment at this one, and when it was told last then
 abbrev pub told_at : ℕ → ℕ → ℕ

@@ -6,18 +6,18 @@ ghost use Rattle.radio_proxy.specs.Pending.{is_proxy};
 ghost use Rattle.radio_sockets.specs.Entitled.{IsEntitled};
 
 use crate::ServeFault;
-use crate::doors::{Coming, Doors, Newcomer};
 use crate::gone::{gone, gone_word};
+use crate::listening_socket::{Accepted, AcceptedSocket, ListeningSocket};
 use crate::steps::{acceptor_wait, header_wait, next_number};
 use mio::Waker;
 use mio::net::TcpStream;
 use radio_addr::Peer;
-use radio_board::{Board, Mark};
+use radio_board::{Mark, Shared};
 use radio_intake::{Accepts, Intake, IntakePass, ROOM, accept_next};
 use radio_lines::moment;
 use radio_log::Fact;
 use radio_notes::Log;
-use radio_proxy::{Named, Outcome, Pending, Settled};
+use radio_proxy::{HeaderOutcome, NamedClient, Pending, Settled};
 use std::alloc::Global;
 use std::io;
 use std::sync::Wait;
@@ -26,7 +26,7 @@ use std::time::Clock;
 /// Accepts connections, and hands them to the workers. The connection of a proxy waits here for its header.
 #[derive(Drop)]
 pub struct Acceptor {
-    doors: Doors,
+    listening_socket: ListeningSocket,
     accepts: Accepts,
     /// The connections of proxies whose headers have not come.
     pending: Pending<TcpStream>,
@@ -36,18 +36,22 @@ pub struct Acceptor {
     log: Log,
     /// The moment of the clock, in milliseconds.
     clock_ms: u64,
-    /// For whom the next connection is, if he has no more than others.
+    /// For whom the next connection is, if it has no more than others.
     next: usize,
 }
 
 impl Acceptor {
     /// Returns one that has accepted nothing yet, and keeps those that wait for a header in `pending`. It takes no memory.
-    pub fn new(alloc: Global, doors: Doors, pending: Pending<TcpStream>) -> Acceptor
+    pub fn new(
+        alloc: Global,
+        listening_socket: ListeningSocket,
+        pending: Pending<TcpStream>,
+    ) -> Acceptor
         ensures accepts { result.accepts ≡ record { failed = 0; not_before = 0; is_short = false } }
         ensures pending { result.pending ≡ pending }
     {
         Acceptor {
-            doors,
+            listening_socket,
             accepts: Accepts::new(),
             pending,
             number: 0,
@@ -59,7 +63,7 @@ impl Acceptor {
 
     /// What ends its waits from another thread.
     pub fn waker(&self) -> io::Result<Waker> {
-        self.doors.waker()
+        self.listening_socket.waker()
     }
 
     /// Accepts until all are to stop, or a fault; then all stop.
@@ -67,23 +71,23 @@ impl Acceptor {
     pub fn work<R: Clock + Wait>(
         &mut self,
         rt: &R,
-        board: &Board,
-        intake: &Intake<Coming>,
-        pass: &mut IntakePass<Coming>,
+        shared: &Shared,
+        intake: &Intake<Accepted>,
+        pass: &mut IntakePass<Accepted>,
     ) -> ServeFault
         requires own { pass.old.intake ≡ intake.now }
         ensures own { pass.new.intake ≡ intake.now }
         // only a proxy's connection names its client
         ensures entitled { All (IsEntitled self.old.pending.proxies) pass.old.put → All (IsEntitled self.old.pending.proxies) pass.new.put }
     {
-        if board.is_over() {
+        if shared.is_over() {
             // There was no thread for it, as long as the workers were there.
             return ServeFault::OutOfMemory;
         }
-        let _ = board.mark(Mark::AcceptorBegun, true);
+        let _ = shared.mark(Mark::AcceptorBegun, true);
         'rounds: for _ in rt.forever() {
-            if let Err(fault) = self.make_round(rt, board, intake, pass) {
-                board.stop();
+            if let Err(fault) = self.make_round(rt, shared, intake, pass) {
+                shared.stop();
                 return fault;
             }
         }
@@ -95,41 +99,45 @@ impl Acceptor {
     fn make_round<R: Clock + Wait>(
         &mut self,
         rt: &R,
-        board: &Board,
-        intake: &Intake<Coming>,
-        pass: &mut IntakePass<Coming>,
+        shared: &Shared,
+        intake: &Intake<Accepted>,
+        pass: &mut IntakePass<Accepted>,
     ) -> Result<(), ServeFault>
         requires own { pass.old.intake ≡ intake.now }
         ensures own { pass.new.intake ≡ intake.now }
         ensures proxies { self.new.pending.proxies ≡ self.old.pending.proxies }
         ensures entitled { All (IsEntitled self.old.pending.proxies) pass.old.put → All (IsEntitled self.old.pending.proxies) pass.new.put }
     {
-        self.hear(rt, board)?;
-        if board.is_over() {
+        self.hear(rt, shared)?;
+        if shared.is_over() {
             return Err(ServeFault::Accept);
         }
-        self.accept_all(rt, board, intake, pass)?;
-        self.settle_all(rt, board, intake, pass);
-        board.move_newcomers();
+        self.accept_all(rt, shared, intake, pass)?;
+        self.settle_all(rt, shared, intake, pass);
+        shared.move_newcomers();
         Ok(())
     }
 
     /// Hears what there is, and waits for it, if there is nothing to do.
-    fn hear<R: Clock + Wait>(&mut self, rt: &R, board: &Board) -> Result<(), ServeFault>
+    fn hear<R: Clock + Wait>(&mut self, rt: &R, shared: &Shared) -> Result<(), ServeFault>
         ensures accepts { (self.new.accepts ≡ self.old.accepts) ⊎ (self.new.accepts ≡ closed_in self.old.accepts) }
         ensures next { self.new.next ≡ self.old.next }
         ensures proxies { self.new.pending.proxies ≡ self.old.pending.proxies }
     {
-        let is_called = board.acceptor_lies_down();
-        let wait_ms = acceptor_wait(is_called, self.doors.is_asked(), board.comings());
+        let is_called = shared.acceptor_lies_down();
+        let wait_ms = acceptor_wait(
+            is_called,
+            self.listening_socket.is_asked(),
+            shared.newcomers(),
+        );
         let header_ms = self.pending.left_ms(self.clock_ms, wait_ms);
-        let heard = self.doors.hear(header_wait(wait_ms, header_ms));
-        let _ = board.mark(Mark::AcceptorSleeps, false);
+        let heard = self.listening_socket.hear(header_wait(wait_ms, header_ms));
+        let _ = shared.mark(Mark::AcceptorSleeps, false);
         self.clock_ms = moment(rt);
-        if board.mark(Mark::Closed, false) {
+        if shared.mark(Mark::Closed, false) {
             self.accepts.note_closed();
         }
-        note_events(&self.doors, &mut self.pending);
+        note_events(&self.listening_socket, &mut self.pending);
         heard
     }
 
@@ -137,27 +145,31 @@ impl Acceptor {
     fn accept_all<R: Clock + Wait>(
         &mut self,
         rt: &R,
-        board: &Board,
-        intake: &Intake<Coming>,
-        pass: &mut IntakePass<Coming>,
+        shared: &Shared,
+        intake: &Intake<Accepted>,
+        pass: &mut IntakePass<Accepted>,
     ) -> Result<(), ServeFault>
         requires own { pass.old.intake ≡ intake.now }
         ensures own { pass.new.intake ≡ intake.now }
         ensures proxies { self.new.pending.proxies ≡ self.old.pending.proxies }
         ensures entitled { All (IsEntitled self.old.pending.proxies) pass.old.put → All (IsEntitled self.old.pending.proxies) pass.new.put }
     {
-        'room: for _ in board.comings()..ROOM {
-            let Some(number) = board.next_desk(self.next) else {
+        'room: for _ in shared.newcomers()..ROOM {
+            let Some(number) = shared.next_desk(self.next) else {
                 return Ok(());
             };
-            let Ok(accepted) = accept_next(&mut self.doors, &mut self.accepts, self.clock_ms) else {
+            let Ok(accepted) = accept_next(
+                &mut self.listening_socket,
+                &mut self.accepts,
+                self.clock_ms,
+            ) else {
                 return Err(ServeFault::Accept);
             };
-            let _ = board.mark(Mark::ClosingWanted, self.accepts.is_short());
+            let _ = shared.mark(Mark::ClosingWanted, self.accepts.is_short());
             let Some(newcomer) = accepted else {
                 return Ok(());
             };
-            self.take_in(rt, board, intake, pass, newcomer, number);
+            self.take_in(rt, shared, intake, pass, newcomer, number);
         }
         Ok(())
     }
@@ -166,10 +178,10 @@ impl Acceptor {
     fn take_in<R: Clock + Wait>(
         &mut self,
         rt: &R,
-        board: &Board,
-        intake: &Intake<Coming>,
-        pass: &mut IntakePass<Coming>,
-        newcomer: Newcomer,
+        shared: &Shared,
+        intake: &Intake<Accepted>,
+        pass: &mut IntakePass<Accepted>,
+        newcomer: AcceptedSocket,
         number: usize,
     )
         requires own { pass.old.intake ≡ intake.now }
@@ -177,24 +189,24 @@ impl Acceptor {
         ensures proxies { self.new.pending.proxies ≡ self.old.pending.proxies }
         ensures entitled { All (IsEntitled self.old.pending.proxies) pass.old.put → All (IsEntitled self.old.pending.proxies) pass.new.put }
     {
-        let Newcomer { stream, peer } = newcomer;
+        let AcceptedSocket { stream, peer } = newcomer;
         if self.pending.awaits(peer) {
-            self.await_header(rt, board, stream, peer);
+            self.await_header(rt, shared, stream, peer);
             return;
         }
-        let coming = Coming {
+        let newcomer = Accepted {
             stream,
             socket_peer: peer,
-            named: Named::Nobody,
+            named: NamedClient::Nobody,
         };
-        self.hand_on(rt, board, intake, pass, coming, number);
+        self.hand_on(rt, shared, intake, pass, newcomer, number);
     }
 
     /// Keeps the connection of a proxy until its header has come. It is closed if as many as may be wait already.
     fn await_header<R: Clock + Wait>(
         &mut self,
         rt: &R,
-        board: &Board,
+        shared: &Shared,
         stream: TcpStream,
         proxy: Peer,
     )
@@ -203,14 +215,18 @@ impl Acceptor {
     {
         let mut stream = stream;
         self.number = next_number(self.number);
-        if self.doors.watch(&mut stream, self.number).is_err() {
+        if self
+            .listening_socket
+            .watch(&mut stream, self.number)
+            .is_err()
+        {
             drop(stream);
             return;
         }
         let added = self.pending.add(stream, proxy, self.number, self.clock_ms);
         if let Err(stream) = added {
             drop(stream);
-            self.tell_gone(rt, board, proxy, "too-many-clients", 0);
+            self.tell_gone(rt, shared, proxy, "too-many-clients", 0);
         }
     }
 
@@ -218,23 +234,23 @@ impl Acceptor {
     fn settle_all<R: Clock + Wait>(
         &mut self,
         rt: &R,
-        board: &Board,
-        intake: &Intake<Coming>,
-        pass: &mut IntakePass<Coming>,
+        shared: &Shared,
+        intake: &Intake<Accepted>,
+        pass: &mut IntakePass<Accepted>,
     )
         requires own { pass.old.intake ≡ intake.now }
         ensures own { pass.new.intake ≡ intake.now }
         ensures proxies { self.new.pending.proxies ≡ self.old.pending.proxies }
         ensures entitled { All (IsEntitled self.old.pending.proxies) pass.old.put → All (IsEntitled self.old.pending.proxies) pass.new.put }
     {
-        'room: for _ in board.comings()..ROOM {
-            let Some(number) = board.next_desk(self.next) else {
+        'room: for _ in shared.newcomers()..ROOM {
+            let Some(number) = shared.next_desk(self.next) else {
                 return;
             };
             let Some(settled) = self.pending.next(self.clock_ms) else {
                 return;
             };
-            self.settle(rt, board, intake, pass, settled, number);
+            self.settle(rt, shared, intake, pass, settled, number);
         }
     }
 
@@ -242,9 +258,9 @@ impl Acceptor {
     fn settle<R: Clock + Wait>(
         &mut self,
         rt: &R,
-        board: &Board,
-        intake: &Intake<Coming>,
-        pass: &mut IntakePass<Coming>,
+        shared: &Shared,
+        intake: &Intake<Accepted>,
+        pass: &mut IntakePass<Accepted>,
         settled: Settled<TcpStream>,
         number: usize,
     )
@@ -261,24 +277,24 @@ impl Acceptor {
             outcome,
         } = settled;
         match outcome {
-            Outcome::Named(named) => {
-                let mut coming = Coming {
+            HeaderOutcome::Named(named) => {
+                let mut newcomer = Accepted {
                     stream,
                     socket_peer: proxy,
                     named,
                 };
-                if self.doors.forget(&mut coming.stream).is_err() {
+                if self.listening_socket.forget(&mut newcomer.stream).is_err() {
                     // The system would go on telling of it here.
-                    drop(coming);
+                    drop(newcomer);
                     return;
                 }
-                self.hand_on(rt, board, intake, pass, coming, number);
+                self.hand_on(rt, shared, intake, pass, newcomer, number);
             }
-            Outcome::Bad | Outcome::Left => {
+            HeaderOutcome::Bad | HeaderOutcome::Left => {
                 drop(stream);
                 self.accepts.note_closed();
                 let seconds = self.clock_ms.saturating_sub(since_ms) / 1000;
-                self.tell_gone(rt, board, proxy, gone_word(outcome), seconds);
+                self.tell_gone(rt, shared, proxy, gone_word(outcome), seconds);
             }
         }
     }
@@ -287,7 +303,7 @@ impl Acceptor {
     fn tell_gone<R: Clock + Wait>(
         &self,
         rt: &R,
-        board: &Board,
+        shared: &Shared,
         proxy: Peer,
         why: &str,
         seconds: u64,
@@ -299,21 +315,21 @@ impl Acceptor {
         self.log.set_moment(now);
         self.log.note(Fact::ClientEnded(gone(proxy, why, seconds)));
         let lines = self.log.take();
-        board.add_lines(rt, lines.as_slice(), now);
+        shared.add_lines(rt, lines.as_slice(), now);
     }
 
     /// Hands a connection on to this worker. It is closed where too many wait.
     fn hand_on<R: Wait>(
         &mut self,
         rt: &R,
-        board: &Board,
-        intake: &Intake<Coming>,
-        pass: &mut IntakePass<Coming>,
-        coming: Coming,
+        shared: &Shared,
+        intake: &Intake<Accepted>,
+        pass: &mut IntakePass<Accepted>,
+        newcomer: Accepted,
         number: usize,
     )
         requires own { pass.old.intake ≡ intake.now }
-        requires entitled { IsEntitled self.old.pending.proxies coming }
+        requires entitled { IsEntitled self.old.pending.proxies newcomer }
         ensures own { pass.new.intake ≡ intake.now }
         // the next one is for the worker behind this one, if this one was put for it
         ensures next { (self.new.next ≡ self.old.next) ⊎ (self.new.next ≡ min (2 ^ 64 - 1) (number + 1)) }
@@ -321,22 +337,22 @@ impl Acceptor {
         ensures proxies { self.new.pending.proxies ≡ self.old.pending.proxies }
         ensures entitled { All (IsEntitled self.old.pending.proxies) pass.old.put → All (IsEntitled self.old.pending.proxies) pass.new.put }
     {
-        if let Err(coming) = intake.put(rt, pass, coming) {
-            drop(coming);
+        if let Err(newcomer) = intake.put(rt, pass, newcomer) {
+            drop(newcomer);
             return;
         }
         self.next = number.saturating_add(1);
-        if let Some(desk) = board.desk(number) {
+        if let Some(desk) = shared.desk(number) {
             desk.send();
         }
     }
 }
 
 /// Notes what the system has told last of the connections that wait for a header.
-fn note_events(doors: &Doors, pending: &mut Pending<TcpStream>)
+fn note_events(listening_socket: &ListeningSocket, pending: &mut Pending<TcpStream>)
     ensures { pending.new.proxies ≡ pending.old.proxies }
 {
-    for event in doors.events() {
+    for event in listening_socket.events() {
         pending.note(event.token().0, event.is_read_closed() || event.is_error());
     }
 }

@@ -4,16 +4,16 @@ ghost use Rattle.std.specs.Prelude.{◌≡◌};
 ghost use Rattle.radio_sockets.specs.Gone.{gone, gone_word};
 
 use radio_addr::Peer;
-use radio_log::{ClientEnded, Text};
-use radio_proxy::Outcome;
+use radio_log::{ClientEnded, QuotedText};
+use radio_proxy::HeaderOutcome;
 
 /// Returns the word for the end of a connection whose header was awaited and has not come.
-pub(crate) fn gone_word(outcome: Outcome) -> &'static str
+pub(crate) fn gone_word(outcome: HeaderOutcome) -> &'static str
     ensures { result.now ≡ gone_word outcome }
 {
     match outcome {
-        Outcome::Bad => "bad-proxy",
-        Outcome::Named(_) | Outcome::Left => "left",
+        HeaderOutcome::Bad => "bad-proxy",
+        HeaderOutcome::Named(_) | HeaderOutcome::Left => "left",
     }
 }
 
@@ -23,14 +23,14 @@ pub(crate) fn gone(proxy: Peer, why: &str, seconds: u64) -> ClientEnded<'_>
 {
     ClientEnded {
         peer: proxy,
-        method: Text::of(b""),
-        path: Text::of(b""),
-        mount: Text::of(b""),
+        method: QuotedText::of(b""),
+        path: QuotedText::of(b""),
+        mount: QuotedText::of(b""),
         status: 0,
-        why: Text::of(why.as_bytes()),
-        user: Text::of(b""),
+        why: QuotedText::of(why.as_bytes()),
+        user: QuotedText::of(b""),
         seconds,
         bytes: 0,
-        agent: Text::of(b""),
+        agent: QuotedText::of(b""),
     }
 }

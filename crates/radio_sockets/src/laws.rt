@@ -1,4 +1,4 @@
-//! Laws of what a worker's post and the acceptor decide. Each is a function that does nothing, and its contract is the law.
+//! Laws of what a worker's turn source and the acceptor decide. Each is a function that does nothing, and its contract is the law.
 
 ghost use Rattle.radio_sockets.specs.Laws.{AcceptorsLook, NewcomersAreTakenIn, NewcomersAreToDo, PromptWorkersTakeAll, SourcesCountAsFive, TurnsAreDue, TwoFaultsWantOne};
 

@@ -1,4 +1,4 @@
-//! What a worker's post decides, as plain values. Moments are in milliseconds.
+//! What a worker's turn source decides, as plain values. Moments are in milliseconds.
 
 ghost use Rattle.std.specs.Prelude.{◌≡◌, ◌&&◌, ◌||◌};
 ghost use Rattle.radio_sockets.specs.Steps.{acceptor_wait, called_of, has_to_do, header_wait, lacks_descriptors, is_alone, weight_of, is_time_to_tell, is_turn_due, news_for, next_number};
@@ -96,14 +96,14 @@ pub(crate) fn news_for(number: usize, may_tell: bool) -> NewsFor
 
 /// Returns for how many milliseconds the acceptor waits at most: not at all if it `is_called`, shorter if a connection may wait that
 /// can't be accepted yet, or one waits for a worker that may not be served.
-pub(crate) fn acceptor_wait(is_called: bool, may_accept: bool, comings: usize) -> u64
-    ensures { result ≡ acceptor_wait is_called may_accept comings }
+pub(crate) fn acceptor_wait(is_called: bool, may_accept: bool, newcomers: usize) -> u64
+    ensures { result ≡ acceptor_wait is_called may_accept newcomers }
 {
     if is_called {
         0
     } else if may_accept {
         PAUSE_MS
-    } else if comings > 0 {
+    } else if newcomers > 0 {
         NEWCOMERS_MS
     } else {
         ACCEPTOR_MS
@@ -153,10 +153,10 @@ pub(crate) fn ends_wait(waited: Waited) -> bool
 
 /// Returns whether a worker has something to do, apart from what its sockets tell: news that waits no more, newcomers, or the
 /// end of all.
-pub(crate) fn has_to_do(has_news: bool, left_us: u64, comings: usize, is_over: bool) -> bool
-    ensures { result ≡ has_to_do has_news left_us comings is_over }
+pub(crate) fn has_to_do(has_news: bool, left_us: u64, newcomers: usize, is_over: bool) -> bool
+    ensures { result ≡ has_to_do has_news left_us newcomers is_over }
 {
-    (has_news && left_us == 0) || comings > 0 || is_over
+    (has_news && left_us == 0) || newcomers > 0 || is_over
 }
 
 /// By what a round of draws may begin.

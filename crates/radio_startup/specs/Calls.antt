@@ -4,18 +4,18 @@ use Rattle.std.specs.Str.{bytes_eq}
 use Rattle.std.specs.String.{string_bytes}
 use Rattle.std.specs.declared.alloc.Global.{Global}
 use Rattle.std.specs.declared.string.String.{String}
-use Rattle.radio_startup.specs.declared.call.Call.{Call}
-use Rattle.radio_startup.specs.declared.call.Call.TheVariants.{Play, Serve, Check, Version, Help}
+use Rattle.radio_startup.specs.declared.call.CommandLine.{CommandLine}
+use Rattle.radio_startup.specs.declared.call.CommandLine.TheVariants.{Play, Serve, Check, Version, Help}
 
 -- a single word
-abbrev pub asked_alone : List ℕ → Option Call
+abbrev pub asked_alone : List ℕ → Option CommandLine
 asked_alone word =
     if bytes_eq word (codes "--version") then Some Version
     else if bytes_eq word (codes "--help") then Some Help
     else None
 
 -- a word and the path of the settings
-abbrev pub asked_of : List ℕ → String Global → Option Call
+abbrev pub asked_of : List ℕ → String Global → Option CommandLine
 asked_of verb path =
     if bytes_eq verb (codes "play") then Some (Play path)
     else if bytes_eq verb (codes "serve") then Some (Serve path)
@@ -23,13 +23,13 @@ asked_of verb path =
     else None
 
 -- a word, the path of the settings and a flag
-abbrev pub asked_with : List ℕ → String Global → List ℕ → Option Call
+abbrev pub asked_with : List ℕ → String Global → List ℕ → Option CommandLine
 asked_with verb path flag =
     if bytes_eq verb (codes "check") && bytes_eq flag (codes "--strict") then Some (Check path true) else None
 
 -- up to four words behind the program's name; a missing one has none behind it
 -- rule: Fault of a call
-abbrev pub asked_by : Option (String Global) → Option (String Global) → Option (String Global) → Option (String Global) → Option Call
+abbrev pub asked_by : Option (String Global) → Option (String Global) → Option (String Global) → Option (String Global) → Option CommandLine
 asked_by (Some verb) None None None = asked_alone (string_bytes verb)
 asked_by (Some verb) (Some path) None None = asked_of (string_bytes verb) path
 asked_by (Some verb) (Some path) (Some flag) None = asked_with (string_bytes verb) path (string_bytes flag)

@@ -5,7 +5,7 @@ ghost use Rattle.radio_startup.specs.Calls.{asked_alone, asked_by, asked_of, ask
 
 /// What the program is to do.
 #[derive(Drop)]
-pub enum Call {
+pub enum CommandLine {
     /// To play a script, with the settings of the file of this path.
     Play(String),
     /// To serve connections, with the settings of the file of this path.
@@ -28,7 +28,7 @@ pub fn call_by(
     path: Option<String>,
     flag: Option<String>,
     more: Option<String>,
-) -> Option<Call>
+) -> Option<CommandLine>
     ensures { result ≡ asked_by verb path flag more }
 {
     match (verb, path, flag, more) {
@@ -42,24 +42,24 @@ pub fn call_by(
 }
 
 /// What a single word asks for.
-fn call_alone(word: &str) -> Option<Call>
+fn call_alone(word: &str) -> Option<CommandLine>
     ensures { result ≡ asked_alone word.now }
 {
     match word {
-        "--version" => Some(Call::Version),
-        "--help" => Some(Call::Help),
+        "--version" => Some(CommandLine::Version),
+        "--help" => Some(CommandLine::Help),
         _ => None,
     }
 }
 
 /// What a word and a path ask for.
-fn call_of(verb: &str, path: String) -> Option<Call>
+fn call_of(verb: &str, path: String) -> Option<CommandLine>
     ensures { result ≡ asked_of verb.now path }
 {
     match verb {
-        "play" => Some(Call::Play(path)),
-        "serve" => Some(Call::Serve(path)),
-        "check" => Some(Call::Check {
+        "play" => Some(CommandLine::Play(path)),
+        "serve" => Some(CommandLine::Serve(path)),
+        "check" => Some(CommandLine::Check {
             path,
             is_strict: false,
         }),
@@ -68,11 +68,11 @@ fn call_of(verb: &str, path: String) -> Option<Call>
 }
 
 /// What a word, a path and a flag ask for.
-fn call_with(verb: &str, path: String, flag: &str) -> Option<Call>
+fn call_with(verb: &str, path: String, flag: &str) -> Option<CommandLine>
     ensures { result ≡ asked_with verb.now path flag.now }
 {
     if verb == "check" && flag == "--strict" {
-        return Some(Call::Check {
+        return Some(CommandLine::Check {
             path,
             is_strict: true,
         });

@@ -8,7 +8,7 @@ ghost use Rattle.radio_startup.specs.Sayings.{IsReasonOf};
 
 use crate::misreading::Misreading;
 use crate::notices::words_of;
-use radio_log::{FaultyKey, Text};
+use radio_log::{FaultyKey, QuotedText};
 use radio_review::FaultPlace;
 use radio_settings::SettingsFault;
 use std::alloc::Global;
@@ -82,20 +82,20 @@ impl FileFault {
     {
         match self {
             FileFault::Settings { at: Some(at), .. } => FaultyKey {
-                table: Text::of(at.section.word().as_bytes()),
-                mount: Text::of(at.mount.as_bytes()),
-                value: Text::of(at.value.as_bytes()),
-                allowed: Text::of(at.allowed.as_bytes()),
+                table: QuotedText::of(at.section.word().as_bytes()),
+                mount: QuotedText::of(at.mount.as_bytes()),
+                value: QuotedText::of(at.value.as_bytes()),
+                allowed: QuotedText::of(at.allowed.as_bytes()),
             },
             FileFault::Settings { at: None, .. }
             | FileFault::CannotRead { .. }
             | FileFault::Line { .. }
             | FileFault::NotToml(_)
             | FileFault::OutOfMemory => FaultyKey {
-                table: Text::of(b""),
-                mount: Text::of(b""),
-                value: Text::of(b""),
-                allowed: Text::of(b""),
+                table: QuotedText::of(b""),
+                mount: QuotedText::of(b""),
+                value: QuotedText::of(b""),
+                allowed: QuotedText::of(b""),
             },
         }
     }

@@ -23,7 +23,7 @@ mod reading;
 mod unknown;
 mod warnings;
 
-pub use call::{Call, call_by};
+pub use call::{CommandLine, call_by};
 pub use fault::FileFault;
 pub use files::{SettingsText, Station, read_station, read_text};
 pub use limits::limit_named;

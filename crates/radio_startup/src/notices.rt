@@ -8,7 +8,7 @@ ghost use Rattle.radio_startup.specs.Warnings.{warnings_of};
 use crate::OutOfMemory;
 use crate::limits::limit_named;
 use crate::warnings::warnings_of;
-use radio_log::{Fact, Moment, Note, Text, line};
+use radio_log::{Fact, Moment, Note, QuotedText, line};
 use radio_review::UnknownKey;
 use radio_settings_values::Settings;
 use std::alloc::{AllocGlobal, Global};
@@ -79,8 +79,8 @@ fn started<'a>(version: &'a str, address: &'a str) -> Fact<'a>
     ensures { result ≡ started version.now address.now }
 {
     Fact::Started {
-        version: Text::of(version.as_bytes()),
-        address: Text::of(address.as_bytes()),
+        version: QuotedText::of(version.as_bytes()),
+        address: QuotedText::of(address.as_bytes()),
     }
 }
 

@@ -1,4 +1,4 @@
-//! What an operator should know of his settings.
+//! What an operator should know of its settings.
 
 ghost use Rattle.std.specs.Prelude.{◌≡◌, ◌++◌, map, IfOk, OnOk};
 ghost use Rattle.std.specs.List.{flat_map};
@@ -7,7 +7,7 @@ ghost use Rattle.radio_startup.specs.Warnings.{belongs_to, did_you_mean, few_des
 
 use crate::OutOfMemory;
 use crate::doubts::{is_example, is_loopback, is_named, limited_listeners};
-use radio_log::{KeyPlace, Text, Warning};
+use radio_log::{KeyPlace, QuotedText, Warning};
 use radio_review::{Meant, UnknownKey};
 use radio_settings_values::{AccessSettings, MountSetting, Settings};
 use radio_values::Text as Password;
@@ -131,9 +131,9 @@ fn warning<'a>(why: &'a str, key: &'a str, mount: &'a str, limit: u64) -> Warnin
     ensures { result ≡ warning why.now key.now mount.now limit }
 {
     Warning {
-        why: Text::of(why.as_bytes()),
-        key: Text::of(key.as_bytes()),
-        mount: Text::of(mount.as_bytes()),
+        why: QuotedText::of(why.as_bytes()),
+        key: QuotedText::of(key.as_bytes()),
+        mount: QuotedText::of(mount.as_bytes()),
         limit,
         place: KeyPlace::none(),
     }
@@ -144,15 +144,15 @@ fn unknown_key<'a>(unknown: &'a UnknownKey) -> Warning<'a>
     ensures { result ≡ unknown_key unknown.now }
 {
     Warning {
-        why: Text::of(b"unknown-key"),
-        key: Text::of(unknown.key.as_bytes()),
-        mount: Text::of(unknown.mount.as_bytes()),
+        why: QuotedText::of(b"unknown-key"),
+        key: QuotedText::of(unknown.key.as_bytes()),
+        mount: QuotedText::of(unknown.mount.as_bytes()),
         limit: 0,
         place: KeyPlace {
-            table: Text::of(unknown.section.word().as_bytes()),
+            table: QuotedText::of(unknown.section.word().as_bytes()),
             line: unknown.line,
-            did_you_mean: Text::of(did_you_mean(unknown.meant).as_bytes()),
-            belongs_to: Text::of(belongs_to(unknown.meant).as_bytes()),
+            did_you_mean: QuotedText::of(did_you_mean(unknown.meant).as_bytes()),
+            belongs_to: QuotedText::of(belongs_to(unknown.meant).as_bytes()),
         },
     }
 }

@@ -41,7 +41,7 @@ moments_so (m ∷ made) told = (told.0, moments_so made told.1)
 -- what has happened on the connection, and what it was told; and that its client may be let go behind that
 record IsKnownOf (web : WebAnswers) (c : Connection) (entries : List Entry) : Type 0 where
   pub text : List ℕ
-  pub handed : IsHanded c.status.fate text c.taken c.owed
+  pub handed : IsHanded c.status.fate text c.taken c.outgoing
   pub happened : HasHappened web c.given entries text
   pub let_go : c.status.has_left ≡ false → (reply : Reply) → HasHappened web c.given (entries ++ entry (Leave c.id) reply ∷ []) text
 

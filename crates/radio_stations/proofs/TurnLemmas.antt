@@ -66,7 +66,7 @@ told_so web peer reply c applied nobody st =
     record {
       nobodys = sym st.same_left ∙ n.gone;
       none = none_behind (first_entries peer reply) applied (sym st.same_entries ∙ n.none);
-      handed = subst (λ (xs : List ℕ). IsHanded c.status.fate xs c.taken c.owed) n.text st.handed;
+      handed = subst (λ (xs : List ℕ). IsHanded c.status.fate xs c.taken c.outgoing) n.text st.handed;
     }
 
 module _ {S : Type 0} (steps : Steps S) where

@@ -24,8 +24,8 @@ given_by closed = []
 -- The line of the connection there took this text, and what still waits to be written is the rest of it. If it was cut off, its line took a front of it; if it
 -- was closed, all of it.
 abbrev pub IsHandedTo : UnderLabel → List ℕ → Type 0
-IsHandedTo (here c) text = IsHanded c.status.fate text c.taken c.owed
-IsHandedTo (gone c) text = IsHanded c.status.fate text c.taken c.owed
+IsHandedTo (here c) text = IsHanded c.status.fate text c.taken c.outgoing
+IsHandedTo (gone c) text = IsHanded c.status.fate text c.taken c.outgoing
 IsHandedTo unknown text = text ≡ []
 IsHandedTo closed text = text ≡ []
 

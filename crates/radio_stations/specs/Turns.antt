@@ -30,7 +30,7 @@ pub record IsServedThrough (web : WebAnswers) (peer : Peer) (id : ℕ) (c : Conn
 pub record IsOnlyAnswered (web : WebAnswers) (reply : Reply) (c : Connection) (applied : List Entry) : Type 0 where
   pub none : applied ≡ []
   pub nobodys : c.status.has_left ≡ true
-  pub handed : IsHanded c.status.fate (said (asking web) reply).bytes c.taken c.owed
+  pub handed : IsHanded c.status.fate (said (asking web) reply).bytes c.taken c.outgoing
 
 module _ {S : Type 0} (steps : Steps S) where
   -- its part of one turn: the moment, for how long its line may take nothing, whether there was news, and the server and the connection before and after it

@@ -9,14 +9,14 @@ use Rattle.radio_values.specs.declared.about.About.{About}
 use Rattle.radio_listing.specs.declared.rows.AboutRow.{AboutRow}
 use Rattle.radio_listing.specs.declared.rows.PublicRow.{PublicRow}
 use Rattle.radio_listing.specs.declared.rows.MountRow.{MountRow}
-use Rattle.radio_listing.specs.declared.rows.ListenerRow.{ListenerRow}
+use Rattle.radio_listing.specs.declared.rows.ListedListener.{ListedListener}
 use Rattle.radio_listing.specs.Admin.{stats_text, mounts_text}
 use Rattle.radio_listing.specs.Listeners.{listeners_text}
 use Rattle.radio_listing.specs.Public.{status_text, stream_text}
 use Rattle.radio_events.specs.declared.command.Listing.{Listing}
 use Rattle.radio_events.specs.declared.command.Listing.TheVariants.{Status, Stats, Mounts, Clients, Streams}
-use Rattle.radio_events.specs.declared.text.Text.{Text}
-use Rattle.radio_events.specs.declared.text.Text.TheVariants.{Json, Streams as StreamList, Public}
+use Rattle.radio_events.specs.declared.text.ReplyText.{ReplyText}
+use Rattle.radio_events.specs.declared.text.ReplyText.TheVariants.{Json, Streams as StreamList, Public}
 use Rattle.radio_house.specs.Facts.{fallback_of}
 use Rattle.radio_parts.specs.Sessions.{Session}
 use Rattle.radio_house.specs.World.{World}
@@ -62,8 +62,8 @@ seconds_since moment now = (now - moment) / 1000
 abbrev pub user_of : Credentials → List ℕ
 user_of pair = pair.user
 
--- a listener, and how long he has listened
-abbrev pub listener_row : ℕ → ListedGuest → ListenerRow
+-- a listener, and how long it has listened
+abbrev pub listener_row : ℕ → ListedGuest → ListedListener
 listener_row now listed = record {
   home = listed.guest.home;
   id = listed.id;
@@ -74,12 +74,12 @@ listener_row now listed = record {
 
 -- who sits at the mount, in the order of their numbers
 -- rule: List of clients
-abbrev pub listener_rows : World → List ℕ → List ListenerRow
+abbrev pub listener_rows : World → List ℕ → List ListedListener
 listener_rows w mount = map (listener_row w.house.time) (guests_at w.seats mount)
 
 -- what is shown; who asks is counted among the clients
 -- rule: Public status
-abbrev pub shown : World → Listing → Text
+abbrev pub shown : World → Listing → ReplyText
 shown w Status = Public (status_text (mount_rows w)) w.house.settings.web.allow_origin
 shown w Stats = Json (stats_text (length w.house.clients) (mount_rows w))
 shown w Mounts = Json (mounts_text (mount_rows w))

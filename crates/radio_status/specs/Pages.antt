@@ -3,12 +3,12 @@ use Rattle.std.specs.Prelude.{ℕ, List, [], codes, unwrap_or}
 use Rattle.radio_settings_values.specs.declared.settings.Settings.{Settings}
 use Rattle.radio_settings_values.specs.declared.web.WebPath.{WebPath}
 use Rattle.radio_settings_values.specs.declared.web.WebPath.TheVariants.{IcecastStatus, Page as AtPage}
-use Rattle.radio_listing.specs.declared.rows.Server.{Server}
+use Rattle.radio_listing.specs.declared.rows.ListedServer.{ListedServer}
 use Rattle.radio_listing.specs.Icecast.{icecast_text}
 use Rattle.radio_listing.specs.Reached.{base_url}
-use Rattle.radio_events.specs.declared.event.Visit.{Visit}
-use Rattle.radio_events.specs.declared.text.Text.{Text}
-use Rattle.radio_events.specs.declared.text.Text.TheVariants.{Public, Page}
+use Rattle.radio_events.specs.declared.event.PageVisit.{PageVisit}
+use Rattle.radio_events.specs.declared.text.ReplyText.{ReplyText}
+use Rattle.radio_events.specs.declared.text.ReplyText.TheVariants.{Public, Page}
 use Rattle.radio_status.specs.Listings.{mount_rows}
 use Rattle.radio_house.specs.World.{World}
 
@@ -18,7 +18,7 @@ abbrev pub url_for : Settings → List ℕ → List ℕ
 url_for settings host = unwrap_or settings.web.public_url (base_url host settings.listen.address settings.listen.port)
 
 -- the server, as it tells of itself on this visit
-abbrev pub server_as : Settings → Visit → Server
+abbrev pub server_as : Settings → PageVisit → ListedServer
 server_as settings visit = record {
   name = codes "radiod";
   base_url = url_for settings visit.host;
@@ -27,6 +27,6 @@ server_as settings visit = record {
 
 -- what is shown at a path of the web site on this visit
 -- rule: Icecast status
-abbrev pub page_at : World → WebPath → Visit → Text
+abbrev pub page_at : World → WebPath → PageVisit → ReplyText
 page_at w IcecastStatus visit = Public (icecast_text (server_as w.house.settings visit) (mount_rows w)) w.house.settings.web.allow_origin
 page_at w AtPage visit = Page w.house.settings.web.allow_origin

@@ -9,16 +9,16 @@ ghost use Rattle.radio_status.specs.Listings.{about_row, shown, public_row, moun
 ghost use Rattle.radio_house.specs.World.{world};
 ghost use Rattle.radio_mounts.specs.Parts.{live_in};
 ghost use Rattle.radio_events.specs.declared.command.Listing.TheVariants.{Status, Stats, Mounts, Streams};
-ghost use Rattle.radio_events.specs.declared.text.Text.{Text as TextOf};
+ghost use Rattle.radio_events.specs.declared.text.ReplyText.{ReplyText as TextOf};
 
 use crate::OutOfMemory;
 use bytes::Bytes;
 use radio_attached::Listeners;
 use radio_creds::Pair;
-use radio_events::{Listing, Text};
+use radio_events::{Listing, ReplyText};
 use radio_house::House;
 use radio_listing::{
-    AboutRow, ListenerRow, MountRow, PublicRow, Text as Shown, list_clients, list_mounts, stats,
+    AboutRow, ListedListener, ListedText, MountRow, PublicRow, list_clients, list_mounts, stats,
     status, stream_list,
 };
 use radio_mount_part::MountPart;
@@ -37,7 +37,7 @@ pub fn shown(
     house: &House<'_>,
     seats: &Listeners,
     listing: &Listing,
-) -> Result<Text, OutOfMemory>
+) -> Result<ReplyText, OutOfMemory>
     ensures { IfOk result (λ text. text ≡ shown (world house.now seats.now.seats) listing.now) }
 {
     match listing {
@@ -50,7 +50,11 @@ pub fn shown(
 }
 
 /// What the server does as a whole. `OutOfMemory` where memory was refused.
-fn stats_shown(alloc: Global, house: &House<'_>, seats: &Listeners) -> Result<Text, OutOfMemory>
+fn stats_shown(
+    alloc: Global,
+    house: &House<'_>,
+    seats: &Listeners,
+) -> Result<ReplyText, OutOfMemory>
     ensures { IfOk result (λ text. text ≡ shown (world house.now seats.now.seats) Stats) }
 {
     let clients = house.client_count();
@@ -59,7 +63,11 @@ fn stats_shown(alloc: Global, house: &House<'_>, seats: &Listeners) -> Result<Te
 }
 
 /// All live mounts. `OutOfMemory` where memory was refused.
-fn mounts_shown(alloc: Global, house: &House<'_>, seats: &Listeners) -> Result<Text, OutOfMemory>
+fn mounts_shown(
+    alloc: Global,
+    house: &House<'_>,
+    seats: &Listeners,
+) -> Result<ReplyText, OutOfMemory>
     ensures { IfOk result (λ text. text ≡ shown (world house.now seats.now.seats) Mounts) }
 {
     let rows = mount_rows(alloc, house, seats)?;
@@ -67,7 +75,11 @@ fn mounts_shown(alloc: Global, house: &House<'_>, seats: &Listeners) -> Result<T
 }
 
 /// The mounts that a relay may pull. `OutOfMemory` where memory was refused.
-fn streams_shown(alloc: Global, house: &House<'_>, seats: &Listeners) -> Result<Text, OutOfMemory>
+fn streams_shown(
+    alloc: Global,
+    house: &House<'_>,
+    seats: &Listeners,
+) -> Result<ReplyText, OutOfMemory>
     ensures { IfOk result (λ text. text ≡ shown (world house.now seats.now.seats) Streams) }
 {
     let rows = mount_rows(alloc, house, seats)?;
@@ -75,11 +87,15 @@ fn streams_shown(alloc: Global, house: &House<'_>, seats: &Listeners) -> Result<
 }
 
 /// What everybody may see. `OutOfMemory` where memory was refused.
-fn status_shown(alloc: Global, house: &House<'_>, seats: &Listeners) -> Result<Text, OutOfMemory>
+fn status_shown(
+    alloc: Global,
+    house: &House<'_>,
+    seats: &Listeners,
+) -> Result<ReplyText, OutOfMemory>
     ensures { IfOk result (λ text. text ≡ shown (world house.now seats.now.seats) Status) }
 {
     let bytes = status_bytes(alloc, house, seats)?;
-    Ok(Text::Public {
+    Ok(ReplyText::Public {
         bytes,
         allow_origin: house.settings().web.allow_origin.clone()?,
     })
@@ -133,7 +149,7 @@ fn mount_row<'a>(house: &House<'a>, seats: &Listeners, session: &'a Session) -> 
         hidden: house.settings().options(mount).stream.hidden,
         session: session.number,
         fallback: match house.fallback_name(mount) {
-            Some(fallback) => Some(Shown::of(fallback.as_bytes())),
+            Some(fallback) => Some(ListedText::of(fallback.as_bytes())),
             None => None,
         },
     }
@@ -145,10 +161,10 @@ fn public_row<'a>(house: &House<'_>, seats: &Listeners, session: &'a Session) ->
 {
     let mount = session.mount.get();
     PublicRow {
-        mount: Shown::of(mount.as_bytes()),
-        name: Shown::of(session.shown.name.as_bytes()),
-        genre: Shown::of(session.shown.genre.as_bytes()),
-        content_type: Shown::of(session.shown.content_type.as_bytes()),
+        mount: ListedText::of(mount.as_bytes()),
+        name: ListedText::of(session.shown.name.as_bytes()),
+        genre: ListedText::of(session.shown.genre.as_bytes()),
+        content_type: ListedText::of(session.shown.content_type.as_bytes()),
         title: title_shown(&session.title),
         listeners: seats.count(mount),
         about: about_row(&session.shown.about),
@@ -160,10 +176,10 @@ fn about_row(about: &About) -> AboutRow<'_>
     ensures { result ≡ about_row about.now }
 {
     AboutRow {
-        description: Shown::of(about.description.as_bytes()),
-        url: Shown::of(about.url.as_bytes()),
-        bitrate: Shown::of(about.bitrate.as_bytes()),
-        audio_info: Shown::of(about.audio_info.as_bytes()),
+        description: ListedText::of(about.description.as_bytes()),
+        url: ListedText::of(about.url.as_bytes()),
+        bitrate: ListedText::of(about.bitrate.as_bytes()),
+        audio_info: ListedText::of(about.audio_info.as_bytes()),
     }
 }
 
@@ -178,15 +194,15 @@ fn listeners_shown(
 {
     let listeners = seats.guests_at(alloc, mount)?;
     let rows = listener_rows(alloc, house.time(), listeners.as_slice())?;
-    list_clients(alloc, &Shown::of(mount.as_bytes()), rows.as_slice())
+    list_clients(alloc, &ListedText::of(mount.as_bytes()), rows.as_slice())
 }
 
-/// The listeners as rows, each with how long he has listened. `OutOfMemory` where memory was refused.
+/// The listeners as rows, each with how long it has listened. `OutOfMemory` where memory was refused.
 fn listener_rows<'a>(
     alloc: Global,
     now: u64,
     listeners: &[LentListener<'a>],
-) -> Result<Vec<ListenerRow<'a>>, OutOfMemory>
+) -> Result<Vec<ListedListener<'a>>, OutOfMemory>
     ensures { IfOk result (λ rows. rows.items ≡ map (listener_row now) (map lent_guest listeners.now)) }
 {
     let mut rows = Vec::new(alloc);
@@ -196,13 +212,13 @@ fn listener_rows<'a>(
     Ok(rows)
 }
 
-/// A listener, and how long he has listened.
-fn listener_row<'a>(now: u64, listener: &LentListener<'a>) -> ListenerRow<'a>
+/// A listener, and how long it has listened.
+fn listener_row<'a>(now: u64, listener: &LentListener<'a>) -> ListedListener<'a>
     ensures { result ≡ listener_row now (lent_guest listener.now) }
 {
     let guest = listener.guest;
-    ListenerRow {
-        home: Shown::of(guest.home.get().as_bytes()),
+    ListedListener {
+        home: ListedText::of(guest.home.get().as_bytes()),
         id: listener.id,
         peer: guest.peer,
         seconds: now.saturating_sub(guest.since) / SECOND,
@@ -211,35 +227,35 @@ fn listener_row<'a>(now: u64, listener: &LentListener<'a>) -> ListenerRow<'a>
 }
 
 /// The user of a pair.
-fn user_shown(pair: &Option<Pair>) -> Option<Shown<'_>>
+fn user_shown(pair: &Option<Pair>) -> Option<ListedText<'_>>
     ensures { result ≡ option_map user_of pair.now }
 {
     match pair {
-        Some(pair) => Some(Shown::of(pair.user())),
+        Some(pair) => Some(ListedText::of(pair.user())),
         None => None,
     }
 }
 
 /// A title, which is empty where none was set.
-fn title_shown(title: &Option<Title>) -> Shown<'_>
+fn title_shown(title: &Option<Title>) -> ListedText<'_>
     ensures { result ≡ unwrap_or title.now [] }
 {
     match title {
-        Some(title) => Shown::of(title.as_slice()),
-        None => Shown::of(b""),
+        Some(title) => ListedText::of(title.as_slice()),
+        None => ListedText::of(b""),
     }
 }
 
 /// A listing in JSON.
-fn json(bytes: Vec<u8>) -> Result<Text, OutOfMemory>
+fn json(bytes: Vec<u8>) -> Result<ReplyText, OutOfMemory>
     ensures { IfOk result (λ text. text ≡ TextOf.Json bytes.items) }
 {
-    Ok(Text::Json(Bytes::from_vec(bytes)?))
+    Ok(ReplyText::Json(Bytes::from_vec(bytes)?))
 }
 
 /// A list of streams.
-fn streams(bytes: Vec<u8>) -> Result<Text, OutOfMemory>
+fn streams(bytes: Vec<u8>) -> Result<ReplyText, OutOfMemory>
     ensures { IfOk result (λ text. text ≡ TextOf.Streams bytes.items) }
 {
-    Ok(Text::Streams(Bytes::from_vec(bytes)?))
+    Ok(ReplyText::Streams(Bytes::from_vec(bytes)?))
 }

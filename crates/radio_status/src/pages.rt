@@ -10,9 +10,9 @@ use crate::OutOfMemory;
 use crate::listings::mount_rows;
 use bytes::Bytes;
 use radio_attached::Listeners;
-use radio_events::{MomentText, Text, Visit};
+use radio_events::{MomentText, PageVisit, ReplyText};
 use radio_house::House;
-use radio_listing::{Server, Text as Shown, base_url, icecast_status};
+use radio_listing::{ListedServer, ListedText, base_url, icecast_status};
 use radio_settings_values::WebPath;
 use std::alloc::Global;
 
@@ -22,17 +22,17 @@ pub fn page(
     house: &House<'_>,
     seats: &Listeners,
     path: WebPath,
-    visit: &Visit,
-) -> Result<Text, OutOfMemory>
+    visit: &PageVisit,
+) -> Result<ReplyText, OutOfMemory>
     ensures { IfOk result (λ text. text ≡ page_at (world house.now seats.now.seats) path visit.now) }
 {
     let allow_origin = house.settings().web.allow_origin.clone()?;
     match path {
-        WebPath::IcecastStatus => Ok(Text::Public {
+        WebPath::IcecastStatus => Ok(ReplyText::Public {
             bytes: icecast_shown(alloc, house, seats, visit)?,
             allow_origin,
         }),
-        WebPath::Page => Ok(Text::Page { allow_origin }),
+        WebPath::Page => Ok(ReplyText::Page { allow_origin }),
     }
 }
 
@@ -41,7 +41,7 @@ fn icecast_shown(
     alloc: Global,
     house: &House<'_>,
     seats: &Listeners,
-    visit: &Visit,
+    visit: &PageVisit,
 ) -> Result<Bytes, OutOfMemory>
     ensures { IfOk result (λ bytes. bytes ≡ icecast_text (server_as house.now.settings visit.now) (mount_rows (world house.now seats.now.seats))) }
 {
@@ -73,12 +73,12 @@ fn copy_of(alloc: Global, text: &[u8]) -> Result<Vec<u8>, OutOfMemory>
 }
 
 /// When the server started, which is empty if the program does not say.
-fn start_shown(start: &Option<MomentText>) -> Shown<'_>
+fn start_shown(start: &Option<MomentText>) -> ListedText<'_>
     ensures { result ≡ unwrap_or start.now [] }
 {
     match start {
-        Some(start) => Shown::of(start.as_slice()),
-        None => Shown::of(b""),
+        Some(start) => ListedText::of(start.as_slice()),
+        None => ListedText::of(b""),
     }
 }
 
@@ -89,13 +89,13 @@ fn status_at(
     house: &House<'_>,
     seats: &Listeners,
     base: &[u8],
-    start: Shown<'_>,
+    start: ListedText<'_>,
 ) -> Result<Vec<u8>, OutOfMemory>
     ensures { IfOk result (λ bytes. bytes.items ≡ icecast_text (record { name = codes "radiod"; base_url = base.now; start = start.entry }) (mount_rows (world house.now seats.now.seats))) }
 {
-    let server = Server {
-        name: Shown::of(b"radiod"),
-        base_url: Shown::of(base),
+    let server = ListedServer {
+        name: ListedText::of(b"radiod"),
+        base_url: ListedText::of(base),
         start,
     };
     let rows = mount_rows(alloc, house, seats)?;

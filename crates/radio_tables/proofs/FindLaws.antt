@@ -154,7 +154,7 @@ pub find_same : {X : Type 0} (p : X → Bool) (f : X → X) → ((x : X) → p (
 find_same p f same_test [] x h = cc
 find_same p f same_test (a ∷ xs) x h = same_at p f a xs x (p a) refl (same_test a) (find_same p f same_test xs x) h
 
--- who is found changes alike by two changes that make the same of him
+-- who is found changes alike by two changes that make the same of it
 module _ {X : Type 0} (p : X → Bool) (f g : X → X) (x : X) (same : f x ≡ g x) where
   changed_alike_at : (a : X) (xs : List X) (b : Bool) → p a ≡ b → (find p xs ≡ Some x → update_first p f xs ≡ update_first p g xs)
       → find p (a ∷ xs) ≡ Some x → (if b then f a ∷ xs else a ∷ update_first p f xs) ≡ (if b then g a ∷ xs else a ∷ update_first p g xs)
@@ -168,7 +168,7 @@ module _ {X : Type 0} (p : X → Bool) (f g : X → X) (x : X) (same : f x ≡ g
   changed_alike [] h = refl
   changed_alike (a ∷ xs) h = changed_alike_at a xs (p a) refl (changed_alike xs) h
 
--- and nothing changes by one that leaves him as he is
+-- and nothing changes by one that leaves it as it is
 module _ {X : Type 0} (p : X → Bool) where
   itself_at : (x : X) (xs : List X) (b : Bool) → update_first p (λ y. y) xs ≡ xs → (if b then x ∷ xs else x ∷ update_first p (λ y. y) xs) ≡ x ∷ xs
   itself_at x xs true later = refl

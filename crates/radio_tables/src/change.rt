@@ -5,7 +5,7 @@ ghost use Rattle.std.specs.Prelude.{◌≡◌, OnOk, OnErr};
 use crate::{OutOfMemory, Row};
 
 /// A change of a row that leaves its key as it is, and takes no memory.
-pub trait Change<R: Row> {
+pub trait RowChange<R: Row> {
     // The row after the change.
     ghost gives: { Self → R → R };
 
@@ -49,7 +49,7 @@ pub trait Swap<R: Row> {
 }
 
 /// What deals with a row in its place, and answers.
-pub trait Visit<R: Row> {
+pub trait RowVisit<R: Row> {
     /// What comes to the row.
     type Given;
 

@@ -10,7 +10,7 @@ ghost use Rattle.radio_tables.specs.Lists.{update_first, placed, Each};
 ghost use Rattle.radio_tables.specs.Past.{is_past};
 ghost use Rattle.radio_tables.specs.Visits.{IsVisited};
 
-use crate::{Change, OutOfMemory, Row, Swap, TryChange, Visit};
+use crate::{OutOfMemory, Row, RowChange, RowVisit, Swap, TryChange};
 use std::alloc::Global;
 use std::collections::BTreeMap;
 use std::collections::btree_map::Values;
@@ -86,7 +86,7 @@ impl<R: Row> Table<R> {
     }
 
     /// Changes the row of this key, if there is one. It takes no memory.
-    pub fn change<C: Change<R>>(&mut self, key: &R::Key, change: &C)
+    pub fn change<C: RowChange<R>>(&mut self, key: &R::Key, change: &C)
         ensures { self.new ≡ update_first (R.has_key key.now) (C.gives change.now) self.old }
     {
         let Some(row) = self.rows.get_mut(key) else {
@@ -124,7 +124,7 @@ impl<R: Row> Table<R> {
 
     /// Deals with the row of this key in its place, and answers; `None` where there is none, and
     /// nothing has changed then. The row is looked up once.
-    pub fn visit<V: Visit<R>>(
+    pub fn visit<V: RowVisit<R>>(
         &mut self,
         key: &R::Key,
         visitor: &mut V,
@@ -139,7 +139,7 @@ impl<R: Row> Table<R> {
     }
 
     /// Changes all rows. It takes no memory.
-    pub fn change_all<C: Change<R>>(&mut self, change: &C)
+    pub fn change_all<C: RowChange<R>>(&mut self, change: &C)
         ensures { self.new ≡ map (C.gives change.now) self.old }
     {
         self.rows.retain(|_, row| {

@@ -1,7 +1,7 @@
 -- What holds of relays that are tried again and again. Moments and times are in milliseconds.
 use Rattle.std.specs.Prelude.{◌≡◌, ◌≤◌, ◌<◌, ◌+◌, ◌^◌, ℕ, Bool, true, false, [], ◌∷◌}
 use Rattle.radio_masters.specs.Ends.{keeps_place}
-use Rattle.radio_tries.specs.declared.outcome.Outcome.{Outcome}
+use Rattle.radio_tries.specs.declared.outcome.RelayOutcome.{RelayOutcome}
 use Rattle.radio_tries.specs.declared.pause.Pause.TheVariants.{Stops, Past, Waits}
 use Rattle.radio_tries.specs.Pauses.{pause_at}
 use Rattle.radio_tries.specs.Pulls.{is_late}
@@ -9,18 +9,18 @@ use Rattle.radio_tries.specs.Tries.{due_after, is_not_wished, kept_after, kept_a
 
 -- a relay that has ended, and was wished, is tried again no sooner than five seconds later
 abbrev pub RelaysRest : Type 0
-RelaysRest = (outcome : Outcome) → is_not_wished outcome.why ≡ false → outcome.ms < 2 ^ 63 → due_after outcome ≡ outcome.ms + 5000
+RelaysRest = (outcome : RelayOutcome) → is_not_wished outcome.why ≡ false → outcome.ms < 2 ^ 63 → due_after outcome ≡ outcome.ms + 5000
 
 -- one that was not wished may be tried at once
 abbrev pub UnwishedDoNot : Type 0
-UnwishedDoNot = (outcome : Outcome) → is_not_wished outcome.why ≡ true → due_after outcome ≡ 0
+UnwishedDoNot = (outcome : RelayOutcome) → is_not_wished outcome.why ≡ true → due_after outcome ≡ 0
 
 -- a place that an end keeps is kept before the relay may be tried again, and is free from then on
 abbrev pub PlacesAreKept : Type 0
-PlacesAreKept = (outcome : Outcome) (ms : ℕ) → keeps_place outcome.why ≡ true → ms < due_after outcome → kept_at ms (kept_after outcome []) ≡ due_after outcome ∷ []
+PlacesAreKept = (outcome : RelayOutcome) (ms : ℕ) → keeps_place outcome.why ≡ true → ms < due_after outcome → kept_at ms (kept_after outcome []) ≡ due_after outcome ∷ []
 
 abbrev pub PlacesAreFreed : Type 0
-PlacesAreFreed = (outcome : Outcome) (ms : ℕ) → due_after outcome ≤ ms → kept_at ms (kept_after outcome []) ≡ []
+PlacesAreFreed = (outcome : RelayOutcome) (ms : ℕ) → due_after outcome ≤ ms → kept_at ms (kept_after outcome []) ≡ []
 
 -- a master that has not answered is given up ten seconds after it was asked, and not before
 abbrev pub MastersAreGivenUp : Type 0

@@ -2,7 +2,7 @@
 //!
 //! - [`Tries`]: when relays were tried, and how many places are kept; [`Tries::begin`]: which relays begin now.
 //! - [`Wishes`]: which relays are to stop and which to start, in the order in which they start.
-//! - [`end_of`], [`Outcome`]: why a pull has ended, and how the thread of a relay has.
+//! - [`end_of`], [`RelayOutcome`]: why a pull has ended, and how the thread of a relay has.
 //! - [`pause_at`]: for how long a thread waits until a moment.
 //! - [`laws`]: what then holds.
 //!
@@ -16,7 +16,7 @@ mod pulls;
 mod tries;
 mod wishes;
 
-pub use outcome::Outcome;
+pub use outcome::RelayOutcome;
 pub use pause::{MOST_SILENT_MS, Pause, REST_MS, after, list_due_ms, pause_at};
 pub use pulls::{end_of, is_last_pull, pull_end};
 pub use tries::{Tries, free_places};

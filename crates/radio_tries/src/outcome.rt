@@ -8,7 +8,7 @@ use radio_masters::{Failing, RelayEnd};
 
 /// How the thread of a relay has ended.
 #[derive(Clone, Copy, Debug, PartialEq, Eq)]
-pub struct Outcome {
+pub struct RelayOutcome {
     /// Why.
     pub why: RelayEnd,
     /// When, in milliseconds.
@@ -17,12 +17,12 @@ pub struct Outcome {
     pub failing: Option<Failing>,
 }
 
-impl Outcome {
+impl RelayOutcome {
     /// Returns how the thread of a relay has ended at `ms` whose last pull has ended so. If it was to stop, that is why.
-    pub fn of(is_stopped: bool, why: RelayEnd, ms: u64, failing: Option<Failing>) -> Outcome
+    pub fn of(is_stopped: bool, why: RelayEnd, ms: u64, failing: Option<Failing>) -> RelayOutcome
         ensures { result ≡ outcome_of is_stopped why ms failing }
     {
-        Outcome {
+        RelayOutcome {
             why: if is_stopped { RelayEnd::NotWished } else { why },
             ms,
             failing,

@@ -9,8 +9,8 @@ ghost use Rattle.radio_relay.specs.StreamList.{name_order};
 ghost use Rattle.radio_tries.specs.Tries.{IsStarted, due_of, ended, failing_of, free_places, is_known, kept_after, kept_at, no_trials, not_started, queue, tried_at};
 
 use crate::OutOfMemory;
-use crate::outcome::Outcome;
-use radio_masters::{Failing, Waiting, in_turn};
+use crate::outcome::RelayOutcome;
+use radio_masters::{Failing, WaitingRelay, in_turn};
 use radio_settings_values::{RelaySetting, Settings};
 use radio_values::MountName;
 use std::alloc::Global;
@@ -20,7 +20,7 @@ use std::sync::Arc;
 
 /// When a relay was tried.
 #[derive(Clone, Copy, Debug, PartialEq, Eq)]
-pub(crate) struct Tried {
+pub(crate) struct RelayTry {
     /// From which moment on it may be tried again, in milliseconds; the last of all while it runs.
     pub(crate) due_ms: u64,
     /// How it has failed, if it has since it was up last.
@@ -32,7 +32,7 @@ pub(crate) struct Tried {
 /// In contracts it is a `Trials`.
 #[derive(Drop)]
 pub struct Tries {
-    tried: BTreeMap<MountName, Tried>,
+    tried: BTreeMap<MountName, RelayTry>,
     /// Until when each of these places is kept, in milliseconds.
     kept_until: Vec<u64>,
 }
@@ -83,7 +83,7 @@ impl Tries {
         ensures ok { OnOk result (IsStarted mount self.old self.new) }
         ensures err { OnErr result (self.new ≡ self.old) }
     {
-        let tried = Tried {
+        let tried = RelayTry {
             due_ms: u64::MAX,
             failing: self.failing(&mount),
         };
@@ -96,12 +96,12 @@ impl Tries {
     ///
     /// `OutOfMemory` if memory was refused for the place: it is free then.
     // rule: Ten seconds; Keeping a place
-    pub fn note_end(&mut self, mount: &MountName, outcome: Outcome) -> Result<(), OutOfMemory>
+    pub fn note_end(&mut self, mount: &MountName, outcome: RelayOutcome) -> Result<(), OutOfMemory>
         ensures tried { self.new.tried ≡ set_value (is_at (name_order mount.now)) self.old.tried (ended outcome) }
         ensures kept { OnOk result (self.new.kept ≡ kept_after outcome self.old.kept) }
         ensures free { OnErr result (self.new.kept ≡ self.old.kept) }
     {
-        let tried = Tried {
+        let tried = RelayTry {
             due_ms: outcome.due_ms(),
             failing: outcome.failing,
         };
@@ -117,7 +117,7 @@ impl Tries {
         ensures tried { self.new.tried ≡ set_value (is_at (name_order mount.now)) self.old.tried (not_started due_ms (tried_at mount.now self.old)) }
         ensures kept { self.new.kept ≡ self.old.kept }
     {
-        let tried = Tried {
+        let tried = RelayTry {
             due_ms,
             failing: self.failing(mount),
         };
@@ -152,7 +152,7 @@ impl Tries {
         wished: &[Arc<RelaySetting>],
         places: usize,
         ms: u64,
-    ) -> Result<Vec<Waiting>, OutOfMemory>
+    ) -> Result<Vec<WaitingRelay>, OutOfMemory>
         ensures turn { IfOk result (λ chosen. 0 < places → HaveTheirTurn ms places (queue self.now (map arc_value wished.now)) (reverse chosen.items)) }
         ensures full { places ≡ 0 → IfOk result (λ chosen. chosen.items ≡ []) }
     {
@@ -170,20 +170,20 @@ impl Tries {
         &self,
         alloc: Global,
         wished: &[Arc<RelaySetting>],
-    ) -> Result<Vec<Waiting>, OutOfMemory>
+    ) -> Result<Vec<WaitingRelay>, OutOfMemory>
         ensures { IfOk result (λ waiting. waiting.items ≡ queue self.now (map arc_value wished.now)) }
     {
         let mut waiting = Vec::new(alloc);
         'relays: for (number, relay) in wished.iter().enumerate() {
             let due_ms = self.due_ms(&relay.local_mount);
-            waiting.push(Waiting { due_ms, number })?;
+            waiting.push(WaitingRelay { due_ms, number })?;
         }
         Ok(waiting)
     }
 }
 
 /// Replaces what is known of the relay of this mount, if anything is.
-fn set_tried(tries: &mut BTreeMap<MountName, Tried>, mount: &MountName, tried: Tried)
+fn set_tried(tries: &mut BTreeMap<MountName, RelayTry>, mount: &MountName, tried: RelayTry)
     ensures { tries.new.entries ≡ set_value (is_at (name_order mount.now)) tries.old.entries tried }
 {
     let Some(old) = tries.get_mut(mount) else {

@@ -11,7 +11,7 @@ module _ {S : Type 0} (steps : Steps S) (refuses : S → Event → Type 0) where
   abbrev pub AsksToLeave : S → ℕ → S → Type 0
   AsksToLeave server id server' = ((reply : Reply) × steps server (Leave id) reply server') ⊎ (refuses server (Leave id) × (server' ≡ server))
 
-  -- who has left is asked for nothing, and else his client leaves
+  -- who has left is asked for nothing, and else its client leaves
   abbrev pub LeavesIfHere : S → Connection → S → Type 0
   LeavesIfHere server conn server' = leaves conn.status.has_left where
     leaves : Bool → Type 0

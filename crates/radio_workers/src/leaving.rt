@@ -14,7 +14,7 @@ pub(crate) fn leave_all<S: Server, L: Line>(server: &mut S, conns: &[Conn<L>])
     }
 }
 
-/// The client of this connection leaves, if he has not left.
+/// The client of this connection leaves, if it has not left.
 fn leave_if_here<S: Server, L: Line>(server: &mut S, conn: &Conn<L>)
     ensures { LeavesIfHere S.steps S.refuses server.old conn.now server.new }
 {

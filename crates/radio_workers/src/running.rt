@@ -4,24 +4,24 @@ ghost use Rattle.std.specs.Prelude.{◌≡◌, ◌<◌, ℕ, length, All, slice_
 ghost use Rattle.radio_workers.specs.Hands.{HasTakenMore};
 
 use crate::shift::work;
-use crate::{Post, Seat, Workplace};
+use crate::{TurnSource, WorkerSlot, Workplace};
 use radio_events::SharedServer;
 use radio_serving::{Gate, Line};
 use std::alloc::Global;
 use std::sync::Wait;
 use std::thread::{Threads, for_each_mut};
 
-/// Runs a worker at each seat, in a thread of its own, and joins them all. Each takes connections from the intake, as his
-/// post calls him to, and serves his own; at his end all who are still here leave, and are closed.
+/// Runs a worker at each slot, in a thread of its own, and joins them all. Each takes connections from the intake, as its
+/// post calls it to, and serves its own; at its end all who are still here leave, and are closed.
 ///
-/// Nothing here asks for memory, and no memory that is refused to a worker ends him. One for whom no thread can be had is
+/// Nothing here asks for memory, and no memory that is refused to a worker ends it. One for whom no thread can be had is
 /// left out as long as others work.
 // rule: Newcomers; End of a worker
 pub fn run_workers<R, S, T, L, P, G>(
     rt: &R,
     alloc: Global,
     place: &Workplace<'_, S, T, G>,
-    seats: &mut [Seat<S::Pass, T, P>],
+    slots: &mut [WorkerSlot<S::Pass, T, P>],
 )
 where
     R: Threads + Wait + Sync,
@@ -29,23 +29,23 @@ where
     S::Pass: Send,
     T: Send + Drop,
     L: Line + Send,
-    P: Post<T, L> + Send,
+    P: TurnSource<T, L> + Send,
     G: Gate + Sync,
-    requires own { All (λ seat. seat.hand.intake ≡ place.now.intake.now) seats.old }
-    // each pass of the intake has its parts, and tells behind what it told what was taken at its seat
-    ensures hands { (i : ℕ) (d : _) → i < length seats.old → HasTakenMore (slice_index_or seats.old i d).hand (slice_index_or seats.new i d).hand }
+    requires own { All (λ slot. slot.hand.intake ≡ place.now.intake.now) slots.old }
+    // each pass of the intake has its parts, and tells behind what it told what was taken at its slot
+    ensures hands { (i : ℕ) (d : _) → i < length slots.old → HasTakenMore (slice_index_or slots.old i d).hand (slice_index_or slots.new i d).hand }
 {
-    let count = seats.len();
+    let count = slots.len();
     if count == 0 {
         return;
     }
     for_each_mut(
         rt,
-        seats,
+        slots,
         count,
-        &|_, seat|
-            requires { seat.now.hand.intake ≡ place.now.intake.now }
-            ensures { HasTakenMore seat.entry.now.hand seat.exit.now.hand }
-        { work::<R, S, T, L, P, G>(rt, alloc, place, seat) },
+        &|_, slot|
+            requires { slot.now.hand.intake ≡ place.now.intake.now }
+            ensures { HasTakenMore slot.entry.now.hand slot.exit.now.hand }
+        { work::<R, S, T, L, P, G>(rt, alloc, place, slot) },
     );
 }

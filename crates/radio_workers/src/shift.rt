@@ -1,4 +1,4 @@
-//! One worker, at his seat.
+//! One worker, at its slot.
 
 ghost use Rattle.std.specs.Prelude.{◌≡◌, ◌⊎◌, ◌+◌, ◌*◌, ◌-◌, ◌^◌, ◌++◌, ◌∷◌, [], Bool, Some, min, length, filter, nat_lt};
 ghost use Rattle.radio_connections.specs.Connections.{Connection, lingers};
@@ -11,7 +11,7 @@ ghost use Rattle.radio_workers.specs.Leaving.{LeavesAll};
 ghost use Rattle.radio_workers.specs.Shifts.{HasParted, first_source, has_listeners, without_oldest};
 
 use crate::leaving::leave_all;
-use crate::{Call, Post, Seat, Seen, Workplace};
+use crate::{Seen, TurnSource, TurnStart, WorkerSlot, Workplace};
 use radio_events::{Caller, SharedServer};
 use radio_intake::{Intake, IntakePass};
 use radio_serving::{
@@ -31,24 +31,31 @@ struct Shift<S: Server + Drop, L: Line> {
     conns: Vec<Conn<L>>,
 }
 
-/// Works at this seat, turn after turn, until his post tells him to stop, or he has made all turns. Then all of his
+/// Works at this slot, turn after turn, until its turn source tells it to stop, or it has made all turns. Then all of its
 /// clients leave, and their connections are closed.
-pub(crate) fn work<R: Wait, S: SharedServer, T: Drop, L: Line, P: Post<T, L>, G: Gate>(
+pub(crate) fn work<R: Wait, S: SharedServer, T: Drop, L: Line, P: TurnSource<T, L>, G: Gate>(
     rt: &R,
     alloc: Global,
     place: &Workplace<'_, S, T, G>,
-    seat: &mut Seat<S::Pass, T, P>,
+    slot: &mut WorkerSlot<S::Pass, T, P>,
 )
-    requires own { seat.old.hand.intake ≡ place.now.intake.now }
-    ensures taken { HasTakenMore seat.old.hand seat.new.hand }
+    requires own { slot.old.hand.intake ≡ place.now.intake.now }
+    ensures taken { HasTakenMore slot.old.hand slot.new.hand }
 {
-    if let Some(pass) = seat.pass.take() {
-        let pass = work_with(rt, alloc, place, &mut seat.post, &mut seat.hand, pass);
-        put_back(&mut seat.pass, pass);
+    if let Some(pass) = slot.pass.take() {
+        let pass = work_with(
+            rt,
+            alloc,
+            place,
+            &mut slot.turn_source,
+            &mut slot.hand,
+            pass,
+        );
+        put_back(&mut slot.pass, pass);
     }
 }
 
-/// Puts the pass back at its seat.
+/// Puts the pass back at its slot.
 fn put_back<A: Drop>(own: &mut Option<A>, pass: A)
     ensures { own.new ≡ Some pass }
 {
@@ -56,11 +63,11 @@ fn put_back<A: Drop>(own: &mut Option<A>, pass: A)
 }
 
 /// Works with this pass of the server, by which all is applied, and which comes back.
-fn work_with<R: Wait, S: SharedServer, T: Drop, L: Line, P: Post<T, L>, G: Gate>(
+fn work_with<R: Wait, S: SharedServer, T: Drop, L: Line, P: TurnSource<T, L>, G: Gate>(
     rt: &R,
     alloc: Global,
     place: &Workplace<'_, S, T, G>,
-    post: &mut P,
+    turn_source: &mut P,
     hand: &mut IntakePass<T>,
     pass: S::Pass,
 ) -> S::Pass
@@ -68,16 +75,16 @@ fn work_with<R: Wait, S: SharedServer, T: Drop, L: Line, P: Post<T, L>, G: Gate>
     ensures taken { HasTakenMore hand.old hand.new }
 {
     let caller = Caller::new(rt, place.server, pass);
-    serve(rt, alloc, place, post, hand, caller).into_pass()
+    serve(rt, alloc, place, turn_source, hand, caller).into_pass()
 }
 
-/// Serves connections over this server, turn after turn, until all have been made or the post says stop; gives the server
+/// Serves connections over this server, turn after turn, until all have been made or the turn source says stop; gives the server
 /// back once all clients have left.
 fn serve<R, A, S, T, L, P, G>(
     rt: &R,
     alloc: Global,
     place: &Workplace<'_, A, T, G>,
-    post: &mut P,
+    turn_source: &mut P,
     hand: &mut IntakePass<T>,
     server: S,
 ) -> S
@@ -86,7 +93,7 @@ where
     S: Server + Drop,
     T: Drop,
     L: Line,
-    P: Post<T, L>,
+    P: TurnSource<T, L>,
     G: Gate,
     requires own { hand.old.intake ≡ place.now.intake.now }
     ensures taken { HasTakenMore hand.old hand.new }
@@ -95,7 +102,7 @@ where
     if !place.log_polls {
         shift.worker.log().leave_out_polls();
     }
-    shift.make_turns(rt, place, post, hand);
+    shift.make_turns(rt, place, turn_source, hand);
     shift.end()
 }
 
@@ -115,107 +122,117 @@ impl<S: Server + Drop, L: Line> Shift<S, L> {
         }
     }
 
-    /// Turn after turn, as long as the post goes on.
+    /// Turn after turn, as long as the turn source goes on.
     #[tactic(auto, using(crate::proofs::Takings::taken_none, crate::proofs::Takings::taken_one, crate::proofs::Takings::taken_then))]
-    fn make_turns<R: Wait, A, T: Drop, P: Post<T, L>, G: Gate>(
+    fn make_turns<R: Wait, A, T: Drop, P: TurnSource<T, L>, G: Gate>(
         &mut self,
         rt: &R,
         place: &Workplace<'_, A, T, G>,
-        post: &mut P,
+        turn_source: &mut P,
         hand: &mut IntakePass<T>,
     )
         requires own { hand.old.intake ≡ place.now.intake.now }
         ensures taken { HasTakenMore hand.old hand.new }
     {
         'turns: for _ in 0..place.turns {
-            if !self.goes_on(rt, place, post, hand) {
+            if !self.goes_on(rt, place, turn_source, hand) {
                 return;
             }
         }
     }
 
-    /// The next turn, unless the post tells him to stop. Whether it does not.
+    /// The next turn, unless the turn source tells it to stop. Whether it does not.
     #[tactic(auto, using(crate::proofs::Takings::taken_none))]
-    fn goes_on<R: Wait, A, T: Drop, P: Post<T, L>, G: Gate>(
+    fn goes_on<R: Wait, A, T: Drop, P: TurnSource<T, L>, G: Gate>(
         &mut self,
         rt: &R,
         place: &Workplace<'_, A, T, G>,
-        post: &mut P,
+        turn_source: &mut P,
         hand: &mut IntakePass<T>,
     ) -> bool
         requires own { hand.old.intake ≡ place.now.intake.now }
         ensures taken { HasTakenMore hand.old hand.new }
     {
-        match post.next(self.worker.log()) {
+        match turn_source.next(self.worker.log()) {
             Some(call) => {
-                self.follow(rt, place, post, hand, call);
+                self.follow(rt, place, turn_source, hand, call);
                 true
             }
             None => false,
         }
     }
 
-    /// Does what he is called to: takes in those who wait, and makes the turn.
-    fn follow<R: Wait, A, T: Drop, P: Post<T, L>, G: Gate>(
+    /// Does what it is called to: takes in those who wait, and makes the turn.
+    fn follow<R: Wait, A, T: Drop, P: TurnSource<T, L>, G: Gate>(
         &mut self,
         rt: &R,
         place: &Workplace<'_, A, T, G>,
-        post: &mut P,
+        turn_source: &mut P,
         hand: &mut IntakePass<T>,
-        call: Call,
+        call: TurnStart,
     )
         requires own { hand.old.intake ≡ place.now.intake.now }
         ensures taken { HasTakenMore hand.old hand.new }
     {
-        self.take_in(rt, place.intake, post, hand, call);
-        self.make_turn(place.gate, post, call);
+        self.take_in(rt, place.intake, turn_source, hand, call);
+        self.make_turn(place.gate, turn_source, call);
     }
 
-    /// Takes in of those who wait as many as he is called to.
+    /// Takes in of those who wait as many as it is called to.
     #[tactic(auto, using(crate::proofs::Takings::taken_none, crate::proofs::Takings::taken_one, crate::proofs::Takings::taken_then))]
-    fn take_in<R: Wait, T: Drop, P: Post<T, L>>(
+    fn take_in<R: Wait, T: Drop, P: TurnSource<T, L>>(
         &mut self,
         rt: &R,
         intake: &Intake<T>,
-        post: &mut P,
+        turn_source: &mut P,
         hand: &mut IntakePass<T>,
-        call: Call,
+        call: TurnStart,
     )
         requires own { hand.old.intake ≡ intake.now }
         ensures taken { HasTakenMore hand.old hand.new }
     {
-        'comings: for _ in 0..call.comings {
-            let Some(coming) = intake.take(rt, hand) else {
+        'newcomers: for _ in 0..call.newcomers {
+            let Some(newcomer) = intake.take(rt, hand) else {
                 return;
             };
-            self.admit(post, coming, call.turn.ms);
+            self.admit(turn_source, newcomer, call.turn.ms);
         }
     }
 
     /// Takes one in, behind the others. The line of one that can't be served, or is refused memory, is closed.
-    fn admit<T, P: Post<T, L>>(&mut self, post: &mut P, coming: T, ms: u64)
+    fn admit<T, P: TurnSource<T, L>>(&mut self, turn_source: &mut P, newcomer: T, ms: u64)
         ensures sources { self.new.sources.items ≡ self.old.sources.items }
         ensures others { (self.new.conns.items ≡ self.old.conns.items) ⊎ ((conn : Connection) × (self.new.conns.items ≡ self.old.conns.items ++ conn ∷ [])) }
     {
-        if let Some((line, peer)) = post.open(coming) {
+        if let Some((line, peer)) = turn_source.open(newcomer) {
             let _ = self.worker.admit(&mut self.conns, line, peer, ms);
         }
     }
 
-    /// Serves each connection once, closes those that are too many to linger, and tells the post what was seen.
-    fn make_turn<T, P: Post<T, L>, G: Gate>(&mut self, gate: &G, post: &mut P, call: Call) {
+    /// Serves each connection once, closes those that are too many to linger, and tells the turn source what was seen.
+    fn make_turn<T, P: TurnSource<T, L>, G: Gate>(
+        &mut self,
+        gate: &G,
+        turn_source: &mut P,
+        call: TurnStart,
+    ) {
         let before = self.count();
-        self.serve_all(gate, post, call.turn);
+        self.serve_all(gate, turn_source, call.turn);
         let found = self.worker.server().take_found(Take::All);
         self.part_sources(found);
-        self.close_oldest(post);
+        self.close_oldest(turn_source);
         let seen = self.seen(before, found);
-        post.note(seen, self.worker.log());
+        turn_source.note(seen, self.worker.log());
     }
 
     /// Serves sources first, so that the others draw in the same turn what these bring.
-    fn serve_all<T, P: Post<T, L>, G: Gate>(&mut self, gate: &G, post: &mut P, turn: Turn)
-        // the others are told of news if the turn was, or the post says so
+    fn serve_all<T, P: TurnSource<T, L>, G: Gate>(
+        &mut self,
+        gate: &G,
+        turn_source: &mut P,
+        turn: Turn,
+    )
+        // the others are told of news if the turn was, or the turn source says so
         ensures { (news : Bool) × (between : WorkerOf (WatchedOf _))
             × IsTurn (WatchedSteps S.steps) (λ watched event. S.refuses watched.server event) turn
             self.old.worker self.old.sources.items between self.new.sources.items
@@ -224,7 +241,7 @@ impl<S: Server + Drop, L: Line> Shift<S, L> {
     {
         self.worker.serve_turn(&mut self.sources, gate, turn);
         let brings = self.worker.server().take_found(Take::News).has_news;
-        let news = post.begins_round(turn.news, brings);
+        let news = turn_source.begins_round(turn.news, brings);
         self.worker
             .serve_turn(&mut self.conns, gate, Turn { news, ..turn });
     }
@@ -293,9 +310,9 @@ impl<S: Server + Drop, L: Line> Shift<S, L> {
     }
 
     /// Closes the oldest of those who linger, if they are too many.
-    fn close_oldest<T, P: Post<T, L>>(&mut self, post: &mut P) {
+    fn close_oldest<T, P: TurnSource<T, L>>(&mut self, turn_source: &mut P) {
         let count = self.count_lingering();
-        'oldest: for _ in post.most_lingering(count)..count {
+        'oldest: for _ in turn_source.most_lingering(count)..count {
             self.close_first_lingering();
         }
     }

@@ -13,7 +13,7 @@ pub struct Workplace<'a, S, T, G: Gate> {
     pub server: &'a S,
     /// Where they take connections from.
     pub intake: &'a Intake<T>,
-    /// Whom each tells of his writes.
+    /// Whom each tells of its writes.
     pub gate: &'a G,
     /// What the settings say of answers.
     pub web: WebAnswers,
@@ -27,37 +27,37 @@ pub struct Workplace<'a, S, T, G: Gate> {
 
 /// What one worker has.
 #[derive(Drop)]
-pub struct Seat<A: Drop, T: Drop, P: Drop> {
-    /// A pass of the server, by which he asks it. It stands here again once he has ended.
+pub struct WorkerSlot<A: Drop, T: Drop, P: Drop> {
+    /// A pass of the server, by which the worker calls it. It is back here once the worker has ended.
     pub pass: Option<A>,
     /// A pass of the intake.
     pub hand: IntakePass<T>,
-    /// Where his turns come from.
-    pub post: P,
+    /// Where its turns come from.
+    pub turn_source: P,
 }
 
-/// Adds a seat with this pass of the server, this post, and one part of the intake from those of `hand`. `OutOfMemory` where
-/// memory was refused: no part was taken then, and the seats are as they were.
-pub fn add_seat<A: Drop, T: Drop, P: Drop>(
-    seats: &mut Vec<Seat<A, T, P>>,
+/// Adds a slot with this pass of the server, this turn source, and one part of the intake from those of `hand`. `OutOfMemory` where
+/// memory was refused: no part was taken then, and the slots are as they were.
+pub fn add_slot<A: Drop, T: Drop, P: Drop>(
+    slots: &mut Vec<WorkerSlot<A, T, P>>,
     intake: &Intake<T>,
     hand: &mut IntakePass<T>,
     pass: Option<A>,
-    post: P,
+    turn_source: P,
 ) -> Result<(), OutOfMemory>
     requires own { hand.old.intake ≡ intake.now }
     requires parts { 1 < hand.old.parts }
     ensures part { OnOk result (hand.new ≡ record hand.old { parts = hand.old.parts - 1 }) }
-    ensures seats { All (λ seat. seat.hand.intake ≡ intake.now) seats.old.items → OnOk result (All (λ seat. seat.hand.intake ≡ intake.now) seats.new.items) }
+    ensures slots { All (λ slot. slot.hand.intake ≡ intake.now) slots.old.items → OnOk result (All (λ slot. slot.hand.intake ≡ intake.now) slots.new.items) }
     ensures whole { OnErr result (hand.new ≡ hand.old) }
-    ensures same { OnErr result (seats.new.items ≡ seats.old.items) }
+    ensures same { OnErr result (slots.new.items ≡ slots.old.items) }
 {
-    seats.reserve(1)?;
+    slots.reserve(1)?;
     let own = intake.split(hand);
-    seats.push_reserved(Seat {
+    slots.push_reserved(WorkerSlot {
         pass,
         hand: own,
-        post,
+        turn_source,
     });
     Ok(())
 }

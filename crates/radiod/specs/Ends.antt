@@ -1,8 +1,8 @@
 -- By which faults the parts of the program end.
 use Rattle.std.specs.Prelude.{◌≡◌, ◌⊎◌, Bool, true}
 use Rattle.radio_deliveries.specs.declared.faults.PlayFault.TheVariants.{Write}
-use Rattle.radio_startup.specs.declared.call.Call.{Call}
-use Rattle.radio_startup.specs.declared.call.Call.TheVariants.{Play as CallsPlay, Serve as CallsServe, Check as CallsCheck, Version as CallsVersion, Help as CallsHelp}
+use Rattle.radio_startup.specs.declared.call.CommandLine.{CommandLine}
+use Rattle.radio_startup.specs.declared.call.CommandLine.TheVariants.{Play as CallsPlay, Serve as CallsServe, Check as CallsCheck, Version as CallsVersion, Help as CallsHelp}
 use Rattle.radiod.specs.declared.fault.Fault.{Fault}
 use Rattle.radiod.specs.declared.fault.Fault.TheVariants.{Usage, File, Play, CannotBind, Serve, Warnings, OutOfMemory}
 
@@ -39,7 +39,7 @@ EndsCheck is_strict OutOfMemory = Unit {0}
 EndsCheck is_strict fault = ⊥
 
 -- what the words ask for; of the program's name and its usage, that output takes no more
-abbrev pub EndsCall : Call → Fault → Type 0
+abbrev pub EndsCall : CommandLine → Fault → Type 0
 EndsCall (CallsPlay path) fault = EndsPlay fault
 EndsCall (CallsServe path) fault = EndsService fault
 EndsCall (CallsCheck path is_strict) fault = EndsCheck is_strict fault
@@ -48,4 +48,4 @@ EndsCall CallsHelp fault = fault ≡ Play Write
 
 -- the program: by its words, or by what they ask for
 abbrev pub Ends : Fault → Type 0
-Ends fault = EndsWords fault ⊎ ((call : Call) × EndsCall call fault)
+Ends fault = EndsWords fault ⊎ ((call : CommandLine) × EndsCall call fault)

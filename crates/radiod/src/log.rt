@@ -9,7 +9,7 @@ ghost use Rattle.radiod.specs.FaultLines.{IsBindReason, IsReasonOf, address_of, 
 use crate::fault::{Fault, NotBound};
 use crate::output::LimitedFile;
 use radio_listening::Listening;
-use radio_log::{Fact, FaultyKey, Text};
+use radio_log::{Fact, FaultyKey, QuotedText};
 use radio_outlet::{LogQueue, start_log};
 use radio_review::UnknownKey;
 use radio_startup::{Dated, Notices, line_now, tell_start, words_of, words_of_unknown};
@@ -87,7 +87,7 @@ impl<'a, W: Clock + Threads + Wait + Copy + Drop + Send + 'static> ProgramLog<'a
         let fault = self.say_soon(fault);
         if let Some(why) = words_of(self.rt.alloc(), &fault) {
             self.tell(Fact::Ended {
-                why: Text::of(why.as_bytes()),
+                why: QuotedText::of(why.as_bytes()),
             });
         }
         self.queue.wait_written(self.waits, LAST_WAIT_MS);
@@ -203,10 +203,10 @@ fn key_of(fault: &Fault) -> FaultyKey<'_>
         | Fault::Serve(_)
         | Fault::Warnings
         | Fault::OutOfMemory => FaultyKey {
-            table: Text::of(b""),
-            mount: Text::of(b""),
-            value: Text::of(b""),
-            allowed: Text::of(b""),
+            table: QuotedText::of(b""),
+            mount: QuotedText::of(b""),
+            value: QuotedText::of(b""),
+            allowed: QuotedText::of(b""),
         },
     }
 }
@@ -254,13 +254,13 @@ fn fault_fact<'a>(path: &'a str, fault: &'a Fault, why: &'a str, reason: &'a str
     ensures { result ≡ fault_fact path.now fault.now why.now reason.now }
 {
     let (line, column) = place_of(fault);
-    Fact::Fault(radio_log::Fault {
-        why: Text::of(why.as_bytes()),
-        file: Text::of(file_of(path, fault).as_bytes()),
+    Fact::Fault(radio_log::FaultNote {
+        why: QuotedText::of(why.as_bytes()),
+        file: QuotedText::of(file_of(path, fault).as_bytes()),
         line,
         column,
-        address: Text::of(address_of(fault).as_bytes()),
-        reason: Text::of(reason.as_bytes()),
+        address: QuotedText::of(address_of(fault).as_bytes()),
+        reason: QuotedText::of(reason.as_bytes()),
         at: key_of(fault),
     })
 }

@@ -30,7 +30,7 @@ use crate::words::read_words;
 use radio_floor::Tally;
 use radio_headline::play;
 use radio_startup::{
-    Call, FileFault, SettingsText, Station, SystemFiles, read_station, read_text, warn,
+    CommandLine, FileFault, SettingsText, Station, SystemFiles, read_station, read_text, warn,
 };
 use std::io::BufReader;
 use std::process::ExitCode;
@@ -62,16 +62,16 @@ fn run<W: Clock + Threads + Wait + Sync + Copy + Drop + Send + 'static>(
 fn perform<W: Clock + Threads + Wait + Sync + Copy + Drop + Send + 'static>(
     rt: &HostRuntime,
     waits: &W,
-    call: Call,
+    call: CommandLine,
 ) -> Result<(), Fault>
     ensures { IfErr result (EndsCall call) }
 {
     match call {
-        Call::Play(path) => said(rt, play_script(rt, path.as_str())),
-        Call::Serve(path) => serve_file(rt, waits, path.as_str()),
-        Call::Check { path, is_strict } => check_file(rt, waits, path.as_str(), is_strict),
-        Call::Version => said(rt, write_version(rt)),
-        Call::Help => said(rt, write_help(rt)),
+        CommandLine::Play(path) => said(rt, play_script(rt, path.as_str())),
+        CommandLine::Serve(path) => serve_file(rt, waits, path.as_str()),
+        CommandLine::Check { path, is_strict } => check_file(rt, waits, path.as_str(), is_strict),
+        CommandLine::Version => said(rt, write_version(rt)),
+        CommandLine::Help => said(rt, write_help(rt)),
     }
 }
 

@@ -10,7 +10,7 @@ ghost use Rattle.radiod.specs.declared.fault.NotBound.{NotBound as NotBoundOf};
 
 use crate::fault::{Fault, NotBound};
 use crate::log::{ProgramLog, say_unknown};
-use radio_book::{House, PASSES, Unkept};
+use radio_book::{Origin, PASSES, Unkept};
 use radio_listening::{BindFault, Listening, ServeFault, Service, SystemNet, WebAnswers};
 use radio_locks::Hall;
 use radio_log::Moment;
@@ -114,7 +114,7 @@ fn cannot_bind(rt: &HostRuntime, settings: &Settings, reason: NotBound) -> Fault
 }
 
 /// Serves connections in a house of the station's settings and lists.
-fn serve_in<W: Clock + Threads + Wait + Sync, H: House + Send + Sync>(
+fn serve_in<W: Clock + Threads + Wait + Sync, H: Origin + Send + Sync>(
     rt: &HostRuntime,
     waits: &W,
     station: Station,
@@ -149,7 +149,7 @@ fn serve_in<W: Clock + Threads + Wait + Sync, H: House + Send + Sync>(
 }
 
 /// Serves connections in this hall, with this queue of the log.
-fn serve_through<W: Clock + Threads + Wait + Sync, H: House + Send + Sync>(
+fn serve_through<W: Clock + Threads + Wait + Sync, H: Origin + Send + Sync>(
     rt: &HostRuntime,
     waits: &W,
     hall: &Hall<Unkept, H>,

@@ -5,7 +5,7 @@ ghost use Rattle.radiod.specs.declared.fault.Fault.TheVariants.{Usage as Unknown
 ghost use Rattle.radiod.specs.Ends.{EndsWords};
 
 use crate::fault::Fault;
-use radio_startup::{Call, call_by};
+use radio_startup::{CommandLine, call_by};
 use std::alloc::Global;
 use std::env;
 use std::env::Args;
@@ -14,7 +14,7 @@ use std::io::ErrorKind;
 /// Returns what the words `play SETTINGS`, `serve SETTINGS`, `check SETTINGS`, `check SETTINGS --strict`, `--version` or
 /// `--help` ask for. Any other words, and words that are not UTF-8, are the fault `Usage`; memory that was refused for them
 /// is `OutOfMemory`.
-pub fn read_words(rt: &HostRuntime) -> Result<Call, Fault>
+pub fn read_words(rt: &HostRuntime) -> Result<CommandLine, Fault>
     ensures { IfErr result EndsWords }
 {
     match env::args(rt) {
@@ -25,7 +25,7 @@ pub fn read_words(rt: &HostRuntime) -> Result<Call, Fault>
 }
 
 /// Reads the words behind the program's name; more than four are as four. The fault is `Usage`.
-fn read_call(mut words: Args<Global>) -> Result<Call, Fault>
+fn read_call(mut words: Args<Global>) -> Result<CommandLine, Fault>
     ensures { IfErr result (λ fault. fault ≡ Unknown) }
 {
     let _program = words.next();
@@ -38,7 +38,7 @@ fn read_call(mut words: Args<Global>) -> Result<Call, Fault>
 }
 
 /// The call, if the words ask for one; else they are the fault `Usage`.
-fn known(call: Option<Call>) -> Result<Call, Fault>
+fn known(call: Option<CommandLine>) -> Result<CommandLine, Fault>
     ensures { MatchOption call (result ≡ Err Unknown) (λ call. result ≡ Ok call) }
 {
     match call {

@@ -2,7 +2,7 @@
 
 ghost use Rattle.std.specs.Prelude.{⊤};
 
-use radio_intake::{Accepted, Accepts, Entrance, accept_next};
+use radio_intake::{AcceptResult, Accepts, Entrance, accept_next};
 
 /// A listener that fails so many times, and then gives one connection after another. It counts how
 /// often it was asked.
@@ -15,12 +15,12 @@ struct Failing {
 impl Entrance<u64> for Failing {
     ghost accepts = { λ _ _ _. ⊤ };
 
-    fn accept(&mut self) -> Accepted<u64> {
+    fn accept(&mut self) -> AcceptResult<u64> {
         self.asked = self.asked.saturating_add(1);
         if self.asked <= self.failures {
-            Accepted::Failed
+            AcceptResult::Failed
         } else {
-            Accepted::One(self.asked)
+            AcceptResult::One(self.asked)
         }
     }
 }
@@ -34,9 +34,9 @@ struct Short {
 impl Entrance<u64> for Short {
     ghost accepts = { λ _ _ _. ⊤ };
 
-    fn accept(&mut self) -> Accepted<u64> {
+    fn accept(&mut self) -> AcceptResult<u64> {
         self.asked = self.asked.saturating_add(1);
-        Accepted::NoDescriptor
+        AcceptResult::NoDescriptor
     }
 }
 

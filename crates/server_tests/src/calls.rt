@@ -7,8 +7,8 @@ use radio_book::OutOfMemory;
 use radio_core::Core;
 use radio_creds::basic;
 use radio_events::{
-    Asked, Boxed, Command, CommandRequest, Event, ListenRequest, Listing, OpenedBy, Reply,
-    SourceRequest, Visit,
+    Asked, Boxed, Command, CommandRequest, Event, ListenRequest, Listing, OpenedBy, PageVisit,
+    Reply, SourceRequest,
 };
 use radio_values::{MountName, Shown, Title};
 use std::alloc::Global;
@@ -30,7 +30,7 @@ const SOURCE_PAIR: &[u8] = b"Basic c291cmNlOmhhY2ttZQ==";
 /// What the admin sends: the user `admin` and that password.
 const ADMIN_PAIR: &[u8] = b"Basic YWRtaW46bGV0bWVpbg==";
 
-/// What he does once his source and his listener have arrived.
+/// What it does once its source and its listener have arrived.
 #[derive(Clone, Copy)]
 enum Call {
     Source,
@@ -79,7 +79,7 @@ const ALL_ROUNDS: &[Rounds] = &[
     },
 ];
 
-/// Whom he calls.
+/// Whom it calls.
 pub trait Callee {
     /// The number that the reply to an event gives, 0 where it gives none; `None` where memory was
     /// refused.
@@ -233,7 +233,7 @@ pub fn listen_event(alloc: Global, id: u64, path: &str) -> Result<Event, OutOfMe
         mount: Bytes::copy_from_slice(alloc, path.as_bytes())?,
         pair: None,
         wants_metadata: false,
-        visit: Visit {
+        visit: PageVisit {
             host: Bytes::from_static(b""),
             server_start: None,
         },

@@ -153,20 +153,20 @@ fn are_served_at_each_failure(alloc: Global) -> bool {
     true
 }
 
-/// A fault of a listener's line, or his closing, is his alone; behind a source that fails he ends.
+/// A fault of a listener's line, or its closing, is its alone; behind a source that fails it ends.
 // rule: Other clients; Cut off; Lingering; Closed by the peer
 #[test]
 fn a_fault_is_his_alone(rt: HostRuntime) {
     assert!(rt; are_served_at_each_failure(rt.alloc()));
 }
 
-/// A listener whose peer closes behind his head.
+/// A listener whose peer closes behind its head.
 const CLOSES: Manners = Manners {
     closes_at: 1,
     ..LISTENER
 };
 
-/// He hears what there is, and has left a turn later.
+/// It hears what there is, and has left a turn later.
 const LEFT: &[Step] = &[
     Step::Comes(SOURCE, 0),
     Step::Turns(1, 1, 2),
@@ -187,7 +187,7 @@ fn a_peer_who_closes_is_left(rt: HostRuntime) {
 const FULL_HOUSE: &[u8] =
     b"HTTP/1.0 403 Forbidden\r\nContent-Type: text/plain; charset=utf-8\r\nContent-Length: 25\r\nConnection: close\r\n\r\ndenied: too-many-clients\n";
 
-/// A house with one client, and another who comes: he is told so and closed, and the first stays.
+/// A house with one client, and another who comes: it is told so and closed, and the first stays.
 const FULL: &[Step] = &[
     Step::Comes(SOURCE, 0),
     Step::Turns(1, 1, 2),
@@ -211,7 +211,7 @@ const ASKS_FOR_NO_MOUNT: Manners = Manners {
     ..SILENT
 };
 
-/// He is told something that names the rule and then that nothing more is written, and he is closed
+/// It is told something that names the rule and then that nothing more is written, and it is closed
 /// a second later.
 const DENIED: &[Step] = &[
     Step::Comes(ASKS_FOR_NO_MOUNT, 0),
@@ -227,7 +227,7 @@ fn a_denied_one_reads_his_denial(rt: HostRuntime) {
     assert!(rt; steps::are_played(rt.alloc(), "", DENIED));
 }
 
-/// Somebody comes. Whether he was taken in, or memory was refused and the others are as they were.
+/// Somebody comes. Whether it was taken in, or memory was refused and the others are as they were.
 fn comes<S: Server + Drop>(station: &mut Station<S>, manners: Manners, ms: u64) -> bool {
     let before = station.count();
     let came = station.comes(manners, ms);

@@ -3,7 +3,7 @@
 use crate::calls::listen_event;
 use crate::merged::draw;
 use crate::moving::{LISTENER, asks};
-use radio_book::{House, Kept, OutOfMemory, Pass};
+use radio_book::{Kept, Origin, OutOfMemory, Pass};
 use radio_connections::Gate;
 use radio_events::{Event, SharedServer};
 use radio_locks::Hall;
@@ -58,7 +58,7 @@ trait Lockable: SharedServer {
     fn hold_lock<R: Wait, G: Gate>(&self, rt: &R, mount: Option<MountName>, gate: &G);
 }
 
-impl<H: House> Lockable for Hall<Kept, H> {
+impl<H: Origin> Lockable for Hall<Kept, H> {
     fn hold_lock<R: Wait, G: Gate>(&self, rt: &R, mount: Option<MountName>, gate: &G) {
         self.freeze(rt, mount, gate);
     }
@@ -133,7 +133,7 @@ where
 }
 
 /// The listener of `/b` draws once, so that its caller knows where it is; then that is done while the lock is held.
-pub fn is_answered<H: House + Send + Sync, R: Threads + Wait + Clock + Sync>(
+pub fn is_answered<H: Origin + Send + Sync, R: Threads + Wait + Clock + Sync>(
     rt: &R,
     alloc: Global,
     hall: &Hall<Kept, H>,

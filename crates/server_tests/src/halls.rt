@@ -13,7 +13,7 @@ use crate::two_callers::{are_served, is_of_two};
 use crate::workers;
 use crate::workers::Rush;
 use radio_access::Lists;
-use radio_book::{Entry, House, Kept, PASSES, Pass};
+use radio_book::{Entry, Kept, Origin, PASSES, Pass};
 use radio_events::{Event, Reply};
 use radio_locks::{Caller, Hall, OutOfMemory};
 use radio_serving::Server;
@@ -30,13 +30,13 @@ use std::time::Clock;
 
 /// A caller of a hall, through a pass.
 #[derive(Drop)]
-pub struct PassCaller<'a, R: Wait, H: House> {
+pub struct PassCaller<'a, R: Wait, H: Origin> {
     pub rt: &'a R,
     pub hall: &'a Hall<Kept, H>,
     pub pass: &'a mut Pass<Kept, H>,
 }
 
-impl<'a, R: Wait, H: House> Callee for PassCaller<'a, R, H> {
+impl<'a, R: Wait, H: Origin> Callee for PassCaller<'a, R, H> {
     fn call(&mut self, event: Event) -> Option<u64> {
         match self.hall.apply(self.rt, self.pass, event) {
             Ok(receipt) => {
@@ -51,11 +51,11 @@ impl<'a, R: Wait, H: House> Callee for PassCaller<'a, R, H> {
 
 /// A caller of a hall, whom a worker asks at a station: a name with one lifetime.
 #[derive(Drop)]
-pub struct HallCaller<'a, R: Wait, H: House> {
+pub struct HallCaller<'a, R: Wait, H: Origin> {
     caller: Caller<'a, R, Hall<Kept, H>>,
 }
 
-impl<'a, R: Wait, H: House> HallCaller<'a, R, H> {
+impl<'a, R: Wait, H: Origin> HallCaller<'a, R, H> {
     /// A caller of this hall, with this pass.
     pub fn new(rt: &'a R, hall: &'a Hall<Kept, H>, pass: Pass<Kept, H>) -> HallCaller<'a, R, H> {
         HallCaller {
@@ -63,13 +63,13 @@ impl<'a, R: Wait, H: House> HallCaller<'a, R, H> {
         }
     }
 
-    /// His pass, when he calls no more.
+    /// Its pass, when it calls no more.
     pub fn into_pass(self) -> Pass<Kept, H> {
         self.caller.into_pass()
     }
 }
 
-impl<'a, R: Wait, H: House> Server for HallCaller<'a, R, H> {
+impl<'a, R: Wait, H: Origin> Server for HallCaller<'a, R, H> {
     ghost steps = { λ from event reply to. Unit {0} };
 
     ghost refuses = { λ from event. Unit {0} };
@@ -106,7 +106,7 @@ pub enum Visit {
 
 impl Visit {
     /// Settles the passes of this hall, which has these settings. Whether they are settled as they are to be.
-    fn settles<H: House>(
+    fn settles<H: Origin>(
         self,
         alloc: Global,
         hall: Hall<Kept, H>,
@@ -154,7 +154,7 @@ const LEFT_OUT: SettleFault = SettleFault::Count {
 };
 
 /// Does it, and adds the passes. Whether it went as it is to go.
-fn visit_with<H: House + Send + Sync, R: Threads + Wait + Clock + Sync>(
+fn visit_with<H: Origin + Send + Sync, R: Threads + Wait + Clock + Sync>(
     rt: &R,
     alloc: Global,
     hall: &Hall<Kept, H>,
@@ -169,7 +169,7 @@ fn visit_with<H: House + Send + Sync, R: Threads + Wait + Clock + Sync>(
 }
 
 /// The same of a visit without workers' threads; no other goes so.
-fn visit_by_calls<H: House + Send + Sync, R: Threads + Wait + Sync>(
+fn visit_by_calls<H: Origin + Send + Sync, R: Threads + Wait + Sync>(
     rt: &R,
     alloc: Global,
     hall: &Hall<Kept, H>,
@@ -184,7 +184,7 @@ fn visit_by_calls<H: House + Send + Sync, R: Threads + Wait + Sync>(
 }
 
 /// The same of a visit that wants one thread alone; no other goes so.
-fn visit_alone<H: House, R: Wait>(
+fn visit_alone<H: Origin, R: Wait>(
     rt: &R,
     alloc: Global,
     hall: &Hall<Kept, H>,
@@ -201,7 +201,7 @@ fn visit_alone<H: House, R: Wait>(
 }
 
 /// Two threads make their calls, and of their passes only the first is added. Whether the calls were made.
-fn leaves_one_out<H: House + Send + Sync, R: Threads + Wait + Sync>(
+fn leaves_one_out<H: Origin + Send + Sync, R: Threads + Wait + Sync>(
     rt: &R,
     alloc: Global,
     hall: &Hall<Kept, H>,
@@ -213,7 +213,7 @@ fn leaves_one_out<H: House + Send + Sync, R: Threads + Wait + Sync>(
 }
 
 /// Takes a pass, and adds it. Whether there was one, and memory for it.
-pub fn takes_pass<H: House, R: Wait>(
+pub fn takes_pass<H: Origin, R: Wait>(
     rt: &R,
     hall: &Hall<Kept, H>,
     passes: &mut Vec<Pass<Kept, H>>,
@@ -225,7 +225,7 @@ pub fn takes_pass<H: House, R: Wait>(
 }
 
 /// The visit at a hall of these settings, of which a second copy is for the settling. Whether it went as it is to go.
-fn goes_well<H: House + Send + Sync, R: Threads + Wait + Clock + Sync>(
+fn goes_well<H: Origin + Send + Sync, R: Threads + Wait + Clock + Sync>(
     rt: &R,
     alloc: Global,
     settings: Settings,

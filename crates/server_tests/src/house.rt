@@ -6,7 +6,7 @@ use crate::memory_line::Look;
 use crate::rows::*;
 use crate::stations::Station;
 use crate::steps::Step;
-use radio_book::{House, Kept, Pass};
+use radio_book::{Kept, Origin, Pass};
 use radio_locks::Hall;
 use radio_serving::{Gate, Turn};
 use std::alloc::Global;
@@ -14,7 +14,7 @@ use std::cell::Cell;
 use std::sync::Wait;
 
 /// The source's mount has this title from now on. Whether it has: it has not where memory is refused.
-fn sets_title<H: House, R: Wait>(
+fn sets_title<H: Origin, R: Wait>(
     rt: &R,
     alloc: Global,
     hall: &Hall<Kept, H>,
@@ -32,7 +32,7 @@ fn sets_title<H: House, R: Wait>(
 /// A worker over a hall, with a pass and no connection.
 type HallStation<'a, R, H> = Station<HallCaller<'a, R, H>>;
 
-fn open_station<'a, H: House, R: Wait>(
+fn open_station<'a, H: Origin, R: Wait>(
     rt: &'a R,
     alloc: Global,
     hall: &'a Hall<Kept, H>,
@@ -41,8 +41,8 @@ fn open_station<'a, H: House, R: Wait>(
     Some(Station::new(alloc, HallCaller::new(rt, hall, pass)))
 }
 
-/// Adds the worker's pass, when he serves no more. Whether there was memory for it.
-fn adds_pass<H: House, R: Wait>(
+/// Adds the worker's pass, when it serves no more. Whether there was memory for it.
+fn adds_pass<H: Origin, R: Wait>(
     station: HallStation<R, H>,
     passes: &mut Vec<Pass<Kept, H>>,
 ) -> bool {
@@ -61,7 +61,7 @@ const HEARS_NIGHT: &[Step] = &[
 ];
 
 /// A worker whose pass is added, and whether the title was heard that the other caller set.
-fn is_heard<H: House, R: Wait>(
+fn is_heard<H: Origin, R: Wait>(
     rt: &R,
     alloc: Global,
     hall: &Hall<Kept, H>,
@@ -78,7 +78,7 @@ fn is_heard<H: House, R: Wait>(
 }
 
 /// The same beside a pass of another caller, who sets the title; it is added too.
-pub fn is_title_heard<H: House, R: Wait>(
+pub fn is_title_heard<H: Origin, R: Wait>(
     rt: &R,
     alloc: Global,
     hall: &Hall<Kept, H>,
@@ -99,14 +99,14 @@ fn title_between_bytes(rt: HostRuntime) {
 /// A gate at which the hall is asked for a pass before and after each write, without waiting for its
 /// lock.
 #[derive(Drop)]
-struct Knocking<'a, H: House> {
+struct Knocking<'a, H: Origin> {
     hall: &'a Hall<Kept, H>,
     knocks: Cell<u64>,
     /// Whether the lock was ever held.
     was_held: Cell<bool>,
 }
 
-impl<'a, H: House> Knocking<'a, H> {
+impl<'a, H: Origin> Knocking<'a, H> {
     fn knock(&self) {
         self.knocks.set(self.knocks.get().saturating_add(1));
         match self.hall.try_pass() {
@@ -116,7 +116,7 @@ impl<'a, H: House> Knocking<'a, H> {
     }
 }
 
-impl<'a, H: House> Gate for Knocking<'a, H> {
+impl<'a, H: Origin> Gate for Knocking<'a, H> {
     fn hold(&self, _id: u64) {
         self.knock();
     }
@@ -128,7 +128,7 @@ impl<'a, H: House> Gate for Knocking<'a, H> {
 
 /// Whether the hall's lock is free round the two writes of these turns: to a source, and to a
 /// listener.
-fn is_free_in_turns<H: House, R: Wait>(
+fn is_free_in_turns<H: Origin, R: Wait>(
     hall: &Hall<Kept, H>,
     station: &mut HallStation<R, H>,
 ) -> bool {
@@ -151,7 +151,7 @@ fn is_free_in_turns<H: House, R: Wait>(
 /// A source and a listener come.
 const BOTH_COME: &[Step] = &[Step::Comes(SOURCE, 0), Step::Comes(LATE_LISTENER, 0)];
 
-fn is_free_for_both<H: House, R: Wait>(
+fn is_free_for_both<H: Origin, R: Wait>(
     hall: &Hall<Kept, H>,
     station: &mut HallStation<R, H>,
 ) -> bool {
@@ -161,7 +161,7 @@ fn is_free_for_both<H: House, R: Wait>(
 }
 
 /// They are served through a gate that knocks, by a worker whose pass is added.
-pub fn is_lock_free<H: House, R: Wait>(
+pub fn is_lock_free<H: Origin, R: Wait>(
     rt: &R,
     alloc: Global,
     hall: &Hall<Kept, H>,

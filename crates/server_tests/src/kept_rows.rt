@@ -9,7 +9,7 @@ use crate::moments::LONG_TIMEOUT;
 use crate::slow::{CLOSED, CLOSES_WHILE_OWED, KEPT, LAGS, SHORT_QUEUE};
 use crate::stations::{Refusing, Station};
 use crate::steps::Step;
-use radio_book::{Entry, House, Kept, Pass};
+use radio_book::{Entry, Kept, Origin, Pass};
 use radio_events::Event;
 use radio_locks::Hall;
 use radio_serving::Server;
@@ -89,7 +89,7 @@ fn have_left(history: &[Entry], ids: &[u64]) -> bool {
 }
 
 /// Whether a row is played by a worker over a hall, whose pass is added.
-pub fn is_row_played<H: House, R: Wait>(
+pub fn is_row_played<H: Origin, R: Wait>(
     rt: &R,
     alloc: Global,
     hall: &Hall<Kept, H>,
@@ -106,7 +106,7 @@ pub fn is_row_played<H: House, R: Wait>(
 type RefusedCaller<'a, R, H> = Refusing<HallCaller<'a, R, H>>;
 
 /// Whether a row is played by a worker who asks this caller, whose pass is added.
-fn is_played_by<H: House, R: Wait>(
+fn is_played_by<H: Origin, R: Wait>(
     alloc: Global,
     caller: HallCaller<'_, R, H>,
     passes: &mut Vec<Pass<Kept, H>>,
@@ -118,7 +118,7 @@ fn is_played_by<H: House, R: Wait>(
 }
 
 /// Adds the pass of this caller. Whether there was memory for it.
-fn adds_pass<H: House, R: Wait>(
+fn adds_pass<H: Origin, R: Wait>(
     caller: RefusedCaller<'_, R, H>,
     passes: &mut Vec<Pass<Kept, H>>,
 ) -> bool {
@@ -176,7 +176,7 @@ fn who_fails_has_left_the_house(rt: HostRuntime) {
     assert!(rt; have_left_at_each_call(&rt, BEHIND_A_SOURCE, Failure::Fault, &[1, 2]));
 }
 
-/// He stays while he stalls, and has left where he has stalled, lags, or closes while he is owed.
+/// It stays while it stalls, and has left where it has stalled, lags, or closes while it is owed.
 // rule: Lingering
 #[test]
 fn who_is_slow_has_left_the_house(rt: HostRuntime) {

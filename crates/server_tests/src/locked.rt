@@ -8,7 +8,7 @@ use crate::calls::{Callee, number_given, step_copy};
 use crate::mount_books::{Play, plays};
 use crate::stations::{core, settings};
 use radio_access::Lists;
-use radio_book::{House, Kept, PASSES, Pass, Receipt};
+use radio_book::{Kept, Origin, PASSES, Pass, Receipt};
 use radio_core::Core;
 use radio_events::{Event, Reply};
 use radio_locks::Hall;
@@ -23,7 +23,7 @@ use std::sync::ledger::Blank;
 
 /// A caller of a hall, beside a core that is called alike.
 #[derive(Drop)]
-struct Locked<'a, R: Wait, H: House> {
+struct Locked<'a, R: Wait, H: Origin> {
     rt: &'a R,
     hall: &'a Hall<Kept, H>,
     pass: &'a mut Pass<Kept, H>,
@@ -34,7 +34,7 @@ struct Locked<'a, R: Wait, H: House> {
     alike: usize,
 }
 
-impl<R: Wait, H: House> Locked<'_, R, H> {
+impl<R: Wait, H: Origin> Locked<'_, R, H> {
     /// Makes the call; the reply is counted, if it is as was wanted.
     fn call_hall(&mut self, event: Event, want: &Reply) -> Option<u64> {
         match self.hall.apply(self.rt, self.pass, event) {
@@ -57,7 +57,7 @@ impl<R: Wait, H: House> Locked<'_, R, H> {
     }
 }
 
-impl<R: Wait, H: House> Callee for Locked<'_, R, H> {
+impl<R: Wait, H: Origin> Callee for Locked<'_, R, H> {
     fn call(&mut self, event: Event) -> Option<u64> {
         match step_copy(self.core, &event) {
             Ok(want) => {
@@ -74,7 +74,7 @@ impl<R: Wait, H: House> Callee for Locked<'_, R, H> {
 }
 
 /// Makes the calls. Whether all are answered alike, and so many by a mount's part.
-fn goes_well<R: Wait, H: House>(
+fn goes_well<R: Wait, H: Origin>(
     rt: &R,
     alloc: Global,
     hall: &Hall<Kept, H>,
@@ -94,7 +94,7 @@ fn goes_well<R: Wait, H: House>(
 }
 
 /// Whether the pass settles with the hall.
-fn settles<H: House>(
+fn settles<H: Origin>(
     alloc: Global,
     hall: Hall<Kept, H>,
     pass: Pass<Kept, H>,
@@ -114,7 +114,7 @@ fn settles<H: House>(
 }
 
 /// Whether the calls are answered as a core answers them, and the pass settles.
-fn are_settled<R: Wait, H: House>(
+fn are_settled<R: Wait, H: Origin>(
     rt: &R,
     alloc: Global,
     core: &mut Core,

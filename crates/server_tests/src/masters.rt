@@ -4,7 +4,9 @@ use crate::memory_line::{Look, Manners, MemoryLine, SILENT};
 use crate::rows::{HEARD, LISTENER};
 use crate::stations::{Station, core, settings};
 use radio_core::Core;
-use radio_masters::{Asked, ListFault, ListPull, MountPull, PullTurn, read_list_answer};
+use radio_masters::{
+    ListPull, MasterListFault, MountPull, PullTurn, RelayServer, read_list_answer,
+};
 use radio_session::Ending;
 use radio_settings_values::{RelaySetting, Settings, SlaveSetting};
 use radio_values::MountName;
@@ -42,7 +44,7 @@ fn pull_by(alloc: Global, settings: &Settings, manners: Manners) -> Option<Mount
 }
 
 /// A server, as the relay asks it. None where memory is refused.
-fn server_of(alloc: Global) -> Option<Asked<Core>> {
+fn server_of(alloc: Global) -> Option<RelayServer<Core>> {
     let settings = settings(alloc, RELAYED).ok()?;
     let server = server_by(alloc, &settings);
     drop(settings);
@@ -50,18 +52,22 @@ fn server_of(alloc: Global) -> Option<Asked<Core>> {
 }
 
 /// The same, of these settings.
-fn server_by(alloc: Global, settings: &Settings) -> Option<Asked<Core>> {
+fn server_by(alloc: Global, settings: &Settings) -> Option<RelayServer<Core>> {
     let relay = settings.relays.as_slice().first()?;
     asked_by(alloc, relay)
 }
 
-fn asked_by(alloc: Global, relay: &RelaySetting) -> Option<Asked<Core>> {
+fn asked_by(alloc: Global, relay: &RelaySetting) -> Option<RelayServer<Core>> {
     let core = core(alloc, RELAYED).ok()?;
-    Asked::new(alloc, core, relay).ok()
+    RelayServer::new(alloc, core, relay).ok()
 }
 
 /// What comes of the last of so many turns.
-fn last_of(pull: &mut MountPull<MemoryLine>, server: &mut Asked<Core>, turns: u64) -> PullTurn {
+fn last_of(
+    pull: &mut MountPull<MemoryLine>,
+    server: &mut RelayServer<Core>,
+    turns: u64,
+) -> PullTurn {
     let mut buffer = [0u8; 64];
     let mut last = PullTurn::Running;
     for _ in 0..turns {
@@ -93,7 +99,7 @@ fn asks_as(alloc: Global, pull: &mut MountPull<MemoryLine>, row: &Row) -> bool {
     }
 }
 
-fn ends_as(pull: &mut MountPull<MemoryLine>, server: &mut Asked<Core>, row: &Row) -> bool {
+fn ends_as(pull: &mut MountPull<MemoryLine>, server: &mut RelayServer<Core>, row: &Row) -> bool {
     let last = last_of(pull, server, row.turns);
     let is_up = pull.number().is_some();
     let is_closed = pull.close(server).is_ok();
@@ -174,7 +180,7 @@ fn pulls_over_a_line(rt: HostRuntime) {
     }
 }
 
-/// Whether a listener hears what a relay has pulled in. He need not where memory is refused.
+/// Whether a listener hears what a relay has pulled in. It need not where memory is refused.
 fn is_heard(alloc: Global) -> bool {
     match pulled(alloc) {
         Some(core) => hears(Station::new(alloc, core)),
@@ -221,14 +227,18 @@ fn what_is_pulled_is_heard(rt: HostRuntime) {
 }
 
 /// Answers to the request for the list, whether the master has closed, and the names or the fault.
-const LISTS: &[(&[u8], bool, Result<&[u8], ListFault>)] = &[
+const LISTS: &[(&[u8], bool, Result<&[u8], MasterListFault>)] = &[
     (
         b"HTTP/1.0 200 OK\r\n\r\n/b\r\n/a\nnone\n/b\n",
         true,
         Ok(b"/a /b "),
     ),
     (b"HTTP/1.0 200 OK\r\n\r\n", true, Ok(b"")),
-    (b"HTTP/1.0 200 OK\r\n\r\n/a\n", false, Err(ListFault::Cut)),
+    (
+        b"HTTP/1.0 200 OK\r\n\r\n/a\n",
+        false,
+        Err(MasterListFault::Cut),
+    ),
     (
         b"HTTP/1.0 200 OK\r\nContent-Length: 3\r\n\r\n/a\n/b\n",
         false,
@@ -237,30 +247,30 @@ const LISTS: &[(&[u8], bool, Result<&[u8], ListFault>)] = &[
     (
         b"HTTP/1.0 200 OK\r\nContent-Length: 9\r\n\r\n/a\n",
         true,
-        Err(ListFault::Cut),
+        Err(MasterListFault::Cut),
     ),
     (
         b"HTTP/1.0 200 OK\r\nContent-Length: 1048577\r\n\r\n/a\n",
         true,
-        Err(ListFault::TooLong),
+        Err(MasterListFault::TooLong),
     ),
     (
         b"HTTP/1.0 200 OK\r\nContent-Length: x\r\n\r\n/a\n",
         true,
-        Err(ListFault::TooLong),
+        Err(MasterListFault::TooLong),
     ),
     (
         b"HTTP/1.0 401 No\r\n\r\n/a\n",
         true,
-        Err(ListFault::Status(401)),
+        Err(MasterListFault::Status(401)),
     ),
     (
         b"HTTP/1.1 200 OK\r\nTransfer-Encoding: chunked\r\n\r\n/a\n",
         true,
-        Err(ListFault::BadHead),
+        Err(MasterListFault::BadHead),
     ),
-    (b"HTTP/1.0 200 OK\r\n", true, Err(ListFault::Cut)),
-    (b"none\r\n\r\n", true, Err(ListFault::BadHead)),
+    (b"HTTP/1.0 200 OK\r\n", true, Err(MasterListFault::Cut)),
+    (b"none\r\n\r\n", true, Err(MasterListFault::BadHead)),
 ];
 
 /// Whether these names are those, each followed by a space. They need not be where memory is refused.
@@ -279,11 +289,11 @@ fn is_read(
     alloc: Global,
     answer: &[u8],
     has_closed: bool,
-    wanted: Result<&[u8], ListFault>,
+    wanted: Result<&[u8], MasterListFault>,
 ) -> bool {
     match (read_list_answer(alloc, answer, has_closed), wanted) {
         (Ok(names), Ok(wanted)) => are_named(alloc, &names, wanted),
-        (Err(ListFault::OutOfMemory), _) => true,
+        (Err(MasterListFault::OutOfMemory), _) => true,
         (Err(fault), Err(wanted)) => fault == wanted,
         _ => false,
     }
@@ -297,7 +307,7 @@ fn lists_of_masters(rt: HostRuntime) {
     }
 }
 
-/// A master who sends his list in pieces.
+/// A master who sends its list in pieces.
 const LISTED: Manners = Manners {
     gives: &[b"HTTP/1.0 200 OK\r\n", b"\r\n/a", b"", b"\n/c\n"],
     closes_at: 4,
@@ -341,14 +351,14 @@ fn is_last(alloc: Global, pull: &mut ListPull<MemoryLine>, turns: u64) -> bool {
         match has_come(pull, &mut buffer) {
             Ok(false) => (),
             Ok(true) => return false,
-            Err(fault) => return fault == ListFault::OutOfMemory,
+            Err(fault) => return fault == MasterListFault::OutOfMemory,
         }
     }
     is_whole(alloc, pull, &mut buffer)
 }
 
 /// Whether the list comes with the next turn.
-fn has_come(pull: &mut ListPull<MemoryLine>, buffer: &mut [u8]) -> Result<bool, ListFault> {
+fn has_come(pull: &mut ListPull<MemoryLine>, buffer: &mut [u8]) -> Result<bool, MasterListFault> {
     Ok(pull.turn(buffer)?.is_some())
 }
 
@@ -357,7 +367,7 @@ fn is_whole(alloc: Global, pull: &mut ListPull<MemoryLine>, buffer: &mut [u8]) -
     match pull.turn(buffer) {
         Ok(Some(names)) => are_named(alloc, &names, b"/a /c "),
         Ok(None) => false,
-        Err(fault) => fault == ListFault::OutOfMemory,
+        Err(fault) => fault == MasterListFault::OutOfMemory,
     }
 }
 

@@ -13,7 +13,7 @@ const BYTE_BY_BYTE: Manners = Manners {
     ..LISTENER
 };
 
-/// Each byte that is taken begins the patience of ten seconds anew: he is there after a minute.
+/// Each byte that is taken begins the patience of ten seconds anew: it is there after a minute.
 const TAKES_A_BYTE_NOW_AND_THEN: &[Step] = &[
     Step::Comes(SOURCE, 0),
     Step::Turns(1, 1, 2),
@@ -35,14 +35,14 @@ const SECOND_BLOCK_LATE: Manners = Manners {
     ..SILENT
 };
 
-/// A listener whose line takes his head and the first block, and then nothing for good.
+/// A listener whose line takes its head and the first block, and then nothing for good.
 const STALLED_LATE: Manners = Manners {
     stalls_at: 1,
     ..LISTENER
 };
 
 /// To whom nothing was owed for half a minute, the patience counts from when something is: a
-/// millisecond before it is over he is there.
+/// millisecond before it is over it is there.
 const OWED_NOTHING: &[Step] = &[
     Step::Comes(SECOND_BLOCK_LATE, 0),
     Step::Turns(1, 1, 2),
@@ -59,7 +59,7 @@ fn patience_counts_from_what_is_owed(rt: HostRuntime) {
     assert!(rt; are_played(rt.alloc(), LONG_TIMEOUT, OWED_NOTHING));
 }
 
-/// And then he is not.
+/// And then it is not.
 const OWED_FOR_TEN_SECONDS: &[Step] = &[
     Step::Comes(SECOND_BLOCK_LATE, 0),
     Step::Turns(1, 1, 2),
@@ -81,7 +81,7 @@ const DENIED: Manners = Manners {
     ..SILENT
 };
 
-/// He is told in the second turn that nothing more is written. He lingers for a second from then on.
+/// It is told in the second turn that nothing more is written. It lingers for a second from then on.
 const LINGERS: &[Step] = &[
     Step::Comes(DENIED, 0),
     Step::Turns(1, 1, 1),
@@ -100,13 +100,13 @@ fn one_lingers_for_a_second(rt: HostRuntime) {
     assert!(rt; are_played(rt.alloc(), "", LINGERS));
 }
 
-/// The same, and his peer closes at the third read.
+/// The same, and its peer closes at the third read.
 const DENIED_AND_CLOSES: Manners = Manners {
     closes_at: 2,
     ..DENIED
 };
 
-/// He lingers until then.
+/// It lingers until then.
 const CLOSES: &[Step] = &[
     Step::Comes(DENIED_AND_CLOSES, 0),
     Step::Turns(1, 1, 2),
@@ -121,8 +121,8 @@ fn one_lingers_until_his_peer_closes(rt: HostRuntime) {
     assert!(rt; are_played(rt.alloc(), "", CLOSES));
 }
 
-/// Who has no seat is asked for half a second after he was asked for the last time, and not before: he
-/// hears then that he was finished, and is closed a turn later.
+/// Who has no seat is asked for half a second after it was asked for the last time, and not before: it
+/// hears then that it was finished, and is closed a turn later.
 const ASKED_FOR: &[Step] = &[
     Step::Comes(SILENT, 0),
     Step::Quiet(2600, 1, 1),
@@ -139,7 +139,7 @@ fn one_is_asked_for_after_half_a_second(rt: HostRuntime) {
     assert!(rt; are_played(rt.alloc(), "[limits]\nheader-timeout = 3\n", ASKED_FOR));
 }
 
-/// A client who says nothing hears within half a second by which rule he was finished.
+/// A client who says nothing hears within half a second by which rule it was finished.
 const FINISHED: &[Step] = &[
     Step::Comes(SILENT, 0),
     Step::Quiet(0, 500, 7),

@@ -13,7 +13,7 @@ use crate::merged::{SHORT_QUEUE, draw, moving};
 use crate::scattered::{RING, scatter};
 use crate::stations::{core, settings};
 use radio_access::Lists;
-use radio_book::{Book, House, Kept, MountBook, Own, PASSES, Pass, Receipt};
+use radio_book::{Book, Kept, MountBook, Origin, Own, PASSES, Pass, Receipt};
 use radio_core::Core;
 use radio_events::{Event, Reply};
 use radio_merge::is_same_reply;
@@ -72,7 +72,7 @@ impl Play {
 
 /// The books, beside a core that is called alike.
 #[derive(Drop)]
-struct Books<'a, H: House> {
+struct Books<'a, H: Origin> {
     control: &'a mut Book<Kept, H>,
     mounts: &'a mut Vec<MountBook<Kept>>,
     pass: &'a mut Pass<Kept, H>,
@@ -83,7 +83,7 @@ struct Books<'a, H: House> {
     alike: usize,
 }
 
-impl<H: House> Books<'_, H> {
+impl<H: Origin> Books<'_, H> {
     /// The receipt of the event, by the first mount's part that can, else by the control.
     fn apply(&mut self, event: Event) -> Result<Receipt, OutOfMemory> {
         let mut event = event;
@@ -115,7 +115,7 @@ impl<H: House> Books<'_, H> {
     }
 }
 
-impl<H: House> Callee for Books<'_, H> {
+impl<H: Origin> Callee for Books<'_, H> {
     fn call(&mut self, event: Event) -> Option<u64> {
         match step_copy(self.core, &event) {
             Ok(want) => {
@@ -180,7 +180,7 @@ pub fn plays<C: Callee>(alloc: Global, callee: &mut C, play: Play) -> bool {
 }
 
 /// Makes the calls, through a pass that is added. Whether all are answered alike, and so many by a mount's part.
-fn goes_well<H: House>(
+fn goes_well<H: Origin>(
     alloc: Global,
     control: &mut Book<Kept, H>,
     mounts: &mut Vec<MountBook<Kept>>,
@@ -222,7 +222,7 @@ fn adds_book(
 }
 
 /// Whether the calls are answered as a core answers them, and the pass settles.
-fn are_settled<H: House>(
+fn are_settled<H: Origin>(
     alloc: Global,
     core: &mut Core,
     play: Play,

@@ -8,7 +8,7 @@ use crate::freezing::{Meanwhile, is_answered};
 use crate::halls::{Visit, is_well_visited, takes_pass};
 use crate::merged::{SHORT_QUEUE, draw};
 use crate::scattered::{RING, scatter_together};
-use radio_book::{House, Kept, OutOfMemory, Pass, Receipt};
+use radio_book::{Kept, Origin, OutOfMemory, Pass, Receipt};
 use radio_events::{Asked, Command, Event, Reply, SharedServer};
 use radio_locks::Hall;
 use radio_policy::Rule;
@@ -68,7 +68,7 @@ impl Together {
 }
 
 /// The receipt of a call.
-fn apply<H: House, R: Wait>(
+fn apply<H: Origin, R: Wait>(
     rt: &R,
     hall: &Hall<Kept, H>,
     pass: &mut Pass<Kept, H>,
@@ -78,7 +78,7 @@ fn apply<H: House, R: Wait>(
 }
 
 /// Two sources feed `/a` and `/b`, and a listener hears the mount of this path.
-fn come<H: House, R: Wait>(
+fn come<H: Origin, R: Wait>(
     rt: &R,
     alloc: Global,
     hall: &Hall<Kept, H>,
@@ -256,7 +256,7 @@ fn is_finished_by(drawn: Result<Receipt, OutOfMemory>, rule: Rule) -> bool {
 }
 
 /// The listener draws by one pass, a command by another finishes it, and it draws again.
-fn is_finished<H: House, R: Wait>(
+fn is_finished<H: Origin, R: Wait>(
     rt: &R,
     alloc: Global,
     hall: &Hall<Kept, H>,
@@ -273,7 +273,7 @@ fn is_finished<H: House, R: Wait>(
 }
 
 /// A block by one pass that is longer than the queue leaves the listener behind, and another draws for it.
-fn is_left_behind<H: House, R: Wait>(
+fn is_left_behind<H: Origin, R: Wait>(
     rt: &R,
     alloc: Global,
     hall: &Hall<Kept, H>,
@@ -289,7 +289,7 @@ fn is_left_behind<H: House, R: Wait>(
 }
 
 /// Does it, by passes that are added. Whether it went as it is to go.
-pub fn are_together<H: House + Send + Sync, R: Threads + Wait + Clock + Sync>(
+pub fn are_together<H: Origin + Send + Sync, R: Threads + Wait + Clock + Sync>(
     rt: &R,
     alloc: Global,
     hall: &Hall<Kept, H>,

@@ -31,7 +31,7 @@ pub const LATE_LISTENER: Manners = Manners {
     ..SILENT
 };
 
-/// What he hears.
+/// What it hears.
 pub const HEARD: &[u8] =
     b"HTTP/1.0 200 OK\r\nContent-Type: audio/mpeg\r\nConnection: close\r\n\r\nabcdefgh";
 
@@ -79,11 +79,11 @@ pub const TITLED: Manners = Manners {
 /// Settings with an interval of four bytes.
 pub const INTERVAL: &str = "[[mount]]\nmount-name = \"/a\"\nmp3-metadata-interval = 4\n";
 
-/// The title `Night` between his bytes.
+/// The title `Night` between its bytes.
 pub const NIGHT: &[u8] =
     b"HTTP/1.0 200 OK\r\nContent-Type: audio/mpeg\r\nicy-metaint: 4\r\nConnection: close\r\n\r\nabcd\x02StreamTitle='Night';\0\0\0\0\0\0\0\0\0\0\0\0efgh\0";
 
-/// Metadata blocks between his bytes; no title was set.
+/// Metadata blocks between its bytes; no title was set.
 const WOVEN: &[u8] =
     b"HTTP/1.0 200 OK\r\nContent-Type: audio/mpeg\r\nicy-metaint: 4\r\nConnection: close\r\n\r\nabcd\0efgh\0";
 
@@ -110,11 +110,11 @@ const ADMIN: Manners = Manners {
     ..SILENT
 };
 
-/// What he is told.
+/// What it is told.
 const DONE: &[u8] =
     b"HTTP/1.0 200 OK\r\nContent-Type: text/plain; charset=utf-8\r\nContent-Length: 5\r\nConnection: close\r\n\r\ndone\n";
 
-/// The command is done in one turn, the listener's draw of the next one tells of his end.
+/// The command is done in one turn, the listener's draw of the next one tells of its end.
 const KILLED: &[Step] = &[
     Step::Comes(SOURCE, 0),
     Step::Turns(1, 1, 2),

@@ -100,7 +100,7 @@ const THREE_BLOCKS: &[u8] =
 const FOUR_BLOCKS: &[u8] =
     b"HTTP/1.0 200 OK\r\nContent-Type: audio/mpeg\r\nConnection: close\r\n\r\nabcdefghijklmnop";
 
-/// One who is two blocks behind hears them once his line takes again; another hears all meanwhile.
+/// One who is two blocks behind hears them once its line takes again; another hears all meanwhile.
 const FALLS_BEHIND: &[Step] = &[
     Step::Comes(TWO_MORE, 0),
     Step::Turns(1, 1, 2),
@@ -120,7 +120,7 @@ fn a_stalled_listener_falls_behind(rt: HostRuntime) {
     assert!(rt; are_played(rt.alloc(), SHORT_QUEUE, FALLS_BEHIND));
 }
 
-/// He hears them in a turn without news too, since there was news while his line took nothing.
+/// It hears them in a turn without news too, since there was news while its line took nothing.
 const CATCHES_UP: &[Step] = &[
     Step::Comes(TWO_MORE, 0),
     Step::Turns(1, 1, 2),
@@ -137,8 +137,8 @@ fn a_stalled_listener_catches_up(rt: HostRuntime) {
     assert!(rt; are_played(rt.alloc(), SHORT_QUEUE, CATCHES_UP));
 }
 
-/// Who is seated draws at once, and what is wanted of his line is told to it; then he draws nothing
-/// without news, up to half a second after his last draw.
+/// Who is seated draws at once, and what is wanted of its line is told to it; then it draws nothing
+/// without news, up to half a second after its last draw.
 const WITHOUT_NEWS: &[Step] = &[
     Step::Comes(TWO_MORE, 0),
     Step::Quiet(1, 1, 2),
@@ -158,7 +158,7 @@ fn without_news_a_listener_waits(rt: HostRuntime) {
     assert!(rt; are_played(rt.alloc(), "", WITHOUT_NEWS));
 }
 
-/// One who is three blocks behind was finished by the push of the third: he hears what he was owed
+/// One who is three blocks behind was finished by the push of the third: it hears what it was owed
 /// before, and nothing more; another hears all meanwhile.
 pub const LAGS: &[Step] = &[
     Step::Comes(THREE_MORE, 0),
@@ -179,17 +179,17 @@ fn a_stalled_listener_lags(rt: HostRuntime) {
     assert!(rt; are_played(rt.alloc(), SHORT_QUEUE, LAGS));
 }
 
-/// A listener whose peer has closed behind his head, and whose line takes one byte in a write.
+/// A listener whose peer has closed behind its head, and whose line takes one byte in a write.
 const CLOSED_WHILE_OWED: Manners = Manners {
     closes_at: 1,
     ..BYTE_BY_BYTE
 };
 
-/// All that he is owed but the last byte: 71 bytes.
+/// All that it is owed but the last byte: 71 bytes.
 const ALL_BUT_ONE: &[u8] =
     b"HTTP/1.0 200 OK\r\nContent-Type: audio/mpeg\r\nConnection: close\r\n\r\nabcdefg";
 
-/// He is there up to the last byte that he is owed, and has left when that is taken.
+/// It is there up to the last byte that it is owed, and has left when that is taken.
 pub const CLOSES_WHILE_OWED: &[Step] = &[
     Step::Comes(SOURCE, 0),
     Step::Turns(1, 1, 2),
@@ -250,7 +250,7 @@ fn one_who_says_nothing_stays(rt: HostRuntime) {
     assert!(rt; are_played(rt.alloc(), SHORT_TIMEOUT, SAYS_NOTHING));
 }
 
-/// His time is over in the turn at three seconds, and in the next he is closed: nothing was written.
+/// Its time is over in the turn at three seconds, and in the next it is closed: nothing was written.
 const SAID_NOTHING: &[Step] = &[
     Step::Comes(SILENT, 0),
     Step::Turns(0, 500, 8),

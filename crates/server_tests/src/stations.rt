@@ -19,7 +19,7 @@ pub const PATIENCE_S: u32 = 10;
 /// What is done to a core beside what connections ask of it.
 #[derive(Clone, Copy)]
 pub struct Meddling {
-    /// Whether the first client's mount has the title `Night` as soon as he feeds it.
+    /// Whether the first client's mount has the title `Night` as soon as it feeds it.
     pub has_title: bool,
     /// At which call the core is refused memory, counted from 0.
     pub refuses_at: u64,
@@ -153,7 +153,7 @@ pub fn core(alloc: Global, more: &str) -> Result<Core, SettingsFault> {
     Ok(Core::new(alloc, settings, Lists::new(alloc)))
 }
 
-/// A worker, and his connections.
+/// A worker, and its connections.
 #[derive(Drop)]
 pub struct Station<S: Server + Drop> {
     alloc: Global,

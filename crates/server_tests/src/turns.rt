@@ -1,6 +1,6 @@
 //! Whose turn it is among relays that wait for a place.
 
-use radio_masters::{Waiting, in_turn};
+use radio_masters::{WaitingRelay, in_turn};
 use std::alloc::{AllocError, Global};
 
 /// A moment, in milliseconds.
@@ -18,7 +18,7 @@ const ROWS: &[(&[u64], usize, &[usize])] = &[
 fn begun(alloc: Global, due: &[u64], places: usize) -> Result<Vec<usize>, AllocError> {
     let mut waiting = Vec::new(alloc);
     for (number, due_ms) in due.iter().enumerate() {
-        waiting.push(Waiting {
+        waiting.push(WaitingRelay {
             due_ms: *due_ms,
             number,
         })?;

@@ -3,8 +3,8 @@
 use crate::calls::{CALLS, DRAWS, serve};
 use crate::halls::{PassCaller, Visit, is_well_visited, takes_pass};
 use crate::merged::merged_alone;
-use radio_book::{Entry, House, Kept, Pass};
-use radio_events::{Reply, Text};
+use radio_book::{Entry, Kept, Origin, Pass};
+use radio_events::{Reply, ReplyText};
 use radio_locks::Hall;
 use std::alloc::Global;
 use std::sync::Wait;
@@ -13,9 +13,9 @@ use std::thread::Threads;
 /// What a listing has of a mount whose last title is `Night`.
 const NIGHT: &[u8] = b"\"title\":\"Night\"";
 
-/// The 100 calls of a caller with a mount of his own. Where memory is refused, the history lacks some
+/// The 100 calls of a caller with a mount of its own. Where memory is refused, the history lacks some
 /// of them.
-fn serve_path<H: House, R: Wait>(
+fn serve_path<H: Origin, R: Wait>(
     rt: &R,
     alloc: Global,
     hall: &Hall<Kept, H>,
@@ -27,7 +27,7 @@ fn serve_path<H: House, R: Wait>(
 }
 
 /// Two callers, with a pass each, one after the other.
-fn serve_both<H: House, R: Wait>(
+fn serve_both<H: Origin, R: Wait>(
     rt: &R,
     alloc: Global,
     hall: &Hall<Kept, H>,
@@ -39,7 +39,7 @@ fn serve_both<H: House, R: Wait>(
 }
 
 /// Their passes are added. Whether they had one each.
-pub fn are_served<H: House + Send + Sync, R: Threads + Wait + Sync>(
+pub fn are_served<H: Origin + Send + Sync, R: Threads + Wait + Sync>(
     rt: &R,
     alloc: Global,
     hall: &Hall<Kept, H>,
@@ -101,7 +101,7 @@ fn count(history: &[Entry], wanted: Wanted) -> usize {
 /// Whether a client is shown a listing in which the last title stands.
 fn is_status(reply: &Reply) -> bool {
     match reply {
-        Reply::Text(Text::Public { bytes, .. }) => has_night(bytes.as_slice()),
+        Reply::Text(ReplyText::Public { bytes, .. }) => has_night(bytes.as_slice()),
         _ => false,
     }
 }

@@ -7,7 +7,7 @@ ghost use Rattle.radio_house.specs.World.{opening};
 use crate::calls::{CALLS, Callee, number_given, serve, step_copy};
 use crate::stations::{core, settings};
 use radio_access::Lists;
-use radio_book::{House, PASSES, Pass, Receipt, Unkept};
+use radio_book::{Origin, PASSES, Pass, Receipt, Unkept};
 use radio_core::Core;
 use radio_events::{Event, Reply};
 use radio_locks::Hall;
@@ -21,7 +21,7 @@ use std::sync::ledger::Blank;
 
 /// A hall that stores nothing, beside a core that is called alike.
 #[derive(Drop)]
-struct Beside<'a, R: Wait, H: House> {
+struct Beside<'a, R: Wait, H: Origin> {
     rt: &'a R,
     hall: &'a Hall<Unkept, H>,
     pass: &'a mut Pass<Unkept, H>,
@@ -30,7 +30,7 @@ struct Beside<'a, R: Wait, H: House> {
     alike: usize,
 }
 
-impl<'a, R: Wait, H: House> Beside<'a, R, H> {
+impl<'a, R: Wait, H: Origin> Beside<'a, R, H> {
     /// Calls the hall; the reply is counted, if it is as was wanted and nothing is noted.
     fn call_hall(&mut self, event: Event, want: &Reply) -> Option<u64> {
         match self.hall.apply(self.rt, self.pass, event) {
@@ -50,7 +50,7 @@ impl<'a, R: Wait, H: House> Beside<'a, R, H> {
     }
 }
 
-impl<'a, R: Wait, H: House> Callee for Beside<'a, R, H> {
+impl<'a, R: Wait, H: Origin> Callee for Beside<'a, R, H> {
     fn call(&mut self, event: Event) -> Option<u64> {
         match step_copy(self.core, &event) {
             Ok(want) => {
@@ -67,7 +67,7 @@ impl<'a, R: Wait, H: House> Callee for Beside<'a, R, H> {
 }
 
 /// So many of the 100 calls are answered alike.
-fn count_alike<H: House, R: Wait>(
+fn count_alike<H: Origin, R: Wait>(
     rt: &R,
     alloc: Global,
     core: &mut Core,
@@ -86,7 +86,7 @@ fn count_alike<H: House, R: Wait>(
     }
 }
 
-fn count_through<H: House, R: Wait>(
+fn count_through<H: Origin, R: Wait>(
     rt: &R,
     alloc: Global,
     core: &mut Core,

@@ -10,12 +10,12 @@ use crate::halls::{PassCaller, Visit, is_well_visited};
 use crate::memory_line::{Manners, MemoryLine, SILENT};
 use crate::rows::{LISTENER, SOURCE, TITLED};
 use crate::workers::seats::{MemoryPost, add_passes, seats_for};
-use radio_book::{Entry, House, Kept, Pass};
+use radio_book::{Entry, Kept, Origin, Pass};
 use radio_events::{Event, Reply};
 use radio_intake::{Intake, IntakePass, ROOM};
 use radio_locks::{Hall, OutOfMemory};
 use radio_serving::{Gate, WebAnswers};
-use radio_workers::{Seat, Workplace, run_workers};
+use radio_workers::{WorkerSlot, Workplace, run_workers};
 use std::alloc::Global;
 use std::sync::Wait;
 use std::sync::atomic::{AtomicBool, AtomicU64, Ordering};
@@ -158,7 +158,7 @@ fn feed<C: Callee>(alloc: Global, callee: &mut C) -> Result<bool, OutOfMemory> {
 }
 
 /// The same through a pass that is added.
-fn is_fed<H: House, R: Wait>(
+fn is_fed<H: Origin, R: Wait>(
     rt: &R,
     alloc: Global,
     hall: &Hall<Kept, H>,
@@ -179,7 +179,7 @@ fn is_fed<H: House, R: Wait>(
 }
 
 /// Whether all who come are taken and served, each worker with a pass that is added, while the first write is held.
-pub fn are_served<H: House + Send + Sync, R: Threads + Wait + Clock + Sync>(
+pub fn are_served<H: Origin + Send + Sync, R: Threads + Wait + Clock + Sync>(
     rt: &R,
     alloc: Global,
     hall: &Hall<Kept, H>,
@@ -196,7 +196,7 @@ pub fn are_served<H: House + Send + Sync, R: Threads + Wait + Clock + Sync>(
 }
 
 /// Whether there are seats for the workers, who serve all that come through this intake, and whose passes are added then.
-fn is_staffed<H: House + Send + Sync, R: Threads + Wait + Clock + Sync>(
+fn is_staffed<H: Origin + Send + Sync, R: Threads + Wait + Clock + Sync>(
     rt: &R,
     alloc: Global,
     hall: &Hall<Kept, H>,
@@ -220,13 +220,13 @@ fn is_staffed<H: House + Send + Sync, R: Threads + Wait + Clock + Sync>(
 
 /// All come, and the workers at these seats work. Whether there was room for all, the other writes were made while the first
 /// was held, and nobody is left in the intake.
-fn is_emptied<H: House + Send + Sync, R: Threads + Wait + Clock + Sync>(
+fn is_emptied<H: Origin + Send + Sync, R: Threads + Wait + Clock + Sync>(
     rt: &R,
     alloc: Global,
     hall: &Hall<Kept, H>,
     intake: &Intake<Manners>,
     pass: &mut IntakePass<Manners>,
-    seats: &mut [Seat<Pass<Kept, H>, Manners, MemoryPost>],
+    seats: &mut [WorkerSlot<Pass<Kept, H>, Manners, MemoryPost>],
     rush: Rush,
 ) -> bool
     requires own { pass.old.intake ≡ intake.now }
@@ -239,12 +239,12 @@ fn is_emptied<H: House + Send + Sync, R: Threads + Wait + Clock + Sync>(
 }
 
 /// The workers work. Whether the other writes were made while the first was held.
-fn work<H: House + Send + Sync, R: Threads + Wait + Clock + Sync>(
+fn work<H: Origin + Send + Sync, R: Threads + Wait + Clock + Sync>(
     rt: &R,
     alloc: Global,
     hall: &Hall<Kept, H>,
     intake: &Intake<Manners>,
-    seats: &mut [Seat<Pass<Kept, H>, Manners, MemoryPost>],
+    seats: &mut [WorkerSlot<Pass<Kept, H>, Manners, MemoryPost>],
     rush: Rush,
 ) -> bool
     requires seats { All (λ seat. seat.hand.intake ≡ intake.now) seats.old }
@@ -279,7 +279,7 @@ const DENIED: Manners = Manners {
     ..SILENT
 };
 
-/// The same, and the write of his answer fails.
+/// The same, and the write of its answer fails.
 const FAILS: Manners = Manners {
     gives: &[b"GET /none HTTP/1.0\r\n\r\n"],
     fails_at: 1,

@@ -3,7 +3,7 @@
 ghost use Rattle.std.specs.Prelude.{◌≡◌, ⊤};
 ghost use Rattle.radio_hall.specs.Words.{all_parts};
 
-use radio_hall::{Accepted, Accepts, Entrance, Intake, IntakePass, Tried, accept_next};
+use radio_hall::{AcceptResult, AcceptTry, Accepts, Entrance, Intake, IntakePass, accept_next};
 use std::alloc::{AllocGlobal, Global};
 use std::sync::Wait;
 
@@ -53,15 +53,15 @@ struct One;
 impl Entrance<u64> for One {
     ghost accepts = { λ _ _ _. ⊤ };
 
-    fn accept(&mut self) -> Accepted<u64> {
-        Accepted::One(9)
+    fn accept(&mut self) -> AcceptResult<u64> {
+        AcceptResult::One(9)
     }
 }
 
 /// Whether so many failures in a row are noted, and all but the hundredth are borne.
 fn fails(accepts: &mut Accepts, times: u64) -> bool {
     for _ in 0..times {
-        if !accepts.note(Tried::Failed, 0) {
+        if !accepts.note(AcceptTry::Failed, 0) {
             return false;
         }
     }
@@ -73,8 +73,8 @@ fn fails(accepts: &mut Accepts, times: u64) -> bool {
 fn failures_in_a_row(rt: HostRuntime) {
     let mut accepts = Accepts::new();
     assert!(rt; fails(&mut accepts, 99));
-    assert!(rt; accepts.note(Tried::Accepted, 0));
+    assert!(rt; accepts.note(AcceptTry::Accepted, 0));
     assert!(rt; matches!(accept_next(&mut One, &mut accepts, 1000), Ok(Some(9))));
     assert!(rt; fails(&mut accepts, 99));
-    assert!(rt; !accepts.note(Tried::Failed, 0));
+    assert!(rt; !accepts.note(AcceptTry::Failed, 0));
 }

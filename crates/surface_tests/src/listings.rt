@@ -3,8 +3,8 @@
 use radio_addr::Peer;
 use radio_admin::{AdminFault, CommandKind, read_command, read_path};
 use radio_listing::{
-    AboutRow, ListenerRow, MountRow, OutOfMemory, PublicRow, Text, list_clients, list_mounts,
-    stats, status, stream_list,
+    AboutRow, ListedListener, ListedText, MountRow, OutOfMemory, PublicRow, list_clients,
+    list_mounts, stats, status, stream_list,
 };
 use radio_settings::MountName;
 use std::alloc::{AllocGlobal, Global};
@@ -13,17 +13,17 @@ use std::alloc::{AllocGlobal, Global};
 fn row<'a>() -> MountRow<'a> {
     MountRow {
         public: PublicRow {
-            mount: Text::of(b"/a"),
-            name: Text::of(b""),
-            genre: Text::of(b""),
-            content_type: Text::of(b"audio/mpeg"),
-            title: Text::of(b"X"),
+            mount: ListedText::of(b"/a"),
+            name: ListedText::of(b""),
+            genre: ListedText::of(b""),
+            content_type: ListedText::of(b"audio/mpeg"),
+            title: ListedText::of(b"X"),
             listeners: 1,
             about: AboutRow {
-                description: Text::of(b""),
-                url: Text::of(b""),
-                bitrate: Text::of(b""),
-                audio_info: Text::of(b""),
+                description: ListedText::of(b""),
+                url: ListedText::of(b""),
+                bitrate: ListedText::of(b""),
+                audio_info: ListedText::of(b""),
             },
         },
         hidden: false,
@@ -53,14 +53,17 @@ fn is_written(listing: Result<Vec<u8>, OutOfMemory>, want: &[u8]) -> bool {
 
 /// Whether the listener of the mount is listed.
 fn is_listed(alloc: Global) -> bool {
-    let listener = ListenerRow {
-        home: Text::of(b"/a"),
+    let listener = ListedListener {
+        home: ListedText::of(b"/a"),
         id: 2,
         peer: Peer::of_v4(0x0a00_0002),
         seconds: 0,
         user: None,
     };
-    is_written(list_clients(alloc, &Text::of(b"/a"), &[listener]), CLIENTS)
+    is_written(
+        list_clients(alloc, &ListedText::of(b"/a"), &[listener]),
+        CLIENTS,
+    )
 }
 
 #[test]

@@ -4,7 +4,7 @@ ghost use Rattle.std.specs.Prelude.{◌≡◌, ◌^◌};
 ghost use Rattle.radio_hall.specs.Words.{no_lists, opening};
 
 use crate::stations::{arrival, settings};
-use radio_book::{Book, Entry, House, Kept, PASSES, Pass, Receipt, Stamp};
+use radio_book::{Book, Entry, Kept, Origin, PASSES, Pass, Receipt, Stamp};
 use radio_core::{Event, Lists, OutOfMemory, Reply};
 use radio_hall::{Hall, SettleFault, settle, settle_books, settle_family};
 use radio_merge::{ControlLine, Family, merge};
@@ -70,7 +70,7 @@ impl Spoilt {
     }
 
     /// Spoils the list and the passes.
-    fn spoils<H: House>(self, control: &mut Vec<ControlLine>, passes: &mut Vec<Pass<Kept, H>>) {
+    fn spoils<H: Origin>(self, control: &mut Vec<ControlLine>, passes: &mut Vec<Pass<Kept, H>>) {
         match self {
             Spoilt::Nothing | Spoilt::OtherSettings => (),
             Spoilt::LastGone => control.truncate(CALLS - 1),
@@ -97,7 +97,7 @@ fn cut_second(lines: &mut [ControlLine]) {
 }
 
 /// Adds a pass of the book. Whether there was one, and memory for it.
-fn takes_pass<H: House>(book: &mut Book<Kept, H>, passes: &mut Vec<Pass<Kept, H>>) -> bool {
+fn takes_pass<H: Origin>(book: &mut Book<Kept, H>, passes: &mut Vec<Pass<Kept, H>>) -> bool {
     match book.pass() {
         Some(pass) => passes.push(pass).is_ok(),
         None => false,
@@ -105,7 +105,7 @@ fn takes_pass<H: House>(book: &mut Book<Kept, H>, passes: &mut Vec<Pass<Kept, H>
 }
 
 /// An event is applied through a pass. Whether memory was not refused.
-fn applies<H: House>(book: &mut Book<Kept, H>, pass: &mut Pass<Kept, H>, event: Event) -> bool {
+fn applies<H: Origin>(book: &mut Book<Kept, H>, pass: &mut Pass<Kept, H>, event: Event) -> bool {
     let mut none = [];
     match book.apply(pass, &mut none, event) {
         Ok(receipt) => {
@@ -117,7 +117,7 @@ fn applies<H: House>(book: &mut Book<Kept, H>, pass: &mut Pass<Kept, H>, event: 
 }
 
 /// Two callers come, and the first of them leaves. Whether they do.
-fn call<H: House>(book: &mut Book<Kept, H>, passes: &mut [Pass<Kept, H>]) -> bool {
+fn call<H: Origin>(book: &mut Book<Kept, H>, passes: &mut [Pass<Kept, H>]) -> bool {
     match passes {
         [first, second] => {
             applies(book, first, arrival())
@@ -129,7 +129,7 @@ fn call<H: House>(book: &mut Book<Kept, H>, passes: &mut [Pass<Kept, H>]) -> boo
 }
 
 /// Whether the first caller has two receipts, of which this is the first.
-fn has_receipts<H: House>(passes: &[Pass<Kept, H>]) -> bool {
+fn has_receipts<H: Origin>(passes: &[Pass<Kept, H>]) -> bool {
     match passes {
         [first, _] => are_receipts(first.receipts()),
         _ => false,
@@ -156,7 +156,7 @@ fn is_found(settled: Result<Vec<Entry>, SettleFault>, want: Option<SettleFault>)
 }
 
 /// Whether that is found of entries that were spoilt so.
-fn finds<H: House>(
+fn finds<H: Origin>(
     alloc: Global,
     mut control: Vec<ControlLine>,
     mut passes: Vec<Pass<Kept, H>>,
@@ -175,7 +175,7 @@ fn finds<H: House>(
 }
 
 /// Whether that is found, where a core of these settings steps through the lists.
-fn settles<H: House>(
+fn settles<H: Origin>(
     alloc: Global,
     settings: Settings,
     family: &Family,
@@ -187,7 +187,7 @@ fn settles<H: House>(
 }
 
 /// Whether two callers of a book are served, and that is found then.
-fn is_settled<H: House>(
+fn is_settled<H: Origin>(
     alloc: Global,
     settings: Settings,
     blank: Blank,
@@ -225,7 +225,12 @@ fn faults_of_passes(rt: HostRuntime) {
 }
 
 /// Whether a book that nobody called settles to no entry.
-fn is_empty_book<H: House>(alloc: Global, settings: Settings, again: Settings, blank: Blank) -> bool
+fn is_empty_book<H: Origin>(
+    alloc: Global,
+    settings: Settings,
+    again: Settings,
+    blank: Blank,
+) -> bool
     requires opening { H.opening ≡ opening settings no_lists }
     requires ledger { (blank.name ≡ H.name) × (blank.parts ≡ H.parts) × (blank.parts ≡ 2 ^ 32) }
 {
@@ -236,7 +241,12 @@ fn is_empty_book<H: House>(alloc: Global, settings: Settings, again: Settings, b
 }
 
 /// The same of a hall.
-fn is_empty_hall<H: House>(alloc: Global, settings: Settings, again: Settings, blank: Blank) -> bool
+fn is_empty_hall<H: Origin>(
+    alloc: Global,
+    settings: Settings,
+    again: Settings,
+    blank: Blank,
+) -> bool
     requires opening { H.opening ≡ opening settings no_lists }
     requires ledger { (blank.name ≡ H.name) × (blank.parts ≡ H.parts) × (blank.parts ≡ 2 ^ 32) }
 {

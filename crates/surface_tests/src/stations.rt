@@ -6,8 +6,8 @@ ghost use Rattle.radio_hall.specs.Words.{no_lists, opening};
 
 use bytes::Bytes;
 use radio_addr::Peer;
-use radio_book::{Book, House, Kept, MountBook, PASSES, Pass, Unkept};
-use radio_core::{Boxed, Core, Event, ListenRequest, Lists, OutOfMemory, Reply, Visit};
+use radio_book::{Book, Kept, MountBook, Origin, PASSES, Pass, Unkept};
+use radio_core::{Boxed, Core, Event, ListenRequest, Lists, OutOfMemory, PageVisit, Reply};
 use radio_hall::Hall;
 use radio_settings::{MountName, Settings, SettingsFault, read_settings};
 use std::alloc::{AllocGlobal, Global};
@@ -38,7 +38,7 @@ fn listening(alloc: Global) -> Result<Event, OutOfMemory> {
         mount: Bytes::from_static(b"/a"),
         pair: None,
         wants_metadata: false,
-        visit: Visit {
+        visit: PageVisit {
             host: Bytes::from_static(b""),
             server_start: None,
         },
@@ -153,13 +153,13 @@ impl Asked for Thrice {
 
 /// A book that is lent no part, and a pass of it.
 #[derive(Drop)]
-struct OfBook<'a, H: House> {
+struct OfBook<'a, H: Origin> {
     book: &'a mut Book<Kept, H>,
     lent: &'a mut Vec<MountBook<Kept>>,
     pass: &'a mut Pass<Kept, H>,
 }
 
-impl<'a, H: House> Asked for OfBook<'a, H> {
+impl<'a, H: Origin> Asked for OfBook<'a, H> {
     fn applies(&mut self, event: Event, want: Want) -> Result<bool, OutOfMemory> {
         match self.book.apply(self.pass, self.lent.as_mut_slice(), event) {
             Ok(receipt) => Ok(want.takes(receipt.into_reply())),
@@ -174,13 +174,13 @@ impl<'a, H: House> Asked for OfBook<'a, H> {
 
 /// A hall, and a pass of it.
 #[derive(Drop)]
-struct OfHall<'a, R: Wait, H: House> {
+struct OfHall<'a, R: Wait, H: Origin> {
     rt: &'a R,
     hall: &'a Hall<Unkept, H>,
     pass: &'a mut Pass<Unkept, H>,
 }
 
-impl<'a, R: Wait, H: House> Asked for OfHall<'a, R, H> {
+impl<'a, R: Wait, H: Origin> Asked for OfHall<'a, R, H> {
     fn applies(&mut self, event: Event, want: Want) -> Result<bool, OutOfMemory> {
         match self.hall.apply(self.rt, self.pass, event) {
             Ok(receipt) => Ok(want.takes(receipt.into_reply())),
@@ -213,7 +213,7 @@ fn a_core_is_asked(rt: HostRuntime) {
 }
 
 /// Whether a book of these settings is asked well.
-fn is_asked_book<H: House>(alloc: Global, settings: Settings, blank: Blank) -> bool
+fn is_asked_book<H: Origin>(alloc: Global, settings: Settings, blank: Blank) -> bool
     requires opening { H.opening ≡ opening settings no_lists }
     requires ledger { (blank.name ≡ H.name) × (blank.parts ≡ H.parts) × (blank.parts ≡ 2 ^ 32) }
 {
@@ -233,7 +233,12 @@ fn is_asked_book<H: House>(alloc: Global, settings: Settings, blank: Blank) -> b
 }
 
 /// Whether a hall of these settings is asked well.
-fn is_asked_hall<H: House, R: Wait>(rt: &R, alloc: Global, settings: Settings, blank: Blank) -> bool
+fn is_asked_hall<H: Origin, R: Wait>(
+    rt: &R,
+    alloc: Global,
+    settings: Settings,
+    blank: Blank,
+) -> bool
     requires opening { H.opening ≡ opening settings no_lists }
     requires ledger { (blank.name ≡ H.name) × (blank.parts ≡ H.parts) × (blank.parts ≡ 2 ^ 32) }
 {

@@ -7,8 +7,8 @@ use crate::loopback::SocketLine;
 use radio_addr::Peer;
 use radio_core::{Event, OutOfMemory, Reply};
 use radio_hall::{
-    Call, Intake, IntakePass, Log, OpenGate, Post, Seat, Seen, SharedServer, Turn, WebAnswers,
-    Workplace, add_seat, run_workers,
+    Intake, IntakePass, Log, OpenGate, Seen, SharedServer, Turn, TurnSource, TurnStart, WebAnswers,
+    WorkerSlot, Workplace, add_slot, run_workers,
 };
 use radio_policy::Rule;
 use radio_settings::MountName;
@@ -56,16 +56,16 @@ struct Closes {
     closed: u64,
 }
 
-impl Post<u64, SocketLine> for Closes {
-    fn next(&mut self, _log: &Log) -> Option<Call> {
+impl TurnSource<u64, SocketLine> for Closes {
+    fn next(&mut self, _log: &Log) -> Option<TurnStart> {
         self.ms = self.ms.saturating_add(1);
-        Some(Call {
+        Some(TurnStart {
             turn: Turn {
                 ms: self.ms,
                 news: false,
                 told_ms: 0,
             },
-            comings: 1,
+            newcomers: 1,
         })
     }
 
@@ -92,7 +92,7 @@ fn count_closed<R: Threads + Wait + Sync>(
     rt: &R,
     alloc: Global,
     intake: &Intake<u64>,
-    seats: &mut [Seat<u64, u64, Closes>],
+    seats: &mut [WorkerSlot<u64, u64, Closes>],
 ) -> u64
     requires seats { All (λ seat. seat.hand.intake ≡ intake.now) seats.old }
 {
@@ -108,7 +108,7 @@ fn count_closed<R: Threads + Wait + Sync>(
     };
     run_workers::<R, Closed, u64, SocketLine, Closes, OpenGate>(rt, alloc, &place, seats);
     match seats {
-        [seat] => seat.post.closed,
+        [seat] => seat.turn_source.closed,
         _ => 0,
     }
 }
@@ -125,8 +125,8 @@ fn takes_both<R: Threads + Wait + Sync>(
 {
     let are_put = intake.put(rt, pass, 1).is_ok() && intake.put(rt, pass, 2).is_ok();
     let mut seats = Vec::new(alloc);
-    let post = Closes { ms: 0, closed: 0 };
-    if add_seat(&mut seats, intake, pass, Some(0), post).is_err() {
+    let turn_source = Closes { ms: 0, closed: 0 };
+    if add_slot(&mut seats, intake, pass, Some(0), turn_source).is_err() {
         return false;
     }
     are_put && count_closed(rt, alloc, intake, seats.as_mut_slice()) == 2

@@ -8,9 +8,9 @@ ghost use Rattle.radio_connections.specs.declared.conn.Fate.TheVariants.{Closed,
 ghost use Rattle.radio_events.specs.Servers.{Chain};
 ghost use Rattle.radio_connections.specs.Answering.{IsToldAs, IsAnswered, AreAnswered};
 
-use crate::owed::Owed;
+use crate::outgoing::Outgoing;
 use crate::serving::drawing::fills_room;
-use crate::{Conn, Fate, Line, Server, Status};
+use crate::{Conn, ConnStatus, Fate, Line, Server};
 use radio_events::{Event, Reply};
 use radio_notes::{Account, Log, Notice, Told};
 use radio_session::{Session, State};
@@ -42,7 +42,7 @@ pub(crate) fn answer<S: Server, L: Line>(
             };
             note(&mut conn.status, answered);
             pass_over_if(&mut conn.line, sits);
-            conn.status.fate = tell(&mut conn.owed, &mut conn.session, reply, &conn.account);
+            conn.status.fate = tell(&mut conn.outgoing, &mut conn.session, reply, &conn.account);
         }
         Err(_) => {
             conn.account.hear_refusal(notice);
@@ -71,13 +71,13 @@ pub(crate) fn answer_all<S: Server, L: Line>(
 }
 
 /// Tells a reply behind what is owed; what becomes of the connection by that.
-fn tell(owed: &mut Owed, session: &mut Session, reply: Reply, account: &Account) -> Fate
-    ensures told { IsToldAs result reply session.old owed.old session.new owed.new }
+fn tell(outgoing: &mut Outgoing, session: &mut Session, reply: Reply, account: &Account) -> Fate
+    ensures told { IsToldAs result reply session.old outgoing.old session.new outgoing.new }
     // it is not closed by that, and cut off only where the session fails
     ensures closed { result ≡ Closed → ⊥ }
     ensures cut { result ≡ Cut → session.new.has_failed ≡ true }
 {
-    match owed.tell(session, reply) {
+    match outgoing.tell(session, reply) {
         Ok(State::Running) => Fate::Open,
         Ok(State::Shut(ending)) => {
             account.note_ending(ending);
@@ -102,7 +102,7 @@ struct Answered {
 }
 
 /// Notes that the client has left, that it was given a seat, and that there is more for it, if so.
-fn note(status: &mut Status, answered: Answered)
+fn note(status: &mut ConnStatus, answered: Answered)
     ensures { status.new ≡ record status.old { has_left = answered.leaves || status.old.has_left; sits = answered.sits || status.old.sits; is_behind = answered.sits || answered.has_more } }
 {
     status.is_behind = either(answered.sits, answered.has_more);

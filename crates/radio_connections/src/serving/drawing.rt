@@ -7,7 +7,7 @@ ghost use Rattle.radio_connections.specs.Rooms.{draw_room, fills_room};
 
 use crate::serving::answering::answer;
 use crate::serving::{ASKED_AFTER_MS, Now};
-use crate::{Conn, Line, Server, Status};
+use crate::{Conn, ConnStatus, Line, Server};
 use radio_blocks::Pieces;
 use radio_events::{Event, Reply};
 use radio_notes::{Log, Notice};
@@ -15,8 +15,8 @@ use radio_notes::{Log, Notice};
 /// For how many bytes of data a listener has room in a turn.
 pub const DRAW_ROOM: u32 = 65536;
 
-/// A draw for the listener who has a seat, where there is news, or he was left behind what there was
-/// before. Where there is none, and nothing was asked for him for half a second, he draws too; who has
+/// A draw for the listener who has a seat, where there is news, or it was left behind what there was
+/// before. Where there is none, and nothing was asked for it for half a second, it draws too; who has
 /// no seat is asked for with a draw that has no room then: they hear by which rule they were finished,
 /// if they were.
 // rule: Drawing
@@ -38,7 +38,7 @@ pub(crate) fn draw<S: Server, L: Line>(server: &mut S, conn: &mut Conn<L>, now: 
 }
 
 /// Whether a draw is due for who stands so.
-fn is_due(status: Status, now: Now) -> bool
+fn is_due(status: ConnStatus, now: Now) -> bool
     ensures news { status.sits ≡ true → now.news ≡ true → result ≡ true }
     ensures unasked { nat_le 500 (now.ms - status.asked_ms) ≡ true → result ≡ true }
 {

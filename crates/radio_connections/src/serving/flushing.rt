@@ -16,7 +16,7 @@ pub(crate) fn flush<L: Line, G: Gate>(conn: &mut Conn<L>, gate: &G, now: Now)
     let fate = conn.status.fate;
     match fate {
         Fate::Open | Fate::Ended => {
-            if !conn.owed.rest().is_empty() {
+            if !conn.outgoing.rest().is_empty() {
                 write(conn, gate, now);
             }
         }
@@ -27,16 +27,16 @@ pub(crate) fn flush<L: Line, G: Gate>(conn: &mut Conn<L>, gate: &G, now: Now)
 #[inline(never)]
 fn write<L: Line, G: Gate>(conn: &mut Conn<L>, gate: &G, now: Now)
     requires fate { IsWritten conn.old.status.fate }
-    requires some { 0 < length conn.old.owed }
+    requires some { 0 < length conn.old.outgoing }
     ensures { IsFlushed now.ms conn.old conn.new }
 {
     gate.hold(conn.id);
-    let sent = conn.line.write(conn.owed.rest());
+    let sent = conn.line.write(conn.outgoing.rest());
     gate.let_go(conn.id);
     match sent {
         Sent::Took(count) => {
             conn.account.note_handed(count);
-            conn.owed.take_off(count);
+            conn.outgoing.take_off(count);
             conn.status.moved_ms = now.ms;
             conn.status.has_taken = true;
         }

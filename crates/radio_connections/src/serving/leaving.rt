@@ -7,8 +7,8 @@ use crate::refusals::Refusals;
 use crate::{Conn, Line, Server};
 use radio_events::Event;
 
-/// The client leaves whose connection is over, if he has not left. Where memory is refused for that,
-/// he leaves with a later turn.
+/// The client leaves whose connection is over, if it has not left. Where memory is refused for that,
+/// it leaves with a later turn.
 pub(crate) fn leave<S: Server, L: Line>(server: &mut S, conn: &mut Conn<L>)
     ensures { Leaves S.steps server.old conn.old server.new conn.new }
 {
@@ -24,7 +24,7 @@ pub(crate) fn leave<S: Server, L: Line>(server: &mut S, conn: &mut Conn<L>)
     }
 }
 
-/// Notes, for the log, where the listener was last, who is forgotten when he has left.
+/// Notes, for the log, where the listener was last, who is forgotten when it has left.
 #[cold]
 fn note_mount<S: Server, L: Line>(server: &S, conn: &Conn<L>) {
     if !conn.account.is_listener() {

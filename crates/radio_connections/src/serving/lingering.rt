@@ -14,7 +14,7 @@ use crate::{Conn, Fate, Line, Received};
 /// and at once where nothing was written.
 pub(crate) fn linger<L: Line>(conn: &mut Conn<L>, buffer: &mut [u8; READ_ROOM], now: Now)
     requires fate { conn.old.status.fate ≡ Fate.Ended }
-    requires all { conn.old.owed ≡ [] }
+    requires all { conn.old.outgoing ≡ [] }
     ensures { IsEnded now.ms conn.old conn.new }
 {
     if conn.status.has_taken {
@@ -28,7 +28,7 @@ pub(crate) fn linger<L: Line>(conn: &mut Conn<L>, buffer: &mut [u8; READ_ROOM], 
 fn wait_for_close<L: Line>(conn: &mut Conn<L>, buffer: &mut [u8; READ_ROOM], now: Now)
     requires fate { conn.old.status.fate ≡ Fate.Ended }
     requires written { conn.old.status.has_taken ≡ true }
-    requires all { conn.old.owed ≡ [] }
+    requires all { conn.old.outgoing ≡ [] }
     ensures { IsEnded now.ms conn.old conn.new }
 {
     finish(conn, now);
@@ -41,7 +41,7 @@ fn wait_for_close<L: Line>(conn: &mut Conn<L>, buffer: &mut [u8; READ_ROOM], now
 fn finish<L: Line>(conn: &mut Conn<L>, now: Now)
     ensures served { IsServed conn.old [] conn.new }
     ensures fate { conn.new.status.fate ≡ conn.old.status.fate }
-    ensures owed { conn.new.owed ≡ conn.old.owed }
+    ensures outgoing { conn.new.outgoing ≡ conn.old.outgoing }
     ensures calls { conn.new.calls ≡ conn.old.calls }
     ensures taken { conn.new.taken ≡ conn.old.taken }
     ensures has_taken { conn.new.status.has_taken ≡ conn.old.status.has_taken }
@@ -61,7 +61,7 @@ fn pass_over<L: Line>(conn: &mut Conn<L>, buffer: &mut [u8; READ_ROOM]) -> Recei
     requires { conn.old.status.fate ≡ Fate.Ended }
     ensures served { IsServed conn.old [] conn.new }
     ensures status { conn.new.status ≡ conn.old.status }
-    ensures owed { conn.new.owed ≡ conn.old.owed }
+    ensures outgoing { conn.new.outgoing ≡ conn.old.outgoing }
     ensures once { IsReadOnce conn.old conn.new }
     ensures taken { conn.new.taken ≡ conn.old.taken }
     ensures answer { HasAnswered result conn.old.calls conn.new.calls }

@@ -22,7 +22,7 @@ pub(crate) fn listen<S: Server, L: Line>(
     log: &Log,
 )
     requires open { conn.old.status.fate ≡ Fate.Open }
-    requires all { conn.old.owed ≡ [] }
+    requires all { conn.old.outgoing ≡ [] }
     ensures { Listens S.steps now.ms server.old conn.old server.new conn.new }
 {
     match conn.line.read(buffer) {

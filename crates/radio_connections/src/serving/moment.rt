@@ -37,7 +37,7 @@ fn lend<L: Line>(conn: &mut Conn<L>, spare: &mut Vec<u8>, now: Now)
     ensures { conn.new ≡ conn.old }
 {
     if now.news {
-        conn.owed.take_memory(spare);
+        conn.outgoing.take_memory(spare);
     }
 }
 
@@ -45,7 +45,7 @@ fn lend<L: Line>(conn: &mut Conn<L>, spare: &mut Vec<u8>, now: Now)
 fn take_back<L: Line>(conn: &mut Conn<L>, spare: &mut Vec<u8>)
     ensures { conn.new ≡ conn.old }
 {
-    conn.owed.give_memory_back(spare);
+    conn.outgoing.give_memory_back(spare);
 }
 
 /// Writes what a connection is owed, and does what it does once nothing more is owed.
@@ -60,7 +60,7 @@ fn write_and_work<S: Server, L: Line, G: Gate>(
     ensures { ServesInTurn S.steps now.ms now.patience_ms now.news server.old conn.old server.new conn.new }
 {
     flush(conn, gate, now);
-    if !conn.owed.rest().is_empty() {
+    if !conn.outgoing.rest().is_empty() {
         give_up(conn, now);
         leave(server, conn);
         return;
@@ -96,7 +96,7 @@ fn work<S: Server, L: Line>(
     now: Now,
     log: &Log,
 )
-    requires { conn.old.owed ≡ [] }
+    requires { conn.old.outgoing ≡ [] }
     ensures { Works S.steps now.ms now.news server.old conn.old server.new conn.new }
 {
     let fate = conn.status.fate;

@@ -11,7 +11,7 @@ use super::control::Control;
 use crate::OutOfMemory;
 use crate::outcome::Outcome;
 use radio_changes::Change;
-use radio_events::{Asked, Command, CommandRequest, Reply, Text};
+use radio_events::{Asked, Command, CommandRequest, Reply, ReplyText};
 use radio_facts::command_facts;
 use radio_house::Standing;
 use radio_policy::{Action, Verdict, judge};
@@ -57,7 +57,7 @@ impl Control {
         }
     }
 
-    /// The client is shown what he asked for, or the command is done; where it is none, which the
+    /// The client is shown what it asked for, or the command is done; where it is none, which the
     /// policy denies, nothing happens.
     fn allowed(&self, asked: CommandRequest) -> Result<Outcome, OutOfMemory>
         ensures { IfOk result (λ o. o ≡ uncounted (does_asked self.now asked.id asked.asked)) }
@@ -78,12 +78,12 @@ impl Control {
 }
 
 /// What is said of a command, before it is known how many it has moved or finished.
-fn said_of(command: &Command) -> Text
+fn said_of(command: &Command) -> ReplyText
     ensures { (counts : CarriedOf) → result ≡ told_counts (said_of command.now counts) nobody }
 {
     match command {
-        Command::MoveClients { .. } => Text::Moved(0),
-        Command::AddUser { .. } | Command::DeleteUser { .. } => Text::Ended(0),
-        _ => Text::Done,
+        Command::MoveClients { .. } => ReplyText::Moved(0),
+        Command::AddUser { .. } | Command::DeleteUser { .. } => ReplyText::Ended(0),
+        _ => ReplyText::Done,
     }
 }

@@ -25,7 +25,7 @@ use radio_parts::{Session, Stream};
 use radio_seats::LentSeat;
 use radio_values::MountName;
 
-/// What a draw comes to: the reply, and the place up to which the listener has heard his stream then, if he is handed anything.
+/// What a draw comes to: the reply, and the place up to which the listener has heard its stream then, if it is handed anything.
 #[derive(Drop)]
 pub(crate) struct Drawing {
     pub reply: Reply,
@@ -49,7 +49,7 @@ impl Drawing {
         }
     }
 
-    /// This reply, and he hears on where he is.
+    /// This reply, and it hears on where it is.
     fn of(reply: Reply) -> Drawing
         ensures { (result.reply ≡ reply) × (result.place ≡ None) }
     {
@@ -82,7 +82,7 @@ impl Control {
         }
     }
 
-    /// He is handed what stands at his place, or what is kept first if it was forgotten.
+    /// It is handed what stands at its place, or what is kept first if it was forgotten.
     pub(super) fn hand_out(
         &self,
         id: u64,

@@ -21,13 +21,13 @@ use radio_seats_rows::Seat;
 use radio_values::{MountName, Shown};
 use std::alloc::Global;
 
-/// One who may hear the mount that he asked for.
+/// One who may hear the mount that it asked for.
 #[derive(Clone, Copy)]
-struct Welcome {
+struct AdmittedGuest {
     peer: Peer,
-    /// The mount that he asked for.
+    /// The mount that it asked for.
     home: MountName,
-    /// Where his walk from there ends.
+    /// Where its walk from there ends.
     landing: Landing,
 }
 
@@ -42,9 +42,9 @@ impl Control {
         }
     }
 
-    /// The client, the mount and where his walk ends, if he may hear it, or what else comes of his
+    /// The client, the mount and where its walk ends, if it may hear it, or what else comes of its
     /// asking.
-    fn may_listen(&self, asked: &ListenRequest) -> Result<Welcome, Outcome>
+    fn may_listen(&self, asked: &ListenRequest) -> Result<AdmittedGuest, Outcome>
         ensures { MatchResult result
             (λ may. (may.home ≡ asked.now.mount) × (asks_to_hear self.now asked.now ≡ sits_where self.now.house asked.now may.peer may.landing))
             (λ other. other ≡ asks_to_hear self.now asked.now) }
@@ -61,7 +61,7 @@ impl Control {
         let (facts, landing) = listen_facts(&house, self.seats(), &home, asked.pair.as_ref());
         match judge(&Action::Listen(Some(facts))) {
             Verdict::Deny(rule) => Err(Outcome::refused(rule, asked.id)),
-            Verdict::Allow => Ok(Welcome {
+            Verdict::Allow => Ok(AdmittedGuest {
                 peer,
                 home,
                 landing,
@@ -69,8 +69,12 @@ impl Control {
         }
     }
 
-    /// The listener sits down where his walk has landed.
-    fn sit_where(&self, asked: ListenRequest, welcome: Welcome) -> Result<Outcome, OutOfMemory>
+    /// The listener sits down where its walk has landed.
+    fn sit_where(
+        &self,
+        asked: ListenRequest,
+        welcome: AdmittedGuest,
+    ) -> Result<Outcome, OutOfMemory>
         requires { welcome.home ≡ asked.mount }
         ensures { IfOk result (λ o. o ≡ sits_where self.now.house asked welcome.peer welcome.landing) }
     {
@@ -85,7 +89,7 @@ impl Control {
     fn take_seat(
         &self,
         asked: ListenRequest,
-        welcome: Welcome,
+        welcome: AdmittedGuest,
         mount: &MountName,
     ) -> Result<Outcome, OutOfMemory>
         requires { welcome.home ≡ asked.mount }
@@ -101,7 +105,7 @@ impl Control {
     fn wait_there(
         &self,
         asked: ListenRequest,
-        welcome: Welcome,
+        welcome: AdmittedGuest,
         mount: &MountName,
     ) -> Result<Outcome, OutOfMemory>
         requires { welcome.home ≡ asked.mount }
@@ -119,7 +123,7 @@ impl Control {
     fn await_session(
         &self,
         asked: ListenRequest,
-        welcome: Welcome,
+        welcome: AdmittedGuest,
         mount: &MountName,
     ) -> Result<Outcome, OutOfMemory>
         requires { welcome.home ≡ asked.mount }
@@ -142,7 +146,7 @@ impl Control {
     fn welcome(
         &self,
         asked: ListenRequest,
-        welcome: Welcome,
+        welcome: AdmittedGuest,
         session: &Session,
     ) -> Result<Outcome, OutOfMemory>
         requires { welcome.home ≡ asked.mount }
@@ -172,13 +176,13 @@ fn first_seat(
     alloc: Global,
     house: &House<'_>,
     asked: ListenRequest,
-    welcome: Welcome,
+    welcome: AdmittedGuest,
     session: &Session,
 ) -> Result<Seat, OutOfMemory>
     requires { welcome.home ≡ asked.mount }
     ensures { IfOk result (λ seat. seat ≡ first_seat house.now asked welcome.peer session.now) }
 {
-    let Welcome {
+    let AdmittedGuest {
         peer,
         home: asked_for,
         ..

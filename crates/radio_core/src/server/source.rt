@@ -42,7 +42,7 @@ impl Control {
         })
     }
 
-    /// The mount that the client may feed, or what else comes of his asking.
+    /// The mount that the client may feed, or what else comes of its asking.
     fn may_feed(&self, asked: &SourceRequest) -> Result<MountName, Outcome>
         ensures { MatchResult result (λ mount. (mount ≡ asked.now.mount) × (asks_to_feed self.now asked.now ≡ begins self.now.house asked.now))
             (λ other. other ≡ asks_to_feed self.now asked.now) }

@@ -4,7 +4,7 @@ ghost use Rattle.std.specs.Prelude.{◌≡◌, map};
 ghost use Rattle.radio_core.specs.Planned.{told_counts, with_counts};
 ghost use Rattle.radio_events.specs.declared.reply.Reply.{Reply as ReplyOf};
 
-use radio_events::{Reply, Text};
+use radio_events::{Reply, ReplyText};
 use radio_fallback::Carried;
 
 /// The reply, with these for the number of those who were moved, or have finished, if it tells one.
@@ -17,12 +17,12 @@ pub(super) fn with_counts(reply: Reply, counts: Carried) -> Reply
     }
 }
 
-fn told_counts(text: Text, counts: Carried) -> Text
+fn told_counts(text: ReplyText, counts: Carried) -> ReplyText
     ensures { result ≡ told_counts text counts }
 {
     match text {
-        Text::Moved(_) => Text::Moved(counts.moved),
-        Text::Ended(_) => Text::Ended(counts.ended),
+        ReplyText::Moved(_) => ReplyText::Moved(counts.moved),
+        ReplyText::Ended(_) => ReplyText::Ended(counts.ended),
         text => text,
     }
 }

@@ -11,7 +11,7 @@ use crate::{OutOfMemory, WebAnswers};
 use bytes::Bytes;
 use radio_admin::{CommandKind, read_path};
 use radio_creds::{Pair, basic};
-use radio_events::{Asked, Boxed, CommandRequest, Event, ListenRequest, SourceRequest, Visit};
+use radio_events::{Asked, Boxed, CommandRequest, Event, ListenRequest, PageVisit, SourceRequest};
 use radio_heads::{DEFAULT_CONTENT_TYPE, Head};
 use radio_values::{About, Shown};
 use std::alloc::Global;
@@ -22,7 +22,7 @@ const ICECAST_STATUS: &[u8] = b"/status-json.xsl";
 /// What the paths of commands begin with.
 const COMMANDS: &[u8] = b"/admin/";
 
-/// The event of a client who asks to feed the mount of his head's path. `OutOfMemory` where memory
+/// The event of a client who asks to feed the mount of its head's path. `OutOfMemory` where memory
 /// was refused.
 pub(crate) fn asks_to_feed(alloc: Global, id: u64, head: &Head) -> Result<Event, OutOfMemory>
     ensures { IfOk result (λ event. event ≡ asks_to_feed id head.now) }
@@ -39,7 +39,7 @@ pub(crate) fn asks_to_feed(alloc: Global, id: u64, head: &Head) -> Result<Event,
     Ok(Event::Source(Boxed::new(alloc, request)?))
 }
 
-/// The event of a client who asks by GET: for a command where his head's path begins with `/admin/`,
+/// The event of a client who asks by GET: for a command where its head's path begins with `/admin/`,
 /// or is that of the status, and else to hear the mount of it. `OutOfMemory` where memory was refused.
 pub(crate) fn asks_by_get(
     alloc: Global,
@@ -88,16 +88,21 @@ fn asks_to_hear(
 }
 
 /// What a page may say of the server to a client that asks for this path. `OutOfMemory` if memory was refused.
-fn visit_for(alloc: Global, web: WebAnswers, path: &[u8], head: &Head) -> Result<Visit, OutOfMemory>
+fn visit_for(
+    alloc: Global,
+    web: WebAnswers,
+    path: &[u8],
+    head: &Head,
+) -> Result<PageVisit, OutOfMemory>
     ensures { IfOk result (λ visit. visit ≡ visit_for web path.now head.now) }
 {
-    Ok(Visit {
+    Ok(PageVisit {
         host: Bytes::copy_from_slice(alloc, host_for(path, head))?,
         server_start: web.server_start,
     })
 }
 
-/// The host by which the client calls the server, where he asks for what is told in full addresses.
+/// The host by which the client calls the server, where it asks for what is told in full addresses.
 fn host_for<'b>(path: &[u8], head: &Head<'b>) -> &'b [u8]
     ensures { result.now ≡ host_for path.now head.now }
 {

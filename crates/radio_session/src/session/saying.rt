@@ -13,7 +13,7 @@ use radio_answers::{
     append_answer, append_continue, append_denial, append_stream_head, append_text,
 };
 use radio_blocks::Pieces;
-use radio_events::{Ending, Reply, State, StreamHead, Text};
+use radio_events::{Ending, Reply, ReplyText, State, StreamHead};
 use radio_heads::Answer;
 use radio_policy::Rule;
 use std::alloc::{AllocError, Global};
@@ -130,7 +130,7 @@ impl Session {
     }
 
     /// A command was done, and this is said of it.
-    fn tell_text(&self, text: &Text, out: &mut Vec<u8>) -> Result<State, OutOfMemory>
+    fn tell_text(&self, text: &ReplyText, out: &mut Vec<u8>) -> Result<State, OutOfMemory>
         ensures bytes { IfOk result (λ _. out.new.items ≡ out.old.items ++ (texted self.now.says text.now).bytes) }
         ensures state { IfOk result (λ state. state ≡ (texted self.now.says text.now).state) }
         ensures silent { OnErr result (out.new.items ≡ out.old.items) }

@@ -15,7 +15,7 @@ use radio_icy::laws::joined_weaving;
 use radio_values::Title;
 use std::alloc::Global;
 
-/// What puts metadata between the data of a listener with this interval, if he is sent any.
+/// What puts metadata between the data of a listener with this interval, if it is sent any.
 pub(super) fn weaver_at(alloc: Global, interval: Option<u32>) -> Option<Weaver>
     ensures { result ≡ weaver_at interval }
 {

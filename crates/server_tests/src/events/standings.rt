@@ -27,7 +27,7 @@ const STRAY_EVENTS: &[(Call, &str)] = &[
     (Call::Draw(2, 9), "drawn abcd"),
 ];
 
-/// A listener is handed the stream piece by piece, as he has room and as it grows.
+/// A listener is handed the stream piece by piece, as it has room and as it grows.
 const PIECE_BY_PIECE: &[(Call, &str)] = &[
     (Call::Draw(2, 3), "drawn abc"),
     (Call::Push(1, "efgh"), "noted"),
@@ -89,7 +89,7 @@ const SOURCE_LEAVES: &[(Call, &str)] = &[
     (Call::Draw(4, 9), "drawn new"),
 ];
 
-/// Each rule of the policy that can be met in a test; one who is denied has had his answer.
+/// Each rule of the policy that can be met in a test; one who is denied has had its answer.
 const DENIALS: &[(Call, &str)] = &[
     (Call::Source(3, "/a"), "deny mount-in-use"),
     (Call::Source(3, "/b"), "stray"),

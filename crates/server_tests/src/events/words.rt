@@ -6,7 +6,7 @@ use crate::calls::{
 use radio_access::Lists;
 use radio_blocks::Pieces;
 use radio_core::{Core, OutOfMemory};
-use radio_events::{Asked, Command, Event, Listing, OpenedBy, Reply, Text};
+use radio_events::{Asked, Command, Event, Listing, OpenedBy, Reply, ReplyText};
 use radio_settings::{SettingsFault, read_settings};
 use radio_values::{MountName, Shown};
 use std::alloc::Global;
@@ -235,15 +235,15 @@ fn told(alloc: Global, reply: &Reply) -> Result<String, OutOfMemory> {
     }
 }
 
-fn told_text(alloc: Global, answer: &Text) -> Result<String, OutOfMemory> {
+fn told_text(alloc: Global, answer: &ReplyText) -> Result<String, OutOfMemory> {
     match answer {
-        Text::Done => "done".to_string(alloc),
-        Text::Moved(count) => format!(in alloc; "moved {count}"),
-        Text::Ended(count) => format!(in alloc; "ended {count}"),
-        Text::Json(bytes) | Text::Streams(bytes) | Text::Public { bytes, .. } => {
+        ReplyText::Done => "done".to_string(alloc),
+        ReplyText::Moved(count) => format!(in alloc; "moved {count}"),
+        ReplyText::Ended(count) => format!(in alloc; "ended {count}"),
+        ReplyText::Json(bytes) | ReplyText::Streams(bytes) | ReplyText::Public { bytes, .. } => {
             text(bytes.as_slice()).to_string(alloc)
         }
-        Text::Page { .. } => "page".to_string(alloc),
+        ReplyText::Page { .. } => "page".to_string(alloc),
     }
 }
 

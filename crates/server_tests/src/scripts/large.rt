@@ -44,7 +44,7 @@ fn sixteen_mebibytes(alloc: Global) -> Result<Vec<Delivery>, OutOfMemory> {
     large_delivery(alloc, BOTH, brought, 4)
 }
 
-/// Whether they come to a transcript that ends with a listener too far behind, as so many bytes leave him.
+/// Whether they come to a transcript that ends with a listener too far behind, as so many bytes leave it.
 fn ends_with_a_laggard(alloc: Global, all: &[Delivery]) -> bool {
     match run_at_station(alloc, all) {
         Ok(Ok(text)) => text.as_slice().ends_with(b"shut 2 lagged\n"),

@@ -5,12 +5,12 @@ ghost use Rattle.radio_intake.specs.Passes.{all_parts};
 
 use crate::memory_line::{Manners, MemoryLine};
 use radio_addr::Peer;
-use radio_book::{House, Kept, Pass};
+use radio_book::{Kept, Origin, Pass};
 use radio_intake::{Intake, IntakePass};
 use radio_locks::Hall;
 use radio_notes::Log;
 use radio_serving::Turn;
-use radio_workers::{Call, OutOfMemory, Post, Seat, Seen, add_seat};
+use radio_workers::{OutOfMemory, Seen, TurnSource, TurnStart, WorkerSlot, add_slot};
 use std::alloc::Global;
 use std::sync::Wait;
 
@@ -21,16 +21,16 @@ pub struct MemoryPost {
     ms: u64,
 }
 
-impl Post<Manners, MemoryLine> for MemoryPost {
-    fn next(&mut self, _log: &Log) -> Option<Call> {
+impl TurnSource<Manners, MemoryLine> for MemoryPost {
+    fn next(&mut self, _log: &Log) -> Option<TurnStart> {
         self.ms = self.ms.saturating_add(1);
-        Some(Call {
+        Some(TurnStart {
             turn: Turn {
                 ms: self.ms,
                 news: true,
                 told_ms: 0,
             },
-            comings: 1,
+            newcomers: 1,
         })
     }
 
@@ -55,10 +55,10 @@ impl Post<Manners, MemoryLine> for MemoryPost {
 }
 
 /// Seats of workers over lines in memory.
-pub type Seats<H> = Vec<Seat<Pass<Kept, H>, Manners, MemoryPost>>;
+pub type Seats<H> = Vec<WorkerSlot<Pass<Kept, H>, Manners, MemoryPost>>;
 
 /// Adds seats for two workers.
-fn add_two<H: House, R: Wait>(
+fn add_two<H: Origin, R: Wait>(
     rt: &R,
     alloc: Global,
     hall: &Hall<Kept, H>,
@@ -73,14 +73,14 @@ fn add_two<H: House, R: Wait>(
     ensures parts { OnOk result (pass.new.parts ≡ pass.old.parts - 2) }
     ensures seats { OnOk result (All (λ seat. seat.hand.intake ≡ intake.now) seats.new.items) }
 {
-    add_seat(
+    add_slot(
         seats,
         intake,
         pass,
         hall.pass(rt),
         MemoryPost { alloc, ms: 0 },
     )?;
-    add_seat(
+    add_slot(
         seats,
         intake,
         pass,
@@ -90,7 +90,7 @@ fn add_two<H: House, R: Wait>(
 }
 
 /// Adds seats for two workers, or for four.
-fn add_workers<H: House, R: Wait>(
+fn add_workers<H: Origin, R: Wait>(
     rt: &R,
     alloc: Global,
     hall: &Hall<Kept, H>,
@@ -113,7 +113,7 @@ fn add_workers<H: House, R: Wait>(
 }
 
 /// Seats for two workers, or for four.
-pub fn seats_for<H: House, R: Wait>(
+pub fn seats_for<H: Origin, R: Wait>(
     rt: &R,
     alloc: Global,
     hall: &Hall<Kept, H>,
@@ -131,8 +131,8 @@ pub fn seats_for<H: House, R: Wait>(
     Ok(seats)
 }
 
-/// Adds the passes of these workers. Whether each has had his back.
-pub fn add_passes<H: House>(seats: Seats<H>, passes: &mut Vec<Pass<Kept, H>>) -> bool {
+/// Adds the passes of these workers. Whether each has had its back.
+pub fn add_passes<H: Origin>(seats: Seats<H>, passes: &mut Vec<Pass<Kept, H>>) -> bool {
     let mut are_added = true;
     for seat in seats {
         if !add_pass(seat, passes) {
@@ -142,11 +142,11 @@ pub fn add_passes<H: House>(seats: Seats<H>, passes: &mut Vec<Pass<Kept, H>>) ->
     are_added
 }
 
-fn add_pass<H: House>(
-    seat: Seat<Pass<Kept, H>, Manners, MemoryPost>,
+fn add_pass<H: Origin>(
+    seat: WorkerSlot<Pass<Kept, H>, Manners, MemoryPost>,
     passes: &mut Vec<Pass<Kept, H>>,
 ) -> bool {
-    let Seat { pass, .. } = seat;
+    let WorkerSlot { pass, .. } = seat;
     match pass {
         Some(pass) => passes.push(pass).is_ok(),
         None => false,

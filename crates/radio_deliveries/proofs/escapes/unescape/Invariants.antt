@@ -1,6 +1,6 @@
 use Rattle.std.proofs.Common.{◌≡◌, ◌++◌, drop}
 use Rattle.std.specs.Option.{option_map}
-use Rattle.radio_deliveries.specs.declared.escapes.Place.TheVariants.{Between}
+use Rattle.radio_deliveries.specs.declared.escapes.EscapePlace.TheVariants.{Between}
 use Rattle.radio_deliveries.specs.Escapes.{unescaped_from}
 use Rattle.radio_deliveries.proofs.escapes.unescape.Given as goal
 

@@ -1,7 +1,7 @@
 use Rattle.std.proofs.Common.{◌≡◌, ◌≢◌, ap, subst}
 use Rattle.std.proofs.lemmas.Result.{IfOk-weaker}
 use Rattle.radio_relay.specs.declared.fault.PullFault.TheVariants.{OutOfMemory}
-use Rattle.radio_relay.specs.declared.pull.Stage.{Stage}
+use Rattle.radio_relay.specs.declared.pull.PullStage.{PullStage}
 use Rattle.radio_relay.specs.Pulled.{stops}
 use Rattle.radio_events.specs.declared.state.State.TheVariants.{Shut}
 use Rattle.radio_events.specs.declared.state.Ending.TheVariants.{BadPull}
@@ -17,7 +17,7 @@ returns-in-Err g c =
     let bytes = c.args.bytes.now in
     let from = c.args.server.now in
     let to = c.give_up.new.server in
-    let with_stage = λ (stage : Stage). let p : Pulling = record { mount = inside.mount; number = inside.number; stage = stage } in p in
+    let with_stage = λ (stage : PullStage). let p : Pulling = record { mount = inside.mount; number = inside.number; stage = stage } in p in
     let after = with_stage c.feed.new.self in
     IfOk-weaker c.give_up.result
     (λ state. (fault ≢ OutOfMemory) × GoesDown steps inside.number from to × (state ≡ Shut BadPull))

@@ -1,13 +1,13 @@
 use Rattle.std.proofs.Common.{◌≡◌, ◌<◌, ◌≤◌, ◌+◌, ℕ, Bool, true, false, List, length, nat_lt, refl, ap, arith}
 use Rattle.std.proofs.lemmas.Bool.Decides.{nat_tests}
 use Rattle.std.proofs.lemmas.List.{length-take}
-use Rattle.radio_masters.specs.declared.turns.Waiting.{Waiting}
+use Rattle.radio_masters.specs.declared.turns.WaitingRelay.{WaitingRelay}
 use Rattle.radio_tries.specs.Tries.{free_places}
 use Rattle.radio_pullers.specs.Running.{IsChosen}
 use Rattle.radio_pullers.proofs.laws.relays_fit_the_sources.Goals as goal
 
 -- no more begin than there are free places
-few : (ms sources running kept : ℕ) (waiting chosen : List Waiting) → IsChosen ms sources running kept waiting chosen → length chosen ≤ free_places sources running kept
+few : (ms sources running kept : ℕ) (waiting chosen : List WaitingRelay) → IsChosen ms sources running kept waiting chosen → length chosen ≤ free_places sources running kept
 few ms sources running kept waiting chosen is = by_test (nat_lt 0 (free_places sources running kept)) refl where
   by_test : (b : Bool) → nat_lt 0 (free_places sources running kept) ≡ b → length chosen ≤ free_places sources running kept
   by_test true e =

@@ -2,8 +2,8 @@ use Rattle.radio_house.specs.World.{opening}
 use Rattle.radiod.proofs.serving.serve_station.Given as goal
 
 -- the house that is opened here
-abbrev pub ghosts-serve_in-H-House : goal.ghosts-serve_in-H-House
-ghosts-serve_in-H-House g a = record { opening = opening a.station.settings a.station.lists }
+abbrev pub ghosts-serve_in-H-Origin : goal.ghosts-serve_in-H-Origin
+ghosts-serve_in-H-Origin g a = record { opening = opening a.station.settings a.station.lists }
 
 abbrev pub ghosts-serve_in-H-Ledger : goal.ghosts-serve_in-H-Ledger
 ghosts-serve_in-H-Ledger g a = record { name = a.blank.name; parts = a.blank.parts }

@@ -3,8 +3,8 @@ use Rattle.radio_house.specs.World.{opening}
 use Rattle.server_tests.proofs.halls.went_well.Given as goal
 
 -- the house that is opened here
-abbrev pub ghosts-goes_well-H-House : goal.ghosts-goes_well-H-House
-ghosts-goes_well-H-House g a = record { opening = opening a.settings no_lists }
+abbrev pub ghosts-goes_well-H-Origin : goal.ghosts-goes_well-H-Origin
+ghosts-goes_well-H-Origin g a = record { opening = opening a.settings no_lists }
 
 abbrev pub ghosts-goes_well-H-Ledger : goal.ghosts-goes_well-H-Ledger
 ghosts-goes_well-H-Ledger g a = record { name = a.blank.name; parts = a.blank.parts }

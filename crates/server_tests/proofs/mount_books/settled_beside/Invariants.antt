@@ -3,8 +3,8 @@ use Rattle.radio_house.specs.World.{opening}
 use Rattle.server_tests.proofs.mount_books.settled_beside.Given as goal
 
 -- the house that is opened here
-abbrev pub ghosts-are_settled-H-House : goal.ghosts-are_settled-H-House
-ghosts-are_settled-H-House a = record { opening = opening a.settings no_lists }
+abbrev pub ghosts-are_settled-H-Origin : goal.ghosts-are_settled-H-Origin
+ghosts-are_settled-H-Origin a = record { opening = opening a.settings no_lists }
 
 abbrev pub ghosts-are_settled-H-Ledger : goal.ghosts-are_settled-H-Ledger
 ghosts-are_settled-H-Ledger a = record { name = a.blank.name; parts = a.blank.parts }

@@ -3,8 +3,8 @@ use Rattle.radio_house.specs.World.{opening}
 use Rattle.server_tests.proofs.unkept.alike_beside.Given as goal
 
 -- the house that is opened here
-abbrev pub ghosts-count_alike-H-House : goal.ghosts-count_alike-H-House
-ghosts-count_alike-H-House g a = record { opening = opening a.settings no_lists }
+abbrev pub ghosts-count_alike-H-Origin : goal.ghosts-count_alike-H-Origin
+ghosts-count_alike-H-Origin g a = record { opening = opening a.settings no_lists }
 
 abbrev pub ghosts-count_alike-H-Ledger : goal.ghosts-count_alike-H-Ledger
 ghosts-count_alike-H-Ledger g a = record { name = a.blank.name; parts = a.blank.parts }

@@ -2,8 +2,8 @@ use Rattle.radio_hall.specs.Words.{no_lists, opening}
 use Rattle.surface_tests.proofs.stations.book_is_asked.Given as goal
 
 -- the house that is opened here
-abbrev pub ghosts-is_asked_book-H-House : goal.ghosts-is_asked_book-H-House
-ghosts-is_asked_book-H-House a = record { opening = opening a.settings no_lists }
+abbrev pub ghosts-is_asked_book-H-Origin : goal.ghosts-is_asked_book-H-Origin
+ghosts-is_asked_book-H-Origin a = record { opening = opening a.settings no_lists }
 
 abbrev pub ghosts-is_asked_book-H-Ledger : goal.ghosts-is_asked_book-H-Ledger
 ghosts-is_asked_book-H-Ledger a = record { name = a.blank.name; parts = a.blank.parts }

@@ -2,8 +2,8 @@ use Rattle.radio_hall.specs.Words.{no_lists, opening}
 use Rattle.surface_tests.proofs.stations.hall_is_asked.Given as goal
 
 -- the house that is opened here
-abbrev pub ghosts-is_asked_hall-H-House : goal.ghosts-is_asked_hall-H-House
-ghosts-is_asked_hall-H-House g a = record { opening = opening a.settings no_lists }
+abbrev pub ghosts-is_asked_hall-H-Origin : goal.ghosts-is_asked_hall-H-Origin
+ghosts-is_asked_hall-H-Origin g a = record { opening = opening a.settings no_lists }
 
 abbrev pub ghosts-is_asked_hall-H-Ledger : goal.ghosts-is_asked_hall-H-Ledger
 ghosts-is_asked_hall-H-Ledger g a = record { name = a.blank.name; parts = a.blank.parts }

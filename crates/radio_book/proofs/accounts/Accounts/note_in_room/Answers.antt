@@ -19,7 +19,7 @@ invariant_of-self-clause-by_entries g c =
     let replies = sym c.apart-first.ensures ∙ step.1 in
     let first : c.apart-first.result.0 ≡ step.0 = cc in
     let before = common_of c.args.self.now.control in
-    told_more g.C.Chronicle.KEEPS g.H.House.opening lines.items c.note.new.self.items c.args.self.now.control c.step3_over.new.control made
+    told_more g.C.Chronicle.KEEPS g.H.Origin.opening lines.items c.note.new.self.items c.args.self.now.control c.step3_over.new.control made
     (stepped_common c.args.lent.now c.step3_over.new.lent c.args.self.now.control c.step3_over.new.control c.args.event step.0 step.2
     ∙ ap (λ (e : Event). common_after before e step.0) (sym c.requires.copies.0) ∙ ap (common_after before c.args.copies.noted) (sym first))
     (λ kept. ap entries_in noted ∙ noted_entries lines.items cuts.0 c.step3_over.new.lent made cuts.1) c.args.self.now.by_entries
@@ -33,6 +33,6 @@ invariant_of-self-in-Err-1 g c =
       left = before.left;
       none = before.none;
       by_entries =
-          told_still g.C.Chronicle.KEEPS g.H.House.opening before.lines.items before.lines.items before.control c.step3_over.new.control refl
+          told_still g.C.Chronicle.KEEPS g.H.Origin.opening before.lines.items before.lines.items before.control c.step3_over.new.control refl
           (as_before_common c.args.lent.now c.step3_over.new.lent before.control c.step3_over.new.control c.in-Err.ensures.err) before.by_entries;
     }

@@ -4,5 +4,5 @@ use Rattle.radio_book.proofs.accounts.Accounts.part_of.Goals as goal
 
 pub invariant_of-self-clause-by_entries : goal.invariant_of-self-clause-by_entries
 invariant_of-self-clause-by_entries g c =
-    told_still g.C.Chronicle.KEEPS g.H.House.opening c.args.self.now.lines.items c.args.self.now.lines.items c.args.self.now.control c.take_out.new.self refl
+    told_still g.C.Chronicle.KEEPS g.H.Origin.opening c.args.self.now.lines.items c.args.self.now.lines.items c.args.self.now.control c.take_out.new.self refl
     (taken_common _ c.args.self.now.control c.take_out.new.self c.take_out.result c.take_out.ensures.out c.take_out.ensures.err) c.args.self.now.by_entries

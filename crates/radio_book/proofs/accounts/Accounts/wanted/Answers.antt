@@ -11,10 +11,10 @@ invariant_of-self-clause-by_entries g c =
       lends = c.lend_each.ensures;
       takes_back = c.take_back_each.ensures;
     } in
-    told_still g.C.Chronicle.KEEPS g.H.House.opening c.args.self.now.lines.items c.args.self.now.lines.items c.args.self.now.control c.take_back_each.new.control refl
+    told_still g.C.Chronicle.KEEPS g.H.Origin.opening c.args.self.now.lines.items c.args.self.now.lines.items c.args.self.now.control c.take_back_each.new.control refl
     (as_before_common c.args.lent.now c.take_back_each.new.lent c.args.self.now.control c.take_back_each.new.control as_before) c.args.self.now.by_entries
 
 pub returns-clause-legal : goal.returns-clause-legal
 returns-clause-legal g c =
-    legal_wanted g.C.Chronicle.KEEPS g.H.House.opening (λ mounts. mounts.items) c.args.self.now.lines.items c.args.lent.now c.lend_each.new.lent
+    legal_wanted g.C.Chronicle.KEEPS g.H.Origin.opening (λ mounts. mounts.items) c.args.self.now.lines.items c.args.lent.now c.lend_each.new.lent
     c.args.self.now.control c.lend_each.new.control c.wanted-wanted.result c.lend_each.ensures c.wanted-wanted.ensures c.args.self.now.by_entries

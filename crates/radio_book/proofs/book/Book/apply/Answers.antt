@@ -12,8 +12,8 @@ returns-else-KEEPS-clause-same g c =
 
 pub returns-then-KEEPS-clause-legal : goal.returns-then-KEEPS-clause-legal
 returns-then-KEEPS-clause-legal g c =
-    legal_reply g.C.Chronicle.KEEPS g.H.House.opening _ c.args.lent.now c.note.new.lent _ _ c.args.event c.note.result c.note.ensures.step c.self.inside.accounts.by_entries
+    legal_reply g.C.Chronicle.KEEPS g.H.Origin.opening _ c.args.lent.now c.note.new.lent _ _ c.args.event c.note.result c.note.ensures.step c.self.inside.accounts.by_entries
 
 pub returns-else-KEEPS-clause-legal : goal.returns-else-KEEPS-clause-legal
 returns-else-KEEPS-clause-legal g c =
-    legal_reply g.C.Chronicle.KEEPS g.H.House.opening _ c.args.lent.now c.answer.new.lent _ _ c.args.event c.answer.result c.answer.ensures.step c.self.inside.accounts.by_entries
+    legal_reply g.C.Chronicle.KEEPS g.H.Origin.opening _ c.args.lent.now c.answer.new.lent _ _ c.args.event c.answer.result c.answer.ensures.step c.self.inside.accounts.by_entries

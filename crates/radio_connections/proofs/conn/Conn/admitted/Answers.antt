@@ -56,5 +56,5 @@ returns-in_default-clause-denial g c =
     let given = g.L.Line.given c.args.line in
     let taken = g.L.Line.taken c.args.line in
     if_ok_more (λ (x : Connection). IsTurnedAway c.args.web c.args.reply given taken c.args.ms x)
-    (λ (x : Connection). (rule : Rule) → c.args.reply ≡ Deny rule → x.owed ≡ (said (asking c.args.web) (Deny rule)).bytes)
-    (λ x away rule denied. away.owed ∙ ap (λ (r : Reply). (said (asking c.args.web) r).bytes) denied) c.turned_away.result c.turned_away.ensures
+    (λ (x : Connection). (rule : Rule) → c.args.reply ≡ Deny rule → x.outgoing ≡ (said (asking c.args.web) (Deny rule)).bytes)
+    (λ x away rule denied. away.outgoing ∙ ap (λ (r : Reply). (said (asking c.args.web) r).bytes) denied) c.turned_away.result c.turned_away.ensures

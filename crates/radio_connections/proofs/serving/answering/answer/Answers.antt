@@ -1,7 +1,7 @@
 use Rattle.std.proofs.Common.{◌≡◌, inl, inr, sym, Bool, ◌||◌, ◌&&◌, [], ◌∷◌, refl, ◌∙◌, ap}
 use Rattle.radio_events.specs.Events.{entry}
 use Rattle.radio_connections.specs.Connections.{Connection}
-use Rattle.radio_connections.specs.declared.conn.Status.{Status}
+use Rattle.radio_connections.specs.declared.conn.ConnStatus.{ConnStatus}
 use Rattle.radio_connections.specs.declared.conn.Fate.TheVariants.{Open}
 use Rattle.radio_connections.specs.Course.{is_listen, is_seated}
 use Rattle.radio_connections.proofs.Standing.{answered_as}
@@ -15,11 +15,11 @@ returns-in-Ok g c =
     let made = entry c.args.event c.in-Ok.reply in
     let before = c.conn.inside.status in
     let goes : before.fate ≡ Open = ap (λ (o : Connection). o.status.fate) c.conn.view_is ∙ c.requires in
-    let sits = ap (λ (s : Status). s.sits) c.note.ensures
+    let sits = ap (λ (s : ConnStatus). s.sits) c.note.ensures
     ∙ ap (λ (b : Bool). b || before.sits) (c.both-sits.ensures ∙ ap (λ (b : Bool). b && c.is_seated.result) c.is_listen-listens.ensures
     ∙ ap (λ (b : Bool). is_listen c.args.event && b) c.is_seated.ensures) in
     let over = c.pass_over_if.ensures in
-    let left = ap (λ (s : Status). s.has_left) c.note.ensures ∙ ap (λ (b : Bool). b || before.has_left) c.is_leave-leaves.ensures in (
+    let left = ap (λ (s : ConnStatus). s.has_left) c.note.ensures ∙ ap (λ (b : Bool). b || before.has_left) c.is_leave-leaves.ensures in (
       made ∷ [],
       chain_one g.S.Server.steps c.args.server.now c.apply.new.server made c.in-Ok.ensures.ok,
       answered_as_one c.conn.view_is (record {
@@ -36,14 +36,14 @@ returns-in-Ok g c =
           given = over.given;
           unwritten = record {
             taken = over.taken;
-            moved = ap (λ (s : Status). s.moved_ms) c.note.ensures;
-            has_taken = ap (λ (s : Status). s.has_taken) c.note.ensures;
-            finished = ap (λ (s : Status). s.is_finished) c.note.ensures;
+            moved = ap (λ (s : ConnStatus). s.moved_ms) c.note.ensures;
+            has_taken = ap (λ (s : ConnStatus). s.has_taken) c.note.ensures;
+            finished = ap (λ (s : ConnStatus). s.is_finished) c.note.ensures;
           };
           closed = c.tell-conn-inside.ensures.closed;
           cut = λ e. inl (c.tell-conn-inside.ensures.cut e);
         };
-        asked = ap (λ (s : Status). s.asked_ms) c.note.ensures;
+        asked = ap (λ (s : ConnStatus). s.asked_ms) c.note.ensures;
       }),
     )
 

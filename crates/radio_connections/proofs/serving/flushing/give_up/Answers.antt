@@ -14,7 +14,7 @@ returns-then-is_past-clause-patient g c =
       in_time = λ written. absurd written;
       noted = refl;
       taken = refl;
-      owed = refl;
+      outgoing = refl;
     })
 
 pub returns-else-is_past-clause-patient : goal.returns-else-is_past-clause-patient
@@ -22,7 +22,7 @@ returns-else-is_past-clause-patient g c =
     patient_as c.conn.view_is (record {
       served =
           served_by_note _ _ (record { id = refl; sits = refl; left = refl }) (later_same refl refl refl)
-          (record { id = refl; given = refl; taken = refl; owed = refl; session = refl }) refl;
+          (record { id = refl; given = refl; taken = refl; outgoing = refl; session = refl }) refl;
       goes = λ e. e;
       unread = unread_same refl;
       closed = λ e. e;
@@ -30,5 +30,5 @@ returns-else-is_past-clause-patient g c =
       in_time = λ written. lt_by _ _ (sym c.is_past.ensures ∙ c.if-is_past.false);
       noted = refl;
       taken = refl;
-      owed = refl;
+      outgoing = refl;
     })

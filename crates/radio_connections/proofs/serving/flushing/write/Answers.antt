@@ -18,24 +18,24 @@ returns-in-Took g c =
     flushed_as c.conn.view_is (record {
       served =
           served_by_write _ _ c.in-Took.count (record { id = refl; sits = refl; left = refl })
-          (later_by_write (Took c.in-Took.count) (take c.in-Took.count c.conn.inside.owed) c.in-Took.ensures.calls taken refl)
+          (later_by_write (Took c.in-Took.count) (take c.in-Took.count c.conn.inside.outgoing) c.in-Took.ensures.calls taken refl)
           (subst (λ (o : Connection). IsWritten o.status.fate) (sym c.conn.view_is) c.requires.fate) c.take_off.ensures c.write-sent.ensures.given taken refl
           refl;
       goes = λ e. e;
       sits = refl;
       none = λ e. c.take_off.ensures ∙ ap (λ (xs : List ℕ). drop c.in-Took.count xs) e ∙ drop_nil c.in-Took.count;
       all = λ e. taken
-          ∙ ap (λ (xs : List ℕ). g.L.Line.taken c.conn.inside.line ++ xs) (taken_all c.in-Took.count c.conn.inside.owed (sym c.take_off.ensures ∙ e));
+          ∙ ap (λ (xs : List ℕ). g.L.Line.taken c.conn.inside.line ++ xs) (taken_all c.in-Took.count c.conn.inside.outgoing (sym c.take_off.ensures ∙ e));
       idle = λ e. refl;
       unread = unread_by_write (Took c.in-Took.count) c.in-Took.ensures.calls;
-      given = λ goes owed. written_once _ _ (Took c.in-Took.count) c.in-Took.ensures.calls;
+      given = λ goes outgoing. written_once _ _ (Took c.in-Took.count) c.in-Took.ensures.calls;
       session = refl;
       fate = λ n. refl;
       cut = λ e. inl e;
       noted = TookSome
-          (λ same. takes_some c.in-Took.count c.conn.inside.owed c.in-Took.ensures.taken.0
-          (subst (λ (o : Connection). 0 < length o.owed) (sym c.conn.view_is) c.requires.some)
-          (none_behind (g.L.Line.taken c.conn.inside.line) (take c.in-Took.count c.conn.inside.owed) (sym taken ∙ same)))
+          (λ same. takes_some c.in-Took.count c.conn.inside.outgoing c.in-Took.ensures.taken.0
+          (subst (λ (o : Connection). 0 < length o.outgoing) (sym c.conn.view_is) c.requires.some)
+          (none_behind (g.L.Line.taken c.conn.inside.line) (take c.in-Took.count c.conn.inside.outgoing) (sym taken ∙ same)))
           (subst (λ (o : Connection). IsWritten o.status.fate) (sym c.conn.view_is) c.requires.fate) refl;
       given_same = c.write-sent.ensures.given;
       closings = ap (λ (x : Calls). x.closings) c.in-Took.ensures.calls;
@@ -48,14 +48,14 @@ returns-in-Nothing g c =
       served =
           served_by_note _ _ (record { id = refl; sits = refl; left = refl })
           (later_by_write Nothing [] c.in-Nothing.ensures.calls (c.in-Nothing.ensures.taken ∙ sym (append-nil _)) refl)
-          (record { id = refl; given = c.write-sent.ensures.given; taken = c.in-Nothing.ensures.taken; owed = refl; session = refl }) refl;
+          (record { id = refl; given = c.write-sent.ensures.given; taken = c.in-Nothing.ensures.taken; outgoing = refl; session = refl }) refl;
       goes = λ e. e;
       sits = refl;
       none = λ e. e;
       all = λ e. c.in-Nothing.ensures.taken ∙ sym (ap (λ (xs : List ℕ). g.L.Line.taken c.conn.inside.line ++ xs) e ∙ append-nil _);
       idle = λ e. refl;
       unread = unread_by_write Nothing c.in-Nothing.ensures.calls;
-      given = λ goes owed. written_once _ _ Nothing c.in-Nothing.ensures.calls;
+      given = λ goes outgoing. written_once _ _ Nothing c.in-Nothing.ensures.calls;
       session = refl;
       fate = λ n. refl;
       cut = λ e. inl e;
@@ -76,9 +76,9 @@ returns-in-Fault g c =
       sits = refl;
       none = λ e. e;
       all = λ e. c.in-Fault.ensures.taken ∙ sym (ap (λ (xs : List ℕ). g.L.Line.taken c.conn.inside.line ++ xs) e ∙ append-nil _);
-      idle = λ e. absurd (none_of_some (subst (λ (o : Connection). 0 < length o.owed) (sym c.conn.view_is) c.requires.some) e);
+      idle = λ e. absurd (none_of_some (subst (λ (o : Connection). 0 < length o.outgoing) (sym c.conn.view_is) c.requires.some) e);
       unread = unread_by_write Fault c.in-Fault.ensures.calls;
-      given = λ goes owed. written_once _ _ Fault c.in-Fault.ensures.calls;
+      given = λ goes outgoing. written_once _ _ Fault c.in-Fault.ensures.calls;
       session = refl;
       fate = λ n. absurd (n refl);
       cut = λ e. inr (omega (arith, ap (λ (x : Calls). x.faults) c.in-Fault.ensures.calls));

@@ -17,10 +17,10 @@ pub returns-then-asks_to_leave : goal.returns-then-asks_to_leave
 returns-then-asks_to_leave g c =
     leaves_as g.S.Server.steps c.conn.view_is
     (leaves_so g.S.Server.steps _ _ _ _ c.if-asks_to_leave.ensures.0 (sym c.is_open.ensures ∙ c.if-is_open.false) c.if-conn.false
-    (record { id = refl; given = refl; taken = refl; owed = refl; session = refl }) refl c.if-asks_to_leave.ensures.1 refl refl refl refl)
+    (record { id = refl; given = refl; taken = refl; outgoing = refl; session = refl }) refl c.if-asks_to_leave.ensures.1 refl refl refl refl)
 
 pub returns-else-asks_to_leave : goal.returns-else-asks_to_leave
 returns-else-asks_to_leave g c =
     leaves_as g.S.Server.steps c.conn.view_is
     (leaves_not g.S.Server.steps c.if-asks_to_leave.ensures.0 (record { id = refl; sits = refl; left = refl })
-    (record { id = refl; given = refl; taken = refl; owed = refl; session = refl }) refl c.if-asks_to_leave.ensures.1 refl refl)
+    (record { id = refl; given = refl; taken = refl; outgoing = refl; session = refl }) refl c.if-asks_to_leave.ensures.1 refl refl)

@@ -9,7 +9,7 @@ use Rattle.radio_connections.proofs.serving.lingering.linger.Goals as goal
 pub returns-else-conn : goal.returns-else-conn
 returns-else-conn g c =
     let ended : c.conn.inside.status.fate ≡ Ended = ap (λ (o : Connection). o.status.fate) c.conn.view_is ∙ c.requires.fate in
-    let none : c.conn.inside.owed ≡ [] = ap (λ (o : Connection). o.owed) c.conn.view_is ∙ c.requires.all in
+    let none : c.conn.inside.outgoing ≡ [] = ap (λ (o : Connection). o.outgoing) c.conn.view_is ∙ c.requires.all in
     record {
       served =
           served_as c.conn.view_is

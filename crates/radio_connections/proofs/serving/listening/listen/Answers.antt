@@ -26,14 +26,14 @@ returns-in-Nothing g c =
     (listens_to_none g.S.Server.steps
     (served_by_note _ _ (record { id = refl; sits = refl; left = refl })
     (later_by_read Nothing _ c.in-Nothing.ensures.calls c.read.ensures.taken refl)
-    (record { id = refl; given = c.in-Nothing.ensures.given; taken = c.read.ensures.taken; owed = refl; session = refl }) refl)
+    (record { id = refl; given = c.in-Nothing.ensures.given; taken = c.read.ensures.taken; outgoing = refl; session = refl }) refl)
     (read_by Nothing c.in-Nothing.ensures.calls (c.read.auto.buffer ∙ c.told-buffer)) (λ e. absurd (not_cut (sym e ∙ goes)))
     (λ e. absurd (not_closed (sym e ∙ goes))) (record { taken = c.read.ensures.taken; moved = refl; has_taken = refl; finished = refl }) refl)
 
 pub returns-in-Closed : goal.returns-in-Closed
 returns-in-Closed g c =
     let goes : c.conn.inside.status.fate ≡ Open = ap (λ (o : Connection). o.status.fate) c.conn.view_is ∙ c.requires.open in
-    let none : c.conn.inside.owed ≡ [] = ap (λ (o : Connection). o.owed) c.conn.view_is ∙ c.requires.all in
+    let none : c.conn.inside.outgoing ≡ [] = ap (λ (o : Connection). o.outgoing) c.conn.view_is ∙ c.requires.all in
     listens_as g.S.Server.steps c.conn.view_is
     (listens_to_none g.S.Server.steps
     (served_by_close _ _ (record { id = refl; sits = refl; left = refl }) (later_by_read Closed _ c.in-Closed.ensures.calls c.read.ensures.taken refl)
@@ -45,7 +45,7 @@ returns-in-Closed g c =
 pub returns-in-Fault : goal.returns-in-Fault
 returns-in-Fault g c =
     let goes : c.conn.inside.status.fate ≡ Open = ap (λ (o : Connection). o.status.fate) c.conn.view_is ∙ c.requires.open in
-    let none : c.conn.inside.owed ≡ [] = ap (λ (o : Connection). o.owed) c.conn.view_is ∙ c.requires.all in
+    let none : c.conn.inside.outgoing ≡ [] = ap (λ (o : Connection). o.outgoing) c.conn.view_is ∙ c.requires.all in
     listens_as g.S.Server.steps c.conn.view_is
     (listens_to_none g.S.Server.steps
     (served_by_close _ _ (record { id = refl; sits = refl; left = refl }) (later_by_read Fault _ c.in-Fault.ensures.calls c.read.ensures.taken refl)

@@ -9,7 +9,7 @@ pub returns-in-Open : goal.returns-in-Open
 returns-in-Open g c =
     works_in_turn g.S.Server.steps c.conn.view_is c.in-Open.is refl refl refl refl refl refl refl refl
     (served_by_note _ _ (record { id = refl; sits = refl; left = refl }) (later_same refl refl refl)
-    (record { id = refl; given = refl; taken = refl; owed = refl; session = refl }) refl)
+    (record { id = refl; given = refl; taken = refl; outgoing = refl; session = refl }) refl)
     c.listen.ensures c.draw.ensures
 
 pub returns-in-Ended : goal.returns-in-Ended

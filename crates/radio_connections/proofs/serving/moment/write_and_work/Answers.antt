@@ -8,12 +8,12 @@ use Rattle.radio_connections.proofs.serving.moment.write_and_work.Goals as goal
 pub returns-then-not-is_empty : goal.returns-then-not-is_empty
 returns-then-not-is_empty g c = kept_in_turn g.S.Server.steps c.flush.ensures
     (λ none. false≢true (sym c.if-not-is_empty.true ∙ c.is_empty.ensures
-    ∙ ap (λ (xs : List ℕ). length xs == 0) (c.rest.ensures ∙ ap (λ (o : Connection). o.owed) c.conn.view_is ∙ none)))
+    ∙ ap (λ (xs : List ℕ). length xs == 0) (c.rest.ensures ∙ ap (λ (o : Connection). o.outgoing) c.conn.view_is ∙ none)))
     c.give_up.ensures.patient c.leave.ensures
 
 pub returns : goal.returns
 returns g c = served_in_turn g.S.Server.steps c.flush.ensures
-    (empty_is c.flush.new.conn.owed
-    (sym (ap (λ (xs : List ℕ). length xs == 0) (c.rest.ensures ∙ ap (λ (o : Connection). o.owed) c.conn.view_is)) ∙ sym c.is_empty.ensures
+    (empty_is c.flush.new.conn.outgoing
+    (sym (ap (λ (xs : List ℕ). length xs == 0) (c.rest.ensures ∙ ap (λ (o : Connection). o.outgoing) c.conn.view_is)) ∙ sym c.is_empty.ensures
     ∙ c.if-not-is_empty.false))
     c.work.ensures c.leave-2.ensures c.flush-2.ensures c.leave-3.ensures

@@ -7,7 +7,7 @@ use Rattle.radio_tables.specs.Visits.{IsVisited}
 use Rattle.radio_deliveries.specs.declared.delivery.Delivery.TheVariants.{To}
 use Rattle.radio_deliveries.specs.declared.delivery.Input.{Input}
 use Rattle.radio_floor.specs.declared.handler.Handler.{Handler}
-use Rattle.radio_floor.specs.declared.handler.Told.{Told}
+use Rattle.radio_floor.specs.declared.handler.DeliveryAnswer.{DeliveryAnswer}
 use Rattle.radio_floor.specs.declared.labelled.Labelled.{Labelled}
 use Rattle.radio_floor.specs.ScriptServer.{AnswersUnder}
 use Rattle.radio_floor.specs.ScriptState.{has_label, told_lines}
@@ -15,7 +15,7 @@ use Rattle.radio_floor.proofs.VisitLemmas.{shut-label, answered-label, performs-
 use Rattle.radio_floor.proofs.script_server.ScriptServer.perform_input.Goals as goal
 
 abbrev Answer : Type 0
-Answer = Result (Option Told) AllocError
+Answer = Result (Option DeliveryAnswer) AllocError
 
 abbrev Visits : Handler → Input → Labelled → Answer → Handler → Labelled → Type 0
 Visits handler input row answer handler' row' = AnswersUnder handler.core input row answer handler'.core row'
@@ -27,7 +27,7 @@ returns-in-Some-Ok-None-clause-performs c =
     let label = c.args.label in
     let input = c.args.input.now in
     let is : c.visit.result ≡ Some (Ok None) =
-    c.in-Some-Ok-None.is ∙ ap (λ (a : Answer). Some a) (c.in-Some-Ok-None.field-0-is ∙ ap (λ (t : Option Told). Ok t) c.in-Some-Ok-None.field-0-0-is) in
+    c.in-Some-Ok-None.is ∙ ap (λ (a : Answer). Some a) (c.in-Some-Ok-None.field-0-is ∙ ap (λ (t : Option DeliveryAnswer). Ok t) c.in-Some-Ok-None.field-0-0-is) in
     let visited = was_visited Visits (has_label label) old.handler input old.connections c.visit.new.visitor c.visit.new.self (Ok None)
     (subst (λ (a : Option Answer). IsVisited Visits (has_label label) old.handler input old.connections a c.visit.new.visitor c.visit.new.self)
     is c.visit.ensures) in
@@ -43,7 +43,7 @@ returns-in-Some-Ok-Some-clause-performs c =
     let input = c.args.input.now in
     let told = c.in-Some-Ok-Some.told in
     let is : c.visit.result ≡ Some (Ok (Some told)) =
-    c.in-Some-Ok-Some.is ∙ ap (λ (a : Answer). Some a) (c.in-Some-Ok-Some.field-0-is ∙ ap (λ (t : Option Told). Ok t) c.in-Some-Ok-Some.field-0-0-is) in
+    c.in-Some-Ok-Some.is ∙ ap (λ (a : Answer). Some a) (c.in-Some-Ok-Some.field-0-is ∙ ap (λ (t : Option DeliveryAnswer). Ok t) c.in-Some-Ok-Some.field-0-0-is) in
     let visited = was_visited Visits (has_label label) old.handler input old.connections c.visit.new.visitor c.visit.new.self (Ok (Some told))
     (subst (λ (a : Option Answer). IsVisited Visits (has_label label) old.handler input old.connections a c.visit.new.visitor c.visit.new.self)
     is c.visit.ensures) in

@@ -10,7 +10,7 @@ returns-in-Bytes g c =
     let inside = c.self.inside in
     let before : PullOver = record {
       relay = inside.relay;
-      owed = inside.asking;
+      outgoing = inside.asking;
       given = g.L.Line.given inside.line;
       taken = g.L.Line.taken inside.line;
       calls = g.L.Line.calls inside.line;
@@ -18,7 +18,7 @@ returns-in-Bytes g c =
     } in
     let after : PullOver = record {
       relay = c.keep_and_hear.new.relay;
-      owed = c.write.new.self;
+      outgoing = c.write.new.self;
       given = g.L.Line.given c.read.new.self;
       taken = g.L.Line.taken c.read.new.self;
       calls = g.L.Line.calls c.read.new.self;

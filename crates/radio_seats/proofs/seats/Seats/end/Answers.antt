@@ -18,7 +18,7 @@ use Rattle.radio_seats.proofs.seats.Seats.end.Goals as goal
 abbrev ending : Rule → ListenerRow → ListenerRow
 ending rule row = with_state (ended rule row.state) row
 
--- who has lost his seat sits nowhere, and names the mount where he sat
+-- who has lost its seat sits nowhere, and names the mount where it sat
 nowhere : (rule : Rule) (row : Option ListenerRow) → (number_in (option_map (ending rule) row) ≡ None) × (last_in (option_map (ending rule) row) ≡ last_in row)
 nowhere rule None = (refl, refl)
 nowhere rule (Some row) = by_state row.state where

@@ -37,7 +37,7 @@ returns-in-Some-get c =
     sym (ap seat_in found ∙ ap (λ state. seat_held (named_state name state)) c.in-Seated.is
     ∙ ap (λ n. Some (seat_of_guest seat.place n seat.session seat.guest)) called)
 
--- whoever sits is counted at his mount, so it is there
+-- whoever sits is counted at its mount, so it is there
 pub unreachable-requires : goal.unreachable-requires
 unreachable-requires c =
     let rows = c.self.inside.rows in

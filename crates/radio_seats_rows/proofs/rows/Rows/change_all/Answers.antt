@@ -7,5 +7,5 @@ pub invariant_of-self : goal.invariant_of-self
 invariant_of-self g c =
     let change = c.args.change.now in
     subst (AreKept c.self.inside.users.seats) (sym c.change_all.ensures)
-    (kept_mapped (g.C.Change.gives change) (λ row. g.met.C.Change.keeps_key change row) (λ row. g.met.C.KeepsUser.same_user change row)
+    (kept_mapped (g.C.RowChange.gives change) (λ row. g.met.C.RowChange.keeps_key change row) (λ row. g.met.C.KeepsUser.same_user change row)
     c.self.inside.users.seats c.self.inside.rows c.self.invariant)

@@ -33,7 +33,7 @@ invariant_of-self-in-Ok c =
     (ap (λ (r : ListenerRow). r.id) c.in_ok-row.ensures) (sym (same ∙ c.in_ok-user.ensures ∙ c.as_ref.ensures.value))
     (subst HasItsUser (sym c.in_ok-row.ensures) refl))
 
--- where the row is refused, its listener is kept under the user that he had
+-- where the row is refused, its listener is kept under the user that it had
 pub invariant_of-self-in-Err : goal.invariant_of-self-in-Err
 invariant_of-self-in-Err c =
     let inside = c.self.inside in

@@ -2,7 +2,7 @@ use Rattle.std.proofs.Common.{◌≡◌, ℕ, refl, ap, ◌∙◌}
 use Rattle.radio_events.specs.declared.command.Listing.{Listing}
 use Rattle.radio_events.specs.declared.command.Listing.TheVariants.{Status, Stats, Mounts, Clients, Streams}
 use Rattle.radio_events.specs.declared.reply.Reply.TheVariants.{Text as SaysText}
-use Rattle.radio_events.specs.declared.text.Text.{Text}
+use Rattle.radio_events.specs.declared.text.ReplyText.{ReplyText}
 use Rattle.radio_changes.specs.declared.change.Change.TheVariants.{Answer}
 use Rattle.radio_status.specs.Listings.{shown}
 use Rattle.radio_house.specs.World.{World}
@@ -27,4 +27,4 @@ returns-in-Listing c =
     let is_shown : c.in_ok-shown-in-Listing.field-0 ≡ shown w listing
     = c.in_ok-shown-in-Listing.ensures
     ∙ ap (λ (v : World). shown v listing) (lent_state w c.house.result c.seats.result.now.seats c.house.ensures c.seats.ensures.seats) in
-    rw c.in-Listing.is (ap (λ (text : Text). says (SaysText text) (Answer c.args.asked.id)) is_shown ∙ untold w c.args.asked.id listing)
+    rw c.in-Listing.is (ap (λ (text : ReplyText). says (SaysText text) (Answer c.args.asked.id)) is_shown ∙ untold w c.args.asked.id listing)

@@ -1,6 +1,6 @@
 use Rattle.std.proofs.Common.{◌≡◌, ap, sym, ◌∙◌}
 use Rattle.radio_events.specs.declared.reply.Reply.TheVariants.{Text as SaysText}
-use Rattle.radio_events.specs.declared.text.Text.{Text}
+use Rattle.radio_events.specs.declared.text.ReplyText.{ReplyText}
 use Rattle.radio_changes.specs.declared.change.Change.TheVariants.{Answer}
 use Rattle.radio_status.specs.Pages.{page_at}
 use Rattle.radio_house.specs.World.{World}
@@ -15,4 +15,4 @@ returns-in_ok-page-in-Undecided c =
     let is_there : c.in_ok-page-in-Undecided.field-0 ≡ page_at w c.args.path asked.visit
     = c.in_ok-page-in-Undecided.ensures
     ∙ ap (λ (v : World). page_at v c.args.path asked.visit) (lent_state w c.house.result c.seats.result.now.seats c.house.ensures c.seats.ensures.seats) in
-    rw (sym c.standing.ensures ∙ c.in-Undecided.is) (ap (λ (text : Text). says (SaysText text) (Answer asked.id)) is_there)
+    rw (sym c.standing.ensures ∙ c.in-Undecided.is) (ap (λ (text : ReplyText). says (SaysText text) (Answer asked.id)) is_there)

@@ -1,5 +1,0 @@
-use Rattle.std.proofs.Common.{◌≤◌}
-use Rattle.radio_board.proofs.board.Board.news_count.Given as goal
-
-abbrev pub invariant-desks : goal.invariant-desks
-invariant-desks l = l.drawn ≤ l.told

@@ -1,0 +1,13 @@
+use Rattle.std.proofs.Common.{Ok, Option, Some, refl, subst, sym}
+use Rattle.radio_floor.specs.declared.labelled.Connection.{Connection}
+use Rattle.radio_floor.specs.ScriptServer.{AnswersOn}
+use Rattle.radio_floor.proofs.handler.HandlerRowVisitLabelled.visit.Goals as goal
+
+pub returns : goal.returns
+returns c =
+    let told = c.in_ok-told.told in
+    let later = c.close_if_shut.new.connection in (
+      refl,
+      subst (λ (o : Option Connection). AnswersOn c.args.self.now.core c.args.input.now o (Ok (Some told)) c.answer.new.self.core later)
+          (sym c.in-Some.is) (told, c.answer.new.connection, refl, c.close_if_shut.ensures, c.in_ok-told.ensures),
+    )

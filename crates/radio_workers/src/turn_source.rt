@@ -1,0 +1,59 @@
+//! Where a worker's turns come from.
+
+ghost use Rattle.std.specs.Prelude.{◌≡◌, ◌≤◌, true};
+
+use radio_addr::Peer;
+use radio_notes::Log;
+use radio_serving::{Line, Turn};
+
+/// What a worker is told before a turn.
+#[derive(Clone, Copy)]
+pub struct TurnStart {
+    /// What the turn is told of.
+    pub turn: Turn,
+    /// How many of the connections that wait it takes before it, at most.
+    pub newcomers: usize,
+}
+
+/// What a worker tells after a turn.
+#[derive(Clone, Copy)]
+pub struct Seen {
+    /// Whether listeners may have news by what was done in this turn, whichever worker serves them, beside what sources have
+    /// brought.
+    pub news: bool,
+    /// Whether somebody has drawn all that it had room for, so that there may be more for it.
+    pub more: bool,
+    /// How many connections the worker has.
+    pub connections: usize,
+    /// How many of them feed a mount.
+    pub sources: usize,
+    /// Whether one of them is a listener's.
+    pub has_listeners: bool,
+    /// Whether fewer are left than there were before the turn.
+    pub has_closed: bool,
+    /// The moment that the worker told the server last, in milliseconds; 0 if it never did.
+    pub told_ms: u64,
+}
+
+/// Where a worker's turns and lines come from: of connections, that wait as `T`, each becomes an `L`.
+pub trait TurnSource<T, L: Line>: Drop {
+    /// Waits until there is something to do. Returns what the next turn is told; `None` if the worker is to stop. It tells the log
+    /// the moment.
+    fn next(&mut self, log: &Log) -> Option<TurnStart>;
+
+    /// Returns the line of a connection that was taken, and its peer. `None` if it can't be served: it is closed then.
+    fn open(&mut self, newcomer: T) -> Option<(L, Peer)>;
+
+    /// Returns how many connections may linger, if `lingering` wish to. Of more the worker closes the oldest.
+    fn most_lingering(&mut self, lingering: usize) -> usize
+        ensures { result ≤ lingering };
+
+    /// Notes that the connections of sources were served in this turn. If it `brings` news, that is news to listeners, whichever
+    /// worker serves them. Returns whether a round of draws begins, in which its own draw what there is: it does if the turn
+    /// `is_told` of news.
+    fn begins_round(&mut self, is_told: bool, brings: bool) -> bool
+        ensures { is_told ≡ true → result ≡ true };
+
+    /// Notes that a turn is over, and what was seen. It takes the lines of the log that wait.
+    fn note(&mut self, seen: Seen, log: &Log);
+}
