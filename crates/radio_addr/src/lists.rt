@@ -119,7 +119,7 @@ fn is_in(range: &AddressRange, peer: Peer) -> bool
         (Address::V6(address), Address::V6(n)) => {
             front_bits(address, 128, range.bits) == front_bits(n, 128, range.bits)
         }
-        _ => false,
+        (Address::V4(_), Address::V6(_)) | (Address::V6(_), Address::V4(_)) => false,
     }
 }
 

@@ -8,6 +8,7 @@ ghost use Rattle.radio_changes.specs.KeptChanges.{kept_changed, kept_taken_in};
 use crate::OutOfMemory;
 use crate::change::Change;
 use crate::state::ServerState;
+use radio_addr::Peer;
 use radio_blocks::{Block, Place};
 use radio_fallback::{Carried, Move};
 use radio_house::ClientState;
@@ -28,60 +29,69 @@ impl ServerState {
         ensures frees { NeedsNoMemory change → IsOk result }
     {
         match change {
-            Change::Admit { id, peer } => {
-                self.registry.admit(id, peer)?;
+            Change::Nothing => Ok(NOBODY),
+            Change::Answer { id } => {
+                self.answer(id);
                 Ok(NOBODY)
             }
+            Change::Admit { id, peer } => self.admit(id, peer),
             Change::Begin { id, mount, shown } => self.begin(id, mount, shown),
             Change::Raise { id, mount, shown } => self.raise(id, mount, shown),
             Change::Receive { mount, block } => self.take_in(mount, block),
-            Change::TakeSeat { id, seat } => self.seat_listener(id, seat),
-            Change::Obey { id, command } => self.obey(id, command),
-            change => Ok(self.commit_in_place(change)),
-        }
-    }
-
-    /// Makes a change that takes no memory, and answers how many listeners it has moved and finished.
-    fn commit_in_place(&mut self, change: Change) -> Carried
-        ensures state { NeedsNoMemory change → self.new ≡ changed self.old change }
-        ensures counts { NeedsNoMemory change → result ≡ counted self.old change }
-    {
-        match change {
-            Change::End { id, mount } => {
-                let counts = self.end_session(mount);
-                self.answer(id);
-                counts
-            }
-            Change::EndAndLeave { id, mount } => {
-                let counts = self.end_session(mount);
-                self.forget(id);
-                counts
-            }
-            Change::Answer { id } => {
-                self.answer(id);
-                NOBODY
-            }
             Change::SetTitle { mount, title } => {
                 self.set_title(&mount, title);
-                NOBODY
+                Ok(NOBODY)
             }
+            Change::TakeSeat { id, seat } => self.seat_listener(id, seat),
             Change::Advance { id, place } => {
                 self.advance(id, place);
-                NOBODY
+                Ok(NOBODY)
             }
+            Change::End { id, mount } => Ok(self.end_and_answer(id, mount)),
+            Change::EndAndLeave { id, mount } => Ok(self.end_and_forget(id, mount)),
             Change::Forget { id } => {
                 self.forget(id);
-                NOBODY
+                Ok(NOBODY)
             }
             Change::Tick { ms } => {
                 self.tick(ms);
-                NOBODY
+                Ok(NOBODY)
             }
-            other => {
-                drop(other);
-                NOBODY
-            }
+            Change::Obey { id, command } => self.obey(id, command),
         }
+    }
+
+    /// Adds a client that has arrived; no listener is moved. `OutOfMemory` if memory was refused;
+    /// nothing has changed then.
+    fn admit(&mut self, id: u64, peer: Peer) -> Result<Carried, OutOfMemory>
+        ensures ok { OnOk result (self.new ≡ changed self.old (Change.Admit id peer)) }
+        ensures counts { IfOk result (λ counts. counts ≡ nobody) }
+        ensures err { OnErr result (self.new ≡ self.old) }
+    {
+        self.registry.admit(id, peer)?;
+        Ok(NOBODY)
+    }
+
+    /// Ends the mount's session and marks its source as answered; returns how many listeners it has
+    /// moved and finished. It takes no memory.
+    fn end_and_answer(&mut self, id: u64, mount: MountName) -> Carried
+        ensures state { self.new ≡ changed self.old (Change.End id mount) }
+        ensures counts { result ≡ counts_ended self.old mount }
+    {
+        let counts = self.end_session(mount);
+        self.answer(id);
+        counts
+    }
+
+    /// Ends the mount's session and removes its source or relay; returns how many listeners it has
+    /// moved and finished. It takes no memory.
+    fn end_and_forget(&mut self, id: u64, mount: MountName) -> Carried
+        ensures state { self.new ≡ changed self.old (Change.EndAndLeave id mount) }
+        ensures counts { result ≡ counts_ended self.old mount }
+    {
+        let counts = self.end_session(mount);
+        self.forget(id);
+        counts
     }
 
     /// The client has had its answer. It takes no memory.

@@ -35,9 +35,13 @@ impl ServerState {
                 user,
                 password,
             } => self.obey_user(id, mount, user, password),
-            command => {
+            other @ (Command::MoveClients { .. }
+            | Command::KillClient { .. }
+            | Command::KillSource { .. }
+            | Command::SetTitle { .. }
+            | Command::DeleteUser { .. }) => {
                 self.answer(id);
-                Ok(self.do_in_place(command))
+                Ok(self.do_in_place(other))
             }
         }
     }
@@ -86,7 +90,7 @@ impl ServerState {
                 drop(user);
                 counts
             }
-            other => {
+            other @ (Command::SetFallback { .. } | Command::AddUser { .. }) => {
                 drop(other);
                 NOBODY
             }

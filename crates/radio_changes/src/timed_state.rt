@@ -95,7 +95,19 @@ impl TimedState {
                 self.tick(ms);
                 Ok(NOBODY)
             }
-            change => self.commit_noting_due(change),
+            other @ (Change::Nothing
+            | Change::Answer { .. }
+            | Change::Admit { .. }
+            | Change::Begin { .. }
+            | Change::Raise { .. }
+            | Change::Receive { .. }
+            | Change::SetTitle { .. }
+            | Change::TakeSeat { .. }
+            | Change::Advance { .. }
+            | Change::End { .. }
+            | Change::EndAndLeave { .. }
+            | Change::Forget { .. }
+            | Change::Obey { .. }) => self.commit_noting_due(other),
         }
     }
 
@@ -171,7 +183,15 @@ impl ServerState {
                 due_at(limits.source_timeout.get(), self.registry.time())
             }
             Change::TakeSeat { seat, .. } => seat_due(self.registry.settings(), seat),
-            _ => LAST_MOMENT,
+            Change::Nothing
+            | Change::Answer { .. }
+            | Change::SetTitle { .. }
+            | Change::Advance { .. }
+            | Change::End { .. }
+            | Change::EndAndLeave { .. }
+            | Change::Forget { .. }
+            | Change::Tick { .. }
+            | Change::Obey { .. } => LAST_MOMENT,
         }
     }
 

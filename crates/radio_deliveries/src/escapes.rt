@@ -40,7 +40,7 @@ pub fn unescape(alloc: Global, text: &[u8]) -> Result<Option<Bytes>, OutOfMemory
     }
     match place {
         EscapePlace::Between => Ok(Some(Bytes::from_vec(bytes)?)),
-        _ => Ok(None),
+        EscapePlace::Escape | EscapePlace::High | EscapePlace::Low(_) => Ok(None),
     }
 }
 

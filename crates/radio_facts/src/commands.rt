@@ -63,7 +63,9 @@ fn facts_to_list(house: &House<'_>, listing: &Listing, pair: Option<&Pair>) -> C
             Listing::Clients(mount) => CommandNeeds::Mount {
                 is_live: has_session(house, mount),
             },
-            _ => CommandNeeds::Nothing,
+            Listing::Status | Listing::Stats | Listing::Mounts | Listing::Streams => {
+                CommandNeeds::Nothing
+            }
         },
     }
 }
@@ -131,7 +133,7 @@ fn access_to(settings: &Settings, listing: &Listing, pair: Option<&Pair>) -> Com
             opener: Opener::Relay,
             is_sent: is_admin_pair(settings, pair) || is_relay_pair(settings, pair),
         },
-        _ => CommandAccess::Pair {
+        Listing::Stats | Listing::Mounts | Listing::Clients(_) => CommandAccess::Pair {
             opener: Opener::Admin,
             is_sent: is_admin_pair(settings, pair),
         },

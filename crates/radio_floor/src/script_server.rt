@@ -168,7 +168,14 @@ fn taken_in(alloc: Global, web: WebAnswers, peer: Peer, reply: &Reply) -> Option
 {
     match reply {
         Reply::Arrived(id) => Some(Connection::Client(Session::new(alloc, web, *id, peer))),
-        _ => None,
+        Reply::Feeding
+        | Reply::Seated { .. }
+        | Reply::Drawn { .. }
+        | Reply::Noted
+        | Reply::Text(_)
+        | Reply::Deny(_)
+        | Reply::Finished(_)
+        | Reply::Stray => None,
     }
 }
 

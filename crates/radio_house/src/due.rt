@@ -50,6 +50,9 @@ fn client_due(seconds: u32, client: &Client) -> u64
 {
     match client.state {
         ClientState::Undecided => due_at(seconds, client.arrived),
-        _ => LAST_MOMENT,
+        ClientState::Feeds(_)
+        | ClientState::Listens
+        | ClientState::Answered
+        | ClientState::Ended(_) => LAST_MOMENT,
     }
 }

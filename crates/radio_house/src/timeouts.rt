@@ -36,6 +36,9 @@ fn asks_too_late(seconds: u32, now: u64, client: &Client) -> bool
 {
     match client.state {
         ClientState::Undecided => lies_back(seconds, client.arrived, now),
-        _ => false,
+        ClientState::Feeds(_)
+        | ClientState::Listens
+        | ClientState::Answered
+        | ClientState::Ended(_) => false,
     }
 }

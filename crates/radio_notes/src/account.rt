@@ -57,7 +57,7 @@ impl Account {
     pub fn hear(&self, bytes: &[u8], events: &Vec<Event>) {
         match self.heard.replace(Heard::Nothing) {
             Heard::Part(held) => self.heard.set(heard_by(self.alloc, held, bytes, events)),
-            heard => self.heard.set(heard),
+            other @ (Heard::Request(_) | Heard::Nothing) => self.heard.set(other),
         }
     }
 

@@ -130,7 +130,9 @@ fn judge_command(facts: &Option<CommandFacts>) -> Verdict
             opener,
             is_sent: false,
         } => Verdict::Deny(password_rule(opener)),
-        _ => judge_needs(&facts.needs),
+        CommandAccess::Everybody | CommandAccess::Pair { is_sent: true, .. } => {
+            judge_needs(&facts.needs)
+        }
     }
 }
 

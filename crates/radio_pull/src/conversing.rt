@@ -45,7 +45,7 @@ fn give_up<S: Server>(
 {
     match fault {
         PullFault::OutOfMemory => Err(AllocError),
-        _ => {
+        PullFault::Status(_) | PullFault::BadHead | PullFault::BadMetaint | PullFault::Failed => {
             close(server, relay)?;
             Ok(State::Shut(Ending::BadPull))
         }

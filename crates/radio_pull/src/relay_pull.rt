@@ -138,7 +138,12 @@ impl RelayPull {
                 State::Running
             }
             Reply::Deny(rule) | Reply::Finished(rule) => State::Shut(Ending::By(*rule)),
-            _ => State::Running,
+            Reply::Feeding
+            | Reply::Seated { .. }
+            | Reply::Drawn { .. }
+            | Reply::Noted
+            | Reply::Text(_)
+            | Reply::Stray => State::Running,
         }
     }
 }

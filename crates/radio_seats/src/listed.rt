@@ -57,6 +57,6 @@ fn guest_by(row: &ListenerRow, number: u64) -> Option<LentListener<'_>>
             id: row.id,
             guest: &seat.guest,
         }),
-        _ => None,
+        RowState::Seated(_) | RowState::Ended { .. } => None,
     }
 }

@@ -104,7 +104,14 @@ impl Position {
         match self.stage {
             Stage::Sized(left) => left == 0,
             Stage::End | Stage::BehindTheEnd => true,
-            _ => false,
+            Stage::Plain
+            | Stage::Line
+            | Stage::Chunk(_)
+            | Stage::LineFeed
+            | Stage::Trailer(_)
+            | Stage::TrailerAfterReturn(_)
+            | Stage::TrailerRest(_)
+            | Stage::BadByte => false,
         }
     }
 
@@ -115,7 +122,15 @@ impl Position {
         match self.stage {
             Stage::BehindTheEnd => Some(BodyFault::PastEnd),
             Stage::BadByte => Some(BodyFault::BadChunk),
-            _ => None,
+            Stage::Plain
+            | Stage::Sized(_)
+            | Stage::Line
+            | Stage::Chunk(_)
+            | Stage::LineFeed
+            | Stage::Trailer(_)
+            | Stage::TrailerAfterReturn(_)
+            | Stage::TrailerRest(_)
+            | Stage::End => None,
         }
     }
 
@@ -165,7 +180,14 @@ impl Position {
         match self.stage {
             Stage::Plain => available,
             Stage::Sized(left) | Stage::Chunk(left) => left.min(available as u64) as usize,
-            _ => 0,
+            Stage::Line
+            | Stage::LineFeed
+            | Stage::Trailer(_)
+            | Stage::TrailerAfterReturn(_)
+            | Stage::TrailerRest(_)
+            | Stage::End
+            | Stage::BehindTheEnd
+            | Stage::BadByte => 0,
         }
     }
 
@@ -177,7 +199,15 @@ impl Position {
         match stage {
             Stage::Sized(left) => self.stage = Stage::Sized(left.saturating_sub(size as u64)),
             Stage::Chunk(left) => self.stage = Stage::Chunk(left.saturating_sub(size as u64)),
-            _ => {}
+            Stage::Plain
+            | Stage::Line
+            | Stage::LineFeed
+            | Stage::Trailer(_)
+            | Stage::TrailerAfterReturn(_)
+            | Stage::TrailerRest(_)
+            | Stage::End
+            | Stage::BehindTheEnd
+            | Stage::BadByte => {}
         }
     }
 
@@ -189,9 +219,18 @@ impl Position {
         let stage = self.stage;
         match stage {
             Stage::Line => self.stage = pass_line_byte(&mut self.line, byte),
-            stage => {
+            other @ (Stage::Plain
+            | Stage::Sized(_)
+            | Stage::Chunk(_)
+            | Stage::LineFeed
+            | Stage::Trailer(_)
+            | Stage::TrailerAfterReturn(_)
+            | Stage::TrailerRest(_)
+            | Stage::End
+            | Stage::BehindTheEnd
+            | Stage::BadByte) => {
                 self.line.clear();
-                self.stage = after_framing(stage, byte);
+                self.stage = after_framing(other, byte);
             }
         }
     }
@@ -231,7 +270,9 @@ fn after_framing(stage: Stage, byte: u8) -> Stage
         (Stage::Trailer(left) | Stage::TrailerRest(left), _) => after_trailer_bytes(left, 1),
         (Stage::TrailerAfterReturn(left), _) => after_trailer_bytes(left, 2),
         (Stage::Sized(_) | Stage::End | Stage::BehindTheEnd, _) => Stage::BehindTheEnd,
-        _ => Stage::BadByte,
+        (Stage::Plain | Stage::Line | Stage::Chunk(_) | Stage::LineFeed | Stage::BadByte, _) => {
+            Stage::BadByte
+        }
     }
 }
 

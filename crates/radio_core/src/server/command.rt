@@ -29,7 +29,7 @@ impl Control {
                 drop(asked);
                 Ok(Outcome::finished(rule))
             }
-            _ => {
+            Standing::Unknown | Standing::Feeds(_) | Standing::Sits | Standing::Answered => {
                 drop(asked);
                 Ok(Outcome::stray())
             }
@@ -72,7 +72,7 @@ impl Control {
                 reply: Reply::Text(said_of(&command)),
                 change: Change::Obey { id, command },
             }),
-            _ => Ok(Outcome::stray()),
+            Asked::NoCommand | Asked::MissingArgument(_) => Ok(Outcome::stray()),
         }
     }
 }
@@ -84,6 +84,9 @@ fn said_of(command: &Command) -> ReplyText
     match command {
         Command::MoveClients { .. } => ReplyText::Moved(0),
         Command::AddUser { .. } | Command::DeleteUser { .. } => ReplyText::Ended(0),
-        _ => ReplyText::Done,
+        Command::KillClient { .. }
+        | Command::KillSource { .. }
+        | Command::SetTitle { .. }
+        | Command::SetFallback { .. } => ReplyText::Done,
     }
 }

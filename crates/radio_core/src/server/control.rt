@@ -148,7 +148,17 @@ impl Control {
     {
         match event {
             Event::Draw { id, room } => self.step_drawing(id, room),
-            event => self.step_by_outcome(event),
+            other @ (Event::Arrive { .. }
+            | Event::Source(_)
+            | Event::Push { .. }
+            | Event::SourceEnd { .. }
+            | Event::Title { .. }
+            | Event::Listen(_)
+            | Event::Command(_)
+            | Event::Leave { .. }
+            | Event::RelayUp { .. }
+            | Event::RelayDown { .. }
+            | Event::Clock { .. }) => self.step_by_outcome(other),
         }
     }
 

@@ -78,7 +78,11 @@ impl Control {
     {
         match self.standing(id) {
             Standing::Finished(rule) => Drawing::of(Reply::Finished(rule)),
-            _ => Drawing::of(Reply::Stray),
+            Standing::Unknown
+            | Standing::Undecided(_)
+            | Standing::Feeds(_)
+            | Standing::Sits
+            | Standing::Answered => Drawing::of(Reply::Stray),
         }
     }
 

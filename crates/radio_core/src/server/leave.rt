@@ -30,10 +30,11 @@ impl Control {
                 reply: Reply::Noted,
                 change: Change::EndAndLeave { id, mount },
             },
-            _ => Outcome {
-                reply: Reply::Noted,
-                change: Change::Forget { id },
-            },
+            Standing::Undecided(_) | Standing::Sits | Standing::Answered | Standing::Finished(_) =>
+                Outcome {
+                    reply: Reply::Noted,
+                    change: Change::Forget { id },
+                },
         }
     }
 }

@@ -52,7 +52,9 @@ impl Control {
         let peer = match self.standing(asked.id) {
             Standing::Undecided(peer) => peer,
             Standing::Finished(rule) => return Err(Outcome::finished(rule)),
-            _ => return Err(Outcome::stray()),
+            Standing::Unknown | Standing::Feeds(_) | Standing::Sits | Standing::Answered => {
+                return Err(Outcome::stray());
+            }
         };
         let house = self.house();
         let Some(home) = mount_named(&house, asked.mount.as_slice()) else {

@@ -46,7 +46,9 @@ impl Control {
                 change: Change::Answer { id: asked.id },
             }),
             Standing::Finished(rule) => Ok(Outcome::finished(rule)),
-            _ => Ok(Outcome::stray()),
+            Standing::Unknown | Standing::Feeds(_) | Standing::Sits | Standing::Answered => {
+                Ok(Outcome::stray())
+            }
         }
     }
 }

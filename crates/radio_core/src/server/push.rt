@@ -18,7 +18,9 @@ impl Control {
         let mount = match self.standing(id) {
             Standing::Feeds(mount) => mount,
             Standing::Finished(rule) => return Outcome::finished(rule),
-            _ => return Outcome::stray(),
+            Standing::Unknown | Standing::Undecided(_) | Standing::Sits | Standing::Answered => {
+                return Outcome::stray();
+            }
         };
         let facts = push_facts(&self.house(), &mount, &block);
         match judge(&Action::Push(facts)) {

@@ -74,7 +74,9 @@ impl Control {
                 reply: Reply::Noted,
                 change: Change::Forget { id },
             },
-            _ => Outcome::stray(),
+            Standing::Unknown | Standing::Undecided(_) | Standing::Sits | Standing::Answered => {
+                Outcome::stray()
+            }
         }
     }
 }

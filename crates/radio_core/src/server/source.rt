@@ -50,7 +50,9 @@ impl Control {
         match self.standing(asked.id) {
             Standing::Undecided(_) => {}
             Standing::Finished(rule) => return Err(Outcome::finished(rule)),
-            _ => return Err(Outcome::stray()),
+            Standing::Unknown | Standing::Feeds(_) | Standing::Sits | Standing::Answered => {
+                return Err(Outcome::stray());
+            }
         }
         let house = self.house();
         let Some(mount) = mount_named(&house, asked.mount.as_slice()) else {

@@ -18,7 +18,9 @@ impl Control {
         match self.standing(id) {
             Standing::Feeds(mount) => self.end_unless_relayed(id, mount),
             Standing::Finished(rule) => Outcome::finished(rule),
-            _ => Outcome::stray(),
+            Standing::Unknown | Standing::Undecided(_) | Standing::Sits | Standing::Answered => {
+                Outcome::stray()
+            }
         }
     }
 

@@ -13,7 +13,14 @@ pub(super) fn with_counts(reply: Reply, counts: Carried) -> Reply
 {
     match reply {
         Reply::Text(text) => Reply::Text(told_counts(text, counts)),
-        reply => reply,
+        other @ (Reply::Arrived(_)
+        | Reply::Feeding
+        | Reply::Seated { .. }
+        | Reply::Drawn { .. }
+        | Reply::Noted
+        | Reply::Deny(_)
+        | Reply::Finished(_)
+        | Reply::Stray) => other,
     }
 }
 
@@ -23,7 +30,11 @@ fn told_counts(text: ReplyText, counts: Carried) -> ReplyText
     match text {
         ReplyText::Moved(_) => ReplyText::Moved(counts.moved),
         ReplyText::Ended(_) => ReplyText::Ended(counts.ended),
-        text => text,
+        other @ (ReplyText::Done
+        | ReplyText::Json(_)
+        | ReplyText::Streams(_)
+        | ReplyText::Public { .. }
+        | ReplyText::Page { .. }) => other,
     }
 }
 

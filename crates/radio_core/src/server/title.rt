@@ -19,7 +19,9 @@ impl Control {
                 change: Change::SetTitle { mount, title: text },
             },
             Standing::Finished(rule) => Outcome::finished(rule),
-            _ => Outcome::stray(),
+            Standing::Unknown | Standing::Undecided(_) | Standing::Sits | Standing::Answered => {
+                Outcome::stray()
+            }
         }
     }
 }

@@ -25,6 +25,6 @@ pub returns-in_ok-from_vec-in-Between : goal.returns-in_ok-from_vec-in-Between
 unfolding unescaped
 returns-in_ok-from_vec-in-Between c = grind (arith, common_steps)
 
-pub returns-in_default : goal.returns-in_default
+pub returns-in-Escape : goal.returns-in-Escape
 unfolding unescaped
-returns-in_default c = grind (arith, common_steps)
+returns-in-Escape c = grind (arith, common_steps)
