@@ -17,9 +17,9 @@ pub fn paths_name_commands()
     ensures { (path : List ℕ) (kind : KindOf) → (kind_of path ≡ Some kind) ↔ (path ≡ path_of kind) }
 {}
 
-/// What comes, comes exactly where it holds: a command where the path is its kind's and the arguments are there,
-/// `NoCommand` where the path is no command's, and `MissingArgument` where the path is its kind's and an argument is
-/// missing, with the mount that was named.
+/// A path and a query are read as a command exactly if the path is that of its kind and the arguments are there.
+/// They are read as `NoCommand` exactly if no kind has the path. They are read as `MissingArgument`, with the mount
+/// that was named, exactly if a kind has the path and an argument is missing.
 // rule: No command
 pub fn commands_are_exact()
     ensures command { (path query : List ℕ) (command : CommandOf) → (command_in path query ≡ Ok command) ↔ AsksFor path query (kind_in command) command }

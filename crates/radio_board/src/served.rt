@@ -12,9 +12,9 @@ const MOST_STEP_MS: u64 = 500;
 /// For how many milliseconds a worker may stand still at most, until others stop waiting for it.
 const MOST_STILL_MS: u64 = 2000;
 
-/// The time that a worker has served, in milliseconds. Time in which the process or one of its workers stood still does not
-/// count: of what the system's clock tells from one turn to the next, half a second counts at most, and no worker is ahead
-/// of the moment up to which all have read by more than that.
+/// The time that a worker has served, in milliseconds. Time in which the process or one of its workers stood still does
+/// not count. From one turn to the next the served time grows by half a second at most, whatever the system's clock
+/// says. It is never ahead of the moment up to which all have read by more than half a second.
 #[derive(Drop)]
 pub struct ServedTime {
     clock_ms: u64,

@@ -33,8 +33,8 @@ pub data ComesUpOn : Event → List ℕ → Type 0 where
   ASource : (asked : SourceRequest) → ComesUpOn (Source asked) asked.mount
   ARelay : (mount : List ℕ) (shown : Shown) → ComesUpOn (RelayUp mount shown) mount
 
--- why a listener goes from its seat to the mount: the session in which it sat is over; or one has come up on the mount, which is the one that it asked
--- for, and calls its listeners home; or a command moves the listeners of its mount there
+-- why a listener goes from its seat to the mount. The session in which it sat is over. Or a session has come up on the mount, which is the one that
+-- the listener asked for and calls its listeners home. Or a command moves the listeners of its mount there
 pub data IsSent (w later : World) (event : Event) (seat : Seat) (mount : List ℕ) : Type 0 where
   HisSessionIsOver : session_of later.house.live seat.mount ≡ None → (seat.session == 0) ≡ false → IsSent w later event seat mount
   HeIsCalledHome : ComesUpOn event mount → seat.home ≡ mount → (options_for w.house.settings mount).listeners.fallback_override ≡ true

@@ -25,8 +25,8 @@ pub record IsSaidAs (given : AboutOptions) (own : About) (about : About) : Type 
   pub bitrate : IsShownAs given.bitrate own.bitrate about.bitrate
   pub audio_info : about.audio_info ≡ own.audio_info
 
--- a session that has only begun: the source, or relay, of this number has come to feed the mount now, it has delivered nothing, and the session shows
--- its content type, with the name, the genre and what else the mount's settings say of it, or else its own
+-- a session that has only begun. The source or relay of this number has come to feed the mount now, and has delivered nothing. The session shows its
+-- content type, with the name, the genre and what else the mount's settings say of it, or else its own
 pub record HasBegun (w : World) (mount : List ℕ) (number : ℕ) (shown : Shown) (session : Session) : Type 0 where
   pub its_mount : session.mount ≡ mount
   pub its_source : session.number ≡ number

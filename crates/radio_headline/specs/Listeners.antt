@@ -52,8 +52,8 @@ DrawsAreStretches settings lists events id =
 abbrev pub draw_to : ℕ → World → Event → List Call
 draw_to id w event = of_client event id (draws_of (reply_to w event ∷ []))
 
--- they are cut where it sits down: the data of the draws from one sitting to the next, or to the end, are one slice of what the source delivered in whose
--- session it sat; those before the first have none; and joined in order they are all its draws
+-- the draws are cut where the listener sits down. The data of the draws from one sitting to the next, or to the end, are one slice of what the source
+-- delivered in whose session it sat. The draws before the first sitting have no data. Joined in order, the parts are all its draws
 abbrev pub DrawsAreCut : Settings → Lists → List Event → ℕ → Type 0
 DrawsAreCut settings lists events id =
     let w = opening settings lists in
@@ -73,9 +73,9 @@ module _ (settings : Settings) (lists : Lists) (brought : ℕ → List ℕ) (cou
 
   -- by what the settings say of answers
   module _ (web : WebAnswers) where
-    -- it is seated in the session of a source, or where one is awaited, and given a head that shows what that shows; then its draws, woven as one stream at
-    -- the interval that the head tells, or their data alone where it tells none; these data are slices, one for each time that it sat down, each time with
-    -- a source, or without data, awaiting one
+    -- it is seated in the session of a source, or where one is awaited, and is given a head that shows what that session shows. Then come its draws, woven
+    -- as one stream at the interval that the head names, or their data alone if it names none. These data are slices, one for each time that it sat down.
+    -- Each time it sat with a source, or without data where one was awaited
     pub record IsHearing (w : World) (asked : ListenRequest) (interval : Option ℕ) (head : StreamHead) (bytes : List ℕ) : Type 0 where
       pub is_seated : IsSeated w (Listen asked) interval head
       pub shows_his_source :
@@ -112,8 +112,8 @@ module _ (settings : Settings) (lists : Lists) (brought : ℕ → List ℕ) (cou
           → Denies (rows_for (server_after past) (Command asked)) rule × (given label ≡ denial web rule)
       pub told : (text : ShownText) → reply_to (server_after past) (Command asked) ≡ Text text → given label ≡ text_answer web text
 
-    -- one who asks to feed a mount so: that is how the bytes are heard that have come; where the policy denies it, it reads the first rule that held then,
-    -- and nothing else; where it is admitted, it reads that first, or that it may go on, where it had asked for that (RFC 9110, section 10.1.1)
+    -- one who asks to feed a mount so: the bytes that have come are read as that request. If the policy denies it, it reads the first rule that held then,
+    -- and nothing else. If it is admitted, it first reads that, or that it may go on if it had asked for that (RFC 9110, section 10.1.1)
     pub record SourceIsAnswered (given : ℕ → List ℕ) (label : ℕ) (asked : SourceRequest) (past : List Happening) : Type 0 where
       pub behind : List Event
       pub is_request : IsRequest (brought label) asked.id (Source asked) behind
@@ -139,8 +139,8 @@ module _ (settings : Settings) (lists : Lists) (brought : ℕ → List ℕ) (cou
     ListenersAreGiven given = (label : ℕ) (asked : ListenRequest) (past later : List Happening) → course ≡ past ++ on label (Listen asked) ∷ later
         → IsAnswered given label asked past
 
--- What the data of a source's body are (RFC 9112, section 6), and nothing that frames them: all of a plain one, so many bytes of a sized one, those of
--- the chunks of a chunked one; and one with a byte that no chunked body has there ends by that fault.
+-- What the data of a source's body are (RFC 9112, section 6), and nothing that frames them. They are all of a plain body, so many bytes of a sized
+-- one, and those of the chunks of a chunked one. A body with a byte that no chunked body has there ends by that fault.
 pub record BodiesAreHeard : Type 0 where
   pub plain : PlainBodiesAreHeard
   pub sized : SizedBodiesAreHeard

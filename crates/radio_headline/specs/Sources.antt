@@ -40,8 +40,8 @@ pub record IsRequest (bytes : List ℕ) (id : ℕ) (request : Event) (behind : L
   pub is_heard : IsHeard (fresh web id peer) bytes heard
   pub begins : heard.events ≡ request ∷ behind
 
--- On the connection of the label a source's request comes, and all that it delivers through the course is a front of the data behind that, as the
--- bytes of its body are heard; what is not delivered came when it was not admitted, or had been ended, or is still to be.
+-- On the connection of the label a source's request comes. All that the source delivers through the course is a front of the data behind the
+-- request, as the bytes of its body are read. What is not delivered came when it was not admitted or had been ended, or is still to be delivered.
 pub record DeliversItsBody (settings : Settings) (lists : Lists) (brought : ℕ → List ℕ) (course : List Happening) (label : ℕ) (asked : SourceRequest)
     : Type 0 where
   pub behind : List Event

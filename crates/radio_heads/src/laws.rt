@@ -40,10 +40,10 @@ pub fn heads_are_found()
     ensures responses { ResponsesAreFound }
 {}
 
-/// What `write_answer` writes for a listener, a denial or a text, and whatever bytes follow it, is
-/// read back with that status and those headers; of a listener's where the values have no control
-/// bytes but tabs, without the white space at their ends, and where the head has at most 8192 bytes
-/// or no value has more than 255.
+/// What `write_answer` writes for a listener, a denial or a text is read back with that status and
+/// those headers, whatever bytes follow it. A listener's values come back without the white space
+/// at their ends. For a listener this holds if the values have no control bytes but tabs, and the
+/// head has at most 8192 bytes or no value has more than 255.
 // rule: Answers are read back
 pub fn answers_read_back()
     ensures listener { ListenerIsReadBack }

@@ -30,8 +30,9 @@ pub record IsEarliestStart (stream : WholeStream) (burst queue place : ℕ) : Ty
   pub in_the_queue : end_of stream - place ≤ queue
   pub earliest : (other : ℕ) → IsBlockStart stream other → end_of stream - other ≤ burst → end_of stream - other ≤ queue → place ≤ other
 
--- the listener has a seat in the session of a mount by which its walk came, which was live when it asked, or waited for a session, since a relay feeds it on
--- demand, and let it in, is shown what it shows, and begins at the earliest block start that this mount's `burst-size` and the `queue-size` allow
+-- the listener has a seat in the session of a mount by which its walk came, and which let it in. The mount was live when it asked, or waited for a session
+-- since a relay feeds it on demand. The listener is shown what the session shows. It begins at the earliest block start that this mount's `burst-size` and
+-- the `queue-size` allow
 -- rule: Seat of a newcomer; Start of the burst; Waiting mount
 pub record IsSeated (w : World) (event : Event) (interval : Option ℕ) (head : StreamHead) : Type 0 where
   pub asked : ListenRequest

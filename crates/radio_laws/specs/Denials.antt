@@ -49,8 +49,8 @@ abbrev pub DenialsAreThePolicys : World → Event → Type 0
 DenialsAreThePolicys w event = (rule : Rule) → reply_to w event ≡ Deny rule
     → Denies (rows_for w event) rule × IsOnlyAnswered w (world_after w event) (client_in event)
 
--- the event asks the policy: a connection arrives; a client who has asked for nothing yet asks to feed a mount, or to listen at a path that is none of the
--- web site's, or gives a command; a source sends a block; a relay comes up
+-- the event asks the policy. A connection arrives, a source sends a block, or a relay comes up. Or a client that has asked for nothing yet asks to feed a
+-- mount, gives a command, or asks to listen at a path that is none of the web site's
 pub data AsksThePolicy (w : World) : Event → Type 0 where
   ToArrive : (peer : Peer) → AsksThePolicy w (Arrive peer)
   ToFeed : (asked : SourceRequest) → IsUndecided w asked.id → AsksThePolicy w (Source asked)

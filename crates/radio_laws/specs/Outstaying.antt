@@ -23,9 +23,9 @@ pub record IsInTime (w : World) (ms : ℕ) : Type 0 where
   pub sources : (mount : List ℕ) (session : Session) → session_of w.house.live mount ≡ Some session
       → is_silent w.house.settings.limits.source_timeout ms session ≡ false
 
--- who is ended at this moment, by which rule: first whoever has asked for nothing in its time, then whoever has sat as long as its mount allows, also where
--- its session ends as well, and then the sources that have sent nothing in their time, with those who are left at their mounts where these have no
--- fallback and wait for no other session; where a relay feeds one on demand, they wait there
+-- who is ended at this moment, by which rule. First each client that has asked for nothing in its time. Then each listener that has sat as long as its
+-- mount allows, also if its session ends as well. Then each source that has sent nothing in its time. With it end those left at its mount, if the mount has
+-- no fallback and waits for no other session. If a relay feeds the mount on demand, they wait there
 -- rule: End at a waiting mount
 pub record IsEndedInOrder (w later : World) (ms : ℕ) : Type 0 where
   pub clients : (id : ℕ) (client : Client) → client_of w.house.clients id ≡ Some client

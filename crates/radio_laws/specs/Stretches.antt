@@ -85,10 +85,10 @@ abbrev pub StretchesAreCut : Settings → Lists → List Event → Type 0
 StretchesAreCut settings lists events = (id : ℕ) → let w = opening settings lists in let cut = cut_at_sittings (λ v event. handed_at v event id) w events id in
     (cut.before ≡ []) × AreSlices (delivered w events) (sittings w events id) cut.each
 
--- through an event, a listener who keeps a seat keeps all of it but its place, which does not go back; or a session begins at its mount, which waited for
--- one, and it hears it from its start; or a move that the event brings has taken it, at its turn, to the end of the stream of the mount where its walk
--- landed, and all else of its seat stays: the session in which it sat is over, or it is called home; and a seat is in the session that its mount has, or
--- waits for one
+-- what an event makes of a seat that a listener keeps. All of the seat stays but its place, which does not go back. Or a session begins at its mount,
+-- which waited for one, and the listener hears it from its start. Or the event brings a move, which has taken the listener at its turn to the end of the
+-- stream of the mount where its walk landed. All else of the seat stays then, and the session in which it sat is over, or it is called home. A seat is in
+-- the session that its mount has, or waits for one
 -- rule: Moved to the end; Session after a wait
 pub record KeepsItsMount (w : World) (event : Event) (id : ℕ) (seat : Seat) : Type 0 where
   pub session : Session

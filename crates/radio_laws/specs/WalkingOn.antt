@@ -22,9 +22,10 @@ use Rattle.radio_parts.specs.Stream.{end_of}
 use Rattle.radio_house.specs.World.{World}
 use Rattle.radio_house.specs.Waiting.{heard_at, is_on_demand}
 
--- one who had this seat before the move: it goes on at the end of the stream of the mount to which its turn takes it, or has finished where it
--- sat, by the rule that leaves it out, or keeps its seat; and where the session of its mount has ended it does not stay as it was, but at a mount that a relay feeds on demand it goes
--- on, to wait there for the next one
+-- what a move makes of a listener that had this seat before. It goes on at the end of the stream of the mount to which its turn
+-- takes it. Or it has finished where it sat, by the rule that leaves it out. Or it keeps its seat. If the session of its mount
+-- has ended, it does not stay as it was. At a mount that a relay feeds on demand it then goes on, to wait there for the next
+-- session
 -- rule: Turns of a move; End at a waiting mount
 pub record FaresByHisTurn (before : World) (move : Move) (id : ℕ) (seat : Seat) : Type 0 where
   pub goes : (mount : List ℕ) → his_turn before move id ≡ GoesTo mount → (session : Session) × (heard_at before.house mount ≡ Some session)

@@ -72,8 +72,8 @@ pub fn denials_are_the_policys()
 // rule: Killed; Source killed; Finishes are silent; End of a session
 pub fn finished_are_told()
     // a client that learns which rule finished it was finished by that rule at an earlier event, at which the rule's
-    // condition held: the end of its mount's session, a block that left it too far behind, or a moment at which its time was
-    // over
+    // condition held. The event was the end of its mount's session, a block that left it too far behind, or a moment at
+    // which its time was over
     ensures finished { (settings : Settings) (lists : Lists) (events : List Event) (event : Event) → FinishedAreTold settings lists events event }
 {}
 
@@ -164,10 +164,10 @@ pub fn stretches_are_whole()
 /// else happens to seats.
 // rule: End of a session; Called home; Turns of a move; Changes of seats; Relay feeds; End at a waiting mount
 pub fn listeners_walk_on()
-    // after any events, a move takes each listener, in the order of their numbers and by the state at its turn, to the end of
-    // the stream of the mount where its walk lands, or finishes it by the rule that stops the walk, or leaves it as it is. If
-    // its mount's session has ended it does not stay as it was: at a mount that a relay feeds on demand it goes on to wait
-    // for the next one
+    // after any events, a move takes each listener, in the order of their numbers and by the state at its turn. The
+    // listener goes to the end of the stream of the mount where its walk lands, is finished by the rule that stops the
+    // walk, or stays as it is. If its mount's session has ended it does not stay as it was: at a mount that a relay
+    // feeds on demand it goes on to wait for the next one
     ensures turns { (settings : Settings) (lists : Lists) (events : List Event) (event : Event)
         → ListenersWalkOn (run_after settings lists events) event }
     // if a source comes up, ends or leaves, or a command moves listeners or ends a session, nothing else happens to the seats

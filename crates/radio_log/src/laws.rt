@@ -17,8 +17,8 @@ pub fn lines_are_printable()
     ensures { (note : NoteOf) → IsNote note → AllByRecursion IsPrintable (body note) }
 {}
 
-/// A line is read as it was told, whatever stands behind it: it ends at the first LF, its words are parted by single spaces,
-/// and each word behind the second is a field, whose name ends at the first `=` and whose value is percent-encoded.
+/// A line is read as it was written, whatever follows it. It ends at the first LF, and single spaces part its words.
+/// Each word after the second is a field: its name ends at the first `=`, and its value is percent-encoded.
 // rule: Line of the log
 pub fn lines_are_read_back()
     ensures { (note : NoteOf) → IsNote note → IsReadBack note }

@@ -19,9 +19,9 @@ pub enum Meant {
     Nothing,
 }
 
-/// Returns what a name may have been meant for that its table does not know: the key of that name in the first other table
-/// that has one; else the first key of its own table whose name one edit makes of it, or else two (insertions, deletions and
-/// replacements of characters, as Levenshtein counts them).
+/// Returns what a name may have been meant for that its table does not know. First comes the key of that name in the
+/// first other table that has one. Next comes the first key of its own table whose name one edit makes of it, or else
+/// two. An edit is the insertion, deletion or replacement of a character, as Levenshtein counts them.
 ///
 /// `OutOfMemory`: memory was refused.
 // rule: Unknown keys

@@ -33,11 +33,14 @@ use toml::Table;
 
 /// The settings of a text in TOML, or its first fault.
 ///
-/// Faults are looked for in this order: the text is not TOML; then the keys above all tables, `[listen]`,
-/// `[limits]`, `[web]`, each `[[mount]]`, each `[[relay]]` and `[slave]`, each by the rows of its table in
-/// `docs/FORMATS.md`, its name before its keys; then a name that two mounts have, one that two relays feed, and one
-/// that is a path of the web site.
-/// Keys and tables that are not in the table are passed over.
+/// Faults are looked for in this order:
+///
+/// - the text is not TOML;
+/// - the keys above all tables, `[listen]`, `[limits]`, `[web]`, each `[[mount]]`, each `[[relay]]` and `[slave]`,
+///   each by the rows of its table in `docs/FORMATS.md`, its name before its keys;
+/// - a name that two mounts have, one that two relays feed, and one that is a path of the web site.
+///
+/// Keys and tables that are not in the table are ignored.
 ///
 /// `Err(SettingsFault::OutOfMemory)` means that memory ran out, and says nothing of the text.
 // rule: Reading settings; Pair of a relay; Keys take effect

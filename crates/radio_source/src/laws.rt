@@ -16,8 +16,9 @@ ghost use Rattle.radio_source.specs.Chunked.{Chunk, IsChunk, IsShortLine, print_
 
 use radio_blocks::laws::blocks_are_the_data;
 
-/// However a body is cut into pieces, with an empty piece fed last, its feeds put out what its bytes come to: all its data in
-/// order, then its end, once, if it has come, then the fault that stands among the bytes, once, if there is one.
+/// However a body is cut into pieces, with an empty piece fed last, its feeds put out what its bytes mean. First come
+/// all its data in order, then its end, once, if it has come. Last comes the fault among the bytes, once, if there is
+/// one.
 // rule: Feed
 pub fn cuts_do_not_matter()
     ensures { (place : Place) (pieces : List (List ℕ)) → fault_at place ≡ None

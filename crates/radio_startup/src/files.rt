@@ -50,9 +50,13 @@ impl Model for SettingsText {
     ghost view = { λ text. text.bytes.items };
 }
 
-/// The settings of the file of this path, and what the files hold that they name. A fault is the first of these: the file
-/// cannot be read, is not TOML, or has a fault of settings; then those of the files that it names, of which `deny-ip`
-/// comes first, then `allow-ip`, then each mount's `htpasswd` in the order of the tables, and last `proxy-from`.
+/// Returns the settings of the file of this path, and what the files hold that they name.
+///
+/// A fault is the first of these:
+///
+/// - the file cannot be read, is not TOML, or has a fault of settings;
+/// - a file that it names has a fault: `deny-ip`, then `allow-ip`, then each mount's `htpasswd` in the order of the
+///   tables, and last `proxy-from`.
 pub fn read_station<F: ReadsFiles>(files: &F, path: &str) -> Result<Station, FileFault>
     ensures { IfOk result (λ station. (bytes : List ℕ) × F.holds files.now path.now bytes × IsStationOf (F.holds files.now) bytes station) }
 {

@@ -13,9 +13,9 @@ use radio_events::{
 use radio_values::{MountName, Shown, Title};
 use std::alloc::Global;
 
-/// How many calls a caller makes: a source and a listener arrive and say what they want, and two who
-/// wait; then titles are set and blocks are delivered and drawn, the admin finishes the listener, who
-/// is asked for the status shows it, and source and listener leave.
+/// How many calls a caller makes. Four clients arrive, and a source and a listener of them say what
+/// they want. Then titles are set, and blocks are delivered and drawn. The third client finishes the
+/// listener by a command, and the fourth is shown the status. Last the listener and the source leave.
 pub const CALLS: usize = 100;
 
 /// How many of them are draws, each of which is handed data and told a title.

@@ -1,6 +1,6 @@
-//! Lists of two mounts and of the control, made by hand from what a core replied, and merged: a listener moves from one
-//! mount to the other, where a block that is too long for the queue finishes it, right before a control entry that is lent
-//! both mounts. Then the same lists with one fault each.
+//! Lists of two mounts and of the control, made by hand from what a core replied, and merged. A listener moves from one
+//! mount to the other. There a block that is too long for the queue finishes it, right before a control entry that is
+//! lent both mounts. Then the same lists with one fault each.
 
 use crate::calls::{arrival, command_event, listen_event, push_event, source_event, step_copy};
 use crate::stations::{core, settings};
