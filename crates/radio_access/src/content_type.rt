@@ -20,7 +20,7 @@ const REFUSED_TYPES: &[&[u8]] = &[
     b"video/x-matroska-3d",
 ];
 
-/// Whether a content type is refused: what stands before its first `;`, without blanks at its ends, is one of the
+/// Whether a content type is refused: what is before its first `;`, without blanks at its ends, is one of the
 /// refused types in any ASCII case (RFC 9110, section 8.3.1).
 // rule: Content type
 pub fn is_refused_type(content_type: &[u8]) -> bool

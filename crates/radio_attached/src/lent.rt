@@ -49,7 +49,7 @@ impl Listeners {
     pub(crate) fn end_lagging_sitters(&mut self, mount: &MountName, end: u64, queue: u64)
         ensures { self.new ≡ record self.old { seats = with_ended self.old.seats (lags_behind mount.now end queue) RuleOf.Lagged } }
     {
-        // the listeners stand in the order of their numbers
+        // the listeners are in the order of their numbers
         let _ = self.seats.len();
         let mut last = None;
         'listeners: while let Some(id) = self.next(last) {

@@ -116,7 +116,7 @@ impl Listeners {
         let mount = seat.mount;
         let place = seat.place.bytes_before();
         let boxed = BoxedAttachment::new(alloc, Attachment { id, place })?;
-        // the listeners stand in the order of their numbers
+        // the listeners are in the order of their numbers
         let _ = self.seats.len();
         let last = self.seats.last_mount(id).copied();
         self.seats.add(id, seat)?;
@@ -138,7 +138,7 @@ impl Listeners {
     pub fn advance(&mut self, id: u64, place: Place)
         ensures { self.new ≡ record self.old { seats = with_place self.old.seats id place } }
     {
-        // the listeners stand in the order of their numbers
+        // the listeners are in the order of their numbers
         let _ = self.seats.len();
         let Some(seat) = self.seats.seat(id) else {
             return;
@@ -153,7 +153,7 @@ impl Listeners {
         requires { sits_at self.old.seats id mount.now ≡ true }
         ensures { self.new ≡ record self.old { seats = with_place self.old.seats id place } }
     {
-        // the listeners stand in the order of their numbers
+        // the listeners are in the order of their numbers
         let _ = self.seats.len();
         self.parts.advance(id, mount, place);
         note_place(&mut self.seats, self.is_whole, id, place);
@@ -163,7 +163,7 @@ impl Listeners {
     pub fn end(&mut self, id: u64, rule: Rule)
         ensures { self.new ≡ record self.old { seats = with_end self.old.seats id rule } }
     {
-        // the listeners stand in the order of their numbers
+        // the listeners are in the order of their numbers
         let _ = self.seats.len();
         let Some(seat) = self.seats.seat(id) else {
             return;
@@ -188,7 +188,7 @@ impl Listeners {
         ensures count { result ≡ how_many (passes_at mount.now (T.passes test.now)) self.old.seats }
     {
         let count = self.seats.finish_at_if(mount, test, rule);
-        // the listeners stand in the order of their numbers
+        // the listeners are in the order of their numbers
         let _ = self.seats.len();
         self.parts.detach_others(mount, &self.seats);
         count
@@ -252,7 +252,7 @@ pub(crate) fn end_each(seats: &mut Seats, lagging: AttachmentTree)
     ensures rising { AreByNumber seats.old.seats }
 {
     let mut lagging = lagging;
-    // the listeners stand in the order of their numbers
+    // the listeners are in the order of their numbers
     let _ = seats.len();
     'lagging: while let Some(boxed) = lagging.take_first() {
         end_one(seats, boxed.row().id);
@@ -264,7 +264,7 @@ pub(crate) fn end_each(seats: &mut Seats, lagging: AttachmentTree)
 fn end_one(seats: &mut Seats, id: u64)
     ensures { seats.new ≡ record seats.old { seats = map (ended_where (λ n. n == id) RuleOf.Lagged) seats.old.seats } }
 {
-    // the listeners stand in the order of their numbers
+    // the listeners are in the order of their numbers
     let _ = seats.len();
     seats.end(id, Rule::Lagged);
 }

@@ -63,7 +63,7 @@ impl Listeners {
         })
     }
 
-    /// Returns how the listener stands, if there is one of this number.
+    /// Returns the standing of the listener of this number, if there is one.
     pub fn standing(&self, id: u64) -> Option<ListenerStanding>
         ensures { result ≡ standing_in (listener_of self.now.seats id) }
     {
@@ -81,7 +81,7 @@ impl Listeners {
     /// Returns how many sit at the mount.
     pub fn count(&self, mount: &MountName) -> u64
         ensures count { result ≡ count_at self.now.seats mount.now }
-        // the listeners stand in the order of their numbers, so that each is counted once
+        // the listeners are in the order of their numbers, so that each is counted once
         ensures rising { AreByNumber self.now.seats }
     {
         self.seats.count(mount)

@@ -10,7 +10,7 @@ pub trait PlaceVisit {
     /// What a visit returns.
     type Answer;
 
-    // What a visit comes to: the answer, and the visitor and the place after it.
+    // The result of a visit: the answer, and the visitor and the place after it.
     ghost visits: { Self → ℕ → Self.Answer → Self → ℕ → Type 0 };
 
     /// Visits the place, in bytes.

@@ -106,8 +106,8 @@ impl BlockQueue {
         Place::new(self.blocks.start_within(self.offset, self.end, burst))
     }
 
-    /// Appends a block, and drops the blocks at the front that are not needed for `limit` bytes. The stream must not come to
-    /// 2^64 bytes by it. `Err` has the block if memory was refused; the queue is unchanged then.
+    /// Appends a block, and drops the blocks at the front that are not needed for `limit` bytes. The stream must not
+    /// reach 2^64 bytes by it. `Err` has the block if memory was refused; the queue is unchanged then.
     // rule: Kept stream
     pub fn push(&mut self, block: Block) -> Result<(), AllocFailed<Block>>
         requires grows { kept_end self.old + length block < 2 ^ 64 }
@@ -150,8 +150,8 @@ impl BlockQueue {
         true
     }
 
-    /// Appends to the pieces what stands at the place, at most `room` bytes, as slices that are shared with the queue,
-    /// and answers the place behind it. `Trimmed` where the place lies before the kept blocks, `OutOfMemory` where
+    /// Appends to the pieces the data from the place on, at most `room` bytes, as slices that are shared with the
+    /// queue, and returns the place behind them. `Trimmed` if the place lies before the kept blocks, `OutOfMemory` if
     /// memory was refused; the pieces are unchanged then.
     // rule: Kept stream
     pub fn draw(&self, place: Place, room: u32, pieces: &mut Pieces) -> Result<Place, DrawFault>

@@ -160,8 +160,8 @@ impl ServerState {
         Ok(NOBODY)
     }
 
-    /// The client feeds the mount from now on, listeners can be seated there, those hear it who sat
-    /// there waiting for a session, and those come home whom the mount calls.
+    /// The client feeds the mount from now on, and listeners can be seated there. Those that sat
+    /// there and waited for a session hear it, and those that the mount calls come home.
     fn begin(&mut self, id: u64, mount: MountName, shown: Shown) -> Result<Carried, OutOfMemory>
         ensures ok { OnOk result (self.new ≡ changed self.old (Change.Begin id mount shown)) }
         ensures counts { IfOk result (λ counts. counts ≡ counted self.old (Change.Begin id mount shown)) }
@@ -180,9 +180,9 @@ impl ServerState {
         }
     }
 
-    /// A relay has come up and feeds the mount from now on, listeners can be seated there, those hear
-    /// it who sat there waiting for a session, and those come home whom the mount calls. `OutOfMemory` where memory was refused; nothing has changed
-    /// then.
+    /// A relay has come up and feeds the mount from now on, and listeners can be seated there. Those that sat there and
+    /// waited for a session hear it, and those that the mount calls come home. `OutOfMemory` if memory was refused;
+    /// nothing has changed then.
     fn raise(&mut self, id: u64, mount: MountName, shown: Shown) -> Result<Carried, OutOfMemory>
         ensures ok { OnOk result (self.new ≡ changed self.old (Change.Raise id mount shown)) }
         ensures counts { IfOk result (λ counts. counts ≡ counted self.old (Change.Raise id mount shown)) }
@@ -211,8 +211,8 @@ impl ServerState {
         }
     }
 
-    /// The session of this number has begun on the mount: those hear it who sat there waiting for
-    /// one, and those come home whom the mount calls. It takes no memory.
+    /// The session of this number has begun on the mount. Those that sat there and waited for one
+    /// hear it, and those that the mount calls come home. It takes no memory.
     fn open_session(&mut self, mount: MountName, number: u64) -> Carried
         ensures state { self.new ≡ called_home (record self.old { seats = with_session_at self.old.seats mount number }) mount }
         ensures counts { result ≡ counts_home (record self.old { seats = with_session_at self.old.seats mount number }) mount }

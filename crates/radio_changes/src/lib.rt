@@ -6,7 +6,7 @@
 //!   [`TimedState::house`], which is all but the listeners, and [`TimedState::seats`];
 //!   [`TimedState::commit`] makes a change, whole or not at all.
 //!
-//! What comes of an event is `radio_core`'s.
+//! `radio_core` works out the outcome of an event.
 #![tactic(auto)]
 
 mod change;

@@ -1,5 +1,6 @@
-//! What an event can do to one client, one seat and one session, and to what a core stands for, in
-//! every run of events from the opening state, over the definitions that `Core::step` follows.
+//! What an event can do to one client, one seat and one session, and to the state that a core
+//! represents. It holds in every run of events from the opening state, over the definitions that
+//! `Core::step` follows.
 
 ghost use Rattle.std.specs.Prelude.{List};
 ghost use Rattle.radio_settings_values.specs.declared.settings.Settings.{Settings};

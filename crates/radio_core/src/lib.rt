@@ -4,13 +4,13 @@
 //!   [`Server`](radio_events::Server).
 //! - [`Control`]: the same over the parts that it is lent, each by [`Control::exchange`].
 //! - [`clients_stand_by_their_events`] and the other functions of `laws`: what an event can do to
-//!   one client, one seat and one session, in every run. The laws of every run stand on them
-//!   (`radio_laws`).
-//! - [`Outcome`], [`Change`]: the words in which contracts and laws speak of what comes of an event.
-//!   No call takes or gives one.
+//!   one client, one seat and one session, in every run. `radio_laws` uses them for the laws of
+//!   every run.
+//! - [`Outcome`], [`Change`]: the outcome of an event, as contracts and laws name it. No call takes
+//!   or returns one.
 //!
-//! What comes of an event is worked out first (a file for each event under `server`): a reply and a
-//! change of the state (`radio_changes`), which is then committed whole or not at all.
+//! The outcome of an event is worked out first (a file for each event under `server`): a reply and
+//! a change of the state (`radio_changes`). The change is then committed whole or not at all.
 #![tactic(auto)]
 
 mod laws;

@@ -1,4 +1,4 @@
-//! What comes of an event: worked out first, and then committed.
+//! The outcome of an event: worked out first, and then committed.
 
 use radio_changes::Change;
 use radio_events::Reply;
@@ -45,7 +45,7 @@ impl Outcome {
         }
     }
 
-    /// The client has finished by the rule, and is told it.
+    /// The outcome for a client that the rule has finished: the reply names the rule.
     pub(crate) fn finished(rule: Rule) -> Outcome
         ensures { result ≡ says (Reply.Finished rule) Change.Nothing }
     {

@@ -1,5 +1,5 @@
-//! The server: its state, and what an event does to it. What comes of an event is worked out first,
-//! which may be refused memory, and then committed, whole or not at all.
+//! The server: its state, and what an event does to it. The outcome of an event is worked out
+//! first, which may be refused memory. It is then committed, whole or not at all.
 
 ghost use Rattle.std.specs.Prelude.{◌≡◌, [], ◌∷◌, IsOk, IfOk, OnOk, OnErr};
 ghost use Rattle.radio_events.specs.declared.reply.Reply.{Reply as ReplyOf};
@@ -68,7 +68,7 @@ impl Core {
     /// Returns a server to which nothing has happened yet. It takes no memory.
     #[tactic(auto, using(crate::proofs::StepLemmas::opening_represents))]
     pub fn new(alloc: Global, settings: Settings, lists: Lists) -> Core
-        // it stands for the opening state of these settings and lists
+        // it represents the opening state of these settings and lists
         ensures { Represents result (opening settings lists) }
     {
         Core {
@@ -86,7 +86,7 @@ impl Core {
 
     /// Returns the settings that it was given.
     pub fn settings(&self) -> &Settings
-        // they are those of whatever state it stands for
+        // they are those of whatever state it represents
         ensures { (w : World) → Represents self.now w → result.now ≡ w.house.settings }
     {
         self.control.settings()
@@ -96,7 +96,7 @@ impl Core {
     /// `OutOfMemory` if memory was refused.
     // rule: Pulls on demand
     pub fn wanted(&self) -> Result<Vec<MountName>, OutOfMemory>
-        // they are those of whatever state it stands for
+        // they are those of whatever state it represents
         ensures { (w : World) → Represents self.now w → IfOk result (λ mounts. mounts.items ≡ wanted w) }
     {
         self.control.wanted()
@@ -106,7 +106,7 @@ impl Core {
     /// such listener.
     // rule: Last mount
     pub fn last_mount(&self, id: u64) -> Option<&MountName>
-        // it is that of whatever state it stands for
+        // it is that of whatever state it represents
         ensures { (w : World) → Represents self.now w → option_copied result ≡ last_mount_of w.seats id }
     {
         self.control.last_mount(id)
@@ -116,7 +116,8 @@ impl Core {
     // rule: Client numbers; Out of place; Leaving; Refused memory; Lagged; The clock; One moment; Blocks of a source
     // rule: Draws; Kept stream; Relay comes up; Relay goes down
     pub fn step(&mut self, event: Event) -> Result<Reply, OutOfMemory>
-        // whatever state the core stands for, the reply is that of a step from it, and the core stands for the state after it
+        // whatever state the core represents, the reply is that of a step from it, and the core represents the state
+        // after it
         ensures step { (w : World) → Represents self.old w → IfOk result (λ reply. (w' : World) × Step w event reply w' × Represents self.new w') }
         // the end of a session, of a connection and of a relay, and the clock, are never refused
         ensures frees { TakesNoMemory event → IsOk result }
@@ -128,7 +129,8 @@ impl Core {
     /// Applies one event and returns its reply three times: for the record, for the client and for the caller.
     /// `OutOfMemory` if memory was refused; nothing has changed then.
     pub fn step3(&mut self, event: Event) -> Result<[Reply; 3], OutOfMemory>
-        // whatever state the core stands for, the replies are that of a step from it, and the core stands for the state after it
+        // whatever state the core represents, the replies are that of a step from it, and the core represents the state
+        // after it
         ensures step { (w : World) → Represents self.old w
             → IfOk result (λ replies. (reply : ReplyOf) × (w' : World) × Step w event reply w' × (replies ≡ reply ∷ reply ∷ reply ∷ [])
             × Represents self.new w') }

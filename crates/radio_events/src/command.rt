@@ -43,7 +43,7 @@ pub enum Listing {
     Streams,
 }
 
-/// Whose pair opens a command, beside that of the admin.
+/// Whose pair opens a command, in addition to the admin's.
 #[derive(Clone, Copy)]
 pub enum OpenedBy {
     /// Nobody's: the admin's alone.

@@ -7,7 +7,7 @@ use radio_blocks::Block;
 use radio_creds::Pair;
 use radio_values::{Shown, Title};
 
-/// What a client sends who wants to feed a mount.
+/// What a client sends that wants to feed a mount.
 pub struct SourceRequest {
     /// The number of the client.
     pub id: u64,
@@ -15,7 +15,7 @@ pub struct SourceRequest {
     pub mount: Bytes,
     /// The user and the password that it sends, if it does.
     pub pair: Option<Pair>,
-    /// What its head tells of the stream.
+    /// What its head says of the stream.
     pub shown: Shown,
 }
 
@@ -33,7 +33,7 @@ impl Drop for SourceRequest {
     }
 }
 
-/// What a client sends who wants to hear a mount.
+/// What a client sends that wants to hear a mount.
 #[derive(Drop)]
 pub struct ListenRequest {
     /// The number of the client.
@@ -75,11 +75,11 @@ pub enum Event {
         id: u64,
         block: Block,
     },
-    /// The source has come to the end of its data.
+    /// The source's data have ended.
     SourceEnd {
         id: u64,
     },
-    /// The source tells what is on the air from now on.
+    /// The source sets the title of what it plays from now on.
     Title {
         id: u64,
         text: Title,
@@ -101,7 +101,7 @@ pub enum Event {
     RelayUp {
         /// The name of the mount, which need not be one.
         mount: Bytes,
-        /// What the head of the master's answer tells of the stream.
+        /// What the head of the master's answer says of the stream.
         shown: Boxed<Shown>,
     },
     /// The relay's connection to its master is closed.

@@ -49,7 +49,7 @@ pub enum Reply {
     Seated {
         /// After how many bytes of data it is sent a metadata block, if it asked for metadata.
         interval: Option<u32>,
-        /// What its head says beside it.
+        /// What else its head says.
         head: Boxed<StreamHead>,
     },
     /// The listener's next data.

@@ -1,4 +1,4 @@
-//! What is looked up for one who gives a command.
+//! What is looked up for a client that gives a command.
 
 ghost use Rattle.std.specs.Prelude.{◌≡◌, []};
 ghost use Rattle.std.specs.Option.{option_copied};
@@ -15,8 +15,8 @@ use radio_policy::{CommandAccess, CommandFacts, CommandNeeds, DestinationFacts, 
 use radio_settings_values::Settings;
 use radio_values::MountName;
 
-/// What is looked up for one who sends this pair, or none, and whose path and arguments ask for
-/// this, beside the listeners; `None` where the path names no command.
+/// Returns what is looked up, in the house and among the listeners, for a client that sends this
+/// pair, or none, and whose path and arguments ask for this. `None` if the path names no command.
 // rule: Order for a command; No destination; Same mount; No client; No users; No user
 pub fn command_facts(
     house: &House<'_>,
@@ -140,8 +140,8 @@ fn access_to(settings: &Settings, listing: &Listing, pair: Option<&Pair>) -> Com
     }
 }
 
-/// Whose pair opens the command, beside that of the admin: a title and a fallback may be set by the
-/// mount's source too.
+/// Returns whose pair opens the command, in addition to the admin's. The source of a mount too may
+/// set its title and its fallback.
 fn opened_by(command: &Command) -> OpenedBy
     ensures { result ≡ opened_by command.now }
 {

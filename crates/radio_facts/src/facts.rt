@@ -1,4 +1,5 @@
-//! What is looked up for who arrives, feeds a mount, delivers a block or wants to hear a mount.
+//! What is looked up for a client that arrives, feeds a mount, delivers a block or wants to hear a
+//! mount.
 
 ghost use Rattle.std.specs.Prelude.{◌≡◌, true, false, length, MatchOption};
 ghost use Rattle.std.specs.Option.{option_copied};
@@ -78,9 +79,9 @@ pub fn push_facts(house: &House<'_>, mount: &MountName, block: &Block) -> PushFa
     }
 }
 
-/// What is looked up for a listener who sends this pair, or none, and wants to hear the mount,
-/// and where its walk from there ends. A digest is made for each mount with users at which the
-/// walk looks for a seat: two at the most.
+/// Returns what is looked up for a listener that sends this pair, or none, and wants to hear the
+/// mount, and where its walk from there ends. A digest is made for each mount with users at which
+/// the walk looks for a seat: two at the most.
 // rule: Order for a listener; Fallback of a mount
 pub fn listen_facts(
     house: &House<'_>,

@@ -15,10 +15,10 @@ use radio_blocks::Place;
 use radio_seats::{LentSeat, Seats};
 use radio_values::MountName;
 
-/// Carries the listeners along whom the move concerns, one after the other in the order of their
-/// numbers: each by what stands at its turn, as the earlier ones left things, and its own seat does
-/// not count against it. Who goes to a mount goes on at the end of its stream. It takes no memory.
-/// It looks at each listener of the house once.
+/// Moves the listeners that the move concerns, one after another in the order of their numbers.
+/// Each goes by the state that the earlier ones left, in which its own seat does not count against
+/// it. A listener that goes to a mount goes on at the end of its stream. It takes no memory. It
+/// looks at each listener of the house once.
 // rule: Refused memory; End of a session; Turns of a move; Move clients
 pub fn carry<V: View, A: Attachments>(
     view: &V,
@@ -92,7 +92,7 @@ fn take_turn<V: View, A: Attachments>(
     }
 }
 
-/// What the listener's turn comes to, as things stand.
+/// Returns what its turn makes of the listener in this state.
 // rule: Turns of a move
 fn turn_of<V: View>(view: &V, seats: &Seats, moving: &Move, id: u64) -> MoveEffect
     ensures { result ≡ turn_of (V.sight view.now) moving.now seats.now.seats id }

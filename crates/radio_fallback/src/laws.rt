@@ -37,8 +37,8 @@ pub fn a_carry_seats_users_once()
         → SitOnce sight seats mount → SitOnce sight (carried sight move seats).seats mount }
 {}
 
-/// What becomes of each listener is what its turn has in store for it, by what stands then: those of
-/// lower numbers have had their turns, and nobody else has.
+/// What becomes of each listener is what its turn makes of it in the state then. Those of lower
+/// numbers have had their turns, and no others have.
 // rule: Turns of a move
 pub fn each_fares_by_his_turn()
     ensures { (sight : Sight) (move : Move) (seats : List Listener) (id : ℕ) (listener : Listener) → AreByNumber seats

@@ -1,4 +1,4 @@
-//! Where one who asks for a mount comes to sit, or which rule stops it.
+//! Where a client that asks for a mount is seated, or which rule stops it.
 //!
 //! - [`View`]: what a walk asks of the server; [`walk_from`] goes over it, and over the table of those who sit.
 //! - [`Walk`]: what it [`WalkFinding`] at the mount from which it began, and its [`Landing`]. [`asking::landing`] gives the landing alone.

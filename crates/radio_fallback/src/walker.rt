@@ -51,7 +51,7 @@ impl<V: View> Walker<'_, '_, V> {
         Landing::Stops(Rule::FallbackDepth)
     }
 
-    /// The mount to which this one hands it on, if it does.
+    /// The mount to which the walk goes on from this one, if it does.
     pub(crate) fn next_mount(&self, mount: &MountName) -> Option<MountName>
         ensures { result ≡ next_mount (V.sight self.now.view.now) (others_of self.now.seats.now.seats self.now.own) mount.now }
     {
@@ -62,7 +62,7 @@ impl<V: View> Walker<'_, '_, V> {
         }
     }
 
-    /// Where it comes to sit if it goes no further, or which rule stops it there.
+    /// Where the client is seated if the walk goes no further, or which rule stops it there.
     pub(crate) fn landing_here(&self, mount: &MountName, pair: Option<&Pair>) -> Landing
         ensures { result ≡ landing_here (V.sight self.now.view.now) (others_of self.now.seats.now.seats self.now.own) (option_copied pair.entry) mount.now }
     {
@@ -87,7 +87,7 @@ impl<V: View> Walker<'_, '_, V> {
         }
     }
 
-    /// Whether the mount hands it on.
+    /// Whether the walk goes on from the mount.
     fn hands_on(&self, mount: &MountName) -> bool
         ensures { result ≡ hands_on (V.sight self.now.view.now) (others_of self.now.seats.now.seats self.now.own) mount.now }
     {

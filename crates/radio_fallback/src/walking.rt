@@ -53,7 +53,7 @@ pub enum Landing {
 }
 
 impl Landing {
-    /// The rule that stopped it; `None` where it came to a mount at which it may sit.
+    /// The rule that stopped it; `None` if it found a mount where the client may sit.
     pub fn stop(&self) -> Option<Rule>
         ensures { result ≡ stop_in self.now }
     {

@@ -1,4 +1,4 @@
-//! What is done with what comes to a connection.
+//! How the server serves what arrives on a connection.
 
 ghost use Rattle.std.specs.Prelude.{◌≡◌, ℕ, List, [], ◌∷◌, ◌++◌, IfOk, OnOk};
 ghost use Rattle.radio_values.specs.Cleaning.{cleaned};
@@ -21,14 +21,14 @@ use radio_tables::RowVisit;
 use radio_values::Title;
 use std::alloc::Global;
 
-/// What a connection is told at a delivery: the bytes that went out, and how it goes on.
+/// What a delivery yields on a connection: the bytes to write, and how the connection goes on.
 #[derive(Drop)]
 pub(crate) struct DeliveryAnswer {
     pub(crate) bytes: Vec<u8>,
     pub(crate) state: State,
 }
 
-/// Deals with what comes to a connection, with the server's core.
+/// Serves what arrives on a connection, with the server's core.
 #[derive(Drop)]
 pub(crate) struct Handler {
     pub(crate) alloc: Global,
@@ -36,7 +36,7 @@ pub(crate) struct Handler {
 }
 
 impl Handler {
-    /// Something comes to a connection: what it is told.
+    /// Serves what arrives on a connection, and returns what it yields.
     fn answer(
         &mut self,
         connection: &mut Connection,
@@ -51,7 +51,7 @@ impl Handler {
         }
     }
 
-    /// Something comes to a client's connection: what it is told.
+    /// Serves what arrives on a client's connection, and returns what it yields.
     fn answer_client(
         &mut self,
         connection: &mut Session,
@@ -188,7 +188,7 @@ fn leave(core: &mut Core, id: u64) -> Result<(), OutOfMemory>
     Ok(())
 }
 
-/// The server is told the moment.
+/// Applies the clock at this moment.
 pub(crate) fn tick(core: &mut Core, ms: u64) -> Result<(), OutOfMemory>
     ensures { OnOk result ((w : World) → Represents core.old w → Represents core.new (world_after w (Clock ms))) }
 {

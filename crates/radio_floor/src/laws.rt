@@ -40,7 +40,7 @@ pub fn last_words_are_told()
 
 /// A script yields its transcript by a course of events, each asked for by a delivery on its connection.
 pub fn scripts_come_to_events()
-    // a script that comes to a transcript comes to events: delivery by delivery the first of those
-    // that are asked on its connection, or all, which lead the server from its state to the next
+    // a script that has a transcript has events: for each delivery the first of those that are
+    // asked on its connection, or all. They lead the server from its state to the next
     ensures { ScriptsComeToEvents }
 {}

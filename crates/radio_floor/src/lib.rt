@@ -2,13 +2,14 @@
 //!
 //! - [`play`]: a script from a reader, its transcript to a writer; [`run`]: a list of deliveries.
 //! - The server as the performer of deliveries: `script_server` (its core, and the connections of the
-//!   labels), `labelled`, `handler` and `relay_handler` (what comes to a client's connection, and to a
-//!   relay's), and `performing`.
+//!   labels), `labelled`, `handler` and `relay_handler` (what arrives on a client's connection, and on
+//!   a relay's), and `performing`.
 //! - Laws, which run no code: [`the_transcript_is_one`], [`last_words_are_told`],
 //!   [`scripts_come_to_events`].
 //!
-//! The lines of scripts and of transcripts, and the devices, are those of `radio_script`; what a
-//! client's connection hears and says is `radio_session`'s, and what a relay pulls in `radio_pull`'s.
+//! The lines of scripts and of transcripts, and the devices, are those of `radio_script`. The
+//! conversation of a client's connection is that of `radio_session`, and a relay's pull that of
+//! `radio_pull`.
 #![tactic(auto)]
 
 mod handler;

@@ -115,7 +115,7 @@ impl Performer for ScriptServer {
     }
 }
 
-/// The lines that tell of one delivery are written.
+/// Writes the lines of one delivery.
 fn write_told(
     alloc: Global,
     label: u32,

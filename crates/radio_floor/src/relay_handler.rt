@@ -1,4 +1,4 @@
-//! What is done with what comes to a relay's connection to its master.
+//! How the server serves what arrives on a relay's connection to its master.
 
 ghost use Rattle.std.specs.Prelude.{◌≡◌, IfOk};
 ghost use Rattle.std.specs.Option.{option_map};
@@ -18,7 +18,8 @@ use radio_session::{Ending, State};
 use radio_values::Title;
 
 impl Handler {
-    /// Something comes to a relay's connection: what it is told is how it goes on.
+    /// Serves what arrives on a relay's connection, and returns how it goes on. No bytes are
+    /// written.
     pub(crate) fn answer_relay(
         &mut self,
         pull: &mut RelayPull,

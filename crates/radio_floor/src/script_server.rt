@@ -130,7 +130,7 @@ fn arrive(
     answer_arrival(alloc, web, peer, reply, out)
 }
 
-/// What comes of the reply to an arrival: the connection, if it is taken in, and whether it goes
+/// Serves the reply to an arrival. Returns the connection, if it is taken in, and whether it goes
 /// on.
 fn answer_arrival(
     alloc: Global,
@@ -147,7 +147,7 @@ fn answer_arrival(
     Ok((connection, state))
 }
 
-/// What a peer is told who has just come.
+/// Appends what a peer that has just come reads. Returns whether its connection goes on.
 fn tell_arrival(
     alloc: Global,
     web: WebAnswers,
@@ -179,8 +179,8 @@ fn taken_in(alloc: Global, web: WebAnswers, peer: Peer, reply: &Reply) -> Option
     }
 }
 
-/// Adds the lines that tell of one delivery: the bytes that went out, and how the connection
-/// ended, if it did.
+/// Adds the lines of one delivery: the bytes that were written, and how the connection ended, if it
+/// did.
 pub(crate) fn push_told(
     alloc: Global,
     label: u32,

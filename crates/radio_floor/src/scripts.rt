@@ -56,7 +56,7 @@ pub fn play<R: CountedRead, W: CountedWrite>(
     reader: &mut R,
     writer: &mut W,
 ) -> Result<(), PlayFault>
-    // what was written is what the script's lines come to, as far as the result says
+    // what was written is the transcript of the script's lines, as far as the result says
     ensures plays { IfKnown (R.remaining reader.old) (R.remaining reader.new) (λ script left.
         Writes (W.contents writer.old) (W.contents writer.new) (W.calls writer.old) (W.calls writer.new) (λ written turns.
         PlaysScript web settings lists script left result written turns)) }

@@ -1,5 +1,5 @@
-//! The house, which is the server's state without its listeners: who is there beside them, and what
-//! can be changed in it.
+//! The house, which is the server's state without its listeners: who else is there, and what can be
+//! changed in it.
 //!
 //! - [`Registry`]: what all mounts share: the moment, the settings and their lists, which mounts are
 //!   live and who feeds them, the fallbacks that were set, clients and relays. Each call makes one
@@ -7,11 +7,12 @@
 //!   [`Registry::end_outsiders`] among the listeners, who are lent. It is what a walk sees (`View` of
 //!   `radio_fallback`).
 //! - [`House`]: the registry and the parts of the mounts, lent to be looked at by [`House::standing`],
-//!   [`House::session`] and others, beside the listeners where these are asked for. What else is
-//!   looked up in it, for the policy among others, is `radio_facts`'. At a mount that a relay feeds on
-//!   demand listeners may sit while it waits for a session ([`House::is_on_demand`],
+//!   [`House::session`] and others, together with the listeners if these are asked for. What else is
+//!   looked up in it, for the policy among others, is in `radio_facts`. At a mount that a relay feeds
+//!   on demand listeners may sit while it waits for a session ([`House::is_on_demand`],
 //!   [`Registry::can_be_heard`]).
-//! - [`ClientState`], [`RelayState`], [`Standing`]: what clients and relays do, and how they stand.
+//! - [`ClientState`], [`RelayState`], [`Standing`]: what clients and relays do, and which of their
+//!   events count.
 #![tactic(auto)]
 
 mod changes;

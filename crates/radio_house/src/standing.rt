@@ -1,4 +1,4 @@
-//! How clients and relays stand.
+//! The standing of clients and relays.
 
 ghost use Rattle.std.specs.Prelude.{◌≡◌, is_some};
 ghost use Rattle.radio_seats_rows.specs.Seats.{listener_of};
@@ -15,7 +15,7 @@ use radio_policy::Rule;
 use radio_seats::ListenerStanding;
 use radio_values::MountName;
 
-/// How a client or a relay stands: what decides which of its events count.
+/// What a client or relay is now, which decides which of its events count.
 #[derive(Clone, Copy)]
 pub enum Standing {
     /// There is neither a client nor a relay of that number.
@@ -33,8 +33,8 @@ pub enum Standing {
 }
 
 impl House<'_> {
-    /// How the client, or the relay, of this number stands, who has its place among these listeners
-    /// if it is one.
+    /// Returns the standing of the client or relay of this number. The seat of a listener is among
+    /// these listeners.
     pub fn standing(&self, seats: &Listeners, id: u64) -> Standing
         ensures { result ≡ standing_of (world self.now seats.now.seats) id }
     {
@@ -61,7 +61,7 @@ impl House<'_> {
 }
 
 impl Registry {
-    /// How the relay of this number stands.
+    /// Returns the standing of the relay of this number.
     fn relay_standing(&self, id: u64) -> Standing
         ensures { result ≡ standing_of_relay (relay_of self.now.relays id) }
     {
@@ -82,7 +82,7 @@ impl Registry {
     }
 }
 
-/// How the listener of this number stands.
+/// Returns the standing of the listener of this number.
 fn listener_standing(seats: &Listeners, id: u64) -> Standing
     ensures { result ≡ standing_of_listener (listener_of seats.now.seats id) }
 {

@@ -4,7 +4,7 @@ ghost use Rattle.radio_keys.specs.Keys.{stream_word, word};
 
 use std::fmt;
 
-/// A key of the settings, or the name of a table. A key that stands in two tables is one.
+/// A key of the settings, or the name of a table. A key of two tables is one.
 #[derive(Clone, Copy, PartialEq, Eq)]
 pub enum Key {
     SourcePassword,

@@ -128,7 +128,7 @@ pub fn required_field(alloc: Global, table: &Table, key: Key) -> Result<Field, S
     Ok(Field::clean(alloc, text.as_bytes())?)
 }
 
-/// What may stand in `Access-Control-Allow-Origin`, at a key; `None` where the key is absent.
+/// Returns the value for `Access-Control-Allow-Origin`, at a key; `None` if the key is absent.
 ///
 /// `WrongKind`: the value is no text. `OutOfRange`: the text is not 1 to 255 visible characters of ASCII. `OutOfMemory`:
 /// there was no memory for the copy.

@@ -1,8 +1,8 @@
 //! What holds of every run of the server, in the words of settings, events and bytes.
 //!
-//! Each law is a function that runs no code: whoever needs it calls it, and cites its clause. They
-//! stand on what `radio_core` says that an event can do to one client, to one seat and to the
-//! session of one mount.
+//! Each law is a function that runs no code: a proof that needs it calls it, and cites its clause.
+//! They follow from what `radio_core` says that an event can do to one client, to one seat and to
+//! the session of one mount.
 #![tactic(auto)]
 
 mod laws;

@@ -80,8 +80,8 @@ impl Stream {
         self.queue.start_for(burst)
     }
 
-    /// Appends to the pieces what stands at the place, at most `room` bytes, as slices that are
-    /// shared with the stream, and answers the place behind it. `OutOfMemory` where memory was
+    /// Appends to the pieces the data from the place on, at most `room` bytes, as slices that are
+    /// shared with the stream, and returns the place behind them. `OutOfMemory` if memory was
     /// refused; the pieces are unchanged then.
     pub fn draw(&self, place: Place, room: u32, pieces: &mut Pieces) -> Result<Place, OutOfMemory>
         // the place is not forgotten

@@ -10,7 +10,7 @@ pub enum Action {
     Source(Option<SourceFacts>),
     /// A source delivers a block.
     Push(PushFacts),
-    /// A listener wants to hear the mount of a path; `None` where the path names no mount.
+    /// A listener wants to hear the mount of a path; `None` if the path names no mount.
     Listen(Option<ListenFacts>),
     /// A client gives the command of a path; `None` where the path names no command.
     Command(Option<CommandFacts>),
@@ -65,7 +65,7 @@ pub struct PushFacts {
     pub number_is_spent: bool,
 }
 
-/// What is looked up for a listener who wants to hear a mount.
+/// What is looked up for a listener that wants to hear a mount.
 #[derive(Clone, Copy)]
 pub struct ListenFacts {
     /// The server knows the mount: it is in the settings, a relay feeds it, or it is live.
@@ -94,14 +94,14 @@ pub enum CommandAccess {
     Everybody,
     /// Who sends a pair that opens it.
     Pair {
-        /// Whose pair opens the command, beside that of the admin.
+        /// Whose pair opens the command, in addition to the admin's.
         opener: Opener,
         /// The pair that was sent is one that opens it.
         is_sent: bool,
     },
 }
 
-/// Whose pair opens a command, beside that of the admin.
+/// Whose pair opens the command, in addition to the admin's.
 #[derive(Clone, Copy, Debug, PartialEq, Eq)]
 pub enum Opener {
     /// Nobody's: the admin's alone.

@@ -124,7 +124,7 @@ const WORDS: [&str; 32] = [
 impl Rule {
     ghost use Rattle.radio_policy.specs.Words.{word_of, status_of};
 
-    /// The rule's name, as it is told in an answer and in a transcript.
+    /// The rule's name, as answers and transcripts have it.
     // rule: Answer to a denial
     pub fn word(self) -> &'static str
         ensures { result.now ≡ word_of self }
@@ -132,7 +132,7 @@ impl Rule {
         WORDS[self as usize]
     }
 
-    /// The status of the answer that tells a denial by this rule; `None` where it has no answer.
+    /// The status of the answer to a denial by this rule; `None` if it has no answer.
     // rule: Answer to a denial
     pub fn status(self) -> Option<Status>
         ensures { result ≡ status_of self }

@@ -1,4 +1,5 @@
-//! What the table tells one of its listeners: who comes after it, and who sits beside it.
+//! What the table says of others than one listener: who comes after it, and who else sits at a
+//! mount.
 
 ghost use Rattle.std.specs.Prelude.{◌≡◌, length};
 ghost use Rattle.radio_seats_rows.specs.Board.{is_prepared};
@@ -12,7 +13,7 @@ impl Seats {
     /// How many listeners there are, with those who have finished.
     pub fn len(&self) -> usize
         ensures count { result ≡ length self.now.seats }
-        // the listeners stand in the order of their numbers, so that each is counted once
+        // the listeners are in the order of their numbers, so that each is counted once
         ensures rising { AreByNumber self.now.seats }
     {
         self.rows.len()

@@ -18,7 +18,7 @@ pub struct LentSeat<'a> {
     pub guest: &'a Guest,
 }
 
-/// How one stands who was admitted as a listener.
+/// What an admitted listener is now.
 #[derive(Clone, Copy)]
 pub enum ListenerStanding {
     /// It has a seat.

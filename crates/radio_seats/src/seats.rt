@@ -108,7 +108,7 @@ impl Seats {
         }
     }
 
-    /// How the listener of this number stands, if there is one.
+    /// The standing of the listener of this number, if there is one.
     pub fn standing(&self, id: u64) -> Option<ListenerStanding>
         ensures { result ≡ standing_in (listener_of self.now.seats id) }
     {
@@ -222,7 +222,7 @@ impl Seats {
     /// How many sit at the mount.
     pub fn count(&self, mount: &MountName) -> u64
         ensures count { result ≡ count_at self.now.seats mount.now }
-        // the listeners stand in the order of their numbers, so that each is counted once
+        // the listeners are in the order of their numbers, so that each is counted once
         ensures rising { AreByNumber self.now.seats }
     {
         let _ = self.rows.len();

@@ -23,9 +23,9 @@ use std::alloc::Global;
 use std::collections::btree_map::Values;
 use std::marker::Model;
 
-/// The rows of listeners, each number once, in the order of the numbers. Beside them stands who
-/// sent which user, so that a question about a user looks at its rows alone. Contracts see the list
-/// of the rows.
+/// The rows of listeners, each number once, in the order of the numbers. An index has who sent
+/// which user, so that a question about a user looks at its rows alone. Contracts see the list of
+/// the rows.
 pub struct Rows {
     alloc: Global,
     rows: Table<ListenerRow>,

@@ -35,7 +35,7 @@ pub struct Seat {
 pub enum Seating {
     /// It has this seat.
     Sits(Seat),
-    /// It has lost its seat at the mount by the rule, and is told it at its next event.
+    /// It has lost its seat at the mount by the rule, which the reply to its next event names.
     Finished {
         /// The rule.
         rule: Rule,

@@ -34,7 +34,7 @@ pub fn exchange<S: Server>(
     Ok(State::Running)
 }
 
-/// Applies one event of the connection's client, and tells the reply. It answers whether the
+/// Applies one event of the connection's client, and writes the reply. Returns whether the
 /// connection goes on.
 fn answer<S: Server>(
     server: &mut S,

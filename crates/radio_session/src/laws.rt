@@ -61,9 +61,9 @@ pub fn cuts_do_not_matter()
     pieces_are_joined();
 }
 
-/// However a connection's bytes are cut into pieces, the same is written to it and the same word shuts it, if nothing
-/// else happens between the pieces and the server goes by a source's data, not by how they are cut into blocks. No
-/// piece is taken once the connection is shut.
+/// However a connection's bytes are cut into pieces, the same is written to it and the same word shuts it. This holds
+/// if nothing else happens between the pieces, and the server depends on a source's data, not on how they are cut
+/// into blocks. No piece is taken once the connection is shut.
 // rule: Cuts do not matter
 pub fn cuts_are_told_alike<S: Server>()
     // in two cuttings of the same bytes

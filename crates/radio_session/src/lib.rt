@@ -2,10 +2,11 @@
 //! from replies to the bytes that go out on it.
 //!
 //! - [`WebAnswers`] of `radio_answers`: what the settings say of answers, and of commands that browsers give.
-//! - [`Session`]: the connection. [`Session::take`] is given what comes, and answers the events that
-//!   it means; [`Session::give`] is given the reply to each, and tells it.
-//! - [`exchange`]: the events of a connection, applied one after another by whoever [`Server`]
-//!   them, each reply told, up to the end of the connection.
+//! - [`Session`]: the connection. [`Session::take`] takes the bytes that come, and returns the
+//!   events that they mean. [`Session::give`] takes the reply to each event, and appends the bytes
+//!   to write.
+//! - [`exchange`]: applies the events of a connection to a [`Server`], one after another, and
+//!   writes each reply, up to the end of the connection.
 //! - Laws, which run no code: [`bodies_are_heard_as_their_data`], [`cuts_do_not_matter`],
 //!   [`cuts_are_told_alike`], [`hearing_is_one`], [`last_words_name_the_rule`],
 //!   [`listeners_are_told_what_they_draw`], [`only_refused_calls_fail`],

@@ -1,4 +1,4 @@
-//! A connection, and what is heard and told on it.
+//! A connection: what it reads, and what it writes.
 
 ghost use Rattle.std.specs.Prelude.{◌≡◌};
 ghost use Rattle.radio_session.specs.Conversation.{Conversation, fresh};
@@ -31,7 +31,7 @@ pub(crate) enum Hears {
     Nothing,
 }
 
-/// What a source is told that is admitted.
+/// What an admitted source reads first.
 #[derive(Clone, Copy, PartialEq, Eq)]
 pub(crate) enum Greeting {
     /// That it is admitted.
@@ -40,7 +40,7 @@ pub(crate) enum Greeting {
     Continue,
 }
 
-/// What a connection tells last of itself.
+/// The last word that a connection writes by its own rule.
 #[derive(Clone, Copy)]
 pub(crate) enum LastWord {
     /// What came is refused by the connection's own rule.
@@ -54,12 +54,12 @@ pub(crate) enum LastWord {
 /// How a connection closes by itself.
 #[derive(Clone, Copy)]
 pub(crate) struct Closing {
-    /// How many replies come before that with which it tells its last word.
+    /// How many replies come before that with which it writes its last word.
     pub(crate) awaits: usize,
     pub(crate) word: LastWord,
 }
 
-/// How replies are told.
+/// How replies are written.
 #[derive(Drop)]
 pub(crate) struct Says {
     /// What the settings say of it.
@@ -67,7 +67,7 @@ pub(crate) struct Says {
     pub(crate) closing: Option<Closing>,
     /// What puts metadata between a listener's data, if it is sent any.
     pub(crate) weaver: Option<Weaver>,
-    /// A source or a listener was admitted: a denial is told by closing alone.
+    /// A source or a listener was admitted: a denial only closes the connection.
     pub(crate) is_admitted: bool,
     pub(crate) greeting: Greeting,
 }

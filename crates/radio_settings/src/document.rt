@@ -55,8 +55,8 @@ pub fn read_settings(alloc: Global, text: &str) -> Result<Settings, SettingsFaul
     settings(alloc, &document)
 }
 
-/// What a text in TOML says of requests and answers, in its table `[web]`. A text that sets something has no fault here but
-/// `OutOfMemory`: its faults are told by [`read_settings`].
+/// Returns what a text in TOML says of requests and answers, in its table `[web]`. A text that sets something has no
+/// fault here but `OutOfMemory`: [`read_settings`] returns its faults.
 pub fn read_answers(alloc: Global, text: &str) -> Result<AnswerSettings, SettingsFault>
     ensures { IfOk result (λ answers. answers_told text.now ≡ Some answers) }
 {
@@ -64,8 +64,8 @@ pub fn read_answers(alloc: Global, text: &str) -> Result<AnswerSettings, Setting
     answers(&document)
 }
 
-/// Returns the path of the list of proxies that a text in TOML names, `proxy-from` in its table `[listen]`. A text that sets something
-/// has no fault here but `OutOfMemory`: its faults are told by [`read_settings`].
+/// Returns the path of the list of proxies that a text in TOML names, `proxy-from` in its table `[listen]`. A text that
+/// sets something has no fault here but `OutOfMemory`: [`read_settings`] returns its faults.
 pub fn read_proxies(alloc: Global, text: &str) -> Result<Option<Text>, SettingsFault>
     ensures { IfOk result (ProxiesTold text.now) }
 {
@@ -89,7 +89,7 @@ fn document(alloc: Global, text: &str) -> Result<Table, SettingsFault>
     }
 }
 
-/// What a document sets. Its tables are read in their order, and names that stand twice are looked for last.
+/// Returns what a document sets. Its tables are read in their order; repeated names are looked for last.
 fn settings(alloc: Global, document: &Table) -> Result<Settings, SettingsFault>
     ensures { let d = table_view document.now in
         Reads (fault_by_parts d) (settings_of d) result }
@@ -195,7 +195,8 @@ struct NamedStreams {
     slave: Option<SlaveSetting>,
 }
 
-/// The mounts, the relays and `[slave]`; then the names that stand twice, and those that are paths of the web site.
+/// Reads the mounts, the relays and `[slave]`; then looks for repeated names, and for names that are paths of the
+/// web site.
 #[tactic(auto, unfolding(crate::specs::Parts::streams_fault))]
 fn read_named(
     alloc: Global,
@@ -216,7 +217,7 @@ fn read_named(
     }
 }
 
-/// The mounts, the relays and `[slave]`; then the names that stand twice.
+/// Reads the mounts, the relays and `[slave]`; then looks for repeated names.
 #[tactic(auto, unfolding(crate::specs::Parts::named_fault, crate::specs::Parts::apart_fault))]
 fn read_apart(
     alloc: Global,

@@ -25,8 +25,9 @@ pub struct TablePlace {
     pub number: usize,
 }
 
-/// Returns the table in which a document has its first fault of a key. It asks the readers of the tables, in the order in
-/// which the settings are read. `None`: no key is at fault (names that stand twice are none of one key), or memory was refused.
+/// Returns the table in which a document has its first fault of a key. It asks the readers of the tables, in the order
+/// in which the settings are read. `None`: no key is at fault (a repeated name is no fault of one key), or memory was
+/// refused.
 pub fn faulty_table(alloc: Global, document: &Table) -> Option<TablePlace> {
     let Ok(access) = access(alloc, document) else {
         return alone(Section::Top);

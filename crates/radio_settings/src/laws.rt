@@ -11,23 +11,23 @@ ghost use Rattle.radio_settings.specs.Document.{reading_of};
 ghost use Rattle.radio_settings_values.specs.Repeats.{first_repeat};
 ghost use Rattle.radio_settings.specs.Laws.{AreApart, AreSettingsOf, IsFaultOf, IsFirstRepeat};
 
-/// A text comes to a fault exactly where it is not TOML, or some row of its document has that fault and every row
-/// before it is well; and it comes to settings exactly where it is TOML and every row is well.
+/// A text has a fault exactly if it is not TOML, or if some row of its document has that fault and every row
+/// before it is well. It has settings exactly if it is TOML and every row is well.
 // rule: Reading settings
 pub fn first_faults()
     ensures fault { (text : List ℕ) (fault : SettingsFault) → (reading_of text ≡ Err fault) ↔ IsFaultOf text fault }
     ensures settings { (text : List ℕ) (settings : Settings) → (reading_of text ≡ Ok settings) ↔ AreSettingsOf text settings }
 {}
 
-/// The first repeat of some names is a name that stands among those before it, where no name before it does; and there
-/// is none exactly where no name stands among those before it.
+/// The first repeat of some names is the first name that is also among those before it. There is none exactly if no
+/// name is among those before it.
 // rule: Repeated names
 pub fn first_repeats()
     ensures found { (names : List (List ℕ)) (name : List ℕ) → (first_repeat names ≡ Some name) ↔ IsFirstRepeat names name }
     ensures apart { (names : List (List ℕ)) → (first_repeat names ≡ None) ↔ AreApart names }
 {}
 
-/// Some texts, and what they come to.
+/// Some texts, with their settings or faults.
 // rule: Reading settings
 pub fn worked_texts()
     ensures empty { reading_of (codes "") ≡ Err (Missing SourcePassword) }

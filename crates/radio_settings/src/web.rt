@@ -30,7 +30,7 @@ pub struct AnswerSettings {
     pub icecast_heads: bool,
 }
 
-/// What browsers are told, and the scripts of web sites.
+/// Returns the table `[web]`: what is meant for browsers and the scripts of web sites.
 #[tactic(auto, unfolding(crate::specs::Parts::web_table_fault, crate::specs::Web::web_fault))]
 pub fn web(alloc: Global, document: &Table) -> Result<WebSettings, SettingsFault>
     ensures { let d = table_view document.now in

@@ -17,7 +17,7 @@ pub type MountSettings = NamedSettings<MountSetting>;
 /// The tables `[[relay]]`, in their order. No two feed one mount.
 pub type RelaySettings = NamedSettings<RelaySetting>;
 
-/// A table of a list that goes by the name of a mount.
+/// A table of a list that is found by the name of a mount.
 pub trait Named: Drop {
     // That name.
     ghost name_of: { Self → List ℕ };
@@ -27,7 +27,7 @@ pub trait Named: Drop {
         ensures { result ≡ name_of self.now };
 }
 
-/// A mount goes by its own name.
+/// A mount is found by its own name.
 impl Named for MountSetting {
     ghost name_of = { λ mount. mount.name };
 
@@ -36,7 +36,7 @@ impl Named for MountSetting {
     }
 }
 
-/// A relay goes by the mount that it feeds.
+/// A relay is found by the mount that it feeds.
 impl Named for RelaySetting {
     ghost name_of = { λ relay. relay.local_mount };
 
@@ -45,10 +45,10 @@ impl Named for RelaySetting {
     }
 }
 
-/// Tables of a list, in their order. No two go by one name.
+/// Tables of a list, in their order. No two have one name.
 pub struct NamedSettings<T: Named> {
     list: Vec<T>,
-    /// Where in the list the one of a name stands.
+    /// The place in the list of the table of each name.
     places: BTreeMap<MountName, usize>,
 }
 
@@ -73,7 +73,7 @@ impl<T: Named> Model for NamedSettings<T> {
 }
 
 impl<T: Named> NamedSettings<T> {
-    /// Tables of different names, or the first name that stands twice. An `Err` outside means that memory ran out.
+    /// Tables of different names, or the first repeated name. An `Err` outside means that memory ran out.
     pub fn new(
         alloc: Global,
         list: Vec<T>,

@@ -1,4 +1,4 @@
-//! Where names stand in a list, and names that stand twice.
+//! The places of names in a list, and repeated names.
 ghost use Rattle.std.specs.Prelude.{◌≡◌, IfOk, MatchResult, Some, None};
 ghost use Rattle.std.specs.List.{slice_get};
 ghost use Rattle.std.specs.Option.{option_copied};
@@ -10,8 +10,8 @@ use radio_values::MountName;
 use std::alloc::Global;
 use std::collections::BTreeMap;
 
-/// The place of each name, found by the name; or the first name that stands among those before it. An `Err` outside
-/// means that memory ran out.
+/// Returns the place of each name, found by the name; or the first name that is also among those before it. An
+/// `Err` outside means that memory ran out.
 pub fn places_of(
     alloc: Global,
     names: &[MountName],
@@ -28,7 +28,7 @@ pub fn places_of(
     Ok(Ok(places))
 }
 
-/// What stands at a place in a list.
+/// Returns what is at a place in a list.
 pub fn item_at<T>(list: &[T], place: usize) -> Option<&T>
     ensures { option_copied result ≡ slice_get list.now place }
 {

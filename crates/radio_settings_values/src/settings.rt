@@ -80,7 +80,7 @@ pub struct Login {
     pub password: Text,
 }
 
-/// Who may ask for the list of streams beside the admin: `relay-user` and `relay-password`.
+/// Who may ask for the list of streams in addition to the admin: `relay-user` and `relay-password`.
 #[derive(Drop)]
 pub struct RelayAccess {
     /// The user.
@@ -186,11 +186,11 @@ pub struct ListenerOptions {
 /// What the listeners of a mount are sent, and whether it is listed.
 #[derive(Drop)]
 pub struct StreamOptions {
-    /// Whether the mount stands in no public listing.
+    /// Whether public listings leave the mount out.
     pub hidden: bool,
     /// How many bytes a new listener is sent at once.
     pub burst_size: Bytes,
-    /// After how many bytes of data a metadata block stands.
+    /// After how many bytes of data a metadata block comes.
     pub mp3_metadata_interval: Within<1, 1_000_000>,
     /// The stream's name; `None` for the source's.
     pub stream_name: Option<Field>,

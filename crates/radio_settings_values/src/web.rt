@@ -4,7 +4,8 @@ ghost use Rattle.radio_settings_values.specs.Web.{is_web_path, web_path};
 
 use radio_values::{AllowedOrigin, Text};
 
-/// The table `[web]`: what browsers are told, and the scripts of web sites. Where it is absent nothing of it is on.
+/// The table `[web]`: what is meant for browsers and the scripts of web sites. If it is absent, nothing of it is
+/// on.
 pub struct WebSettings {
     /// Whose pages may read streams and what everybody may read; `None` where nothing is said of it.
     pub allow_origin: Option<AllowedOrigin>,

@@ -123,7 +123,7 @@ pub(crate) fn mount_rows<'a>(
     Ok(rows)
 }
 
-/// Adds what listings tell of the part's mount, if it is live. `OutOfMemory` if memory was refused.
+/// Adds what listings say of the part's mount, if it is live. `OutOfMemory` if memory was refused.
 fn add_mount_row<'a>(
     rows: &mut Vec<MountRow<'a>>,
     house: &House<'a>,
@@ -138,7 +138,7 @@ fn add_mount_row<'a>(
     Ok(())
 }
 
-/// What listings tell of a live mount.
+/// Returns what listings say of a live mount.
 // rule: Public status; Hidden mounts
 fn mount_row<'a>(house: &House<'a>, seats: &Listeners, session: &'a Session) -> MountRow<'a>
     ensures { result ≡ mount_row (world house.now seats.now.seats) session.now }

@@ -50,13 +50,13 @@ pub trait Swap<R: Row> {
 
 /// What deals with a row in its place, and answers.
 pub trait RowVisit<R: Row> {
-    /// What comes to the row.
+    /// What is given to the row.
     type Given;
 
     /// What is answered.
     type Answer;
 
-    // What a visit comes to: the answer, and the visitor and the row after it.
+    // The result of a visit: the answer, and the visitor and the row after it.
     ghost visits: { Self → Self.Given → R → Self.Answer → Self → R → Type 0 };
 
     /// Deals with the row.

@@ -7,7 +7,7 @@ use std::cmp::Ord;
 
 /// A row of a table: a value that has a key.
 pub trait Row: Drop {
-    /// What the rows are told apart by.
+    /// What identifies a row.
     type Key: Ord + Copy;
 
     // The row's key.

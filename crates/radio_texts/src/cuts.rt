@@ -3,7 +3,7 @@ ghost use Rattle.std.specs.Prelude.{◌≡◌, ◌+◌, length};
 ghost use Rattle.std.specs.Option.{option_map, IfSome};
 ghost use Rattle.radio_texts.specs.Cuts.{cut, cut_at_two, fields_at, fields_by};
 
-/// What stands before and after the first byte `at`, or `None` where there is no such byte.
+/// Returns what is before and after the first byte `at`, or `None` if there is no such byte.
 ///
 /// So a loop over the fields of a text cuts what is left at `at`: each cut takes one field and one byte `at` away, and
 /// what can't be cut is the last field.
@@ -30,7 +30,7 @@ fn first_cut(text: &[u8], at: u8) -> Option<(&[u8], &[u8])>
     None
 }
 
-/// What stands before and after the first two bytes `at` that stand side by side, or `None` where there are none.
+/// Returns what is before and after the first two adjacent bytes `at`, or `None` if there are none.
 pub fn cut_at_two(text: &[u8], at: u8) -> Option<(&[u8], &[u8])>
     ensures { option_map (λ parts. (parts.0.now, parts.1.now)) result ≡ cut_at_two at text.now }
 {

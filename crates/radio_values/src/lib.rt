@@ -2,7 +2,7 @@
 //!
 //! - [`MountName`]: the name of a mount.
 //! - [`Within`]: a number with its range.
-//! - [`Text`]: a text as it stands in the settings.
+//! - [`Text`]: a text as the settings have it.
 //! - [`Field`]: a text that heads may show, and [`Shown`], what they show of a stream, with [`About`], what else it says
 //!   of itself.
 //! - [`AllowedOrigin`]: whose pages may read an answer.

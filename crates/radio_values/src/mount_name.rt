@@ -19,8 +19,8 @@ pub const MAX_MOUNT_NAME: usize = 255;
 /// The name of a mount: UTF-8 of 1 to 255 bytes that begins with `/`, with no byte below 32 and no 127. What lies under
 /// `/admin/`, and `/status.json`, are the server's own paths and name no mount.
 ///
-/// Its bytes are kept in place, so that a copy takes no memory. Names are equal where their bytes are, and stand in the
-/// order of their bytes.
+/// Its bytes are kept in place, so that a copy takes no memory. Names are equal if their bytes are, and ordered by
+/// their bytes.
 #[derive(Clone, Copy)]
 pub struct MountName {
     len: u8,

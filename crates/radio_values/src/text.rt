@@ -1,4 +1,4 @@
-//! Texts as they stand in the settings.
+//! Texts as the settings have them.
 ghost use Rattle.std.specs.Prelude.{◌≡◌, IfOk};
 
 use crate::OutOfMemory;
@@ -6,7 +6,7 @@ use std::alloc::Global;
 use std::marker::Model;
 use std::sync::ArcStr;
 
-/// A text of the settings, as it stands there: a user, a password, an address or a path.
+/// A text as the settings have it: a user, a password, an address or a path.
 ///
 /// A clone shares the text, which is not copied for it.
 pub struct Text {

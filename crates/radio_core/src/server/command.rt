@@ -18,8 +18,8 @@ use radio_policy::{Action, Verdict, judge};
 use radio_status::shown;
 
 impl Control {
-    /// A client gives a command. Where its reply tells how many were moved, or have finished, that is
-    /// known only when the change is made: it tells none here. `OutOfMemory` where memory was refused.
+    /// A client gives a command. `OutOfMemory` if memory was refused. A reply that names how many were
+    /// moved or have finished names none here: that is known only when the change is made.
     pub(super) fn command(&self, asked: CommandRequest) -> Result<Outcome, OutOfMemory>
         ensures { IfOk result (λ o. o ≡ uncounted (gives_command self.now asked)) }
     {

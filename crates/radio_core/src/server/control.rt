@@ -1,4 +1,4 @@
-//! What comes of an event in the state, and the state after it.
+//! The outcome of an event in the state, and the state after it.
 
 ghost use Rattle.std.specs.Prelude.{◌≡◌, ℕ, true, map, IsOk, IfOk, OnOk, OnErr};
 ghost use Rattle.std.specs.Option.{option_copied};
@@ -103,7 +103,8 @@ impl Control {
         self.house().time()
     }
 
-    /// What comes of an event, before its change is made. `OutOfMemory` where memory was refused.
+    /// Returns the outcome of an event, before its change is made. `OutOfMemory` if memory was
+    /// refused.
     #[tactic(auto, unfolding(crate::specs::Step::outcome, crate::specs::Planned::planned))]
     pub(super) fn outcome(&self, event: Event) -> Result<Outcome, OutOfMemory>
         ensures value { CanStep self.now event → IfOk result (λ o. o ≡ planned self.now event) }
@@ -126,7 +127,8 @@ impl Control {
         }
     }
 
-    /// What comes of a draw, before its change is made. `OutOfMemory` where memory was refused.
+    /// Returns the outcome of a draw, before its change is made. `OutOfMemory` if memory was
+    /// refused.
     fn drawing_outcome(&self, id: u64, room: u32) -> Result<Outcome, OutOfMemory>
         ensures value { CanDraw self.now id → IfOk result (λ outcome. outcome ≡ draws self.now id room) }
         ensures drawn { IfOk result (λ outcome. IsMove id outcome.change) }
@@ -223,8 +225,8 @@ impl Control {
         self.commit_for(change, reply)
     }
 
-    /// Makes a change, and gives back the reply that was worked out for it, which tells how many were
-    /// moved or have finished, if it is such a one. `OutOfMemory` where memory was refused; nothing has changed then.
+    /// Makes a change, and returns the reply that was worked out for it. The reply gets the numbers of those moved or
+    /// finished, if it names them. `OutOfMemory` if memory was refused; nothing has changed then.
     pub(super) fn commit_for(&mut self, change: Change, reply: Reply) -> Result<Reply, OutOfMemory>
         ensures ok { OnOk result (self.new ≡ kept_changed self.old change) }
         ensures told { IfOk result (λ told. told ≡ with_counts reply (counted self.old change)) }
@@ -240,8 +242,8 @@ impl Control {
         }
     }
 
-    /// Makes a change, and gives back so the three replies that were worked out for it. `OutOfMemory`
-    /// where memory was refused; nothing has changed then.
+    /// Makes a change, and returns the three replies that were worked out for it, with those numbers.
+    /// `OutOfMemory` if memory was refused; nothing has changed then.
     pub(super) fn commit_for_each(
         &mut self,
         change: Change,

@@ -25,7 +25,8 @@ use radio_parts::{Session, Stream};
 use radio_seats::LentSeat;
 use radio_values::MountName;
 
-/// What a draw comes to: the reply, and the place up to which the listener has heard its stream then, if it is handed anything.
+/// The result of a draw: the reply, and the place up to which the listener has heard its stream then, if it gets any
+/// data.
 #[derive(Drop)]
 pub(crate) struct Drawing {
     pub reply: Reply,
@@ -33,7 +34,7 @@ pub(crate) struct Drawing {
 }
 
 impl Drawing {
-    /// The listener of this number draws: what comes of it.
+    /// Returns the outcome of this draw of the listener of this number.
     pub(super) fn outcome(self, id: u64) -> Outcome
         ensures { result ≡ comes_to id self }
     {
@@ -58,8 +59,8 @@ impl Drawing {
 }
 
 impl Control {
-    /// A listener has room for so many bytes. Whoever has a seat is a client who sits, so only of
-    /// one who has none the client is looked up. `OutOfMemory` where memory was refused.
+    /// A listener has room for so many bytes. `OutOfMemory` if memory was refused. A client with a
+    /// seat is a listener, so the client is looked up only if it has none.
     pub(super) fn draw(&self, id: u64, room: u32) -> Result<Drawing, OutOfMemory>
         ensures { CanDraw self.now id → IfOk result (λ drawing. comes_to id drawing ≡ draws self.now id room) }
     {
@@ -72,7 +73,7 @@ impl Control {
         }
     }
 
-    /// One who has no seat has room for bytes.
+    /// A client that has no seat draws.
     pub(super) fn draw_without_seat(&self, id: u64) -> Drawing
         ensures { comes_to id result ≡ out_of_place (standing_of self.now id) }
     {
@@ -86,7 +87,8 @@ impl Control {
         }
     }
 
-    /// It is handed what stands at its place, or what is kept first if it was forgotten.
+    /// Draws for the listener from its place, or from the first data that are kept if those at its
+    /// place were forgotten.
     pub(super) fn hand_out(
         &self,
         id: u64,

@@ -20,7 +20,7 @@ impl Control {
         }
     }
 
-    /// The connection is closed of a client, as it stands: a source's session ends first.
+    /// A client's connection is closed. If it feeds a mount, the session ends first.
     fn leave_as_standing(&self, id: u64) -> Outcome
         ensures { result ≡ leaves_from id (standing_of self.now id) }
     {

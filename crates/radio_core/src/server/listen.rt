@@ -21,7 +21,7 @@ use radio_seats_rows::Seat;
 use radio_values::{MountName, Shown};
 use std::alloc::Global;
 
-/// One who may hear the mount that it asked for.
+/// A client that may hear the mount that it asked for.
 #[derive(Clone, Copy)]
 struct AdmittedGuest {
     peer: Peer,
@@ -42,8 +42,8 @@ impl Control {
         }
     }
 
-    /// The client, the mount and where its walk ends, if it may hear it, or what else comes of its
-    /// asking.
+    /// Returns the client, the mount and where its walk ends, if it may hear the mount. `Err` has
+    /// the outcome of its request if it may not.
     fn may_listen(&self, asked: &ListenRequest) -> Result<AdmittedGuest, Outcome>
         ensures { MatchResult result
             (λ may. (may.home ≡ asked.now.mount) × (asks_to_hear self.now asked.now ≡ sits_where self.now.house asked.now may.peer may.landing))
@@ -165,7 +165,7 @@ impl Control {
         }
     }
 
-    /// What the head of one says who hears a session that shows this. `OutOfMemory` where memory was refused.
+    /// Returns the head for a listener of a session that shows this. `OutOfMemory` if memory was refused.
     fn head(&self, shown: &Shown) -> Result<Boxed<StreamHead>, OutOfMemory>
         ensures { IfOk result (λ head. head ≡ head_of self.now.house shown.now) }
     {
@@ -205,7 +205,7 @@ fn first_seat(
     })
 }
 
-/// The client of this number is seated, and is told what the head says.
+/// Returns the outcome by which the client of this number is seated and reads this head.
 fn seated(id: u64, head: Boxed<StreamHead>, seat: Seat) -> Outcome
     ensures { result ≡ says (Seated seat.interval head) (TakeSeat id seat) }
 {

@@ -15,8 +15,8 @@ use radio_settings_values::WebPath;
 use radio_status::page;
 
 impl Control {
-    /// A client asks by a path: to be shown what is there where it is one of the web site's, and else
-    /// to hear a mount. `OutOfMemory` where memory was refused.
+    /// A client asks for a path. It is shown what is there if the path is one of the web site's, and
+    /// else asks to hear a mount. `OutOfMemory` if memory was refused.
     pub(super) fn get(&self, asked: ListenRequest) -> Result<Outcome, OutOfMemory>
         ensures { IfOk result (λ o. o ≡ asks_by_path self.now asked) }
     {

@@ -1,4 +1,4 @@
-//! Relays: what comes of their coming and going.
+//! Relays: the outcomes of their coming and going.
 
 ghost use Rattle.std.specs.Prelude.{◌≡◌, ◌==◌, false, MatchResult, IfOk};
 ghost use Rattle.radio_policy.specs.Verdicts.{verdict_in};

@@ -42,7 +42,8 @@ impl Control {
         })
     }
 
-    /// The mount that the client may feed, or what else comes of its asking.
+    /// Returns the mount that the client may feed. `Err` has the outcome of its request if it may
+    /// not.
     fn may_feed(&self, asked: &SourceRequest) -> Result<MountName, Outcome>
         ensures { MatchResult result (λ mount. (mount ≡ asked.now.mount) × (asks_to_feed self.now asked.now ≡ begins self.now.house asked.now))
             (λ other. other ≡ asks_to_feed self.now asked.now) }

@@ -11,7 +11,7 @@ use radio_house::Standing;
 use radio_values::MountName;
 
 impl Control {
-    /// A source has come to the end of its data.
+    /// A source's data have ended.
     pub(super) fn source_end(&self, id: u64) -> Outcome
         ensures { result ≡ stops_feeding self.now id }
     {
@@ -24,7 +24,7 @@ impl Control {
         }
     }
 
-    /// The session of who feeds the mount ends, unless it is a relay.
+    /// The session of the client that feeds the mount ends, unless it is a relay.
     fn end_unless_relayed(&self, id: u64, mount: MountName) -> Outcome
         ensures { result ≡ unless_relayed (has_relay self.now id) (says Reply.Noted (Change.End id mount)) }
     {

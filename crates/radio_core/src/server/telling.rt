@@ -1,4 +1,4 @@
-//! Replies that tell how many a command has moved or finished, which is known once its change is made.
+//! Replies that name how many a command has moved or finished, which is known once its change is made.
 
 ghost use Rattle.std.specs.Prelude.{◌≡◌, map};
 ghost use Rattle.radio_core.specs.Planned.{told_counts, with_counts};
@@ -7,7 +7,7 @@ ghost use Rattle.radio_events.specs.declared.reply.Reply.{Reply as ReplyOf};
 use radio_events::{Reply, ReplyText};
 use radio_fallback::Carried;
 
-/// The reply, with these for the number of those who were moved, or have finished, if it tells one.
+/// Returns the reply with these numbers of those who were moved or have finished, if it names any.
 pub(super) fn with_counts(reply: Reply, counts: Carried) -> Reply
     ensures { result ≡ with_counts reply counts }
 {
@@ -38,7 +38,7 @@ fn told_counts(text: ReplyText, counts: Carried) -> ReplyText
     }
 }
 
-/// Each of the replies with them.
+/// Returns each of the replies with these numbers.
 pub(super) fn all_with_counts(replies: [Reply; 3], counts: Carried) -> [Reply; 3]
     ensures { result ≡ map (λ (reply : ReplyOf). with_counts reply counts) replies }
 {

@@ -9,7 +9,7 @@ use radio_house::Standing;
 use radio_values::Title;
 
 impl Control {
-    /// A source tells what is on the air.
+    /// A source sets the title of what it plays.
     pub(super) fn title(&self, id: u64, text: Title) -> Outcome
         ensures { result ≡ sets_title self.now id text }
     {

@@ -39,8 +39,9 @@ pub(crate) fn asks_to_feed(alloc: Global, id: u64, head: &Head) -> Result<Event,
     Ok(Event::Source(Boxed::new(alloc, request)?))
 }
 
-/// The event of a client who asks by GET: for a command where its head's path begins with `/admin/`,
-/// or is that of the status, and else to hear the mount of it. `OutOfMemory` where memory was refused.
+/// Returns the event of a client that sends a GET. It is a command if the path begins with `/admin/`
+/// or is that of the status, and else a request to hear the mount of the path. `OutOfMemory` if memory
+/// was refused.
 pub(crate) fn asks_by_get(
     alloc: Global,
     web: WebAnswers,
@@ -64,8 +65,8 @@ fn is_for_commands(path: &[u8]) -> bool
     path.starts_with(COMMANDS) || path == CommandKind::Status.path().as_bytes()
 }
 
-/// The event of a client who asks to hear the mount of this path. `OutOfMemory` where memory was
-/// refused.
+/// Returns the event of a client that asks to hear the mount of this path. `OutOfMemory` if memory
+/// was refused.
 fn asks_to_hear(
     alloc: Global,
     web: WebAnswers,
@@ -102,7 +103,8 @@ fn visit_for(
     })
 }
 
-/// The host by which the client calls the server, where it asks for what is told in full addresses.
+/// Returns the host by which the client calls the server, if it asks for the status, which has full
+/// addresses.
 fn host_for<'b>(path: &[u8], head: &Head<'b>) -> &'b [u8]
     ensures { result.now ≡ host_for path.now head.now }
 {
@@ -145,7 +147,7 @@ fn pair_for(
     pair_of(alloc, head)
 }
 
-/// The path that a head's target stands for, percent decoded. `OutOfMemory` where memory was refused.
+/// Returns the path of a head's target, percent decoded. `OutOfMemory` if memory was refused.
 fn path_in(alloc: Global, head: &Head) -> Result<Bytes, OutOfMemory>
     ensures { IfOk result (λ path. path ≡ path_in head.now) }
 {
@@ -174,7 +176,7 @@ fn pair_of(alloc: Global, head: &Head) -> Result<Option<Pair>, OutOfMemory>
     }
 }
 
-/// What a source tells of its stream, cleaned. `OutOfMemory` where memory was refused.
+/// Returns what a source's head says of its stream, cleaned. `OutOfMemory` if memory was refused.
 fn shown_by(alloc: Global, head: &Head) -> Result<Shown, OutOfMemory>
     ensures { IfOk result (λ shown. shown ≡ shown_by head.now) }
 {
@@ -192,7 +194,7 @@ fn named_by(alloc: Global, head: &Head) -> Result<Shown, OutOfMemory>
     Shown::clean(alloc, content_type, name, genre)
 }
 
-/// What else it tells of its stream, cleaned. `OutOfMemory` if memory was refused.
+/// Returns what else it says of its stream, cleaned. `OutOfMemory` if memory was refused.
 fn about_by(alloc: Global, head: &Head) -> Result<About, OutOfMemory>
     ensures { IfOk result (λ about. about ≡ about_by head.now) }
 {

@@ -96,7 +96,7 @@ fn read(
     }
 }
 
-/// The fault that stands in a body behind its data.
+/// Returns the fault in a body after its data, if there is one.
 fn fault(body: &mut Body) -> Result<Option<LastWord>, OutOfMemory>
     requires open { body.old ≡ unfed body.old.place }
     requires unfinished { has_ended body.old.place ≡ false }

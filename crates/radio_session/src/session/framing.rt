@@ -60,7 +60,7 @@ pub(super) fn framing_of(head: &Head) -> Option<Framing>
     )
 }
 
-/// What a source is told that is admitted.
+/// Returns what an admitted source reads first.
 pub(super) fn greeting(head: &Head) -> Greeting
     ensures { result ≡ greeting_of head.now }
 {

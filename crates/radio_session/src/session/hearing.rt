@@ -24,7 +24,7 @@ impl Session {
     // rule: Bad head; Bad method; Commands by GET; Commands by a browser; Source request; Framing; Two lengths
     // rule: Bad framing; Listen request
     pub fn take(&mut self, bytes: &[u8]) -> Result<Vec<Event>, OutOfMemory>
-        // the events and what is left are what the bytes are heard as
+        // the events and what is left are those that the bytes mean
         ensures heard { IfOk result (λ events. IsHeard self.old bytes.now (record { events = events.items; conversation = self.new })) }
         // a refused call fails the session, and a failed session refuses
         ensures fails { OnErr result (self.new.has_failed ≡ true) }
@@ -139,7 +139,7 @@ impl Session {
         self.take_body(body, events, behind)
     }
 
-    /// The connection refuses by its own rule: the client leaves, and is told then.
+    /// Refuses by the connection's own rule: the client leaves, and then reads the rule.
     fn refuse(&mut self, rule: Rule) -> Result<Vec<Event>, OutOfMemory>
         ensures { IfOk result (λ events. refuses self.old rule ≡ record { events = events.items; conversation = self.new }) }
     {
@@ -178,7 +178,7 @@ impl Session {
     }
 }
 
-/// What stands behind so many bytes.
+/// Returns the bytes after so many.
 fn behind(bytes: &[u8], end: usize) -> &[u8]
     requires { end ≤ length bytes.now }
     ensures { result.now ≡ drop end bytes.now }

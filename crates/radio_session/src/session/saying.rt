@@ -29,7 +29,7 @@ impl Session {
         ensures bytes { IfOk result (λ _. out.new.items ≡ out.old.items ++ (said self.old.says reply).bytes) }
         ensures state { IfOk result (λ state. state ≡ (said self.old.says reply).state) }
         ensures says { IfOk result (λ _. self.new ≡ saying_now self.old (said self.old.says reply).says) }
-        // a refused call tells nothing and fails the session, and a failed session refuses
+        // a refused call writes nothing and fails the session, and a failed session refuses
         ensures silent { OnErr result (out.new.items ≡ out.old.items) }
         ensures fails { OnErr result (self.new.has_failed ≡ true) }
         ensures failed { self.old.has_failed ≡ true → IsErr result }
@@ -59,7 +59,7 @@ impl Session {
         }
     }
 
-    /// What is told of a reply on a session that has not failed.
+    /// Appends what the client reads of a reply, on a session that has not failed.
     fn say(&mut self, reply: &Reply, out: &mut Vec<u8>) -> Result<State, OutOfMemory>
         ensures bytes { IfOk result (λ _. out.new.items ≡ out.old.items ++ (said self.old.says reply.now).bytes) }
         ensures state { IfOk result (λ state. state ≡ (said self.old.says reply.now).state) }
@@ -153,7 +153,7 @@ impl Session {
         Ok(State::Shut(Ending::By(rule)))
     }
 
-    /// Something was done: the connection's own last word may be told now.
+    /// An event was applied: the connection's own last word may be written now.
     fn note(&mut self, out: &mut Vec<u8>) -> Result<State, OutOfMemory>
         ensures bytes { IfOk result (λ _. out.new.items ≡ out.old.items ++ (noted self.old.says self.old.says.closing).bytes) }
         ensures state { IfOk result (λ state. state ≡ (noted self.old.says self.old.says.closing).state) }
@@ -194,7 +194,7 @@ impl Session {
         self.count();
     }
 
-    /// One reply less is awaited before that which tells the last word.
+    /// Counts one reply less before that with the last word.
     fn count(&mut self)
         ensures { self.new ≡ saying_now self.old (counted self.old.says) }
     {
@@ -202,7 +202,7 @@ impl Session {
     }
 }
 
-/// The closing, with one reply less before that which tells the last word.
+/// Returns the closing with one reply less before that with the last word.
 fn counted(closing: Option<Closing>) -> Option<Closing>
     ensures { result ≡ option_map one_less closing }
 {
@@ -240,7 +240,7 @@ fn tell_last(
     }
 }
 
-/// Appends what a source is told that is admitted.
+/// Appends what an admitted source reads first.
 fn greet(
     alloc: Global,
     web: WebAnswers,
