@@ -7,7 +7,7 @@ ghost use Rattle.radio_board.specs.StateLaws.{NewsIsThere, NewsStays, NewsIsTake
 /// No news is lost, whatever a worker does when it comes.
 // rule: News wakes once
 pub fn no_news_is_lost()
-    // what it is told of is there
+    // the news that it got is there
     ensures there { NewsIsThere }
     // and stays until a round begins
     ensures stays { NewsStays }

@@ -8,7 +8,8 @@
 //! - [`ServedTime`]: a clock that counts what was served. [`is_served`]: whether a worker makes turns. [`least_loaded`]: which
 //!   worker takes a newcomer.
 //!
-//! What is shared is shared by reference, in atomics and under the log's lock: no clause says what another thread has told.
+//! What is shared is shared by reference, in atomics and under the log's lock: no clause says what another thread has
+//! reported.
 #![tactic(auto)]
 
 mod choice;

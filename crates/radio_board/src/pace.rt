@@ -1,5 +1,4 @@
-//! From where on listeners are told of news at once, and sources are read slowly, so that listeners of other workers can
-//! follow.
+//! When listeners get news at once, and when sources are read slowly, so that listeners of other workers can follow.
 
 ghost use Rattle.std.specs.Prelude.{◌≡◌};
 ghost use Rattle.radio_board.specs.Paces.{slow_at, much_at, pace_at};
@@ -17,11 +16,12 @@ pub(crate) fn slow_from(queue_size: u64) -> u64
     MOST_BEHIND.min(queue_size / 4)
 }
 
-/// Below which `queue-size` listeners are told of all news at once: a source's first bytes, which are not counted, are more
+/// Below which `queue-size` listeners get all news at once: a source's first bytes, which are not counted, are more
 /// than much of it.
 const LEAST_QUEUE: u64 = 65_536;
 
-/// From where on listeners are told of news at once: a quarter of that, so that it is told long before.
+/// Returns from how many bytes on listeners get news at once: a quarter of that, so that they get it
+/// long before.
 // rule: News waits
 pub(crate) fn much_from(queue_size: u64) -> u64
     ensures { result ≡ much_at queue_size }
@@ -33,8 +33,8 @@ pub(crate) fn much_from(queue_size: u64) -> u64
     }
 }
 
-/// The pace where the listeners of a worker are so many bytes behind, and sources are read slowly from so many on. They
-/// stand still from twice as many on.
+/// Returns the pace if the listeners of a worker are so many bytes behind, and sources are read slowly from so many on.
+/// They are not read from twice as many on.
 // rule: Sources wait
 pub(crate) fn pace_of(behind: u64, slow_from: u64) -> Pace
     ensures { result ≡ pace_at behind slow_from }

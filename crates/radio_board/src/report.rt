@@ -21,7 +21,7 @@ pub struct Report {
     pub turn_ms: u64,
     /// Up to which moment it has read all that had come on its sockets, in milliseconds.
     pub read_ms: u64,
-    /// Of all times that workers were told of news, up to which its listeners have drawn.
+    /// Of all times that workers got news, up to which its listeners have drawn.
     pub drawn_news: u64,
     /// Of all bytes that have come from sources, up to which its listeners have drawn.
     pub drawn: u64,
@@ -35,7 +35,7 @@ pub struct Report {
     pub lingering: usize,
 }
 
-/// What a turn of a worker came to.
+/// The result of a worker's turn.
 #[derive(Clone, Copy)]
 pub struct TurnDone {
     /// How many bytes had come from sources when its last round of draws began.
@@ -57,7 +57,7 @@ impl Report {
         !self.state.has_drawn() && is_served(self.turn_ms, latest_ms)
     }
 
-    /// Returns up to which of `drawn` times that workers were told of news this worker's listeners have drawn too.
+    /// Returns up to which of `drawn` times that workers got news this worker's listeners have drawn too.
     // rule: Closing of a source
     pub(crate) fn drawn_with(&self, drawn: u64, latest_ms: u64) -> u64
         ensures { result ≡ drawn_with drawn latest_ms self.now }
@@ -107,7 +107,7 @@ impl Report {
         left_to_draw(received, self.drawn, self.has_listeners) >= much
     }
 
-    /// Returns whether the worker of this number is told of news: its listeners may have some, and it has listeners.
+    /// Returns whether the worker of this number gets news: its listeners may have some, and it has listeners.
     pub(crate) fn is_told(&self, news: NewsFor, number: usize) -> bool
         ensures { result ≡ is_told news number self.now }
     {
@@ -125,7 +125,7 @@ impl Report {
         }
     }
 
-    /// Returns what is reported once a turn came to this.
+    /// Returns what is reported once a turn had this result.
     pub(crate) fn after_turn(self, done: TurnDone) -> Report
         ensures { result ≡ after_turn done self }
     {
@@ -137,7 +137,7 @@ impl Report {
         }
     }
 
-    /// Returns the step that the worker takes if this is reported next: its first listeners are told of news.
+    /// Returns the step that the worker takes if this is reported next: its first listeners get news.
     pub(crate) fn step_to(self, next: Report) -> Option<Step>
         ensures { result ≡ step_between self next }
     {

@@ -9,12 +9,12 @@ use std::marker::Model;
 /// By how many milliseconds the served time grows from one turn to the next, at most.
 const MOST_STEP_MS: u64 = 500;
 
-/// For how many milliseconds a worker may stand still at most, until others stop waiting for it.
+/// For how many milliseconds a worker may stall at most, until others stop waiting for it.
 const MOST_STILL_MS: u64 = 2000;
 
-/// The time that a worker has served, in milliseconds. Time in which the process or one of its workers stood still does
-/// not count. From one turn to the next the served time grows by half a second at most, whatever the system's clock
-/// says. It is never ahead of the moment up to which all have read by more than half a second.
+/// The time that a worker has served, in milliseconds. Time in which the process or one of its workers stalled does not
+/// count. From one turn to the next the served time grows by half a second at most, whatever the system's clock says.
+/// It is never ahead of the moment up to which all have read by more than half a second.
 #[derive(Drop)]
 pub struct ServedTime {
     clock_ms: u64,
@@ -67,8 +67,8 @@ impl ServedTime {
         self.served_ms
     }
 
-    /// Returns the latest moment that this worker lets all be told. The others have read up to then, unless one stands still. So
-    /// each moment is told as late as every other, however long workers wait.
+    /// Returns the latest moment that this worker lets all get. The others have read up to then, unless one stalls. So
+    /// each moment is given as late as every other, however long workers wait.
     // rule: Server time
     pub fn settled_ms(&self) -> u64
         ensures { result ≡ settled self.now }

@@ -1,4 +1,4 @@
-//! What the workers and the acceptor tell each other.
+//! What the workers and the acceptor report to each other.
 
 ghost use Rattle.std.specs.Prelude.{◌≡◌, ◌≤◌, ◌<◌, ℕ, IfSome, OnSome, true, length, slice_get};
 ghost use Rattle.std.specs.Option.{option_copied};
@@ -37,14 +37,14 @@ pub struct Limits {
 pub struct NewsCounts {
     /// How many bytes have come from sources.
     pub received: u64,
-    /// How often workers were told of news.
+    /// How often workers got news.
     pub told: u64,
 }
 
-/// What the workers and the acceptor tell each other. It is shared by reference.
+/// What the workers and the acceptor report to each other. It is shared by reference.
 ///
-/// In contracts it is a `SharedOf`: its workers' desks and its bounds. What threads tell each other is in atomics, which no
-/// contract names.
+/// In contracts it is a `SharedOf`: its workers' desks and its bounds. What threads report to each other is in atomics,
+/// which no contract names.
 #[derive(Drop)]
 pub struct Shared {
     alloc: Global,
@@ -56,11 +56,11 @@ pub struct Shared {
     acceptor_sleeps: AtomicBool,
     /// Up to which moment every worker has read its sockets, in milliseconds.
     moment_ms: AtomicU64,
-    /// The latest moment that a worker has told the server, in milliseconds.
+    /// The latest moment that a worker has given the server, in milliseconds.
     server_ms: AtomicU64,
     /// How many bytes have come from sources.
     received: AtomicU64,
-    /// How often workers were told of news.
+    /// How often workers got news.
     told: AtomicU64,
     /// Whether all are to stop.
     is_over: AtomicBool,
@@ -72,7 +72,7 @@ pub struct Shared {
     most_lingering: usize,
     /// How many bytes a worker's listeners have still to draw where sources are read slowly.
     slow_from: u64,
-    /// How many bytes these may have still to draw, while they are not told of news.
+    /// How many bytes these may have still to draw, while they get no news.
     much_from: u64,
     /// Where the lines of the log go.
     log: Arc<LogQueue>,
@@ -138,8 +138,8 @@ impl Shared {
         self.desks.len()
     }
 
-    /// Returns up to which moment each worker that has begun has read its sockets, and no later one than `settled_ms`; or the one
-    /// that was told before, if that is later. It never goes back. With 0 it is the one that was told before.
+    /// Returns up to which moment each worker that has begun has read its sockets, and no later one than `settled_ms`;
+    /// or the result before, if that is later. It never goes back. With 0 it is the result before.
     pub fn moment(&self, settled_ms: u64) -> u64 {
         let mut least = settled_ms;
         for desk in &self.desks {
@@ -148,13 +148,13 @@ impl Shared {
         raise(&self.moment_ms, least)
     }
 
-    /// Returns the latest moment that a worker has told the server and noted here, in milliseconds; 0 if none has. By then that was
-    /// told.
+    /// Returns the latest moment that a worker has given the server and noted here, in milliseconds; 0 if none has. By
+    /// then the server had it.
     pub fn server_time(&self) -> u64 {
         self.server_ms.load(Ordering::SeqCst)
     }
 
-    /// Notes that a worker has told the server this moment, in milliseconds.
+    /// Notes that a worker has given the server this moment, in milliseconds.
     pub fn note_server_time(&self, ms: u64) {
         let _ = raise(&self.server_ms, ms);
     }
@@ -170,18 +170,18 @@ impl Shared {
         }
     }
 
-    /// Tells the workers whose listeners may have news.
+    /// Gives news to the workers whose listeners may have some.
     fn tell_news(&self, news: NewsFor, now_us: u64) {
         for (number, desk) in self.desks.iter().enumerate() {
             if desk.report().is_told(news, number) {
                 desk.tell_news(self.is_much(desk), now_us);
             }
         }
-        // Whoever sees that it was told sees it at each desk.
+        // A thread that sees this count sees the news at each desk.
         self.told.fetch_add(1, Ordering::SeqCst);
     }
 
-    /// Returns how many bytes have come from sources, and how often workers were told of news.
+    /// Returns how many bytes have come from sources, and how often workers got news.
     pub fn counts(&self) -> NewsCounts {
         NewsCounts {
             received: self.received.load(Ordering::SeqCst),
@@ -189,7 +189,7 @@ impl Shared {
         }
     }
 
-    /// Returns how often workers were told of news, and up to which of these times the listeners of each have drawn. A worker
+    /// Returns how often workers got news, and up to which of these times the listeners of each have drawn. A worker
     /// that is not served holds up nobody.
     pub fn news_count(&self) -> NewsCount
         ensures { result.drawn ≤ result.told }
@@ -203,8 +203,8 @@ impl Shared {
         NewsCount { told, drawn }
     }
 
-    /// Returns whether so much has come from sources which this worker's listeners have still to draw that they are told of it at
-    /// once.
+    /// Returns whether so much has come from sources which this worker's listeners have still to draw that they get
+    /// news of it at once.
     pub fn is_much(&self, desk: &WorkerDesk) -> bool
         ensures { self.now.much ≡ 0 → result ≡ true }
     {

@@ -93,8 +93,8 @@ pub(crate) fn newcomers_left(newcomers: usize, most: usize) -> Option<usize>
     }
 }
 
-/// Returns which worker is told of a newcomer that was put for the worker of the number `own`: the one that takes newcomers next, or
-/// that worker again if none does.
+/// Returns which worker is woken for a newcomer that was put for the worker of the number `own`: the one that takes
+/// newcomers next, or that worker again if none does.
 // rule: Newcomers
 pub(crate) fn taker_of(next: Option<usize>, own: usize) -> usize
     ensures { result ≡ taker_of next own }

@@ -1,4 +1,4 @@
-//! What one worker tells the others, and what they tell it.
+//! What one worker reports to the others, and what they report to it.
 
 ghost use Rattle.std.specs.Prelude.{◌≡◌, ◌≤◌, ℕ};
 ghost use Rattle.radio_board.specs.Reports.{has_to_do, step_to_wait};
@@ -19,8 +19,8 @@ pub enum NotedMoment {
     Turn,
 }
 
-/// What one worker tells the others, and what they tell it. Each is an atomic, so no contract names what it holds: a [`Report`] is
-/// a copy of it, from which contracts say what follows.
+/// What one worker reports to the others, and what they report to it. Each is an atomic, so no contract names what it
+/// holds: a [`Report`] is a copy of it, from which contracts say what follows.
 #[derive(Drop)]
 pub struct WorkerDesk {
     waker: Waker,
@@ -44,7 +44,7 @@ pub struct WorkerDesk {
     turn_ms: AtomicU64,
     /// Of all bytes that have come from sources, up to which its listeners have drawn.
     drawn: AtomicU64,
-    /// Of all times that workers were told of news, up to which its listeners have drawn.
+    /// Of all times that workers got news, up to which its listeners have drawn.
     drawn_news: AtomicU64,
 }
 
@@ -131,7 +131,7 @@ impl WorkerDesk {
     /// Takes a step, and ends the worker's wait if it waits no more after it.
     pub(crate) fn take_and_wake(&self, step: Step) {
         if self.take(step).is_woken_by(step) {
-            // Where it can't be told, its wait ends by itself.
+            // If it can't be woken, its wait ends by itself.
             let _ = self.waker.wake();
         }
     }
@@ -156,7 +156,7 @@ impl WorkerDesk {
         self.take_and_wake(Step::of_news(is_much));
     }
 
-    /// Notes that the round is over, if there is one. When it began workers had been told of news `told` times.
+    /// Notes that the round is over, if there is one. When it began workers had got news `told` times.
     pub fn end_round(&self, told: u64) {
         self.drawn_news.store(told, Ordering::SeqCst);
         let _ = self.take(Step::EndRound);
@@ -195,8 +195,8 @@ impl WorkerDesk {
         count
     }
 
-    /// Notes what a turn of the worker came to. Its first listeners are told of news: what has come since the first of them drew was
-    /// told to nobody.
+    /// Notes the result of a turn of the worker. Its first listeners get news: nobody got that of what has come since
+    /// the first of them drew.
     pub fn note_turn(&self, done: TurnDone) {
         let before = self.report();
         let after = before.after_turn(done);

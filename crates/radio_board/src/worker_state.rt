@@ -1,4 +1,4 @@
-//! What a worker does, as those see it who tell it of news, and wake it.
+//! What a worker does, as the threads see it that give it news, and wake it.
 
 ghost use Rattle.std.specs.Prelude.{◌≡◌, ◌&&◌, not, if◌then◌else◌};
 ghost use Rattle.radio_board.specs.Reports.{has_to_do, number_after, step_of_news, step_to_wait};
@@ -72,7 +72,7 @@ impl Step {
         }
     }
 
-    /// Returns the step by which a worker is told of news, and whether much has come.
+    /// Returns the step by which a worker gets news, by whether much has come.
     pub(crate) fn of_news(is_much: bool) -> Step
         ensures { result ≡ step_of_news is_much }
     {
@@ -97,7 +97,7 @@ impl WorkerState {
         }
     }
 
-    /// Returns the state once it is told of news.
+    /// Returns the state once it got news.
     fn told(self, is_much: bool) -> WorkerState
         ensures { result ≡ (if is_much then after MuchNews self else after News self) }
     {
@@ -189,7 +189,7 @@ impl WorkerState {
         !self.after(step).waits() || newcomers > 0
     }
 
-    /// Returns whether its listeners have drawn all the news that it was told of.
+    /// Returns whether its listeners have drawn all the news that it got.
     // rule: Closing of a source
     pub fn has_drawn(self) -> bool
         ensures { result ≡ has_drawn self }

@@ -8,7 +8,7 @@ use crate::{Received, Sent};
 use std::marker::Model;
 
 /// How often a line was read from, with how much room, how often it was written to, has failed, and has
-/// told that its peer has closed. In contracts it is these numbers.
+/// reported that its peer has closed. In contracts it is these numbers.
 #[derive(Drop)]
 pub struct CallCount {
     reads: History,

@@ -21,11 +21,11 @@ use std::marker::Model;
 pub enum Fate {
     /// It goes on.
     Open,
-    /// Its conversation has ended: what it is owed still goes out, and what comes is passed over.
+    /// Its conversation has ended: what is pending still goes out, and what comes is ignored.
     Ended,
-    /// It is closed, and nothing is owed.
+    /// It is closed, and nothing is pending.
     Closed,
-    /// It is cut off, and what it is owed is given up: its line has failed, or took nothing for too
+    /// It is cut off, and what is pending is given up: its line has failed, or took nothing for too
     /// long, or memory was refused.
     Cut,
 }
@@ -57,11 +57,11 @@ pub struct ConnStatus {
     pub is_behind: bool,
     /// Whether its line has taken a byte.
     pub has_taken: bool,
-    /// Whether its peer was told that nothing more is written.
+    /// Whether its peer knows that nothing more is written.
     pub is_finished: bool,
     /// When something was last asked of the server for it.
     pub asked_ms: u64,
-    /// When what is owed to it last moved, or began to be owed.
+    /// When pending bytes last moved, or began to be pending.
     pub moved_ms: u64,
 }
 
@@ -139,8 +139,8 @@ impl<L: Line> Conn<L> {
         }
     }
 
-    /// The connection of one who was not let in: it is owed what it is told. `OutOfMemory` where
-    /// memory was refused; the line is closed then.
+    /// Returns the connection of a client that was not let in, with its answer pending.
+    /// `OutOfMemory` if memory was refused; the line is closed then.
     fn turned_away(
         alloc: Global,
         web: WebAnswers,
@@ -179,8 +179,8 @@ impl<L: Line> Conn<L> {
         }
     }
 
-    /// The connection of one who comes, and to whom the server replies so, by what the settings say of its answers.
-    /// `OutOfMemory` where memory was refused; the line is closed then.
+    /// Returns the connection of a newcomer to which the server replies so, with answers as the settings say.
+    /// `OutOfMemory` if memory was refused; the line is closed then.
     pub fn admitted(
         alloc: Global,
         web: WebAnswers,
@@ -227,7 +227,7 @@ impl<L: Line> Conn<L> {
         self.id
     }
 
-    /// How it stands.
+    /// What is known of it.
     pub fn status(&self) -> ConnStatus
         ensures { result ≡ self.now.status }
     {
@@ -251,8 +251,8 @@ fn denied_account(alloc: Global, denial: &Reply, ms: u64) -> Account {
     account
 }
 
-/// What a connection is owed that is told this reply first; whether it goes on is noted. `OutOfMemory` where memory was
-/// refused.
+/// Returns what is pending on a connection that is sent this reply first; notes whether it goes on. `OutOfMemory` if
+/// memory was refused.
 fn told_first(
     alloc: Global,
     session: &mut Session,

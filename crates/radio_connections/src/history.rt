@@ -1,4 +1,4 @@
-//! The bytes that a line tells of, which only proofs read. They take no memory.
+//! The bytes that a line gave and took, which only proofs read. They take no memory.
 
 ghost use Rattle.std.specs.Prelude.{◌≡◌, ℕ, List, [], ◌++◌};
 ghost use Rattle.std.specs.Borrow.{ftrue};

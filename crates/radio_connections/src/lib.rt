@@ -1,6 +1,7 @@
 //! Connections over lines, and what one turn does for one connection.
 //!
-//! - [`Line`], [`Gate`]: where a connection's bytes come from and go to, and who is told of writes.
+//! - [`Line`], [`Gate`]: where a connection's bytes come from and go to, and what is called around
+//!   writes.
 //! - [`CallCount`], [`History`]: what a line notes for proofs alone.
 //! - [`Conn`]: a connection. [`Conn::admitted`] makes it of an arrival, and [`serve`] serves it, at a moment ([`Now`]),
 //!   with what its worker lends it ([`Workspace`]).

@@ -3,7 +3,7 @@
 /// What a line answers to a read.
 #[derive(Clone, Copy, Debug, PartialEq, Eq)]
 pub enum Received {
-    /// So many bytes have come, and stand at the front of the buffer.
+    /// So many bytes have come, and are at the front of the buffer.
     Bytes(usize),
     /// Nothing has come for now.
     Nothing,
@@ -24,8 +24,8 @@ pub enum Sent {
     Fault,
 }
 
-/// A line to a peer, in both directions, which never waits. It tells its bytes: all that it gave,
-/// and all that it took, in order.
+/// A line to a peer, in both directions, which never waits. In contracts it has its bytes: all that
+/// it gave, and all that it took, in order.
 pub trait Line: Drop {
     ghost use Rattle.std.specs.Prelude.{◌≡◌, ◌<◌, ℕ, List, length};
     ghost use Rattle.radio_connections.specs.Lines.{Calls, HasGiven, HasTaken, after_read, after_write};
@@ -36,11 +36,12 @@ pub trait Line: Drop {
     // all bytes that it took
     ghost taken: { Self → List ℕ };
 
-    // how often it was called and with how much room, has failed, and has told that its peer has closed
+    // how often it was called and with how much room, has failed, and has reported that its peer has
+    // closed
     ghost calls: { Self → Calls };
 
-    /// Reads what has come, as far as the buffer has room. What stands in the buffer behind the
-    /// bytes that came is left open.
+    /// Reads what has come, as far as the buffer has room. What is in the buffer behind the bytes
+    /// that came is left open.
     fn read(&mut self, buffer: &mut [u8]) -> Received
         ensures given { HasGiven result buffer.new (given self.old) (given self.new) }
         ensures taken { taken self.new ≡ taken self.old }
@@ -60,16 +61,16 @@ pub trait Line: Drop {
         ensures taken { taken self.new ≡ taken self.old }
         ensures calls { calls self.new ≡ calls self.old };
 
-    /// Tells the peer that nothing more will be written. It may still be read from, and what comes is
-    /// not wanted.
+    /// Closes the line for writing, so that the peer knows that nothing more will come. It may still
+    /// be read from, and what comes is not wanted.
     fn finish(&mut self)
         ensures given { given self.new ≡ given self.old }
         ensures taken { taken self.new ≡ taken self.old }
         ensures calls { calls self.new ≡ calls self.old };
 }
 
-/// Whom a worker tells of each write, by the number of the client: before it and after it, while
-/// the house is called by nobody on its behalf.
+/// What a worker calls before and after each write, with the number of the client. The server is
+/// not called between the two.
 pub trait Gate {
     /// A write to this client is about to begin.
     fn hold(&self, id: u64);

@@ -25,7 +25,7 @@ pub fn close_first_lingering<L: Line>(conns: &mut Vec<Conn<L>>)
     drop(conns.remove(at));
 }
 
-/// Where the first of those stands who linger.
+/// Returns the place of the first lingering connection.
 fn first_lingering<L: Line>(conns: &[Conn<L>]) -> Option<usize>
     ensures { result ≡ position lingers conns.now }
 {

@@ -1,4 +1,4 @@
-//! What a connection was told and its line has not taken.
+//! What was written to a connection and its line has not taken.
 
 ghost use Rattle.std.specs.Prelude.{◌≡◌, ◌≤◌, ◌++◌, [], true, drop, length, IfOk, OnErr};
 ghost use Rattle.radio_session.specs.Conversation.{saying_now};
@@ -43,7 +43,7 @@ impl Model for Outgoing {
 }
 
 impl Outgoing {
-    /// Nothing is owed. It takes no memory.
+    /// Nothing is pending. It takes no memory.
     pub(crate) fn new(alloc: Global) -> Outgoing
         ensures { result ≡ [] }
     {
@@ -73,7 +73,7 @@ impl Outgoing {
         }
     }
 
-    /// Takes the spare memory for what is told next, where nothing is owed.
+    /// Takes the spare memory for what is written next, if nothing is pending.
     pub(crate) fn take_memory(&mut self, spare: &mut Vec<u8>)
         ensures { self.new ≡ self.old }
     {
@@ -83,7 +83,7 @@ impl Outgoing {
         }
     }
 
-    /// Gives its memory back, where nothing is owed: as the spare, unless that would keep too much.
+    /// Gives its memory back, if nothing is pending: as the spare, unless that would keep too much.
     pub(crate) fn give_memory_back(&mut self, spare: &mut Vec<u8>)
         ensures { self.new ≡ self.old }
     {
@@ -95,8 +95,8 @@ impl Outgoing {
         }
     }
 
-    /// Tells a reply behind what is owed, by [`Session::give`]. `OutOfMemory` where memory was
-    /// refused; nothing was told then.
+    /// Appends a reply to what is pending, by [`Session::give`]. `OutOfMemory` if memory was
+    /// refused; nothing was appended then.
     pub(crate) fn tell(&mut self, session: &mut Session, reply: Reply) -> Result<State, OutOfMemory>
         ensures bytes { IfOk result (λ _. self.new ≡ self.old ++ (said session.old.says reply).bytes) }
         ensures state { IfOk result (λ state. state ≡ (said session.old.says reply).state) }

@@ -10,7 +10,7 @@ pub(crate) mod moment;
 
 ghost use Rattle.std.specs.Prelude.{◌≡◌, ◌-◌, nat_le};
 
-/// The moment of a turn, how long a line may take nothing of what is owed to it, in milliseconds, and
+/// The moment of a turn, how long a line may take nothing of what is pending, in milliseconds, and
 /// whether there is news.
 #[derive(Clone, Copy)]
 pub struct Now {

@@ -6,7 +6,7 @@ use std::alloc::Global;
 pub(crate) const READ_ROOM: usize = 16384;
 
 /// What a worker lends each connection in its turn: where the bytes of its line come first, and memory for
-/// what it is owed. What stands in either between turns says nothing.
+/// what is pending. What is in either between turns has no meaning.
 pub struct Workspace {
     pub(crate) buffer: [u8; READ_ROOM],
     pub(crate) spare: Vec<u8>,

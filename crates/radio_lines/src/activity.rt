@@ -79,7 +79,7 @@ pub(crate) struct LineTurn {
     pub(crate) ms: u64,
     /// How fast sources are read.
     pub(crate) pace: Pace,
-    /// How often listeners had been told of news when it began, and have drawn.
+    /// How often listeners had got news when it began, and have drawn.
     pub(crate) news: NewsCount,
 }
 
@@ -90,7 +90,7 @@ pub struct Activity {
     now_ms: AtomicU64,
     /// The number of the pace.
     pace: AtomicU64,
-    /// How often listeners had been told of news when the turn began.
+    /// How often listeners had got news when the turn began.
     told: AtomicU64,
     /// Up to which of these times all had drawn.
     drawn: AtomicU64,
@@ -112,7 +112,8 @@ impl Activity {
         }
     }
 
-    /// It is this moment, in milliseconds, sources are read at this pace, and listeners were told of news, and have drawn, so often.
+    /// Begins a turn at this moment, in milliseconds. Sources are read at this pace, and listeners got news, and have
+    /// drawn, so often.
     pub fn begin_turn(&self, ms: u64, pace: Pace, news: NewsCount) {
         self.now_ms.store(ms, Ordering::SeqCst);
         self.pace.store(pace.number(), Ordering::SeqCst);

@@ -6,10 +6,10 @@ ghost use Rattle.radio_lines.specs.Closings.{tells_closing};
 /// How long it is held back at most, in milliseconds.
 const MOST_HELD_MS: u64 = 500;
 
-/// How often listeners were told of news, and how many of these times all of them have drawn what had come.
+/// How often listeners got news, and how many of these times all of them have drawn what had come.
 #[derive(Clone, Copy, Debug, PartialEq, Eq)]
 pub struct NewsCount {
-    /// How often they were told.
+    /// How often they got news.
     pub told: u64,
     /// Up to which of these times all have drawn.
     pub drawn: u64,
@@ -20,7 +20,7 @@ pub struct NewsCount {
 pub(crate) struct FoundClosing {
     /// When, in milliseconds.
     pub(crate) ms: u64,
-    /// How often listeners had been told of news.
+    /// How often listeners had got news.
     pub(crate) told: u64,
 }
 

@@ -14,9 +14,9 @@ pub fn ends_are_told()
 // rule: Unwanted bytes; Full sockets
 pub fn sockets_are_left_alone()
     ensures unwanted { UnwantedWait }
-    // what comes of it wakes nobody
+    // it wakes nobody
     ensures quiet { UnwantedWakeNobody }
     ensures stalled { StalledAreAskedAgain }
-    // unless the system tells of room
+    // unless the system reports room
     ensures room { RoomIsTaken }
 {}

@@ -1,6 +1,7 @@
-//! TCP sockets as the lines of connections, each asked only where the system has told that it is ready.
+//! TCP sockets as the lines of connections, each asked only once the system has reported that it is
+//! ready.
 //!
-//! - [`Sockets`]: the sockets of one thread, as the system tells of them; it makes a line of each, and waits until one
+//! - [`Sockets`]: the sockets of one thread, as the system reports them; it makes a line of each, and waits until one
 //!   has something to do ([`Polled`]).
 //! - [`SocketLine`]: the line of a socket, or of any stream that never waits and can [`Shut`].
 //! - [`Activity`]: what the lines of a thread share with its loop; [`Pace`]: how fast they give what sources send;
@@ -8,8 +9,8 @@
 //! - [`Network`], [`SystemNet`]: the net; [`moment`], [`moment_us`]: the clock.
 //! - [`ends_are_told`], [`sockets_are_left_alone`]: laws, which run no code.
 //!
-//! No clause says what a socket gives or takes, since the system holds it: what is proved is that a
-//! line tells its worker the bytes that the system has told it, and no others.
+//! No clause says what a socket gives or takes, since the system holds it. What is proved is that a
+//! line gives its worker the bytes that it got from the system, and no others.
 #![tactic(auto)]
 
 mod activity;

@@ -14,12 +14,13 @@ use std::alloc::Global;
 use std::io::{Read, Write};
 use std::sync::Arc;
 
-/// A connection's socket. It is asked only where the system has told that it is ready: `Nothing`
-/// takes no call of the system then. Where nothing is wanted of what comes, it is read from at most
-/// each tenth of a second, and where it took nothing it is asked again after a second. Where sources are
-/// read slowly, it gives something once in a millisecond at most if it has given as much as only sources do. If anything was
-/// wanted of what it gave, it holds back that its peer has closed until all have drawn that, for half a second at most. It may
-/// go from thread to thread.
+/// A connection's socket. It is asked only once the system has reported that it is ready: `Nothing` takes no call of
+/// the system then. If what comes is not wanted, it is read from each tenth of a second at most. If it took nothing, it
+/// is asked again after a second.
+///
+/// If sources are read slowly and it has given as much as only sources do, it gives something once in a millisecond at
+/// most. If anything that it gave was wanted, it holds back that its peer has closed until all have drawn that, for
+/// half a second at most. It may go from thread to thread.
 #[derive(Drop)]
 pub struct SocketLine<S: Read + Write + Shut + Drop> {
     stream: S,

@@ -16,7 +16,7 @@ pub trait Network {
     /// A socket that is being connected to this address; or the system's fault.
     fn connect(&self, address: SocketAddr) -> io::Result<TcpStream>;
 
-    /// What the system tells of sockets by; or its fault.
+    /// Returns that by which the system reports sockets; or its fault.
     fn poll(&self) -> io::Result<Poll>;
 }
 

@@ -1,10 +1,10 @@
-//! What the system has told of sockets.
+//! What the system has reported of sockets.
 
 use crate::ready::Ready;
 use std::sync::atomic::{AtomicBool, AtomicU64, Ordering};
 
-/// What a socket is ready for, as its line and the sockets of its thread share it: a [`Ready`], whose functions decide what
-/// becomes of it. The system tells each change once. Only one thread uses it at a time.
+/// What a socket is ready for, as its line and the sockets of its thread share it: a [`Ready`], whose functions decide
+/// what becomes of it. The system reports each change once. Only one thread uses it at a time.
 #[derive(Drop)]
 pub(crate) struct Readiness {
     is_readable: AtomicBool,

@@ -8,11 +8,12 @@ use mio::event::Event;
 /// For how long nothing is read from a line of which nothing is wanted, in milliseconds.
 const PASS_OVER_MS: u64 = 100;
 
-/// After how long a line that took nothing is asked again, whatever the system has told, in milliseconds: it tells of room
-/// only once a third of the socket's buffer is free.
+/// After how long a line that took nothing is asked again, whatever the system has reported, in milliseconds. The
+/// system reports room only once a third of the socket's buffer is free.
 const ASK_AGAIN_MS: u64 = 1000;
 
-/// What a socket is ready for, by what the system has told and the socket has answered since. Moments are in milliseconds.
+/// What a socket is ready for, by what the system has reported and the socket has answered since. Moments are in
+/// milliseconds.
 #[derive(Clone, Copy, Debug, PartialEq, Eq)]
 pub(crate) struct Ready {
     /// Whether it may have something to read.
@@ -29,7 +30,7 @@ pub(crate) struct Ready {
     pub(crate) write_from_ms: u64,
 }
 
-/// What the system tells of a socket.
+/// What the system reports of a socket.
 #[derive(Clone, Copy, Debug, PartialEq, Eq)]
 pub(crate) struct SocketReport {
     /// That it may have something to read.
@@ -41,7 +42,7 @@ pub(crate) struct SocketReport {
 }
 
 impl SocketReport {
-    /// Returns what an event of the system tells.
+    /// Returns what an event of the system reports.
     pub(crate) fn of(event: &Event) -> SocketReport
         ensures { result ≡ notice_of event.now }
     {
@@ -54,7 +55,8 @@ impl SocketReport {
 }
 
 impl Ready {
-    /// Returns the readiness of a socket of which nothing was told yet: it is to be asked, and what comes is wanted.
+    /// Returns the readiness of a socket of which nothing was reported yet: it is to be asked, and what comes is
+    /// wanted.
     pub(crate) fn fresh() -> Ready
         ensures { result ≡ fresh }
     {
@@ -68,7 +70,8 @@ impl Ready {
         }
     }
 
-    /// Returns the readiness once the system has told this. A socket that is over tells so when it is asked.
+    /// Returns the readiness once the system has reported this. A socket that is over says so when it is
+    /// asked.
     pub(crate) fn after_told(self, notice: SocketReport) -> Ready
         ensures { result ≡ after_told notice self }
     {
@@ -81,7 +84,8 @@ impl Ready {
         }
     }
 
-    /// Returns whether there is something to do at once if the system tells this. For bytes that are not wanted there is not.
+    /// Returns whether there is something to do at once if the system reports this. For bytes that are not wanted there
+    /// is not.
     // rule: Unwanted bytes
     pub(crate) fn brings_work(self, notice: SocketReport) -> bool
         ensures { result ≡ brings_work notice self }

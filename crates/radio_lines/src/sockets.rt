@@ -1,4 +1,4 @@
-//! A thread's sockets, as the system tells of them.
+//! A thread's sockets, as the system reports them.
 
 ghost use Rattle.std.specs.Prelude.{◌≡◌, ◌<◌, ◌+◌, ◌/◌, nat_lt, if◌then◌else◌, [], vec_len, IfOk, IfSome};
 ghost use Rattle.std.specs.Arc.{arc_value};
@@ -22,16 +22,16 @@ use std::net::SocketAddr;
 use std::sync::Arc;
 use std::time::{Clock, Duration};
 
-/// The name of the thread's waker among what the system tells of; any other is the number of a line.
+/// The name of the thread's waker in the system's reports; any other is the number of a line.
 const WAKER: Token = Token(usize::MAX);
 
-/// Of how many sockets the system tells at once.
+/// How many sockets the system reports at once.
 const EVENTS: usize = 1024;
 
 /// The same of one who has a socket or two.
 const FEW_EVENTS: usize = 8;
 
-/// What was heard of the system.
+/// What the system reported, and when.
 #[derive(Clone, Copy)]
 pub struct Polled {
     /// The clock's moment then, in milliseconds.
@@ -44,7 +44,7 @@ pub struct Polled {
     pub is_called: bool,
 }
 
-/// What the system has told at once.
+/// What the system has reported at once.
 #[derive(Clone, Copy)]
 struct PollReport {
     is_ready: bool,
@@ -52,7 +52,7 @@ struct PollReport {
 }
 
 impl PollReport {
-    /// Returns what was heard, at this moment in microseconds.
+    /// Returns what was reported, at this moment in microseconds.
     fn at(self, us: u64) -> Polled
         ensures { result ≡ heard_at us self }
     {
@@ -72,7 +72,7 @@ impl PollReport {
     }
 }
 
-/// What the system has told of a thread's lines.
+/// What the system has reported of a thread's lines.
 #[derive(Drop)]
 pub struct Sockets {
     alloc: Global,
@@ -86,8 +86,8 @@ pub struct Sockets {
 }
 
 impl Sockets {
-    /// Those of a thread that has none yet, and its waker, which ends a wait of [`hear`](Sockets::hear) from another
-    /// thread; the system's fault where it tells nothing of sockets.
+    /// Returns those of a thread that has none yet, and its waker, which ends a wait of [`hear`](Sockets::hear) from
+    /// another thread; the system's fault if it reports nothing of sockets.
     ///
     /// `OutOfMemory` where memory was refused.
     pub fn new<N: Network>(
@@ -106,15 +106,15 @@ impl Sockets {
         }
     }
 
-    /// Those of one who has none yet, will have few, and is woken by nobody; the system's fault where it tells nothing of
-    /// sockets, or memory was refused.
+    /// Returns those of a thread that has none yet, will have few, and is woken by no other; the system's fault if it
+    /// reports nothing of sockets, or memory was refused.
     pub fn alone<N: Network>(net: &N, alloc: Global) -> io::Result<Sockets>
         ensures { IfOk result (λ own. vec_len own.readiness ≡ 0) }
     {
         Sockets::with_room(net, alloc, FEW_EVENTS)?
     }
 
-    /// Those of one who is told of so many at once.
+    /// Returns those of a thread to which so many are reported at once.
     fn with_room<N: Network>(
         net: &N,
         alloc: Global,
@@ -144,8 +144,8 @@ impl Sockets {
         &self.activity
     }
 
-    /// Hears from the system what is ready, and waits until a line has something to do or the waker is called, so many
-    /// milliseconds at most. The system's fault where it tells nothing any more.
+    /// Asks the system what is ready. Waits until a line has something to do or the waker is called, so many
+    /// milliseconds at most. The system's fault if it reports nothing any more.
     pub fn hear<C: Clock>(&mut self, clock: &C, wait_ms: u64) -> io::Result<Polled>
         ensures { IfOk result (λ heard. heard.ms ≡ heard.us / 1000) }
     {
@@ -165,7 +165,7 @@ impl Sockets {
         Ok(nothing.at(us))
     }
 
-    /// Notes what the system tells within so many milliseconds.
+    /// Notes what the system reports within so many milliseconds.
     fn poll(&mut self, wait_ms: u64) -> io::Result<PollReport>
         ensures { IfOk result (λ told. told.is_called ≡ list_any (λ e. is_waker (event_token e)) (items self.new.events)) }
     {
@@ -186,7 +186,7 @@ impl Sockets {
         })
     }
 
-    /// Returns whether the system has told last that the waker was called.
+    /// Returns whether the system has reported last that the waker was called.
     fn is_called(&self) -> bool
         ensures { result ≡ list_any (λ e. is_waker (event_token e)) (items self.now.events) }
     {
@@ -208,8 +208,8 @@ impl Sockets {
         Ok(line)
     }
 
-    /// The line of a socket that does not wait. Its bytes are sent as they come. The system's fault where it does not tell
-    /// of it, or memory was refused.
+    /// Returns the line of a socket that does not wait. Its bytes are sent as they come. The system's fault if it does
+    /// not report it, or memory was refused.
     pub fn line_of(&mut self, mut stream: TcpStream) -> io::Result<SocketLine<TcpStream>>
         ensures { IfOk result (λ line. (⟦<SocketLine<TcpStream> as Line>⟧.given line ≡ []) × (⟦<SocketLine<TcpStream> as Line>⟧.taken line ≡ [])) }
     {
@@ -224,7 +224,8 @@ impl Sockets {
         Ok(SocketLine::new(stream, readiness, activity))
     }
 
-    /// Returns a number that no line has, and what is told of it. `OutOfMemory` if memory was refused.
+    /// Returns a number that no line has, and what is reported of it. `OutOfMemory` if memory was
+    /// refused.
     fn free_readiness(&mut self) -> Result<(usize, Arc<Readiness>), OutOfMemory>
         ensures { IfOk result (λ free. free.0 < vec_len self.new.readiness) }
     {

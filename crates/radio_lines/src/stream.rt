@@ -1,4 +1,4 @@
-//! One call of a stream that never waits, and what it came to.
+//! One call of a stream that never waits, and its result.
 
 ghost use Rattle.std.specs.Prelude.{◌≡◌};
 ghost use Rattle.radio_lines.specs.Hitches.{IsReadyToRead, IsReadyToWrite, hitch_of, ready_to_read, ready_to_write, received_at, sent_at};
@@ -18,12 +18,12 @@ pub trait Shut {
 
 impl Shut for TcpStream {
     fn shut(&self) {
-        // A socket that is closed already has nothing to be told.
+        // A socket that is closed already needs no notice.
         let _ = self.shutdown(Shutdown::Write);
     }
 }
 
-/// Why a call of a stream came to nothing.
+/// Why a call of a stream failed.
 #[derive(Clone, Copy, Debug, PartialEq, Eq)]
 pub(crate) enum Hitch {
     /// It would have waited.
@@ -34,7 +34,7 @@ pub(crate) enum Hitch {
     Failed,
 }
 
-/// Returns why a call came to nothing whose fault is of this kind.
+/// Returns why a call failed whose fault is of this kind.
 fn hitch_of(kind: ErrorKind) -> Hitch
     ensures { result ≡ hitch_of kind }
 {
@@ -46,7 +46,7 @@ fn hitch_of(kind: ErrorKind) -> Hitch
 }
 
 impl Hitch {
-    /// Returns what a line answers to a read that came to nothing.
+    /// Returns what a line answers to a read that failed.
     fn received(self) -> Received
         ensures { result ≡ received_at self }
     {
@@ -56,7 +56,7 @@ impl Hitch {
         }
     }
 
-    /// Returns what a line answers to a write that came to nothing.
+    /// Returns what a line answers to a write that failed.
     fn sent(self) -> Sent
         ensures { result ≡ sent_at self }
     {
@@ -66,7 +66,7 @@ impl Hitch {
         }
     }
 
-    /// Returns what a socket is ready for once a read came to nothing.
+    /// Returns what a socket is ready for once a read failed.
     fn after_read(self, ready: Ready) -> Ready
         ensures { result ≡ ready_to_read self ready }
     {
@@ -76,7 +76,7 @@ impl Hitch {
         }
     }
 
-    /// Returns what a socket is ready for once a write came to nothing at `ms`, in milliseconds.
+    /// Returns what a socket is ready for once a write failed at `ms`, in milliseconds.
     fn after_write(self, ready: Ready, ms: u64) -> Ready
         ensures { result ≡ ready_to_write self ms ready }
     {

@@ -1,10 +1,10 @@
-//! What a line can tell. No fact has a field for a password.
+//! What a line can say. No fact has a field for a password.
 ghost use Rattle.std.specs.Prelude.{◌≡◌, []};
 
 use crate::QuotedText;
 use radio_addr::Peer;
 
-/// What a line tells.
+/// What a line says.
 #[derive(Drop)]
 pub enum Fact<'a> {
     /// The program has started, in this version, and listens at this address.
@@ -148,7 +148,7 @@ pub struct RelayFailed<'a> {
 pub struct TitleNote<'a> {
     /// The mount.
     pub mount: QuotedText<'a>,
-    /// What plays there now, empty where nothing is told of it.
+    /// What plays there now, empty if nothing is known of it.
     pub title: QuotedText<'a>,
 }
 
@@ -159,7 +159,7 @@ pub struct CommandNote<'a> {
     pub name: QuotedText<'a>,
     /// The mount that it was said of, empty where it was said of none.
     pub mount: QuotedText<'a>,
-    /// What else it was told: a client's number, a mount to move to, a user; empty where it was told nothing.
+    /// Its argument: a client's number, a mount to move to, a user; empty if it has none.
     pub argument: QuotedText<'a>,
     /// The user who gave it, never its password.
     pub user: QuotedText<'a>,
@@ -174,18 +174,18 @@ pub struct Warning<'a> {
     pub why: QuotedText<'a>,
     /// The key of the settings.
     pub key: QuotedText<'a>,
-    /// The mount in whose table the key stands, empty where it stands in none.
+    /// The mount in whose table the key is, empty if it is in none.
     pub mount: QuotedText<'a>,
     /// What the system allows, 0 where that is not in question.
     pub limit: u64,
-    /// Where the key stands, if it is passed over.
+    /// Where the key is, if it is ignored.
     pub place: KeyPlace<'a>,
 }
 
-/// Where a key stands that is passed over, and what may have been meant. All of it is empty in other warnings.
+/// Where a key is that is ignored, and what may have been meant. All of it is empty in other warnings.
 #[derive(Drop)]
 pub struct KeyPlace<'a> {
-    /// The table in which the key stands, or `top`.
+    /// The table in which the key is, or `top`.
     pub table: QuotedText<'a>,
     /// The line of the file, counted from 1; 0 where none is known.
     pub line: u64,
@@ -209,7 +209,7 @@ impl KeyPlace<'static> {
     }
 }
 
-/// A fault by which the program ends, and what is known of it beside its words.
+/// A fault by which the program ends, and what is known of it in addition to its words.
 #[derive(Drop)]
 pub struct FaultNote<'a> {
     /// Its words.

@@ -45,7 +45,7 @@ impl Fields {
         Ok(bytes)
     }
 
-    /// Adds the first word of a fact, as it stands.
+    /// Adds the first word of a fact, unchanged.
     #[tactic(auto, unfolding(crate::specs::Lines::spaced))]
     pub(crate) fn put_kind(&mut self, kind: &str) -> Result<(), OutOfMemory>
         ensures { OnOk result (self.new ≡ self.old ++ spaced kind.now) }

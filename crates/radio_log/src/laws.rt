@@ -10,8 +10,8 @@ ghost use Rattle.radio_log.specs.declared.notes.Note.{Note as NoteOf};
 
 use radio_addr::written_peers;
 
-/// What stands in a line before its LF is printable ASCII, whatever others have said of themselves: no line end and no
-/// other control character.
+/// Before its LF a line is printable ASCII, whatever others have said of themselves: it has no line end and no other
+/// control character.
 // rule: Line of the log
 pub fn lines_are_printable()
     ensures { (note : NoteOf) → IsNote note → AllByRecursion IsPrintable (body note) }
@@ -24,7 +24,7 @@ pub fn lines_are_read_back()
     ensures { (note : NoteOf) → IsNote note → IsReadBack note }
 {}
 
-/// A log tells one list of notes alone: nobody can forge a line, or a part of one.
+/// A log has one list of notes alone: nobody can forge a line, or a part of one.
 // rule: Line of the log
 pub fn logs_tell_one_story()
     ensures { (notes others : List NoteOf)

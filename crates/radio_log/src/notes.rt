@@ -1,4 +1,4 @@
-//! Notes, and the lines that tell them.
+//! Notes, and their lines.
 ghost use Rattle.std.specs.Prelude.{◌≡◌, IfOk};
 ghost use Rattle.radio_log.specs.Lines.{body, line};
 
@@ -22,7 +22,7 @@ pub struct Note<'a> {
     pub fact: Fact<'a>,
 }
 
-/// The line of the log that tells a note, with its LF.
+/// Returns the line of the log for a note, with its LF.
 ///
 /// The only error is `OutOfMemory`, where memory was refused; nothing was written then.
 // rule: Line of the log; Last line

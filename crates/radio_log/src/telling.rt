@@ -1,4 +1,4 @@
-//! How each fact is told: its word, and its fields in their order.
+//! How each fact is written: its word, and its fields in their order.
 ghost use Rattle.std.specs.Prelude.{◌≡◌, ◌++◌, OnOk};
 ghost use Rattle.radio_log.specs.Lines.{fault_fields, faulty_fields, fields_text, outcome_fields, place_fields, request_fields, told};
 ghost use Rattle.radio_log.specs.declared.facts.Fact.TheVariants as facts;

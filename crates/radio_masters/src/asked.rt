@@ -13,7 +13,8 @@ use radio_values::MountName;
 use std::alloc::Global;
 use std::marker::Model;
 
-/// A server, as a relay asks it; what is done is told in the log. In contracts it is that server, and what is noted of the relay.
+/// A server, as a relay asks it; the log gets what is done. In contracts it is that server, and what is noted of the
+/// relay.
 #[derive(Drop)]
 pub struct RelayServer<S: Server + Drop> {
     server: S,
@@ -48,12 +49,12 @@ impl<S: Server + Drop> RelayServer<S> {
         &self.server
     }
 
-    /// Returns what the log tells of the relay.
+    /// Returns what the log says of the relay.
     pub fn log(&self) -> &RelayLog {
         &self.log
     }
 
-    /// Tells in the log that the pull of the relay has ended so, or that the relay did not come up by it.
+    /// Logs that the pull of the relay has ended so, or that the relay did not come up by it.
     pub fn tell_end(&mut self, end: PullEnd)
         ensures { HasEndedBy end self.old self.new }
     {
@@ -97,7 +98,7 @@ impl<S: Server + Drop> Server for RelayServer<S> {
 
     ghost refuses = { λ asked event. S.refuses asked.server event };
 
-    /// Applies an event, and tells what of it is done. `OutOfMemory` if memory is refused; nothing has changed then.
+    /// Applies an event, and logs what of it is done. `OutOfMemory` if memory is refused; nothing has changed then.
     fn apply(&mut self, event: Event) -> Result<Reply, OutOfMemory>
         ensures ok { IfOk result (λ reply. AskedSteps S.steps self.old event reply self.new) }
         ensures err { OnErr result (self.new ≡ self.old) }

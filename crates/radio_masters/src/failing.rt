@@ -1,11 +1,11 @@
-//! How often the log tells that a relay fails.
+//! How often the log says that a relay fails.
 
 ghost use Rattle.std.specs.Prelude.{◌≡◌, Some};
 ghost use Rattle.radio_masters.specs.Failures.{IsNoted, told_now};
 
 use crate::RelayEnd;
 
-/// For how long a failure that lasts is not told again, in milliseconds: an hour.
+/// For how long a failure that lasts is not logged again, in milliseconds: an hour.
 pub const TOLD_AGAIN_MS: u64 = 3_600_000;
 
 /// A relay that has failed, and may have failed again and again for one reason.
@@ -13,16 +13,16 @@ pub const TOLD_AGAIN_MS: u64 = 3_600_000;
 pub struct Failing {
     /// Why it has failed last.
     pub why: RelayEnd,
-    /// When the log has told that last, in milliseconds.
+    /// When that was last logged, in milliseconds.
     pub told_ms: u64,
     /// How often it has failed so since then; a count that has reached 2^64 - 1 stays.
     pub untold: u64,
 }
 
-/// Notes that a relay has failed for this reason at this moment, in milliseconds. Returns what is known of it from then on,
-/// and how often the log tells that it has failed; `None` if the log tells nothing.
+/// Notes that a relay has failed for this reason at this moment, in milliseconds. Returns what is known of it from then
+/// on, and how often it has failed if that is to be logged; else `None`.
 ///
-/// The log tells a failure if it is the first, if its reason is another than before, or if the last line is an hour old.
+/// A failure is logged if it is the first, if its reason is another than before, or if the last line is an hour old.
 // rule: Failures of relays
 pub fn note_failure(before: Option<Failing>, why: RelayEnd, ms: u64) -> (Failing, Option<u64>)
     ensures { IsNoted before why ms result.0 result.1 }

@@ -1,13 +1,13 @@
-//! Connections to masters, over lines: the pull of a relay, and the list of streams that a slave is told.
+//! Connections to masters, over lines: the pull of a relay, and the list of streams for a slave.
 //!
 //! - [`MountPull`]: a relay's connection. [`MountPull::turn`] writes its request, reads once, and has what came applied
 //!   as events.
 //! - [`ListPull`]: a slave's connection. [`ListPull::turn`] writes its request and reads once, until the list is whole.
 //! - [`read_list_answer`]: the list in a master's answer.
-//! - [`keep_first`]: how much of a list is relayed; [`ListLog`] tells where that is not all of it.
+//! - [`keep_first`]: how much of a list is relayed; [`ListLog`] says when that is not all of it.
 //! - [`in_turn`]: which relays may be tried now, of those that wait for a place.
-//! - [`RelayServer`]: a server, as a relay asks it, and what the log tells of that ([`RelayLog`], [`RelayEnd`]); [`note_failure`] says
-//!   when it tells a failure.
+//! - [`RelayServer`]: a server, as a relay asks it, and what the log says of that ([`RelayLog`], [`RelayEnd`]);
+//!   [`note_failure`] decides when a failure is logged.
 //!
 //! It opens no connection, knows no clock, and waits for nothing.
 #![tactic(auto)]

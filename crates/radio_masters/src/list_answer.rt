@@ -50,9 +50,9 @@ impl From<OutOfMemory> for MasterListFault {
     }
 }
 
-/// The mounts in a master's answer to the request for its list, of which these bytes have come: the lines of its body
-/// that name one, each once, in the order of their bytes. The body has the length that `Content-Length` tells (RFC 9112,
-/// section 6), or else ends where the master has closed.
+/// Returns the mounts in a master's answer to the request for its list, of which these bytes have come: the lines of
+/// its body that name one, each once, in the order of their bytes. The body has the length of `Content-Length` (RFC
+/// 9112, section 6), or else ends where the master has closed.
 ///
 /// Errors, of which the first that applies comes: `Cut` where the head has not ended, `BadHead`, `Status`, `BadHead` for
 /// a `Transfer-Encoding`, `TooLong`, `Cut`; `OutOfMemory` where memory was refused.
@@ -108,7 +108,7 @@ fn body_in<'b>(
     }
 }
 
-/// The body whose length this text tells.
+/// Returns the body whose length this text says.
 fn body_of_length<'b>(text: &[u8], rest: &'b [u8]) -> Result<&'b [u8], MasterListFault>
     ensures body { IfOk result (λ body. body_of_length (number_of 10 max_list text.now) rest.now ≡ Ok body.now) }
     ensures fault { IfErr result (λ fault. body_of_length (number_of 10 max_list text.now) rest.now ≡ Err fault) }

@@ -1,4 +1,4 @@
-//! What the log tells of a slave's list.
+//! What the log says of a slave's list.
 
 ghost use Rattle.std.specs.Prelude.{◌≡◌, false};
 ghost use Rattle.radio_masters.specs.RelayFacts.{is_told, long_list};
@@ -9,7 +9,7 @@ use radio_notes::Log;
 use std::alloc::Global;
 use std::marker::Model;
 
-/// What the log tells of a slave's list: its lines wait here. In contracts it is whether the last list was too long.
+/// What the log says of a slave's list: its lines wait here. In contracts it is whether the last list was too long.
 #[derive(Drop)]
 pub struct ListLog {
     log: Log,
@@ -25,7 +25,7 @@ impl Model for ListLog {
 }
 
 impl ListLog {
-    /// Nothing is told yet. It takes no memory.
+    /// Nothing is logged yet. It takes no memory.
     pub fn new(alloc: Global) -> ListLog
         ensures { result ≡ false }
     {
@@ -35,12 +35,13 @@ impl ListLog {
         }
     }
 
-    /// The lines that wait, and are to be told the moment.
+    /// Returns the lines that wait, which are given the moment.
     pub fn lines(&self) -> &Log {
         &self.log
     }
 
-    /// Notes whether a list had more names than are relayed. The first one that has, after one that had not, is told.
+    /// Notes whether a list had more names than are relayed. The first one that has, after one that had not, is
+    /// logged.
     pub fn note_list(&mut self, is_long: bool)
         ensures { self.new ≡ is_long }
     {
@@ -51,7 +52,7 @@ impl ListLog {
     }
 }
 
-/// Whether a list is told, by whether the last one was too long and this one is.
+/// Returns whether a list is logged, by whether the last one was too long and this one is.
 fn is_told(was_long: bool, is_long: bool) -> bool
     ensures { result ≡ is_told was_long is_long }
 {

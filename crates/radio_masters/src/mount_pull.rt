@@ -21,7 +21,7 @@ use radio_settings_values::RelaySetting;
 use std::alloc::Global;
 use std::marker::Model;
 
-/// What has come of a turn of a pull.
+/// The result of a turn of a pull.
 #[derive(Clone, Copy, Debug, PartialEq, Eq)]
 pub enum PullTurn {
     /// It goes on.
@@ -38,8 +38,8 @@ pub enum PullTurn {
 
 /// A relay's connection to its master: the line, what it has not taken of the request, the pull, and the front of the answer.
 ///
-/// In contracts it is a `PullOver`: the pull, what is owed, what the line gave and took, how often it was called, and the front
-/// of the answer.
+/// In contracts it is a `PullOver`: the pull, what is pending, what the line gave and took, how often it was called,
+/// and the front of the answer.
 #[derive(Drop)]
 pub struct MountPull<L: Line> {
     relay: RelayPull,
@@ -173,7 +173,7 @@ fn hear_some<S: Server>(server: &mut S, relay: &mut RelayPull, bytes: &[u8]) -> 
     }
 }
 
-/// A draw without room, which tells whether the relay has finished.
+/// Makes a draw without room, whose reply says whether the relay has finished.
 fn probe<S: Server>(server: &mut S, relay: &mut RelayPull) -> PullTurn
     ensures comes { Comes S.steps relay.old [] server.old result relay.new server.new }
     ensures goes { GoesOnHere result }

@@ -1,4 +1,4 @@
-//! What is noted of a relay for the log, and what is told of it.
+//! What is noted of a relay for the log, and what is logged of it.
 
 ghost use Rattle.std.specs.Prelude.{◌≡◌};
 ghost use Rattle.radio_masters.specs.Courses.{HasEnded, IsCopyOf, IsSayingOf, begun, due, line_of, said, sounded, up};
@@ -8,7 +8,7 @@ use crate::failing::{Failing, note_failure};
 use radio_events::{Event, Reply};
 use std::alloc::Global;
 
-/// What is to be told of an event, if the server does what it asks for.
+/// What is to be logged of an event, if the server does what it asks for.
 #[derive(Drop)]
 pub(crate) enum Saying {
     /// Nothing.
@@ -22,7 +22,7 @@ pub(crate) enum Saying {
 }
 
 impl Saying {
-    /// Of this event. A text for which memory is refused is told as an empty one.
+    /// Returns that of this event. A text for which memory is refused is logged as an empty one.
     pub(crate) fn of(alloc: Global, event: &Event) -> Saying
         ensures { IsSayingOf event.now result }
     {
@@ -42,7 +42,7 @@ impl Saying {
         }
     }
 
-    /// What of it is told, once the server has replied so: what it says is done.
+    /// Returns what of it is logged, once the server has replied so: what it says is done.
     pub(crate) fn due(self, reply: &Reply) -> Saying
         ensures { result ≡ due reply.now self }
     {
@@ -68,7 +68,7 @@ fn copy(alloc: Global, bytes: &[u8]) -> Vec<u8>
     }
 }
 
-/// The line that tells how a pull has ended, if one does.
+/// The line about how a pull has ended, if there is one.
 #[derive(Clone, Copy)]
 pub(crate) enum EndLine {
     /// None.
@@ -102,7 +102,7 @@ impl RelayCourse {
         }
     }
 
-    /// Returns what is noted once this is told.
+    /// Returns what is noted once this is logged.
     pub(crate) fn after(self, saying: &Saying) -> RelayCourse
         ensures { result ≡ said self saying.now }
     {
@@ -133,8 +133,9 @@ impl RelayCourse {
         }
     }
 
-    /// Returns what is noted once the pull has ended for this reason at this moment, in milliseconds, and the line that tells
-    /// it: a relay that was up is gone, and one that was not has failed. A failure that lasts is told once an hour.
+    /// Returns what is noted once the pull has ended for this reason at this moment, in milliseconds, and the line
+    /// about it. A relay that was up is gone, and one that was not has failed. A failure that lasts is logged once an
+    /// hour.
     // rule: Failures of relays
     pub(crate) fn ended(self, why: RelayEnd, ms: u64) -> (RelayCourse, EndLine)
         ensures { HasEnded self why ms result.0 result.1 }
@@ -157,7 +158,7 @@ impl RelayCourse {
     }
 }
 
-/// The line that tells a failure so often, if it is told.
+/// Returns the line about a failure so often, if it is logged.
 fn line_of(told: Option<u64>) -> EndLine
     ensures { result ≡ line_of told }
 {

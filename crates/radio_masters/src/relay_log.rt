@@ -1,4 +1,4 @@
-//! What the log tells of a relay.
+//! What the log says of a relay.
 
 ghost use Rattle.std.specs.Prelude.{◌≡◌, IfOk};
 ghost use Rattle.std.specs.String.{string_bytes};
@@ -27,7 +27,7 @@ pub struct PullEnd {
     pub ms: u64,
 }
 
-/// What the log tells of a relay: its lines wait here. What is told is decided by [`RelayCourse`] and [`Saying`].
+/// What the log says of a relay: its lines wait here. [`RelayCourse`] and [`Saying`] decide what is logged.
 #[derive(Drop)]
 pub struct RelayLog {
     alloc: Global,
@@ -39,7 +39,7 @@ pub struct RelayLog {
 }
 
 impl RelayLog {
-    /// Of this relay; nothing is told yet. `OutOfMemory` where memory was refused.
+    /// Returns that of this relay; nothing is logged yet. `OutOfMemory` if memory was refused.
     pub(crate) fn new(alloc: Global, relay: &RelaySetting) -> Result<RelayLog, OutOfMemory>
         ensures mount { IfOk result (λ log. log.mount ≡ relay.now.local_mount) }
         ensures master { IfOk result (λ log. string_bytes log.master ≡ master_text relay.now.master) }
@@ -57,19 +57,19 @@ impl RelayLog {
         })
     }
 
-    /// The lines that wait, and are to be told the moment.
+    /// Returns the lines that wait, which are given the moment.
     pub fn lines(&self) -> &Log {
         &self.log
     }
 
-    /// What is to be told of this event.
+    /// Returns what is to be logged of this event.
     pub(crate) fn saying(&self, event: &Event) -> Saying
         ensures { IsSayingOf event.now result }
     {
         Saying::of(self.alloc, event)
     }
 
-    /// Notes what was asked for, and tells of it, if this reply says that it is done.
+    /// Notes what was asked for, and logs it, if this reply says that it is done.
     pub(crate) fn note(&mut self, saying: Saying, reply: &Reply)
         ensures course { self.new.course ≡ said self.old.course (due reply.now saying) }
         ensures mount { self.new.mount ≡ self.old.mount }
@@ -113,7 +113,8 @@ impl RelayLog {
         self.course.failing = failing;
     }
 
-    /// Tells that the relay has ended so, or did not come up. A failure that lasts is told once an hour.
+    /// Logs that the relay has ended so, or did not come up. A failure that lasts is logged once an
+    /// hour.
     pub(crate) fn end(&mut self, end: PullEnd)
         ensures course { (line : EndLine) × HasEnded self.old.course end.why end.ms self.new.course line }
         ensures mount { self.new.mount ≡ self.old.mount }
@@ -138,7 +139,7 @@ impl RelayLog {
         }
     }
 
-    /// The word for this end. One for which memory is refused is told as an empty one.
+    /// Returns the word for this end. One for which memory is refused is logged as an empty one.
     fn word_of(&self, why: RelayEnd) -> String
         ensures { IsCopyOf (relay_word why) (string_bytes result) }
     {

@@ -12,10 +12,10 @@ use radio_values::MountName;
 use std::alloc::Global;
 use std::cell::Cell;
 
-/// What is noted of a connection: what has happened on it, what was heard, and what was told of it. It changes nothing of what
-/// is answered.
+/// What is noted of a connection: what has happened on it, what was read from it, and what was logged of it. It changes
+/// nothing of what is answered.
 ///
-/// What is noted and told is decided by [`Visit`], [`heard_by`] and [`Notice`]; this only keeps it.
+/// [`Visit`], [`heard_by`] and [`Notice`] decide what is noted and logged; this only keeps it.
 #[derive(Drop)]
 pub struct Account {
     alloc: Global,
@@ -45,7 +45,8 @@ impl Account {
         self.visit.get().part == Part::Listener
     }
 
-    /// The client was at this mount at last. If memory is refused for it, the mount that it asked for is told.
+    /// Notes that the client was at this mount at last. If memory is refused for it, the mount that it asked
+    /// for is logged.
     pub fn note_last_mount(&self, mount: &MountName) {
         let heard = self.heard.replace(Heard::Nothing);
         self.last_mount
@@ -53,7 +54,8 @@ impl Account {
         self.heard.set(heard);
     }
 
-    /// These bytes have come, and mean these events. Up to the first events they are kept, and then what the head asks for.
+    /// Notes that these bytes have come, and mean these events. Up to the first events they are kept, and then what the
+    /// head asks for.
     pub fn hear(&self, bytes: &[u8], events: &Vec<Event>) {
         match self.heard.replace(Heard::Nothing) {
             Heard::Part(held) => self.heard.set(heard_by(self.alloc, held, bytes, events)),
@@ -76,7 +78,7 @@ impl Account {
         self.note(Happening::Handed(count as u64));
     }
 
-    /// What is to be told of this event, if it is done.
+    /// Returns what is to be logged of this event, if it is done.
     pub fn notice(&self, log: &Log, peer: Peer, event: &Event) -> Notice {
         let heard = self.heard.replace(Heard::Nothing);
         let notice = Notice::of(self.alloc, log.seconds(), peer, heard.agent(), event);
@@ -84,7 +86,8 @@ impl Account {
         notice
     }
 
-    /// The server has replied so to an event of which this is to be told, if it is done.
+    /// Notes that the server has replied so to an event of which this is to be logged, if it is
+    /// done.
     pub fn hear_reply(&self, log: &Log, notice: Notice, told: Told) {
         match told {
             Told::Nothing => drop(notice),
@@ -123,7 +126,7 @@ impl Account {
         self.note(Happening::Ended(End::Stalled));
     }
 
-    /// Memory was refused to an event, of which this was to be told.
+    /// Notes that memory was refused to an event of which this was to be logged.
     pub fn hear_refusal(&self, notice: Notice) {
         drop(notice);
         self.note_no_memory();
@@ -134,7 +137,7 @@ impl Account {
         self.note(Happening::Ended(End::NoMemory));
     }
 
-    /// Tells, once, of a source whose conversation has ended at this moment, in milliseconds.
+    /// Logs, once, a source whose conversation has ended at this moment, in milliseconds.
     pub fn tell_source(&self, log: &Log, peer: Peer, ms: u64) {
         let visit = self.visit.get();
         if visit.part != Part::Source || self.is_source_told.replace(true) {
@@ -146,8 +149,8 @@ impl Account {
         self.heard.set(heard);
     }
 
-    /// Tells, once, of a client who is gone at this moment, in milliseconds. The log may leave out those who were only shown
-    /// something of the station.
+    /// Logs, once, a client that is gone at this moment, in milliseconds. The log may leave out those that were only
+    /// shown something of the station.
     pub fn tell_client(&self, log: &Log, peer: Peer, ms: u64) {
         let visit = self.visit.get();
         if self.is_told.replace(true) || (visit.is_poll && !log.has_polls()) {

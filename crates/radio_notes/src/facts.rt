@@ -1,4 +1,4 @@
-//! What is to be told of an event if it is done.
+//! What is to be logged of an event if it is done.
 
 ghost use Rattle.std.specs.Prelude.{◌≡◌, ◌+◌, ◌++◌, length, IfOk, decimal};
 ghost use Rattle.radio_notes.specs.Lines.{line_at, lines_at};

@@ -1,11 +1,11 @@
-//! What is heard on a connection, as far as the log says it.
+//! What is read from a connection, as far as the log says it.
 
 ghost use Rattle.std.specs.Prelude.{◌≡◌};
 ghost use Rattle.radio_notes.specs.Requests.{kept_of};
 
 use crate::request::Request;
 
-/// What is heard on a connection.
+/// What is read from a connection.
 #[derive(Drop)]
 pub enum Heard {
     /// These first bytes of a head, which may be none.

@@ -1,4 +1,4 @@
-//! What is heard on a connection, as its bytes come.
+//! What is read from a connection, as its bytes come.
 
 ghost use Rattle.std.specs.Prelude.{◌≢◌, ◌++◌, []};
 ghost use Rattle.std.specs.Option.{IfSome};
@@ -11,7 +11,8 @@ use radio_events::Event;
 use radio_heads::{Progress, read_request};
 use std::alloc::Global;
 
-/// What is heard once these bytes have come behind those of a head that are held, and mean these events.
+/// Returns what is read once these bytes have come behind those of a head that are held, and mean these
+/// events.
 // rule: Line of a client
 pub(crate) fn heard_by(alloc: Global, held: Vec<u8>, bytes: &[u8], events: &[Event]) -> Heard
     ensures { IsHeardBy (held.items ++ bytes.now) events.now result }

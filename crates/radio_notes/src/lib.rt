@@ -2,14 +2,14 @@
 //!
 //! - [`Visit`]: what has happened on a connection, after each [`Happening`]; [`laws`] says what it then holds.
 //! - [`Account`]: what is noted of one connection, from its coming to its end.
-//! - [`Notice`]: what is to be told of an event, if it is done.
+//! - [`Notice`]: what is to be logged of an event, if it is done.
 //! - [`Told`]: what of a reply is noted.
 //! - [`mount_word_by`]: the word for the end of a mount, also of a relay's.
 //! - [`Log`]: the lines that wait to be written, as many as there is room for.
 //!
-//! What is noted, told, written and lost is decided by functions of plain values, whose contracts say it. `Account` and `Log`
-//! keep these values in cells, which no contract can name. A connection goes on alike whatever is noted of it. The lines are
-//! those of `radio_log`.
+//! Functions of plain values decide what is noted, logged, written and lost, and their contracts say it. `Account` and
+//! `Log` keep these values in cells, which no contract can name. A connection goes on alike whatever is noted of it.
+//! The lines are those of `radio_log`.
 #![tactic(auto)]
 
 mod account;

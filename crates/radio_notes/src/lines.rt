@@ -11,7 +11,8 @@ use std::alloc::Global;
 use std::marker::Model;
 use std::mem;
 
-/// The lines that wait, one behind the other, and how many were lost since a loss was told last.
+/// The lines that wait, one behind the other, and how many were lost since a loss was last
+/// reported.
 ///
 /// In contracts they are a `Waiting`.
 #[derive(Drop)]
@@ -43,7 +44,7 @@ impl Lines {
         }
     }
 
-    /// Takes the lines that wait. How many were lost stays, for the next line tells it.
+    /// Takes the lines that wait. The number of lost lines stays, for the next line reports it.
     pub(crate) fn take(&mut self, alloc: Global) -> Vec<u8>
         ensures lines { result.items ≡ self.old.lines }
         ensures rest { self.new ≡ record self.old { lines = [] } }
@@ -74,8 +75,8 @@ impl Lines {
         }
     }
 
-    /// Adds these lines, so many of them, at this moment: behind those that wait, and behind one that tells how many were lost,
-    /// if some were. They are lost if there is no room or no memory for them.
+    /// Adds these lines, so many of them, at this moment: behind those that wait, and behind one that says how many
+    /// were lost, if some were. They are lost if there is no room or no memory for them.
     fn push(&mut self, alloc: Global, moment: Moment, lines: &[u8], count: u64)
         ensures { IsAdded moment lines.now count self.old self.new }
     {
@@ -115,7 +116,7 @@ impl Lines {
     }
 }
 
-/// The line that tells how many lines were lost; no byte if none was.
+/// Returns the line that says how many lines were lost; no byte if none was.
 fn report(alloc: Global, moment: Moment, lost: u64) -> Result<Vec<u8>, OutOfMemory>
     ensures { IfOk result (λ bytes. bytes.items ≡ report_of moment lost) }
 {

@@ -1,4 +1,4 @@
-//! What is to be told of an event.
+//! What is to be logged of an event.
 
 ghost use Rattle.std.specs.Prelude.{◌≡◌, MatchResult};
 ghost use Rattle.radio_notes.specs.Facts.{facts_of_asked, facts_of_command, facts_of_source};
@@ -14,7 +14,7 @@ use radio_events::{Asked, Command, CommandRequest, Event, SourceRequest};
 use radio_log::Moment;
 use std::alloc::Global;
 
-/// What is to be told of an event, if the server does what it asks for.
+/// What is to be logged of an event, if the server does what it asks for.
 #[derive(Drop)]
 pub enum Notice {
     /// Nothing.
@@ -28,7 +28,8 @@ pub enum Notice {
 }
 
 impl Notice {
-    /// What is to be told of this event of a client, who has named this agent: so many seconds after the beginning of 1970.
+    /// Returns what is to be logged of this event of a client that has named this agent: so many seconds after the
+    /// beginning of 1970.
     // rule: Lines of changes
     pub(crate) fn of(alloc: Global, seconds: u64, peer: Peer, agent: &[u8], event: &Event) -> Notice
         ensures { IsNoticeAt seconds peer agent.now event.now result }
@@ -49,8 +50,8 @@ impl Notice {
         }
     }
 
-    /// What of it is to be told, if this is noted of the server's reply: lines of what was answered as done, and the block
-    /// that was taken.
+    /// Returns what of it is to be logged, if this is noted of the server's reply: lines of what was answered as done,
+    /// and the block that was taken.
     // rule: Lines of changes
     pub(crate) fn due(self, told: Told) -> Notice
         ensures { result ≡ due told self }
@@ -62,7 +63,7 @@ impl Notice {
         }
     }
 
-    /// Returns how many bytes of a stream have come by what is told.
+    /// Returns how many bytes of a stream have come by what is logged.
     pub(crate) fn fed(&self) -> u64
         ensures { result ≡ fed self.now }
     {
@@ -104,7 +105,7 @@ fn of_source(
     made(2, source_lines(alloc, moment, peer, agent, request))
 }
 
-/// What is to be told of what is asked: of a command alone there is something.
+/// Returns what is to be logged of a request: only of a command there is something.
 fn of_request(alloc: Global, seconds: u64, peer: Peer, request: &CommandRequest) -> Notice
     ensures { IsToldAt seconds (facts_of_asked peer (user_in request.now.pair) request.now.asked) result }
 {

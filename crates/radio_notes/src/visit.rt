@@ -134,8 +134,8 @@ impl Visit {
         }
     }
 
-    /// What the log says of the client, who is gone at this moment, in milliseconds: by what was heard of it, and the mount
-    /// where it was last, which is empty if it is the one that it asked for.
+    /// Returns what the log says of the client, which is gone at this moment, in milliseconds: by what was read from
+    /// it, and the mount where it was last, which is empty if it is the one that it asked for.
     // rule: Last mount; Line of a client
     pub(crate) fn client_ended<'a>(
         self,

@@ -6,8 +6,8 @@ ghost use Rattle.radio_serving.specs.Turns.{OpenSessionsHaveNotFailed};
 use crate::Server;
 use radio_session::only_refused_calls_fail;
 
-/// The session of a connection that stands as it must, and is open, has not failed. So where it has
-/// failed after a turn, a call of that turn was refused memory.
+/// The session of an open connection in a sound state has not failed. So if it has failed after a
+/// turn, a call of that turn was refused memory.
 // rule: Lingering
 pub fn open_sessions_have_not_failed()
     ensures { OpenSessionsHaveNotFailed }
@@ -21,10 +21,11 @@ pub fn news_is_found()
     ensures gone { LeaversFeedNoMore }
 {}
 
-/// A server is told the time each twentieth of a second, as often as workers make turns, and by each of them once a second.
+/// A server gets the time each twentieth of a second, as often as workers make turns, and from each of them once a
+/// second.
 // rule: Server time
 pub fn time_is_told<S: Server>()
-    // by a worker that knows of nobody who told it in the last twentieth
+    // from a worker that knows of no other that gave it in the last twentieth
     ensures alone { TimeIsTold S.steps S.refuses }
     // and by one that itself did not for a second, whatever it knows of others
     ensures each { TimeIsToldByEach S.steps S.refuses }

@@ -6,7 +6,7 @@ use crate::{Conn, Gate, Line, Server};
 use radio_connections::{Now, Workspace, serve};
 use radio_notes::Log;
 
-/// Serves each connection, in order, and tells of each that is at its end.
+/// Serves each connection, in order, and logs each that is at its end.
 pub(crate) fn serve_each<S: Server, L: Line, G: Gate>(
     server: &mut S,
     conns: &mut Vec<Conn<L>>,

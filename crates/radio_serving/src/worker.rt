@@ -16,14 +16,14 @@ use radio_notes::Log;
 use std::alloc::Global;
 use std::marker::Model;
 
-/// After how long the server is told the time again, in milliseconds.
+/// After how long the server gets the time again, in milliseconds.
 const TELL_AFTER_MS: u64 = 50;
 
-/// After how long a worker tells the server the time itself, in milliseconds, though others have.
+/// After how long a worker gives the server the time itself, in milliseconds, though others have.
 const TELL_ITSELF_AFTER_MS: u64 = 1000;
 
-/// A worker: whom it asks, when it last told it the time, and for how long it keeps a line that
-/// takes nothing. In contracts it is these three.
+/// A worker: the server that it asks, when it last gave that the time, and for how long it keeps a
+/// line that takes nothing. In contracts it is these three.
 #[derive(Drop)]
 pub struct Worker<S: Server + Drop> {
     alloc: Global,
@@ -44,8 +44,8 @@ impl<S: Server + Drop> Model for Worker<S> {
 }
 
 impl<S: Server + Drop> Worker<S> {
-    /// A worker who asks this server, and gives up a line that takes nothing of what it is owed for
-    /// so many seconds (the settings' `source-timeout`). Its connections are answered by what the settings say of the web.
+    /// Returns a worker that asks this server. It gives up a line that takes nothing of what is pending for so many
+    /// seconds (the settings' `source-timeout`). Its connections are answered as the settings say.
     pub fn new(alloc: Global, server: S, web: WebAnswers, patience_s: u32) -> Worker<S>
         ensures server { result.server ≡ server }
         ensures web { result.web ≡ web }
@@ -70,14 +70,14 @@ impl<S: Server + Drop> Worker<S> {
         &self.server
     }
 
-    /// When it told the server the time last, in milliseconds; 0 if it never did.
+    /// Returns when it last gave the server the time, in milliseconds; 0 if it never did.
     pub fn told_ms(&self) -> u64
         ensures { result ≡ self.now.told_ms }
     {
         self.told_ms
     }
 
-    /// The log of what it has served: whoever has it takes its lines, and tells it the time.
+    /// Returns the log of what it has served. Its caller takes the lines, and gives it the time.
     pub fn log(&self) -> &Log {
         &self.log
     }
@@ -89,8 +89,8 @@ impl<S: Server + Drop> Worker<S> {
         self.server
     }
 
-    /// A connection comes from this peer. It is added to the others, if the server lets it in; if it
-    /// is denied, to be told so and closed by the next turns.
+    /// Adds a connection from this peer to the others. If the server denies it, the next turns write
+    /// the denial and close it.
     ///
     /// `OutOfMemory` where memory was refused: the line is closed without a byte, the other
     /// connections are as they were, and the server has let nobody in.
@@ -127,8 +127,9 @@ impl<S: Server + Drop> Worker<S> {
         Conn::admitted(self.alloc, self.web, peer, line, reply, ms)
     }
 
-    /// Serves each connection once, at the turn's moment, and closes those that are over. The worker tells the server the time
-    /// if a twentieth of a second has passed since anybody is known to have done so, or a second since it last did.
+    /// Serves each connection once, at the turn's moment, and closes those that are over. The worker gives the server
+    /// the time if a twentieth of a second has passed since any is known to have done so, or a second since it last
+    /// did.
     // rule: Finishes are silent; Pending bytes first; Reading; Drawing; Cut off; Lingering
     // rule: Closed by the peer; Unwanted bytes; Server time; Connection without memory
     pub fn serve_turn<L: Line, G: Gate>(&mut self, conns: &mut Vec<Conn<L>>, gate: &G, turn: Turn)
@@ -145,7 +146,7 @@ impl<S: Server + Drop> Worker<S> {
         conns.retain(|conn| conn.stays());
     }
 
-    /// Tells the server that it is `ms`, unless that is known: another worker is known to have told it `told_ms`.
+    /// Gives the server the time `ms`, unless that is known: another worker is known to have given it `told_ms`.
     // rule: Server time
     fn tick(&mut self, ms: u64, told_ms: u64)
         ensures { Ticks S.steps S.refuses ms told_ms self.old self.new }
@@ -159,8 +160,8 @@ impl<S: Server + Drop> Worker<S> {
     }
 }
 
-/// Returns whether the server is told `ms` by now, or nearly so: by a worker that told it `own_ms` itself, or by another that is
-/// known to have told it `told_ms`.
+/// Returns whether the server has `ms` by now, or nearly so: from a worker that gave it `own_ms` itself, or from
+/// another that is known to have given it `told_ms`.
 fn is_known(ms: u64, told_ms: u64, own_ms: u64) -> bool
     ensures { result ≡ is_known ms told_ms own_ms }
 {
@@ -169,7 +170,7 @@ fn is_known(ms: u64, told_ms: u64, own_ms: u64) -> bool
         || (ms.saturating_sub(told_ms) < TELL_AFTER_MS && own_age_ms < TELL_ITSELF_AFTER_MS)
 }
 
-/// Applies an event whose reply tells nobody anything. Whether memory was not refused.
+/// Applies an event whose reply is written to nobody. Returns whether memory was not refused.
 fn apply_quietly<S: Server>(server: &mut S, event: Event) -> bool
     ensures { HasApplied S.steps S.refuses result server.old event server.new }
 {

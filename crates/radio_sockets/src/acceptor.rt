@@ -94,8 +94,8 @@ impl Acceptor {
         ServeFault::Accept
     }
 
-    /// Hears what there is, accepts who waits, and hands newcomers of workers that are not served to others. The fault by which
-    /// all end, if there is one.
+    /// Asks the system, accepts the connections that wait, and gives newcomers of workers that are not served to
+    /// others. Returns the fault by which all end, if there is one.
     fn make_round<R: Clock + Wait>(
         &mut self,
         rt: &R,
@@ -118,7 +118,7 @@ impl Acceptor {
         Ok(())
     }
 
-    /// Hears what there is, and waits for it, if there is nothing to do.
+    /// Asks the system what is ready, and waits for that if there is nothing to do.
     fn hear<R: Clock + Wait>(&mut self, rt: &R, shared: &Shared) -> Result<(), ServeFault>
         ensures accepts { (self.new.accepts ≡ self.old.accepts) ⊎ (self.new.accepts ≡ closed_in self.old.accepts) }
         ensures next { self.new.next ≡ self.old.next }
@@ -230,7 +230,8 @@ impl Acceptor {
         }
     }
 
-    /// Hands on each connection whose header has come, as far as the intake has room, and closes those of which none comes.
+    /// Puts each connection whose header has come into the intake, as far as that has room, and closes those of which
+    /// none comes.
     fn settle_all<R: Clock + Wait>(
         &mut self,
         rt: &R,
@@ -284,7 +285,7 @@ impl Acceptor {
                     named,
                 };
                 if self.listening_socket.forget(&mut newcomer.stream).is_err() {
-                    // The system would go on telling of it here.
+                    // The system would go on reporting it here.
                     drop(newcomer);
                     return;
                 }
@@ -299,7 +300,7 @@ impl Acceptor {
         }
     }
 
-    /// Tells the log of a connection of this proxy that has ended so before a client has arrived.
+    /// Logs a connection of this proxy that has ended so before a client has arrived.
     fn tell_gone<R: Clock + Wait>(
         &self,
         rt: &R,
@@ -348,7 +349,7 @@ impl Acceptor {
     }
 }
 
-/// Notes what the system has told last of the connections that wait for a header.
+/// Notes what the system has reported last of the connections that wait for a header.
 fn note_events(listening_socket: &ListeningSocket, pending: &mut Pending<TcpStream>)
     ensures { pending.new.proxies ≡ pending.old.proxies }
 {

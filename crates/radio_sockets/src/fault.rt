@@ -16,7 +16,8 @@ pub enum BindFault {
 /// Why a server does not begin, or ends. Its text is the line on standard error, after `radiod: `.
 #[derive(Clone, Copy, Debug, PartialEq, Eq)]
 pub enum ServeFault {
-    /// A hundred connections in a row could not be accepted, or the system no longer tells what is ready.
+    /// A hundred connections in a row could not be accepted, or the system no longer reports what is
+    /// ready.
     Accept,
     /// Memory was refused before the server began.
     OutOfMemory,

@@ -1,4 +1,5 @@
-//! What accepts connections, and what serves them: the two loops between which connections are handed on.
+//! What accepts connections, and what serves them: the two loops, and how a connection goes from one to
+//! the other.
 //!
 //! - [`ListeningSocket`]: a bound socket; [`Acceptor`]: who accepts connections there.
 //! - [`Acceptor::new`] takes the connections of proxies that wait for their headers (`radio_proxy`).

@@ -1,4 +1,4 @@
-//! The bound socket, as the system tells of it.
+//! The bound socket, as the system reports it.
 
 ghost use Rattle.std.specs.Prelude.{◌≡◌, ◌||◌, true, IfOk, IfErr, OnOk};
 ghost use Rattle.std.specs.List.{list_any};
@@ -23,13 +23,13 @@ use std::io::ErrorKind;
 use std::net::{Net, SocketAddr};
 use std::time::Duration;
 
-/// The name of the bound socket among what the system tells of.
+/// The name of the bound socket in the system's reports.
 const LISTENER: Token = Token(usize::MAX);
 
 /// The name of the acceptor's waker.
 const WAKER: Token = Token(usize::MAX - 2);
 
-/// Of how many sockets the system tells at once: the bound one, the waker, and those that wait for a header.
+/// How many sockets the system reports at once: the bound one, the waker, and those that wait for a header.
 const EVENTS: usize = 128;
 
 /// A connection that waits for a worker.
@@ -52,7 +52,7 @@ pub struct AcceptedSocket {
     pub(crate) peer: Peer,
 }
 
-/// The bound socket, and what the system has told of it.
+/// The bound socket, and what the system has reported of it.
 #[derive(Drop)]
 pub struct ListeningSocket {
     poll: Poll,
@@ -65,8 +65,8 @@ pub struct ListeningSocket {
 impl ListeningSocket {
     /// Binds this address and port; 0 for any port that is free.
     ///
-    /// `NoAddress` where the address is no IP address; `Refused` where the system does not bind it
-    /// with this port, or tells nothing of sockets; `OutOfMemory` where memory was refused.
+    /// `NoAddress` if the address is no IP address; `Refused` if the system does not bind it with
+    /// this port, or reports nothing of sockets; `OutOfMemory` if memory was refused.
     pub fn bind<R: Net>(
         rt: &R,
         alloc: Global,
@@ -133,7 +133,7 @@ impl ListeningSocket {
         self.is_asked
     }
 
-    /// Hears from the system what there is, within so many milliseconds.
+    /// Asks the system what is ready, within so many milliseconds.
     pub(crate) fn hear(&mut self, wait_ms: u64) -> Result<(), ServeFault>
         ensures { OnOk result (self.new.is_asked ≡ (self.old.is_asked || list_any (λ e. is_listener (event_token e)) (items self.new.events))) }
     {
@@ -145,7 +145,7 @@ impl ListeningSocket {
         Ok(())
     }
 
-    /// Has the system tell of this socket under this number. `Err` if it does not.
+    /// Has the system report this socket under this number. `Err` if it does not.
     pub(crate) fn watch(&self, stream: &mut TcpStream, number: usize) -> io::Result<()>
         ensures { stream.new ≡ stream.old }
     {
@@ -154,21 +154,21 @@ impl ListeningSocket {
             .register(stream, Token(number), Interest::READABLE)
     }
 
-    /// Has the system tell of this socket no more. `Err` if it tells on.
+    /// Has the system no longer report this socket. `Err` if it still does.
     pub(crate) fn forget(&self, stream: &mut TcpStream) -> io::Result<()>
         ensures { stream.new ≡ stream.old }
     {
         self.poll.registry().deregister(stream)
     }
 
-    /// Returns what the system has told last.
+    /// Returns what the system has reported last.
     pub(crate) fn events(&self) -> &Events<Global>
         ensures { result.now ≡ self.now.events }
     {
         &self.events
     }
 
-    /// Returns whether the system has told last that a connection may wait.
+    /// Returns whether the system has reported last that a connection may wait.
     fn is_told(&self) -> bool
         ensures { result ≡ list_any (λ e. is_listener (event_token e)) (items self.now.events) }
     {

@@ -18,8 +18,8 @@ use std::time::Clock;
 /// How many workers there are at most.
 const MOST_WORKERS: u32 = 64;
 
-/// The sockets and the desks of so many workers. One to whom the system tells nothing of sockets is left out; `Accept`
-/// where all are.
+/// Returns the sockets and the desks of so many workers. A worker is left out if the system reports nothing of its
+/// sockets; `Accept` if all are.
 pub fn open_desks<N: Network>(
     net: &N,
     alloc: Global,
@@ -41,7 +41,8 @@ pub fn open_desks<N: Network>(
     Ok((sockets, desks))
 }
 
-/// Adds the sockets and the desk of one more worker, if the system tells of its sockets. `OutOfMemory` if memory was refused.
+/// Adds the sockets and the desk of one more worker, if the system reports its sockets. `OutOfMemory` if memory was
+/// refused.
 fn add_desk<N: Network>(
     net: &N,
     alloc: Global,

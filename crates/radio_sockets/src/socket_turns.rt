@@ -1,4 +1,4 @@
-//! Where a worker's turns come from: its sockets, and what the others tell it.
+//! Where a worker's turns come from: its sockets, and what the others report.
 
 ghost use Rattle.std.specs.Prelude.{◌≡◌, ◌≤◌, ◌-◌, ◌&&◌, ◌||◌, ℕ, true, false, IfSome};
 ghost use Rattle.radio_board.specs.declared.idle_wait.IdleWait.TheVariants.{Turn as TakesTurn};
@@ -27,7 +27,7 @@ use std::time::Clock;
 
 mod telling;
 
-/// After how many such waits a turn is made, even where the moment has stood still.
+/// After how many such waits a turn is made, even if the moment has not changed.
 const MOST_WAITS: usize = 8;
 
 /// Where a worker's turns come from. Moments are in milliseconds.
@@ -40,30 +40,30 @@ pub struct SocketTurns<'a, R: Clock + Wait> {
     number: usize,
     sockets: Sockets,
     time: ServedTime,
-    /// When its listeners are told of news, by the clock.
+    /// When its listeners get news, by the clock.
     pause: NewsPause,
-    /// Whether they may be told in this turn.
+    /// Whether they may get news in this turn.
     may_tell: bool,
     /// Whether a round of draws has begun in this turn.
     is_drawing: bool,
-    /// The moment that the clock told last, in microseconds.
+    /// The clock's last moment, in microseconds.
     clock_us: u64,
     /// The moment of the last turn.
     turn_ms: u64,
-    /// Whether those who come wait for the next turn, so that the server is told the moment before.
+    /// Whether newcomers wait for the next turn, so that the server gets the moment before.
     puts_off: bool,
     /// How many of those that it was called to take it has not taken.
     called: usize,
-    /// When the log was last told the moment, by the clock.
+    /// When the log last got the moment, by the clock.
     told_ms: u64,
     has_begun: bool,
     /// Whether somebody has drawn all that it had room for.
     has_more: bool,
     /// How many bytes had come from sources when the last round of draws began.
     received: u64,
-    /// How often workers had been told of news then.
+    /// How often workers had got news then.
     told: u64,
-    /// The moment that the log was told, in seconds since 1970.
+    /// The moment that the log got, in seconds since 1970.
     seconds: u64,
 }
 
@@ -116,7 +116,8 @@ impl<'a, R: Clock + Wait> SocketTurns<'a, R> {
         self.shared.wake_acceptor();
     }
 
-    /// Waits until there is something to do, or a turn is due. Returns what was heard then; `None` where it is to stop.
+    /// Waits until there is something to do, or a turn is due. Returns what the system reported then; `None` if it is
+    /// to stop.
     fn wait(&mut self) -> Option<Polled>
         ensures clock { IfSome result (λ heard. self.new.clock_us ≡ heard.us) }
     {
@@ -130,7 +131,7 @@ impl<'a, R: Clock + Wait> SocketTurns<'a, R> {
         Some(heard)
     }
 
-    /// Returns whether a wait ends in which this was heard last.
+    /// Returns whether a wait ends in which the system reported this last.
     fn ends_wait(&self, heard: Polled) -> bool
         ensures { heard.is_ready ≡ true → result ≡ true }
     {
@@ -141,12 +142,12 @@ impl<'a, R: Clock + Wait> SocketTurns<'a, R> {
         })
     }
 
-    /// Hears what the system has to tell, and waits for it, if there is nothing to do. `None` where the system tells
+    /// Asks the system what is ready, and waits for that if there is nothing to do. `None` if the system reports
     /// nothing any more.
     fn hear(&mut self) -> Option<Polled>
         ensures clock { IfSome result (λ heard. self.new.clock_us ≡ heard.us) }
     {
-        // What was heard before was read since.
+        // What was reported before was read since.
         self.desk.stamp(NotedMoment::Read, self.time.served_ms());
         let rest = self.rest();
         let is_called = self.lies_down(rest);
@@ -191,7 +192,7 @@ impl<'a, R: Clock + Wait> SocketTurns<'a, R> {
         }
     }
 
-    /// Returns whether there is something to do, apart from what its sockets tell.
+    /// Returns whether there is something to do, apart from what its sockets report.
     fn has_to_do(&self) -> bool {
         let report = self.desk.report();
         has_to_do(
@@ -213,7 +214,7 @@ impl<'a, R: Clock + Wait> SocketTurns<'a, R> {
         self.pause.left_us(self.clock_us, self.came_us(), is_much)
     }
 
-    /// A round of draws begins: its listeners are told of all news that there is.
+    /// A round of draws begins: its listeners get all news that there is.
     fn begin_round(&mut self)
         ensures drawing { self.new.is_drawing ≡ true }
         ensures may { self.new.may_tell ≡ self.old.may_tell }
@@ -244,7 +245,7 @@ impl<'a, R: Clock + Wait> SocketTurns<'a, R> {
         }
     }
 
-    /// It is the moment at which this was heard. Its own time goes on from it.
+    /// Sets the moment at which this was reported. Its own time goes on from it.
     fn advance(&mut self, heard: Polled)
         ensures clock { self.new.clock_us ≡ heard.us }
         ensures time { (told : ℕ) × (self.new.time ≡ served_by heard.ms told self.old.time) }
@@ -260,12 +261,12 @@ impl<'a, R: Clock + Wait> SocketTurns<'a, R> {
         );
     }
 
-    /// The moment that all are told.
+    /// The moment that all get.
     fn moment(&self) -> u64 {
         self.shared.moment(self.time.settled_ms())
     }
 
-    /// How many are taken in before a turn at this moment: none where the last turn was long ago, and this one tells the
+    /// How many are taken in before a turn at this moment: none if the last turn was long ago, and this one gives the
     /// server the moment first.
     fn newcomers(&mut self, ms: u64) -> usize
         ensures called { (waiting : ℕ) × (record { count = result; puts_off = self.new.puts_off } ≡ called_of waiting (ms - self.old.turn_ms) self.old.puts_off) }

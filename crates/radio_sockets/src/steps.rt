@@ -5,7 +5,7 @@ ghost use Rattle.radio_sockets.specs.Steps.{acceptor_wait, called_of, has_to_do,
 
 use radio_board::NewsFor;
 
-/// How long after a turn those who come wait for the next one, so that the server is told the moment first.
+/// How long after a turn newcomers wait for the next one, so that the server gets the moment first.
 const LATE_MS: u64 = 50;
 
 /// How many connections a worker takes before a turn at most.
@@ -15,11 +15,11 @@ const MOST_AT_ONCE: usize = 64;
 /// do.
 const TURN_AFTER_MS: u64 = 500;
 
-/// After how long the log is told the moment again.
+/// After how long the log gets the moment again.
 const TELL_AFTER_MS: u64 = 100;
 
-/// As how many connections more a source counts, where the next one is for the worker that has the fewest: the others wait for
-/// what it has pushed, so it is to have less beside.
+/// How many connections more a source counts as, when the worker that has the fewest is chosen. The others wait for
+/// what it has pushed, so its worker is to have less to do.
 const SOURCE_WEIGHT: usize = 4;
 
 /// For how long a worker waits for the acceptor to begin.
@@ -46,8 +46,8 @@ pub(crate) struct Called {
     pub(crate) puts_off: bool,
 }
 
-/// Returns how many of the `waiting` connections are taken in before a turn that begins `passed_ms` after the last one. They are
-/// put off if that is long, so that the server is told the moment first, but never twice in a row.
+/// Returns how many of the `waiting` connections are taken in before a turn that begins `passed_ms` after the last one.
+/// They are put off if that is long, so that the server gets the moment first, but never twice in a row.
 // rule: Newcomers
 pub(crate) fn called_of(waiting: usize, passed_ms: u64, were_put_off: bool) -> Called
     ensures { result ≡ called_of waiting passed_ms were_put_off }
@@ -68,7 +68,8 @@ pub(crate) fn weight_of(connections: usize, sources: usize) -> usize
     connections.saturating_add(sources.saturating_mul(SOURCE_WEIGHT))
 }
 
-/// Returns whether the log is told the moment, when the clock is at `clock_ms`, and it was told `told_ms` last; 0 is never.
+/// Returns whether the log gets the moment, when the clock is at `clock_ms`, and it last got it at `told_ms`; 0 is
+/// never.
 pub(crate) fn is_time_to_tell(told_ms: u64, clock_ms: u64) -> bool
     ensures { result ≡ is_time_to_tell told_ms clock_ms }
 {
@@ -82,8 +83,8 @@ pub(crate) fn is_turn_due(ms: u64, turn_ms: u64) -> bool
     ms.saturating_sub(turn_ms) >= TURN_AFTER_MS
 }
 
-/// Returns for whose listeners it is news that the sources of the worker of this number have brought something: its own draw in
-/// the same turn, if they may be told in it.
+/// Returns for whose listeners it is news that the sources of the worker of this number have brought something: its own
+/// draw in the same turn, if they may get news in it.
 pub(crate) fn news_for(number: usize, may_tell: bool) -> NewsFor
     ensures { result ≡ news_for number may_tell }
 {
@@ -151,8 +152,8 @@ pub(crate) fn ends_wait(waited: Waited) -> bool
     waited.is_ready || waited.is_due || waited.is_over
 }
 
-/// Returns whether a worker has something to do, apart from what its sockets tell: news that waits no more, newcomers, or the
-/// end of all.
+/// Returns whether a worker has something to do, apart from what its sockets report: news that waits no more,
+/// newcomers, or the end of all.
 pub(crate) fn has_to_do(has_news: bool, left_us: u64, newcomers: usize, is_over: bool) -> bool
     ensures { result ≡ has_to_do has_news left_us newcomers is_over }
 {
@@ -162,16 +163,16 @@ pub(crate) fn has_to_do(has_news: bool, left_us: u64, newcomers: usize, is_over:
 /// By what a round of draws may begin.
 #[derive(Clone, Copy, Debug, PartialEq, Eq)]
 pub(crate) struct RoundCause {
-    /// Whether the turn was told of news.
+    /// Whether the turn got news.
     pub(crate) is_told: bool,
     /// Whether the worker's sources have brought something.
     pub(crate) brings: bool,
-    /// Whether its listeners may be told of that in this turn.
+    /// Whether its listeners may get that in this turn.
     pub(crate) may_tell: bool,
 }
 
-/// Returns whether a round of draws begins: the turn was told of news, or its sources have brought something and its listeners
-/// may be told.
+/// Returns whether a round of draws begins: the turn got news, or its sources have brought something and its listeners
+/// may get that.
 pub(crate) fn begins_round(cause: RoundCause) -> bool
     ensures { result ≡ (cause.is_told || (cause.brings && cause.may_tell)) }
 {

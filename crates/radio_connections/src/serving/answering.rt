@@ -15,8 +15,8 @@ use radio_events::{Event, Reply};
 use radio_notes::{Account, Log, Notice, Told};
 use radio_session::{Session, State};
 
-/// Applies an event of the connection, and tells it the reply. The connection has ended where it is
-/// shut by that, and is cut off where memory is refused. The notice is what is to be told of the event.
+/// Applies an event of the connection, and appends the reply. The connection has ended if that shuts
+/// it, and is cut off if memory is refused. The notice is what the log may say of the event.
 // rule: Connection without memory
 pub(crate) fn answer<S: Server, L: Line>(
     server: &mut S,
@@ -51,7 +51,7 @@ pub(crate) fn answer<S: Server, L: Line>(
     }
 }
 
-/// Applies the events that were heard on it, one after another, up to its end.
+/// Applies the events that were read from it, one after another, up to its end.
 pub(crate) fn answer_all<S: Server, L: Line>(
     server: &mut S,
     conn: &mut Conn<L>,
@@ -70,7 +70,7 @@ pub(crate) fn answer_all<S: Server, L: Line>(
     }
 }
 
-/// Tells a reply behind what is owed; what becomes of the connection by that.
+/// Appends a reply to what is pending, and returns what becomes of the connection by that.
 fn tell(outgoing: &mut Outgoing, session: &mut Session, reply: Reply, account: &Account) -> Fate
     ensures told { IsToldAs result reply session.old outgoing.old session.new outgoing.new }
     // it is not closed by that, and cut off only where the session fails

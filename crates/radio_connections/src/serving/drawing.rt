@@ -15,10 +15,9 @@ use radio_notes::{Log, Notice};
 /// For how many bytes of data a listener has room in a turn.
 pub const DRAW_ROOM: u32 = 65536;
 
-/// A draw for the listener who has a seat, where there is news, or it was left behind what there was
-/// before. Where there is none, and nothing was asked for it for half a second, it draws too; who has
-/// no seat is asked for with a draw that has no room then: they hear by which rule they were finished,
-/// if they were.
+/// Draws for a listener with a seat if there is news, or if it was left behind what there was before.
+/// Without news it also draws if nothing was asked for it in half a second. A draw without room is
+/// made then for one that has no seat: its reply says by which rule it was finished, if it was.
 // rule: Drawing
 pub(crate) fn draw<S: Server, L: Line>(server: &mut S, conn: &mut Conn<L>, now: Now, log: &Log)
     ensures { Draws S.steps now.ms now.news server.old conn.old server.new conn.new }
@@ -37,7 +36,7 @@ pub(crate) fn draw<S: Server, L: Line>(server: &mut S, conn: &mut Conn<L>, now: 
     }
 }
 
-/// Whether a draw is due for who stands so.
+/// Returns whether a draw is due at this status.
 fn is_due(status: ConnStatus, now: Now) -> bool
     ensures news { status.sits ≡ true → now.news ≡ true → result ≡ true }
     ensures unasked { nat_le 500 (now.ms - status.asked_ms) ≡ true → result ≡ true }

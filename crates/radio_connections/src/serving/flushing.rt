@@ -1,4 +1,4 @@
-//! What a connection is owed, written.
+//! Writing what is pending on a connection.
 
 ghost use Rattle.std.specs.Prelude.{◌≡◌, ◌<◌, ◌||◌, length};
 ghost use Rattle.radio_connections.specs.Duties.{IsWritten};
@@ -8,8 +8,8 @@ use crate::serving::Now;
 use crate::serving::answering::either;
 use crate::{Conn, Fate, Gate, Line, Sent};
 
-/// Writes once of what is owed, as far as the line takes it. The connection is cut off where the
-/// line fails. Most turns find nothing owed, so the rest is a call of its own.
+/// Writes once of what is pending, as far as the line takes it. The connection is cut off if the
+/// line fails. In most turns nothing is pending, so the rest is a call of its own.
 pub(crate) fn flush<L: Line, G: Gate>(conn: &mut Conn<L>, gate: &G, now: Now)
     ensures { IsFlushed now.ms conn.old conn.new }
 {
@@ -45,8 +45,8 @@ fn write<L: Line, G: Gate>(conn: &mut Conn<L>, gate: &G, now: Now)
     }
 }
 
-/// Cuts a connection off of which nothing that it is owed has moved for too long. It does not draw
-/// what there is news of, and is behind then.
+/// Cuts a connection off if none of what is pending has moved for too long. It does not draw what
+/// there is news of, and is behind then.
 #[cold]
 pub(crate) fn give_up<L: Line>(conn: &mut Conn<L>, now: Now)
     ensures patient { IsPatient now.ms now.patience_ms conn.old conn.new }

@@ -9,9 +9,9 @@ use crate::serving::{LINGER_MS, Now};
 use crate::workspace::READ_ROOM;
 use crate::{Conn, Fate, Line, Received};
 
-/// Tells the peer that nothing more is written, and passes over what still comes, so that its last
-/// answer is not lost with it. The connection is closed once the peer has closed, or after a second;
-/// and at once where nothing was written.
+/// Closes the line for writing, and ignores what still comes, so that the last answer is not lost.
+/// The connection is closed once the peer has closed, or after a second; and at once if nothing was
+/// written.
 pub(crate) fn linger<L: Line>(conn: &mut Conn<L>, buffer: &mut [u8; READ_ROOM], now: Now)
     requires fate { conn.old.status.fate ≡ Fate.Ended }
     requires all { conn.old.outgoing ≡ [] }
@@ -37,7 +37,7 @@ fn wait_for_close<L: Line>(conn: &mut Conn<L>, buffer: &mut [u8; READ_ROOM], now
     }
 }
 
-/// Tells the peer that nothing more is written, if it was not told.
+/// Closes the line for writing, if that was not done.
 fn finish<L: Line>(conn: &mut Conn<L>, now: Now)
     ensures served { IsServed conn.old [] conn.new }
     ensures fate { conn.new.status.fate ≡ conn.old.status.fate }

@@ -33,7 +33,7 @@ pub(crate) fn listen<S: Server, L: Line>(
     }
 }
 
-/// Hears these bytes, which its line gave. It is cut off where memory is refused.
+/// Reads these bytes, which its line gave. It is cut off if memory is refused.
 fn hear<S: Server, L: Line>(server: &mut S, conn: &mut Conn<L>, bytes: &[u8], now: Now, log: &Log)
     requires { conn.old.status.fate ≡ Fate.Open }
     ensures { (entries : List EntryOf) × Chain S.steps server.old entries server.new × IsHeardOn now.ms bytes.now conn.old entries conn.new }

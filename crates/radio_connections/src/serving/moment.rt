@@ -14,8 +14,9 @@ use crate::workspace::{READ_ROOM, Workspace};
 use crate::{Conn, Fate, Gate, Line, Server};
 use radio_notes::Log;
 
-/// Serves a connection: first what it is owed is written. While something is owed, it is neither
-/// read nor drawn for. Of one that is at its end the log is told.
+/// Serves a connection: first what is pending is written. While something is pending, the
+/// connection is neither read nor drawn for. The log gets a line of a connection that is at its
+/// end.
 pub fn serve<S: Server, L: Line, G: Gate>(
     server: &mut S,
     conn: &mut Conn<L>,
@@ -32,7 +33,7 @@ pub fn serve<S: Server, L: Line, G: Gate>(
     tell_end(conn, now, log);
 }
 
-/// Lends the spare memory to a connection that is owed nothing, for what it is told of the news.
+/// Lends the spare memory to a connection on which nothing is pending, for the reply to its draw.
 fn lend<L: Line>(conn: &mut Conn<L>, spare: &mut Vec<u8>, now: Now)
     ensures { conn.new ≡ conn.old }
 {
@@ -41,14 +42,14 @@ fn lend<L: Line>(conn: &mut Conn<L>, spare: &mut Vec<u8>, now: Now)
     }
 }
 
-/// Takes the memory back from a connection that is owed nothing.
+/// Takes the memory back from a connection on which nothing is pending.
 fn take_back<L: Line>(conn: &mut Conn<L>, spare: &mut Vec<u8>)
     ensures { conn.new ≡ conn.old }
 {
     conn.outgoing.give_memory_back(spare);
 }
 
-/// Writes what a connection is owed, and does what it does once nothing more is owed.
+/// Writes what is pending on a connection, and does its work once nothing is pending any more.
 fn write_and_work<S: Server, L: Line, G: Gate>(
     server: &mut S,
     conn: &mut Conn<L>,
@@ -71,14 +72,14 @@ fn write_and_work<S: Server, L: Line, G: Gate>(
     leave(server, conn);
 }
 
-/// Tells of a connection that is over: of its source, and of its client once nothing more is written.
+/// Logs the end of a connection: of its source, and of its client once nothing more is written.
 fn tell_end<L: Line>(conn: &Conn<L>, now: Now, log: &Log) {
     if !conn.status.fate.is_open() {
         tell_over(conn, now, log);
     }
 }
 
-/// Tells of a connection that does not go on. It is no part of what is done for each at each turn.
+/// Logs a connection that does not go on. It is no part of what is done for each at each turn.
 #[cold]
 fn tell_over<L: Line>(conn: &Conn<L>, now: Now, log: &Log) {
     let peer = conn.session.peer();
@@ -88,7 +89,7 @@ fn tell_over<L: Line>(conn: &Conn<L>, now: Now, log: &Log) {
     }
 }
 
-/// What a connection does to which nothing is owed.
+/// Does the work of a connection on which nothing is pending.
 fn work<S: Server, L: Line>(
     server: &mut S,
     conn: &mut Conn<L>,

@@ -1,4 +1,4 @@
-//! What a worker's turn source tells the others, and the log.
+//! What a worker's turn source reports to the others, and to the log.
 
 ghost use Rattle.std.specs.Prelude.{◌≡◌};
 ghost use Rattle.radio_sockets.specs.Steps.{told_at};
@@ -12,7 +12,7 @@ use std::sync::Wait;
 use std::time::Clock;
 
 impl<'a, R: Clock + Wait> SocketTurns<'a, R> {
-    /// Tells the log the moment, if the clock tells it, and some time has passed.
+    /// Gives the log the moment, if the clock has one and some time has passed.
     pub(super) fn tell_moment(&mut self, log: &Log, clock_ms: u64)
         ensures { self.new.told_ms ≡ told_at self.old.told_ms clock_ms }
     {
@@ -43,7 +43,7 @@ impl<'a, R: Clock + Wait> SocketTurns<'a, R> {
         });
     }
 
-    /// Tells how many bytes its sources have brought, and that these listeners may have news.
+    /// Reports how many bytes its sources have brought, and that these listeners may have news.
     pub(super) fn tell(&self, whose: NewsFor) {
         let count = self.sockets.activity().take_received();
         self.shared.note_received(count, whose, self.clock_us);
