@@ -81,7 +81,7 @@ fn read_groups(text: &[u8], with_quad: bool) -> Option<Groups>
     with_last(groups, rest, with_quad)
 }
 
-/// The groups with those of the last field: one, or two where a dotted quad may stand.
+/// Returns the groups with those of the last field: one, or two where a dotted quad may be.
 #[tactic(auto, unfolding(crate::specs::Addresses::last_groups))]
 fn with_last(groups: Groups, field: &[u8], with_quad: bool) -> Option<Groups>
     ensures { let more = count_all (groups.count, groups.number) in

@@ -27,7 +27,8 @@ pub fn lines_list_ranges()
     cuts();
 }
 
-/// A list that can't be read is told by its first bad line, and one that can be read has no bad line.
+/// The fault of a list that can't be read is its first bad line, and one that can be read has no bad
+/// line.
 // rule: Address list
 pub fn first_bad_lines()
     ensures fault { (text : List ℕ) (n : ℕ) → (list_of text ≡ Err n) ↔ IsFirstBad (fields_at 10 text) n }

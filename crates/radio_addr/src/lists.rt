@@ -62,9 +62,9 @@ impl AddressList {
 
     /// Reads a list: one address a line, with an optional `/n`, a decimal number to 32 or 128, for its first n bits.
     ///
-    /// One carriage return at a line's end is dropped, and then spaces and tabs at both ends. Lines that are empty then,
-    /// or begin with `#`, are passed over. Any other line is a `LineFault`, and the first such line is told. An IPv6
-    /// address stays one, whatever it is.
+    /// One carriage return at a line's end is dropped, and then spaces and tabs at both ends. Lines that are empty
+    /// then, or begin with `#`, are ignored. Any other line is a `LineFault`, and the first such line is returned. An
+    /// IPv6 address stays one, whatever it is.
     // rule: Address list
     pub fn read(alloc: Global, bytes: &[u8]) -> Result<AddressList, ListFault>
         ensures ok { IfOk result (λ list. list_of bytes.now ≡ Ok list) }

@@ -13,7 +13,7 @@ use std::marker::Model;
 /// How many IPv4 addresses there are.
 const V4_ADDRESSES: u128 = 0x1_0000_0000;
 
-/// What stands before an IPv4 address that is written as IPv6, in `::ffff:0:0/96` (RFC 4291, section 2.5.5.2).
+/// What comes before an IPv4 address that is written as IPv6, in `::ffff:0:0/96` (RFC 4291, section 2.5.5.2).
 const MAPPED: u128 = 0xffff;
 
 /// The address of the other end of a connection.
@@ -77,7 +77,7 @@ impl Peer {
 /// The peer of a text, or `None` exactly where the text is no address (RFC 4291, section 2.2).
 ///
 /// An IPv4 address is four decimal numbers to 255 with no needless zeros in front. An IPv6 address is eight groups of
-/// one to four hexadecimal digits; one `::` may stand for one zero group or more, and the last two groups may be written
+/// one to four hexadecimal digits; one `::` may replace one zero group or more, and the last two groups may be written
 /// as a dotted quad. A peer in `::ffff:0:0/96` is an IPv4 peer.
 // rule: Peer
 pub fn read_peer(text: &[u8]) -> Option<Peer>

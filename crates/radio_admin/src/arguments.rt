@@ -14,7 +14,7 @@ use std::alloc::Global;
 /// The mode in which `/admin/metadata` sets a title, the only one that there is.
 const UPDATE: &str = "updinfo";
 
-/// What stands between an artist and a title.
+/// What comes between an artist and a title.
 const BETWEEN: &str = " - ";
 
 /// The mount that an argument names; `None` where it is absent, or is no name of a mount.

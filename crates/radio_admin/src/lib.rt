@@ -1,6 +1,6 @@
 //! Commands of operators and of sources, read from the target of a request.
 //!
-//! - [`read_path`] is the path that a target stands for (RFC 3986, section 2.1).
+//! - [`read_path`] is the path of a target (RFC 3986, section 2.1).
 //! - [`read_command`] is the [`Command`] that a path and a query ask for, or the [`AdminFault`] why there is none.
 //! - [`CommandKind`] is which command it is; each has a path.
 //! - [`laws`] says what holds of every path and query.

@@ -24,7 +24,7 @@ pub fn argument(alloc: Global, name: &str, query: &[u8]) -> Result<Option<String
     Ok(None)
 }
 
-/// Whether an encoded name stands for this one.
+/// Whether an encoded name is this one.
 fn is_named(alloc: Global, sent_name: &[u8], name: &str) -> Result<bool, OutOfMemory>
     ensures { IfOk result (λ yes. yes ≡ bytes_eq (text_of sent_name.now) name.now) }
 {
@@ -32,14 +32,14 @@ fn is_named(alloc: Global, sent_name: &[u8], name: &str) -> Result<bool, OutOfMe
     Ok(text.as_str() == name)
 }
 
-/// The text that an encoded value stands for, copied.
+/// Returns the text of an encoded value, copied.
 fn text_in(alloc: Global, sent: &[u8]) -> Result<String, OutOfMemory>
     ensures { IfOk result (λ text. string_bytes text ≡ text_of sent.now) }
 {
     text_of(alloc, sent)?.into_owned(alloc)
 }
 
-/// The text that an encoded name or value stands for.
+/// Returns the text of an encoded name or value.
 #[tactic(auto, unfolding(crate::specs::Arguments::text_of))]
 fn text_of(alloc: Global, sent: &[u8]) -> Result<CowStr<'_>, OutOfMemory>
     ensures { IfOk result (λ text. cow_str_bytes text ≡ text_of sent.now) }

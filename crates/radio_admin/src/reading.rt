@@ -15,8 +15,8 @@ use percent_encoding::percent_decode;
 use radio_values::MountName;
 use std::alloc::Global;
 
-/// The path that the path of a target stands for: each `%` with two hexadecimal digits is the byte that they write
-/// (RFC 3986, section 2.1). Any other `%` stays, and so does `+`. The bytes need not be UTF-8.
+/// Returns the path that the path of a target encodes: each `%` with two hexadecimal digits is the byte that they
+/// write (RFC 3986, section 2.1). Any other `%` stays, and so does `+`. The bytes need not be UTF-8.
 // rule: Percent decoding
 pub fn read_path(alloc: Global, path: &[u8]) -> Result<Vec<u8>, OutOfMemory>
     ensures { IfOk result (λ bytes. bytes.items ≡ decoded_path path.now) }

@@ -41,7 +41,7 @@ pub fn basic(alloc: Global, value: &[u8]) -> Result<Option<Pair>, OutOfMemory>
     Ok(Pair::of_text(credentials))
 }
 
-/// The bytes that a padded base64 text stands for. `None` where it is no such text.
+/// Returns the bytes of a padded base64 text. `None` if it is no such text.
 fn decoded(alloc: Global, text: &[u8]) -> Result<Option<Vec<u8>>, OutOfMemory>
     ensures value { IfOk result (λ found. option_map (λ v. v.items) found ≡ decoded_of standard text.now) }
     ensures encoded { IfOk result (λ found. IfSome found (λ v. text.now ≡ encode_of standard v.items)) }
@@ -54,7 +54,7 @@ fn decoded(alloc: Global, text: &[u8]) -> Result<Option<Vec<u8>>, OutOfMemory>
     }
 }
 
-/// What stands after the scheme `Basic` and the spaces that follow it.
+/// Returns what follows the scheme `Basic` and the spaces after it.
 fn basic_text(value: &[u8]) -> Option<&[u8]>
     ensures { option_copied result ≡ basic_text value.now }
 {
@@ -68,7 +68,7 @@ fn basic_text(value: &[u8]) -> Option<&[u8]>
     Some(without_spaces(rest))
 }
 
-/// What stands after the spaces at the front.
+/// Returns what follows the spaces at the front.
 fn without_spaces(text: &[u8]) -> &[u8]
     ensures { result.now ≡ without_spaces text.now }
 {

@@ -72,7 +72,7 @@ impl Pair {
     }
 }
 
-/// How many bytes stand before the first colon.
+/// Returns how many bytes are before the first colon.
 fn front_len(text: &[u8]) -> Option<usize>
     ensures { result ≡ option_map (λ parts. length parts.0) (cut_at 58 text.now) }
 {

@@ -48,8 +48,8 @@ impl Users {
     /// Reads a user list: lines `user:digest`, the digest in 32 hexadecimal digits of either case.
     ///
     /// A line feed ends a line, and a carriage return before it is dropped; the last line may lack the line feed. The
-    /// user is what stands before the first colon, and may be empty. Empty lines, lines that begin with `#` and lines
-    /// of another form are passed over. Where a user has several lines, the first one counts.
+    /// user is what is before the first colon, and may be empty. Empty lines, lines that begin with `#` and lines of
+    /// another form are ignored. If a user has several lines, the first one counts.
     ///
     /// `Err` where there is no memory for the list.
     // rule: User list
@@ -71,8 +71,8 @@ impl Users {
 
     /// Returns true if the first well-formed line of the pair's user has the digest of the pair's password.
     ///
-    /// It takes no memory. One digest is made whether the user is listed or not, and two digests are compared in the same
-    /// number of steps wherever they differ: so the time of the answer does not tell who is listed.
+    /// It takes no memory. One digest is made whether the user is listed or not, and two digests are compared in the
+    /// same number of steps wherever they differ: so the time of the answer does not show who is listed.
     // rule: User list
     pub fn accepts(&self, pair: &Pair) -> bool
         ensures { IsTrue result ↔ Accepts self.now pair.now }

@@ -10,7 +10,7 @@ use radio_addr::{Peer, read_peer};
 use radio_texts::{cut, read_number};
 use std::alloc::Global;
 
-/// What comes to a connection that has arrived.
+/// What arrives on a connection that is open.
 #[derive(Drop)]
 pub enum Input {
     /// Bytes arrive on it.
@@ -30,14 +30,14 @@ pub enum Delivery {
     Open { label: u32, peer: Peer },
     /// The relay of this local mount connects to its master: the connection is its pull.
     Pull { label: u32, mount: Bytes },
-    /// Something comes to a connection.
+    /// Something arrives on a connection.
     To { label: u32, input: Input },
     /// It is so many milliseconds since the server's start.
     Clock { ms: u64 },
 }
 
-/// The delivery that a line of a script stands for; `None` where it stands for none. The line is
-/// given without its line feed.
+/// Returns the delivery that a line of a script writes; `None` if it writes none. The line is given
+/// without its line feed.
 #[tactic(auto, unfolding(crate::specs::Delivery::delivery_of))]
 pub fn read_delivery(alloc: Global, line: &[u8]) -> Result<Option<Delivery>, OutOfMemory>
     ensures { IfOk result (λ delivery. delivery ≡ delivery_of line.now) }
@@ -63,7 +63,7 @@ fn read_fields(alloc: Global, word: &[u8], fields: &[u8]) -> Result<Option<Deliv
     read_other_fields(alloc, word, fields)
 }
 
-/// The same of a word that opens nothing, brings nothing and tells of no room.
+/// The same of a word that opens nothing, brings nothing and gives no room.
 fn read_other_fields(
     alloc: Global,
     word: &[u8],

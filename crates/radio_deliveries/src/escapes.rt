@@ -1,5 +1,5 @@
-//! How bytes stand in a line of text: `\r`, `\n`, `\\`, `\xHH`, and the rest of 0x20 to 0x7E for
-//! themselves.
+//! How bytes are written in a line of text: `\r`, `\n`, `\\`, `\xHH`, and the rest of 0x20 to 0x7E
+//! as they are.
 
 ghost use Rattle.std.specs.Prelude.{◌≡◌, ◌<◌, ◌++◌, IfOk, OnOk, OnErr, IfSome, MatchOption, None, Some};
 ghost use Rattle.std.specs.Option.{option_to_list};
@@ -11,7 +11,7 @@ use crate::OutOfMemory;
 use bytes::Bytes;
 use std::alloc::Global;
 
-/// Where the reading of a text stands.
+/// How far the reading of a text has come.
 #[derive(Clone, Copy)]
 pub enum EscapePlace {
     /// Between the spellings of two bytes.
@@ -24,8 +24,8 @@ pub enum EscapePlace {
     Low(u8),
 }
 
-/// The bytes that a text stands for; `None` where a backslash begins no escape, or where a byte
-/// that is neither a backslash nor of 0x20 to 0x7E stands in it.
+/// Returns the bytes that a text writes; `None` if a backslash begins no escape, or if the text has
+/// a byte that is neither a backslash nor of 0x20 to 0x7E.
 // rule: Escapes
 pub fn unescape(alloc: Global, text: &[u8]) -> Result<Option<Bytes>, OutOfMemory>
     ensures { IfOk result (λ bytes. bytes ≡ unescaped text.now) }
@@ -126,7 +126,7 @@ fn hex_value(b: u8) -> Option<u8>
     }
 }
 
-/// Adds the text that writes the bytes. After an `Err` a part of it may stand at the end.
+/// Adds the text that writes the bytes. After an `Err` a part of it may be at the end.
 // rule: Escapes
 pub fn push_escaped(text: &mut Vec<u8>, bytes: &[u8]) -> Result<(), OutOfMemory>
     ensures ok { OnOk result (text.new.items ≡ text.old.items ++ escaped bytes.now) }

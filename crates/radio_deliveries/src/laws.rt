@@ -14,7 +14,7 @@ pub fn escapes_read_back()
         → unescaped (escaped bytes) ≡ Some bytes }
 {}
 
-/// The bytes that a text stands for are those that it writes, by the grammar of texts.
+/// The bytes that are read from a text are those that it writes, by the grammar of texts.
 #[tactic(auto, using(crate::proofs::SpellingLemmas::spelled))]
 pub fn texts_are_spelled()
     ensures { (text bytes : List ℕ) → (unescaped text ≡ Some bytes) ↔ SpellsAll text bytes }

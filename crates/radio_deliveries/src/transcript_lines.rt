@@ -10,9 +10,9 @@ use crate::OutOfMemory;
 use crate::escapes::push_escaped;
 use std::alloc::Global;
 
-/// Adds what a delivery to a connection comes to: an `out` line where bytes were given, and then a
-/// `shut` line where the connection was shut, for the reason that the word names. An `Err` leaves
-/// the lines as they were.
+/// Adds the lines of a delivery to a connection: an `out` line if bytes were given, and then a
+/// `shut` line if the connection was shut, for the reason that the word names. An `Err` leaves the
+/// lines as they were.
 pub fn push_answer(
     alloc: Global,
     lines: &mut Vec<u8>,

@@ -4,13 +4,13 @@ ghost use Rattle.radio_exchanges.specs.Laws.{CoresExchangeAsTheirStates, CoresGo
 
 use radio_core::{cores_go_by_their_states, sources_are_told_by_their_data};
 
-/// What a connection's events come to over a core is what they come to from any state that the core
-/// stands for.
+/// A connection's events have the same result over a core as from any state that the core
+/// represents.
 pub fn cores_exchange_as_their_states()
     ensures { CoresExchangeAsTheirStates }
 {}
 
-/// A core goes by a source's data, and not by how they are cut into blocks.
+/// A core's replies depend on a source's data, and not on how they are cut into blocks.
 // rule: Cuts do not matter
 pub fn cores_go_by_data()
     ensures { CoresGoByData }
@@ -19,7 +19,7 @@ pub fn cores_go_by_data()
     sources_are_told_by_their_data();
 }
 
-/// What goes out for events of the server is what is told of their replies.
+/// The bytes that are written for events of the server are those of their replies.
 pub fn exchanges_tell_replies()
     ensures { ExchangesTellReplies }
 {}

@@ -5,7 +5,7 @@ ghost use Rattle.radio_exchanges.specs.Pulls.{AskingIsOne, GoingDownIsOne, Takin
 
 use radio_relay::laws::cuts_do_not_matter;
 
-/// What a pull comes to over a core is what it comes to from any state that the core stands for.
+/// A pull has the same result over a core as from any state that the core represents.
 // rule: Pulled stream
 pub fn cores_pull_as_their_states()
     ensures takes { CoresTakeAsTheirStates }
@@ -13,7 +13,7 @@ pub fn cores_pull_as_their_states()
     ensures goes { CoresGoDownAsTheirStates }
 {}
 
-/// What comes to a pull comes to one thing, from each state of the server.
+/// What arrives on a pull has one result, from each state of the server.
 // rule: Pulled stream
 pub fn pulling_is_one()
     ensures takes { TakingIsOne }

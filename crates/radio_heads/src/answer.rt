@@ -21,7 +21,7 @@ pub enum Answer<'a> {
     Text { kind: TextKind, body: &'a [u8] },
 }
 
-/// What a listener who is admitted is told of the stream.
+/// What an admitted listener reads of the stream.
 #[derive(Drop)]
 pub struct Welcome<'a> {
     /// The stream's media type, written even where it is empty.

@@ -32,8 +32,8 @@ pub fn heads_lie_within()
     ensures responses { HeadsLieWithin ShowsResponse }
 {}
 
-/// The rule for ends loses no head of the grammar: one that stands at the front, of at most 64
-/// headers and 8192 bytes, is a head to a reading, whatever follows it.
+/// The rule for ends loses no head of the grammar: one at the front, of at most 64 headers and 8192
+/// bytes, is a head to a reading, whatever follows it.
 // rule: Grammar of heads
 pub fn heads_are_found()
     ensures requests { RequestsAreFound }

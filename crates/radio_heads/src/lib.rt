@@ -7,7 +7,7 @@
 //! - [`read_request`], [`read_response`]: the head that some bytes begin with, and its length.
 //! - [`read_request_from`], [`read_response_from`]: the same, where it is known how many of the
 //!   first bytes hold no end of a head.
-//! - [`write_answer`]: the text of each answer that the server gives. Values from outside stand in its headers as
+//! - [`write_answer`]: the text of each answer that the server gives. Its headers have values from outside as
 //!   [`FieldValue`]s, which hold no line end.
 //! - [`write_web_answer`]: the text of each answer that the pages of web sites read.
 //! - [`add_headers`]: the text of an answer with the headers that the settings add to it.

@@ -49,7 +49,7 @@ fn about_ends_no_line(about: &AboutHeaders)
     let _bitrate = about.bitrate.as_bytes();
 }
 
-/// The headers that tell of the stream.
+/// Adds the headers about the stream.
 pub(crate) fn push_stream(text: &mut Vec<u8>, welcome: &Welcome) -> Result<(), OutOfMemory>
     ensures { OnOk result (text.new.items ≡ text.old.items
         ++ header_line (codes "Content-Type") welcome.now.content_type
@@ -153,7 +153,7 @@ pub(crate) fn push_status(
     push_line(text, status.to_string(alloc)?.as_bytes())
 }
 
-/// A header that stands only where its value is not empty.
+/// Adds a header if its value is not empty.
 fn push_shown(text: &mut Vec<u8>, name: &str, value: &FieldValue) -> Result<(), OutOfMemory>
     ensures { OnOk result (text.new.items ≡ text.old.items ++ shown_line name.now value.now) }
 {

@@ -54,7 +54,8 @@ pub fn bare_of_woven()
         → 0 < n → IsWoven n calls out → block_texts n out ≡ map title_text (titles_sent n calls (parts_of n calls)) }
 {}
 
-/// However a stream is cut into pieces, the same is heard, and the reader stands at the same place after it.
+/// However a stream is cut into pieces, the same is taken out of it, and the reader is at the same place
+/// after it.
 // rule: Metadata block
 pub fn cut_streams()
     ensures heard { (u : Unweaving) (pieces : List (List ℕ))
@@ -63,14 +64,14 @@ pub fn cut_streams()
         → after_pieces u pieces ≡ after_feeding u (concat pieces) }
 {}
 
-/// What is heard in a stream from its start is its bare sound and the texts of its blocks.
+/// What is taken out of a stream from its start is its bare sound and the texts of its blocks.
 // rule: Metadata block
 pub fn unwoven_streams()
     ensures sound { (n : ℕ) (out : List ℕ) → sound_in (heard (new_unweaving n) out) ≡ bare n out }
     ensures texts { (n : ℕ) (out : List ℕ) → texts_in (heard (new_unweaving n) out) ≡ block_texts n out }
 {}
 
-/// The title of the text that was made of a title is that title, unless `';StreamUrl=` stands in it; also with a URL
+/// The title of the text that was made of a title is that title, unless it has `';StreamUrl=` in it; also with a URL
 /// behind it.
 // rule: Title of a block
 pub fn titles_of_texts()
@@ -79,7 +80,7 @@ pub fn titles_of_texts()
         → HasNoUrlInside title → title_of (title_text title ++ (codes "StreamUrl=" ++ url)) ≡ Some title }
 {}
 
-/// A text has a title exactly where it stands between `StreamTitle='` and the first place where a title ends.
+/// A text has a title exactly if it is between `StreamTitle='` and the first place where a title ends.
 // rule: Title of a block
 pub fn titles_in_texts()
     ensures { (text : List ℕ) (title : List ℕ) → (title_of text ≡ Some title) ↔ IsTitleIn text title }

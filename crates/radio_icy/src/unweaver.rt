@@ -18,7 +18,7 @@ pub struct Unweaver {
     interval: usize,
     /// Bytes to come: of sound before the next length byte, or of the block that has begun.
     left: usize,
-    /// What has come of a block that has begun.
+    /// The bytes of a block that has begun.
     block: Option<Vec<u8>>,
 }
 
@@ -113,7 +113,7 @@ impl Unweaver {
     }
 }
 
-/// Where a piece of a stream ends: the bytes to come, and what has come of a block that has begun.
+/// Where a piece of a stream ends: the bytes to come, and those of a block that has begun.
 struct Rest<'b> {
     left: usize,
     block: Option<&'b [u8]>,

@@ -13,9 +13,9 @@ use std::marker::Model;
 
 /// Weaves the titles of a stream into its sound, for one listener (ICY convention: `icy-metaint`, `StreamTitle`).
 ///
-/// After each interval of sound stands a metadata block. It carries the stream's title, where there is one that differs
-/// from the last one sent through this weaver, or none was sent; else it is one zero byte. The count of the interval
-/// goes on from call to call.
+/// A metadata block follows each interval of sound. It carries the stream's title, if there is one that differs from
+/// the last one sent through this weaver, or none was sent; else it is one zero byte. The count of the interval goes on
+/// from call to call.
 pub struct Weaver {
     alloc: Global,
     /// Bytes of sound from one block to the next.
@@ -127,7 +127,8 @@ impl Weaver {
         }
     }
 
-    // A copy of the title that is to be sent, once there is room for all that so much sound comes to.
+    // A copy of the title that is to be sent, once there is room for all that is written for so much
+    // sound.
     fn sent_with_room(
         &self,
         sound: usize,
@@ -141,7 +142,8 @@ impl Weaver {
         copy_of(self.alloc, news)
     }
 
-    // No fewer bytes than so much sound comes to: a byte for each block, and the text of the first.
+    // No fewer bytes than are written for so much sound: a byte for each block, and the text of the
+    // first.
     fn most_written(&self, sound: usize, news: Option<&[u8]>) -> usize {
         let blocks = sound.saturating_add(self.place) / self.interval;
         let text = news.map_or(0, |title| title.len().saturating_add(2 * UNIT));

@@ -22,7 +22,7 @@ pub enum AcceptResult<T: Drop> {
 pub trait Entrance<T: Drop> {
     ghost use Rattle.radio_intake.specs.declared.entrance.AcceptResult.{AcceptResult};
 
-    // a try may come to this
+    // a try may have this result
     ghost accepts: { Self → AcceptResult T → Self → Type 0 };
 
     /// Tries to accept the next one.
@@ -51,7 +51,7 @@ pub fn accept_next<T: Drop, E: Entrance<T>>(
     settle(accepted, accepts, ms)
 }
 
-/// Notes what has come of a try at this moment, in milliseconds. Returns the connection, if there is one.
+/// Notes the result of a try at this moment, in milliseconds. Returns the connection, if there is one.
 fn settle<T: Drop>(
     accepted: AcceptResult<T>,
     accepts: &mut Accepts,

@@ -5,7 +5,7 @@ use crossbeam_queue::Pass;
 use std::marker::Model;
 
 /// What was put into an intake and taken from it by one thread, in order, and how many parts of the
-/// intake the thread has: at least one. It has no bytes; contracts see what it tells. Where one is
+/// intake the thread has: at least one. It has no bytes; contracts see what it says. If one is
 /// dropped its parts are gone: the intake serves on, and nobody tallies it any more.
 #[derive(Drop)]
 pub struct IntakePass<L> {

@@ -1,5 +1,5 @@
-//! What holds of an intake between any two steps of the threads that use it, and what each step
-//! tells its thread.
+//! What holds of an intake between any two steps of the threads that use it, and what its thread
+//! knows after each step.
 
 use crossbeam_queue::protocol::{Join, Lesson, Outcome, Protocol, Split};
 use std::collections::LinkedList;

@@ -1,4 +1,5 @@
-//! A bound socket, and the service behind it: workers who serve connections, beside the relays of a station.
+//! A bound socket, and the service behind it: workers that serve connections, together with the relays of a
+//! station.
 //!
 //! - [`Listening`]: a bound socket. [`Listening::serve`] accepts connections, and serves them, until a fault; [`Service`]
 //!   says how.

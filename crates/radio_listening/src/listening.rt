@@ -176,7 +176,7 @@ where
     fault
 }
 
-/// What the workers and the acceptor tell each other by, and the sockets of the workers.
+/// Returns what the workers and the acceptor share, and the sockets of the workers.
 fn open_board<N: Network>(
     net: &N,
     alloc: Global,
@@ -197,7 +197,7 @@ fn open_board<N: Network>(
     }
 }
 
-/// What is served, how, and by what all threads tell each other.
+/// What is served, how, and what all threads share.
 #[derive(Drop)]
 pub(crate) struct ServedStation<'a, R, N: Network, S> {
     pub(crate) rt: &'a R,

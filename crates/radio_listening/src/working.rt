@@ -68,8 +68,8 @@ where
     acceptor.work(station.rt, station.shared, intake, hand)
 }
 
-/// The workers with these sockets work, and relays are kept running beside them, if the settings wish some. Whether there
-/// was memory for the workers' slots.
+/// Runs the workers with these sockets, and keeps relays running meanwhile, if the settings wish some. Returns whether
+/// there was memory for the workers' slots.
 fn work_beside_relays<R, N, S>(
     station: &ServedStation<'_, R, N, S>,
     intake: &Intake<Accepted>,
@@ -154,7 +154,7 @@ where
     S: SharedServer + Sync,
     S::Pass: Send,
     requires { All (λ slot. slot.hand.intake ≡ intake.now) slots.old }
-    // each tells behind what it told what was taken at its slot
+    // the note of each goes on from before with what was taken at its slot
     ensures { (i : ℕ) (d : _) → i < length slots.old → HasTakenMore (slice_index_or slots.old i d).hand (slice_index_or slots.new i d).hand }
 {
     let place = Workplace {

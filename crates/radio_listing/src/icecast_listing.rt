@@ -16,7 +16,7 @@ use radio_texts::read_number;
 use serde_json::Value;
 use std::alloc::Global;
 
-/// The greatest bit rate that is told as a number.
+/// The greatest bit rate that is written as a number.
 const MAX_BITRATE: u64 = 4_294_967_295;
 
 /// What Icecast 2.4 answers: `{"icestats":{"server_id":..,"source":..}}`, each live mount that is not hidden as
@@ -173,7 +173,7 @@ fn number_written(alloc: Global, text: &[u8]) -> Result<Option<u64>, OutOfMemory
     }
 }
 
-/// Where a mount is heard.
+/// Adds the URL at which a mount is heard.
 fn put_url(
     source: &mut Object,
     base: &ListedText<'_>,

@@ -15,8 +15,8 @@ pub fn sight_is_kept()
     ensures { (rows others : List Mount) → rows_shown rows ≡ rows_shown others → LookAlike rows others }
 {}
 
-/// What is shown is what the rows that are not hidden show; and the mounts that the listing for everybody names are theirs,
-/// in their order, as are those that are told in Icecast's words.
+/// What is shown is what the rows that are not hidden show. The mounts that the listing for everybody names are theirs,
+/// in their order, as are those in Icecast's words.
 // rule: Hidden mounts
 pub fn hidden_mounts_are_left_out()
     ensures shown { (rows : List Mount) → rows_shown rows ≡ not_hidden rows }

@@ -9,12 +9,12 @@ use std::alloc::Global;
 /// The largest number of bytes of a host and its port.
 pub const MAX_HOST: usize = 255;
 
-/// What stands before a mount's name in its URL, as `http://radio.example:8000`.
+/// Returns what comes before a mount's name in its URL, as `http://radio.example:8000`.
 ///
-/// `host` is the `Host` that a client sent (RFC 9110, section 7.2), empty where it sent none. Of it the letters and digits of
-/// ASCII and `-`, `.`, `:`, `[`, `]` and `_` are kept, at most 255 bytes. Where nothing is left it is the address and the port
-/// where the server was told to listen, an address of IPv6 in brackets (RFC 3986, section 3.2.2).
-/// The only error is `OutOfMemory`.
+/// `host` is the `Host` that a client sent (RFC 9110, section 7.2), empty if it sent none. Of it the letters and digits
+/// of ASCII and `-`, `.`, `:`, `[`, `]` and `_` are kept, at most 255 bytes. If nothing is left, the result has the
+/// address and the port of the settings, an address of IPv6 in brackets (RFC 3986, section 3.2.2). The only error is
+/// `OutOfMemory`.
 // rule: Address of a stream
 #[tactic(auto, unfolding(crate::specs::Reached::base_url))]
 pub fn base_url(
@@ -47,7 +47,7 @@ fn host_or_own(
     Ok(kept)
 }
 
-/// The address and the port where the server was told to listen.
+/// Returns the address and the port of the settings.
 fn own_host(alloc: Global, address: &[u8], port: u32) -> Result<Vec<u8>, OutOfMemory>
     ensures { IfOk result (λ made. made.items ≡ own_host address.now port) }
 {

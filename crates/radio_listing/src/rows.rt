@@ -63,13 +63,13 @@ pub struct ListedListener<'a> {
     pub user: Option<ListedText<'a>>,
 }
 
-/// The server, as it tells of itself.
+/// The server, as it describes itself.
 #[derive(Drop)]
 pub struct ListedServer<'a> {
     /// The name of the program.
     pub name: ListedText<'a>,
-    /// What stands before a mount's name in its URL, as `http://radio.example:8000`.
+    /// What comes before a mount's name in its URL, as `http://radio.example:8000`.
     pub base_url: ListedText<'a>,
-    /// When it started (ISO 8601); empty if nobody is told.
+    /// When it started (ISO 8601); empty if nobody may know it.
     pub start: ListedText<'a>,
 }

@@ -9,7 +9,7 @@ use std::marker::Model;
 
 const LINE_END: u8 = b'\n';
 
-/// Where the last byte that was written stands.
+/// Where the last byte that was written is.
 #[derive(Clone, Copy, PartialEq, Eq)]
 pub enum LinePlace {
     /// At the end of a line, or nothing was written yet.

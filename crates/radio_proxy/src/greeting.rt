@@ -9,7 +9,7 @@ use crate::header::{Header, MOST_BYTES, NamedClient, read_header};
 use crate::peek::Peek;
 use std::io::{ErrorKind, Read};
 
-/// What a look at a stream comes to whose header is awaited.
+/// The result of a look at a stream whose header is awaited.
 #[derive(Clone, Copy, Debug, PartialEq, Eq)]
 pub enum HeaderLook {
     /// Its header has not come whole.

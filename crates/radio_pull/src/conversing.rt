@@ -1,4 +1,4 @@
-//! What comes to the pull of a relay, and the events that are applied for it.
+//! What arrives on the pull of a relay, and the events that are applied for it.
 
 ghost use Rattle.std.specs.Prelude.{◌≡◌, ◌≢◌, IfOk, OnOk};
 ghost use Rattle.radio_relay.specs.declared.fault.PullFault.TheVariants.{OutOfMemory as NoMemory};

@@ -1,4 +1,4 @@
-//! How the pull of a relay stands.
+//! The state of a relay's pull.
 
 ghost use Rattle.std.specs.Prelude.{◌≡◌, IfOk};
 ghost use Rattle.std.specs.Option.{option_map};
@@ -14,7 +14,7 @@ use radio_values::{MountName, Shown, Title};
 use std::alloc::Global;
 use std::marker::Model;
 
-/// The pull of a relay: the mount that it feeds here, what has come of its master's answer, and its
+/// The pull of a relay: the mount that it feeds here, the reading of its master's answer, and its
 /// number in the server once it is up.
 ///
 /// In contracts it is a `Pulling`.
@@ -127,7 +127,7 @@ impl RelayPull {
         Ok(Event::RelayUp { mount, shown })
     }
 
-    /// What the reply to its event makes of it: whether its pull goes on.
+    /// Notes the reply to its event, and returns whether its pull goes on.
     pub(crate) fn answer(&mut self, reply: &Reply) -> State
         ensures state { result ≡ (answered self.old.number reply.now).state }
         ensures number { self.new ≡ record self.old { number = (answered self.old.number reply.now).number } }

@@ -44,7 +44,7 @@ pub(crate) fn keep_list<R: Clock + Wait, N: Network, S>(
     }
 }
 
-/// Hands the front of a list over, and tells in the log if there was more of it.
+/// Hands the front of a list over, and logs if there was more of it.
 fn hand_over<R: Clock + Wait, N: Network, S>(
     rt: &R,
     station: &RelayedStation<'_, N, S>,

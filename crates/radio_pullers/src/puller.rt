@@ -44,7 +44,7 @@ struct Puller<'a, R: Clock + Wait, N: Network, S: Server + Drop> {
     asked: RelayServer<Watched<S>>,
     /// When the pull began, in milliseconds.
     began_ms: u64,
-    /// The moment that the log was told, in seconds since 1970.
+    /// The moment that the log last got, in seconds since 1970.
     seconds: u64,
 }
 
@@ -104,8 +104,8 @@ impl<'a, R: Clock + Wait, N: Network, S: SharedServer> Puller<'a, R, N, Caller<'
 }
 
 impl<'a, R: Clock + Wait, N: Network, S: Server + Drop> Puller<'a, R, N, S> {
-    /// Returns the thread of this relay, which asks this server. The system's fault where it tells nothing of sockets, or
-    /// memory was refused.
+    /// Returns the thread of this relay, which asks this server. The system's fault if it reports nothing of sockets,
+    /// or memory was refused.
     fn new(
         rt: &'a R,
         net: &'a N,
@@ -143,7 +143,8 @@ impl<'a, R: Clock + Wait, N: Network, S: Server + Drop> Puller<'a, R, N, S> {
         self.outcome(why)
     }
 
-    /// Tells that a pull has ended so, and rests. Returns whether another is to follow: the relay was up, and is not to stop.
+    /// Logs that a pull has ended so, and rests. Returns whether another is to follow: the relay was up, and is not to
+    /// stop.
     fn goes_on(&mut self, why: RelayEnd) -> bool
         ensures server { self.new.asked.server ≡ self.old.asked.server }
         ensures began { self.new.began_ms ≡ self.old.began_ms }
@@ -266,8 +267,8 @@ impl<'a, R: Clock + Wait, N: Network, S: Server + Drop> Puller<'a, R, N, S> {
         end_of(turn, pull, self.began_ms, ms)
     }
 
-    /// Hears what there is on the socket, and waits for it. Returns the moment then, in milliseconds; `None` where the system
-    /// tells nothing.
+    /// Asks the system what is ready on the socket, and waits for it. Returns the moment then, in milliseconds; `None`
+    /// if the system reports nothing.
     fn hear(&mut self) -> Option<u64>
         ensures asked { self.new.asked ≡ self.old.asked }
         ensures began { self.new.began_ms ≡ self.old.began_ms }
@@ -284,7 +285,7 @@ impl<'a, R: Clock + Wait, N: Network, S: Server + Drop> Puller<'a, R, N, S> {
         Some(heard.ms)
     }
 
-    /// Tells the workers of news, and hands the lines of the log on.
+    /// Gives news to the workers, and the lines that wait to the log.
     fn tell_others(&self) {
         let found = self.asked.server().take_found(Take::News);
         let received = self.sockets.activity().take_received();
@@ -298,7 +299,7 @@ impl<'a, R: Clock + Wait, N: Network, S: Server + Drop> Puller<'a, R, N, S> {
         }
     }
 
-    /// Tells in the log that the pull has ended.
+    /// Logs that the pull has ended.
     fn tell_end(&mut self, why: RelayEnd)
         ensures server { self.new.asked.server ≡ self.old.asked.server }
         ensures began { self.new.began_ms ≡ self.old.began_ms }

@@ -1,4 +1,4 @@
-//! A relay that runs, and what its thread and the one that started it tell each other.
+//! A relay that runs, and what its thread and the one that started it report to each other.
 
 ghost use Rattle.std.specs.Prelude.{◌≡◌};
 ghost use Rattle.std.specs.Arc.{arc_value};

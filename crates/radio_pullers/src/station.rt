@@ -12,8 +12,8 @@ use std::sync::Mutex;
 /// The newest list of a slave's master, until it is taken.
 pub(crate) type NewestList = Mutex<Option<BTreeSet<MountName>>>;
 
-/// A station whose relays are kept running: the net over which their masters are reached, the server that they feed, by
-/// what its threads tell each other, its settings, and where the slave's list is handed over.
+/// A station whose relays are kept running: the net over which their masters are reached, the server that they feed,
+/// what its threads report to each other, its settings, and where the slave's list is handed over.
 #[derive(Drop)]
 pub(crate) struct RelayedStation<'a, N: Network, S> {
     pub(crate) net: &'a N,

@@ -1,4 +1,4 @@
-//! What the head of a master's answer tells of the stream behind it.
+//! What the head of a master's answer says of the stream behind it.
 ghost use Rattle.std.specs.Prelude.{◌≡◌, ◌≤◌, IfOk, IfSome};
 ghost use Rattle.radio_texts.specs.Numbers.{number_of};
 ghost use Rattle.radio_relay.specs.Answer.{about_by, interval_in, interval_of, max_interval, named_by, shown_by, value_or};
@@ -9,7 +9,7 @@ use radio_texts::read_number;
 use radio_values::{About, Shown};
 use std::alloc::Global;
 
-/// The longest metadata interval that a master may tell, in bytes.
+/// The longest metadata interval that a master may name, in bytes.
 pub const MAX_INTERVAL: u64 = 16_777_216;
 
 /// The bytes of sound between two metadata blocks (ICY convention, `icy-metaint`), with none where the stream has no

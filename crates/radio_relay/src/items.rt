@@ -74,7 +74,7 @@ impl PulledItems {
         self.run.add(sound)
     }
 
-    /// Adds what is heard in a woven stream.
+    /// Adds what is taken out of a woven stream.
     pub(crate) fn add_heard(&mut self, heard: Vec<Item>) -> Result<(), OutOfMemory>
         ensures { OnOk result (self.new ≡ with_parts self.old (parts_heard (atoms_of heard.items))) }
     {

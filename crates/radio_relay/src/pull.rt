@@ -131,7 +131,7 @@ fn brought_at(alloc: Global, stage: PullStage, bytes: &[u8]) -> Result<Brought, 
     }
 }
 
-/// Bytes of a head behind those that are held, and what stands behind it.
+/// Reads bytes of a head behind those that are held, and what follows it.
 fn read_head(alloc: Global, held: HeldHead, bytes: &[u8]) -> Result<Brought, PullFault>
     ensures brings { IfOk result (λ brought. IsAnswered (Head held) bytes.now brought.items.items brought.stage) }
     ensures fault { IfErr result (λ fault. fault ≢ NoMemory → IsRefused (Head held) bytes.now fault) }
@@ -150,7 +150,7 @@ fn read_head(alloc: Global, held: HeldHead, bytes: &[u8]) -> Result<Brought, Pul
     }
 }
 
-/// What stands behind so many bytes.
+/// Returns the bytes after so many.
 fn behind(bytes: &[u8], end: usize) -> &[u8]
     requires { end ≤ length bytes.now }
     ensures { result.now ≡ drop end bytes.now }

@@ -10,7 +10,8 @@ use percent_encoding::{AsciiSet, NON_ALPHANUMERIC, ascii_set, percent_encode};
 use radio_settings_values::{Login, Master, RelaySetting, SlaveSetting};
 use std::alloc::Global;
 
-/// What stands in a path as `%XX`: every byte but letters, digits and `-._~/` (RFC 3986, sections 2.3 and 3.3).
+/// What is written in a path as `%XX`: every byte but letters, digits and `-._~/` (RFC 3986, sections 2.3 and
+/// 3.3).
 const ESCAPED: AsciiSet = ascii_set!(
     NON_ALPHANUMERIC
         .remove(b'-')

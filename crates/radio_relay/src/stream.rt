@@ -13,7 +13,7 @@ use std::alloc::Global;
 pub(crate) enum PulledStream {
     /// All that comes is sound.
     Plain,
-    /// Metadata blocks stand between the sound.
+    /// Metadata blocks are between the sound.
     Woven(Unweaver),
 }
 

@@ -61,8 +61,8 @@ impl Entries {
         }
     }
 
-    /// Returns the line of a key; where it has none of its own, as in a table that stands in one line, the line of the table;
-    /// 0 if that has none either.
+    /// Returns the line of a key. If it has none of its own, as in a table that is written in one line, it is the line
+    /// of the table; 0 if that has none either.
     pub fn line_of(&self, table: &str, number: usize, key: &str) -> u64 {
         match self.find(table, number, key) {
             0 => self.find("", 0, table),

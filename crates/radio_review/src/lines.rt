@@ -96,7 +96,7 @@ fn after_comment(byte: u8) -> LinePart {
     }
 }
 
-/// The third quote begins a string of several lines; anything else behind two of them stands behind an empty string.
+/// The third quote begins a string of several lines; anything else behind two of them is behind an empty string.
 fn after_quotes(quote: u8, quotes: u8, byte: u8) -> LinePart {
     match (byte == quote, quotes) {
         (true, 1) => LinePart::Opening { quote, quotes: 2 },

@@ -23,8 +23,8 @@ pub struct FaultPlace {
     pub allowed: String,
 }
 
-/// Returns where a text has this fault, which is its first one. `None`: it is of no key, the text is not TOML, or memory was
-/// refused. Of a name that stands twice the place is not known.
+/// Returns where a text has this fault, which is its first one. `None`: it is of no key, the text is not TOML, or
+/// memory was refused. The place of a repeated name is not known.
 pub fn locate(alloc: Global, text: &str, fault: &SettingsFault) -> Option<FaultPlace> {
     let key = key_of(fault)?;
     let Ok(document) = toml::table_from_str(alloc, text) else {

@@ -41,7 +41,7 @@ pub fn unknown_keys(alloc: Global, text: &str) -> Result<Vec<UnknownKey>, OutOfM
     Ok(review.into_found())
 }
 
-/// The keys that were found so far, and where keys stand.
+/// The keys that were found so far, and where keys are.
 struct Review {
     alloc: Global,
     entries: Entries,

@@ -4,12 +4,12 @@ ghost use Rattle.radio_script.specs.Laws.{GoesOnAsItBegan, HasOneTranscript, IsD
 
 use crate::performer::Performer;
 
-/// Where each delivery comes to one thing, a script has one transcript.
+/// If each delivery has one result, a script has one transcript.
 pub fn scripts_have_one_transcript<P: Performer>()
     ensures { IsDetermined P.performs → HasOneTranscript P.performs }
 {}
 
-/// Where each delivery comes to one thing, what the whole lines at a script's front come to is a
+/// If each delivery has one result, the transcript of the whole lines at a script's front is a
 /// front of its transcript: more lines behind them change nothing.
 pub fn transcripts_go_on_as_they_began<P: Performer>()
     ensures { IsDetermined P.performs → GoesOnAsItBegan P.performs }

@@ -5,19 +5,18 @@ ghost use Rattle.std.specs.Prelude.{◌≡◌, ◌++◌, ℕ, List, Option, None
 use radio_deliveries::{Delivery, PerformFault};
 use std::alloc::Global;
 
-/// What performs deliveries, one after the other, and tells what each comes to.
+/// What performs deliveries, one after another, and gives the result of each.
 pub trait Performer {
     ghost use Rattle.radio_script.specs.Runs.{Conduct};
 
-    // From this performer the delivery comes to that text, or to None where its label was not
-    // opened or is opened twice, and to that performer.
+    // From this performer the delivery yields that text, or None if its label was not opened or is
+    // opened twice, and that performer.
     ghost performs: { Conduct Self };
 
-    /// Performs a delivery, and adds what it comes to to the lines of the transcript. It is
-    /// refused with `Label` where the label was not opened or is opened twice, or no relay feeds
-    /// the mount that it pulls for, and with `OutOfMemory`, and for nothing else. Of the lines
-    /// after an `Err`, and of the performer after `OutOfMemory`, nothing is said: the script ends
-    /// there.
+    /// Performs a delivery, and adds its lines to the transcript. It is refused with `Label` if the
+    /// label was not opened or is opened twice, or no relay feeds the mount that it pulls for, and
+    /// with `OutOfMemory`, and for nothing else. Nothing is said of the lines after an `Err`, nor
+    /// of the performer after `OutOfMemory`: the script ends there.
     fn perform(
         &mut self,
         alloc: Global,

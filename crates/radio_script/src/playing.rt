@@ -14,7 +14,7 @@ use radio_deliveries::{
 };
 use std::alloc::Global;
 
-// The line that is played, and what its delivery came to.
+// The line that is played, and the lines of its delivery.
 #[derive(Drop)]
 struct Buffers {
     line: Vec<u8>,
@@ -34,7 +34,7 @@ pub fn play_with<P: Performer, R: CountedRead, W: CountedWrite>(
     reader: &mut R,
     writer: &mut W,
 ) -> Result<(), PlayFault>
-    // What was written is what the script's lines come to, as far as the result says.
+    // What was written is the transcript of the script's lines, as far as the result says.
     ensures plays { IfKnown (R.remaining reader.old) (R.remaining reader.new) (λ script left.
         Writes (W.contents writer.old) (W.contents writer.new)
         (W.calls writer.old) (W.calls writer.new) (λ written most_calls.
@@ -120,7 +120,7 @@ fn play_line<P: Performer, R: CountedRead, W: CountedWrite>(
     }
 }
 
-// Performs the delivery of a line, and writes what it comes to.
+// Performs the delivery of a line, and writes its lines.
 fn answer_line<P: Performer, W: CountedWrite>(
     alloc: Global,
     performer: &mut P,
@@ -147,7 +147,7 @@ fn answer_line<P: Performer, W: CountedWrite>(
     }
 }
 
-// Performs the delivery of a line, and leaves what it comes to as the text.
+// Performs the delivery of a line, and leaves its lines as the text.
 // rule: Line of a script
 #[tactic(auto, unfolding(crate::specs::Script::meaning_of))]
 fn perform_line<P: Performer>(
@@ -169,7 +169,7 @@ fn perform_line<P: Performer>(
     }
 }
 
-// Performs the delivery of a line, and leaves what it comes to as the text.
+// Performs the delivery of a line, and leaves its lines as the text.
 fn perform_delivery<P: Performer>(
     alloc: Global,
     performer: &mut P,

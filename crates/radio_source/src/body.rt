@@ -24,7 +24,7 @@ pub struct Body {
 pub struct Blocks {
     /// All data of the feed in order, cut every 4096 bytes; the last block may be shorter.
     pub blocks: Vec<Block>,
-    /// Whether the body is complete by this feed. It is told once, by the feed in which the end came.
+    /// Whether the body is complete by this feed. It is true once, in the feed in which the end came.
     pub is_complete: bool,
 }
 
@@ -71,9 +71,9 @@ impl Body {
 
     /// Takes the next piece of the body, and answers its data and whether the end came in it.
     ///
-    /// A fault that stands behind data or behind the end is answered by the next feed, also of an empty piece:
-    /// `BadChunk` and `PastEnd` come where neither came before them in the piece. `OutOfMemory` comes where memory was
-    /// refused. After any of these the body answers `Failed`.
+    /// A fault behind data or behind the end is returned by the next feed, also of an empty piece: `BadChunk` and
+    /// `PastEnd` come if neither data nor the end came before them in the piece. `OutOfMemory` comes if memory was
+    /// refused. After any of these the body returns `Failed`.
     // rule: Sized body; Chunk; Last chunk; Place of a fault; Feed
     #[tactic(auto, unfolding(crate::specs::Feeding::answer_to, crate::specs::Feeding::after_feed))]
     pub fn feed(&mut self, bytes: &[u8]) -> Result<Blocks, BodyFault>
@@ -116,7 +116,7 @@ impl Body {
     }
 }
 
-// The answer with these blocks and this fault: the fault, where there is nothing else to tell.
+// The answer with these blocks and this fault: the fault, if there is nothing else.
 fn answered(
     blocks: Vec<Block>,
     is_complete: bool,

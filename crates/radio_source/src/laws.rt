@@ -54,8 +54,8 @@ pub fn sized_bodies()
         → (has_ended (after (sized_start n) bytes) ≡ true) × (fault_at (after (sized_start n) bytes) ≡ Some PastEnd) }
 {}
 
-/// A chunk line is read as `httparse` states it: whole with its size where one stands at the front, unfinished where none
-/// does but one may come, and refused where none can come any more.
+/// A chunk line is read as `httparse` states it: whole with its size if one is at the front, unfinished if none is but
+/// one may come, and refused if none can come any more.
 // rule: Chunk
 pub fn chunk_lines()
     ensures whole { (bytes : List ℕ) (size : ℕ) → chunk_line_in bytes ≡ Whole size
@@ -109,7 +109,7 @@ pub fn refused_bytes_begin_no_body()
 {}
 
 /// What is not refused begins a body of the grammar, unless it ends in more than 253 bytes of a chunk line. So a fault
-/// stands at the first byte that no body has there, but for a line that is too long: its fault stands at its 256th byte.
+/// comes at the first byte that no body has there, but for a line that is too long: its fault comes at its 256th byte.
 pub fn other_bytes_begin_a_body()
     ensures { (bytes : List ℕ) → fault_at (after chunked_start bytes) ≡ None
         → HasRoomForItsLine (after chunked_start bytes)

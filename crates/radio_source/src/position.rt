@@ -45,7 +45,7 @@ pub enum Stage {
     BadByte,
 }
 
-/// Where the bytes of a body have led: what comes next, and what has come of a chunk line.
+/// Where the bytes of a body have led: what comes next, and the bytes of a chunk line so far.
 #[derive(Drop)]
 pub struct Position {
     stage: Stage,
@@ -115,7 +115,7 @@ impl Position {
         }
     }
 
-    /// The fault that stands among the bytes so far.
+    /// Returns the fault among the bytes so far.
     pub fn fault(&self) -> Option<BodyFault>
         ensures { result ≡ fault_at self.now }
     {

@@ -75,8 +75,8 @@ pub fn read_text<F: ReadsFiles>(files: &F, path: &str) -> Result<SettingsText, F
 }
 
 impl SettingsText {
-    /// The settings, with what the files hold that they name, and a second copy of the settings: the house takes one, and who
-    /// pulls relays in beside it reads the other. Faults are those of [`read_station`], without the first.
+    /// Returns the settings, with what the files hold that they name, and a second copy of the settings: the house
+    /// takes one, and the threads of relays read the other. Faults are those of [`read_station`], without the first.
     // rule: Settings check
     pub fn station_twice<F: ReadsFiles>(&self, files: &F) -> Result<(Station, Settings), FileFault>
         ensures copies { IfOk result (λ read. read.1 ≡ read.0.settings) }

@@ -1,4 +1,4 @@
-//! What the program reads before it does its work, and what it tells of it.
+//! What the program reads before it does its work, and what it says of it.
 //!
 //! - [`read_station`]; [`read_text`] and what a [`SettingsText`] says: the settings of a file, and what the files hold that
 //!   they name.

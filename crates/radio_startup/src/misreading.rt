@@ -30,7 +30,7 @@ pub fn misread(alloc: Global, text: &[u8], place: usize, reason: &str) -> FileFa
     }
 }
 
-/// The line of what stands behind these bytes, counted from 1.
+/// Returns the line after these bytes, counted from 1.
 fn line_behind(before: &[u8]) -> usize
     ensures { result ≡ line_behind before.now }
 {
@@ -41,7 +41,7 @@ fn line_behind(before: &[u8]) -> usize
     line
 }
 
-/// The line behind a byte that stands in this one.
+/// Returns the line after a byte of this one.
 fn next_line(line: usize, byte: u8) -> usize
     ensures { result ≡ line_after line byte }
 {
@@ -52,7 +52,7 @@ fn next_line(line: usize, byte: u8) -> usize
     }
 }
 
-/// The character of its line that stands behind these bytes, counted from 1.
+/// Returns the column after these bytes: the character of its line, counted from 1.
 fn column_behind(before: &[u8]) -> usize
     ensures { result ≡ column_behind before.now }
 {
@@ -63,7 +63,7 @@ fn column_behind(before: &[u8]) -> usize
     column
 }
 
-/// The column behind a byte of UTF-8 that stands at this one.
+/// Returns the column after a byte of UTF-8 at this one.
 fn next_column(column: usize, byte: u8) -> usize
     ensures { result ≡ column_after column byte }
 {

@@ -16,8 +16,8 @@ use std::fmt::Display;
 use std::fs::Files;
 use std::time::Clock;
 
-/// The version of the program (Semantic Versioning 2.0.0). It stands here alone: `--version`, the log's first line and the
-/// packages that scripts make read it.
+/// The version of the program (Semantic Versioning 2.0.0). It is written here alone: `--version`, the log's first line
+/// and the packages that scripts make read it.
 pub const VERSION: &str = "0.9.0";
 
 /// The name of the limit of descriptors (Linux, `proc(5)`).
@@ -69,7 +69,7 @@ fn seconds_now<R: Clock>(rt: &R) -> u64 {
     }
 }
 
-/// Tells that the program listens at this address.
+/// Logs that the program listens at this address.
 pub fn tell_start<N: Notices>(notices: &N, address: &str) {
     notices.tell(started(VERSION, address));
 }

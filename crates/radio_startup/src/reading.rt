@@ -43,7 +43,8 @@ impl<'a, R: Files + AllocGlobal> ReadsFiles for SystemFiles<'a, R> {
         self.rt.alloc()
     }
 
-    /// Returns all of the file of this path. Want of memory is not told as a file that cannot be read.
+    /// Returns all of the file of this path. Want of memory is not reported as a file that cannot be
+    /// read.
     fn read(&self, path: &str) -> Result<Vec<u8>, FileFault>
         ensures bytes { IfOk result (λ _. Unit {0}) }
         ensures fault { IfErr result (λ fault. IsUnread path.now fault) }

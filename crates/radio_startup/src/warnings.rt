@@ -13,8 +13,8 @@ use radio_settings_values::{AccessSettings, MountSetting, Settings};
 use radio_values::Text as Password;
 use std::alloc::Global;
 
-/// How many descriptors are wanted beside those of clients: the standard streams, the bound socket, what tells of
-/// sockets, and one for a file.
+/// How many descriptors are wanted in addition to those of clients: the standard streams, the bound socket, that
+/// which reports sockets, and one for a file.
 const OTHER_DESCRIPTORS: u64 = 8;
 
 /// Returns a warning for each thing that an operator should know of these settings, and of keys of them that are passed over,

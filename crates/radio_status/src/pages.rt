@@ -82,8 +82,8 @@ fn start_shown(start: &Option<MomentText>) -> ListedText<'_>
     }
 }
 
-/// What Icecast answers at its status of a server that started then, where this stands before the names of mounts.
-/// `OutOfMemory` where memory was refused.
+/// Returns what Icecast answers at its status of a server that started then, with this before the names of mounts.
+/// `OutOfMemory` if memory was refused.
 fn status_at(
     alloc: Global,
     house: &House<'_>,

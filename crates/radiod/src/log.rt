@@ -70,7 +70,8 @@ impl<'a, W: Clock + Threads + Wait + Copy + Drop + Send + 'static> ProgramLog<'a
         listening
     }
 
-    /// Adds the last line of a check that has come to this, and returns that. It waits for a second at most until all is written.
+    /// Adds the last line of a check with this result, and returns that. It waits for a second at most until all is
+    /// written.
     pub fn tell_verdict(&self, verdict: Result<(), Fault>) -> Result<(), Fault>
         ensures { result ≡ verdict }
     {
@@ -143,7 +144,7 @@ pub fn say_unknown(rt: &HostRuntime, unknown: &[UnknownKey]) {
     }
 }
 
-/// Says a fault on standard error, and returns it. Where that takes nothing, the status of the program alone tells.
+/// Says a fault on standard error, and returns it. If that takes nothing, only the status of the program says it.
 pub fn say(rt: &HostRuntime, fault: Fault) -> Fault
     ensures { result ≡ fault }
 {
@@ -151,7 +152,8 @@ pub fn say(rt: &HostRuntime, fault: Fault) -> Fault
     fault
 }
 
-/// The last line of a check that has come to this; none if it has a fault, which standard error has.
+/// Returns the last line of a check with this result; none if it has a fault, which standard error
+/// has.
 fn verdict_line(verdict: &Result<(), Fault>) -> &'static [u8]
     ensures { result.now ≡ verdict_line verdict.now }
 {

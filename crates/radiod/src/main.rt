@@ -138,7 +138,7 @@ fn serve_text<W: Clock + Threads + Wait + Sync + Copy + Drop + Send + 'static>(
     }
 }
 
-/// The fault of a file, of which the log and standard error were told.
+/// Returns the fault of a file, which the log and standard error get.
 fn told<W: Clock + Threads + Wait + Copy + Drop + Send + 'static>(
     log: &ProgramLog<'_, W>,
     path: &str,
@@ -149,7 +149,7 @@ fn told<W: Clock + Threads + Wait + Copy + Drop + Send + 'static>(
     log.tell_fault(path, Fault::File(fault))
 }
 
-/// Reads what `serve` reads. What is doubtful is told as `serve` tells it, and then `ok`; warnings are a fault if the check is
+/// Reads what `serve` reads. Logs what is doubtful as `serve` does, and then `ok`; warnings are a fault if the check is
 /// strict.
 fn check_file<W: Clock + Threads + Wait + Sync + Copy + Drop + Send + 'static>(
     rt: &HostRuntime,
@@ -165,7 +165,7 @@ fn check_file<W: Clock + Threads + Wait + Sync + Copy + Drop + Send + 'static>(
     }
 }
 
-/// Reads what `serve` reads, and tells this log what is doubtful.
+/// Reads what `serve` reads, and logs here what is doubtful.
 fn check_logged<W: Clock + Threads + Wait + Copy + Drop + Send + 'static>(
     rt: &HostRuntime,
     log: &ProgramLog<'_, W>,
@@ -183,7 +183,7 @@ fn check_logged<W: Clock + Threads + Wait + Copy + Drop + Send + 'static>(
     }
 }
 
-/// What a check comes to by so many warnings: they are a fault if it is strict.
+/// Returns the result of a check with so many warnings: they are a fault if it is strict.
 // rule: Settings check
 fn verdict(is_strict: bool, warnings: usize) -> Result<(), Fault>
     ensures { result ≡ verdict is_strict warnings }
@@ -194,7 +194,7 @@ fn verdict(is_strict: bool, warnings: usize) -> Result<(), Fault>
     Ok(())
 }
 
-/// How many warnings there are of a settings file; each was told.
+/// Returns how many warnings there are of a settings file; each was logged.
 fn warnings_of<W: Clock + Threads + Wait + Copy + Drop + Send + 'static>(
     rt: &HostRuntime,
     log: &ProgramLog<'_, W>,

@@ -60,7 +60,7 @@ pub fn serve_station<W: Clock + Threads + Wait + Sync + Copy + Drop + Send + 'st
     }
 }
 
-/// Returns the bound socket, of which the log was told, and the queue of the log. Keys that are passed over are said first.
+/// Returns the bound socket, which was logged, and the queue of the log. Keys that are ignored are said first.
 fn bind<W: Clock + Threads + Wait + Copy + Drop + Send + 'static>(
     rt: &HostRuntime,
     log: &ProgramLog<'_, W>,
@@ -186,7 +186,8 @@ fn service_of(settings: &Settings, answers: AnswerSettings, start: Option<Moment
     }
 }
 
-/// What the settings say of answers, as connections take it, and when the server started, if it is told.
+/// Returns what the settings say of answers, as connections take it, and when the server started, if
+/// clients may know it.
 // rule: Commands by a browser; Cache control
 pub fn web_of(answers: AnswerSettings, start: Option<Moment>) -> WebAnswers
     ensures commands { result.browser_commands ≡ answers.browser_commands }
