@@ -15,7 +15,7 @@ abbrev pub first_entries : Peer → Reply → List Entry
 first_entries peer (Arrived id) = entry (Arrive peer) (Arrived id) ∷ []
 first_entries peer reply = []
 
--- A connection that came so stands as it must, if its line has given and taken nothing yet.
+-- A connection that came so is in a sound state, if its line has given and taken nothing yet.
 -- rule: Newcomers
 abbrev pub IsTakenIn : Arrival → List ℕ → List ℕ → Connection → Type 0
 IsTakenIn arrival given taken c = given ≡ [] → taken ≡ [] → Stands arrival c (first_entries arrival.peer arrival.reply)

@@ -14,8 +14,8 @@ use Rattle.radio_session.specs.Hearing.{Heard, IsHeard}
 use Rattle.radio_connections.specs.Duties.{IsLater, LacksMemory, AreFirstOf, events_of, NotesAsking}
 use Rattle.radio_connections.specs.Serving.{StandsBefore, Stands}
 
--- With this fate, a connection was told the reply: its bytes are owed behind the others, and its session stands as it does then. Where it
--- is cut off, nothing is said.
+-- With this fate, the reply was appended on a connection: its bytes are pending behind the others, and its session is what it is then. If
+-- it is cut off, nothing is said.
 abbrev pub IsToldAs : Fate → Reply → Conversation → List ℕ → Conversation → List ℕ → Type 0
 IsToldAs Cut reply session outgoing session' outgoing' = Unit {0}
 IsToldAs fate reply session outgoing session' outgoing' =
@@ -67,13 +67,13 @@ pub record AreAnswered (events : List Event) (c : Connection) (entries : List En
   pub spared : IsSpared c c'
   pub asked : c'.status.asked_ms ≡ c.status.asked_ms
 
--- these entries are of the first of the events as which the bytes are heard
+-- these entries are of the first of the events that the bytes mean
 pub record AreOf (c : Connection) (bytes : List ℕ) (entries : List Entry) : Type 0 where
   pub heard : Heard
   pub is : IsHeard c.session bytes heard
   pub first : AreFirstOf entries heard.events
 
--- bytes that its line gave last are heard at this moment, and answered
+-- bytes that its line gave last are read at this moment, and answered
 pub record IsHeardOn (ms : ℕ) (bytes : List ℕ) (c : Connection) (entries : List Entry) (c' : Connection) : Type 0 where
   pub same : c'.id ≡ c.id
   pub heard : (entries ≡ []) ⊎ AreOf c bytes entries

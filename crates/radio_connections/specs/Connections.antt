@@ -34,8 +34,8 @@ refused_one false refused = record { events = suc refused.events; leavings = ref
 abbrev pub one_refusal : Event → Refused → Refused
 one_refusal event refused = refused_one (is_leave event) refused
 
--- the number of its client, all that its line gave and took, how often it was called, what is owed to the line, how its session stands,
--- what its worker notes of it, and what was refused to it
+-- the number of its client, all that its line gave and took, how often it was called, what is pending, its session, what its worker
+-- notes of it, and what was refused to it
 pub record Connection : Type 0 where
   -- 0 where it is nobody's
   pub id : ℕ
@@ -85,7 +85,7 @@ without_at (Some i) cs = remove cs i
 abbrev pub without_first : List Connection → List Connection
 without_first cs = without_at (position lingers cs) cs
 
--- one was not let in, and is owed what it is told; its line gave and took this
+-- a client was not let in, and its answer is pending; its line gave and took this
 pub record IsTurnedAway (web : WebAnswers) (denial : Reply) (given taken : List ℕ) (ms : ℕ) (c : Connection) : Type 0 where
   pub id : c.id ≡ 0
   pub given_so_far : c.given ≡ given

@@ -35,11 +35,11 @@ pub record Standing : Type 0 where
   pub given : List ℕ
   -- the events that were applied for it, with their replies
   pub entries : List Entry
-  -- what it is told of the replies
+  -- what was written of the replies
   pub text : List ℕ
-  -- how its session stands
+  -- its session
   pub session : Conversation
-  -- what was heard and is still to be applied
+  -- what was read and is still to be applied
   pub pending : List Event
   -- whether a seat was given to it
   pub sits : Bool
@@ -62,7 +62,7 @@ newcomer web peer id =
       has_left = false;
     }
 
--- a connection whose client was not let in: it is told the reply, and is nobody's
+-- a connection whose client was not let in: the reply is written to it, and it has no number
 abbrev pub stranger : Arrival → Standing
 stranger arrival =
     record {
@@ -89,7 +89,7 @@ is_seated reply = false
 abbrev pub is_seat : Event → Reply → Bool
 is_seat event reply = is_listen event && is_seated reply
 
--- a connection that is shut has ended, and what was heard after that is not applied
+-- a connection that is shut has ended, and what was read after that is not applied
 abbrev pub fate_by : State → Fate
 fate_by Running = Open
 fate_by (Shut ending) = Ended
@@ -98,7 +98,7 @@ abbrev pub pending_by : State → List Event → List Event
 pending_by Running events = events
 pending_by (Shut ending) events = []
 
--- an event of the connection is applied, and it is told of the reply
+-- an event of the connection is applied, and the reply is written
 -- rule: Reading
 abbrev pub answered : Standing → Event → List Event → Reply → Standing
 answered s event later reply = let told = said s.session.says reply in record s {
@@ -116,7 +116,7 @@ abbrev pub IsOver : Fate → Type 0
 IsOver Open = ⊥
 IsOver fate = Unit {0}
 
--- it goes on, and all that was heard has been applied
+-- it goes on, and all that was read has been applied
 abbrev pub IsQuiet : Standing → Type 0
 IsQuiet s = (s.fate ≡ Open) × (s.pending ≡ [])
 
@@ -126,7 +126,7 @@ pub data Course (arrival : Arrival) (id : ℕ) : Standing → Type 0 where
   -- it comes, and is let in, or not
   arrives : arrival.reply ≡ Arrived id → Course arrival id (newcomer arrival.web arrival.peer id)
   turned_away : LetsNobodyIn arrival.reply → Course arrival id (stranger arrival)
-  -- its line gives bytes, and they are heard as these events
+  -- its line gives bytes, and they are read as these events
   hears : (s : Standing) → Course arrival id s → IsQuiet s → (bytes : List ℕ) (heard : Heard) → IsHeard s.session bytes heard
       → Course arrival id (record s { given = s.given ++ bytes; session = heard.conversation; pending = heard.events })
   -- it has room for so many bytes of data
@@ -134,9 +134,10 @@ pub data Course (arrival : Arrival) (id : ℕ) : Standing → Type 0 where
   -- the first of the events is applied
   applies : (s : Standing) → Course arrival id s → s.fate ≡ Open → (event : Event) (later : List Event) → s.pending ≡ event ∷ later → (reply : Reply)
       → Course arrival id (answered s event later reply)
-  -- nothing more comes on its line, or nothing more is told on it; one that was cut off is not closed
+  -- nothing more comes on its line, or nothing more is written on it; one that was cut off is not
+  -- closed
   closes : (s : Standing) → Course arrival id s → IsWritten s.fate → s.pending ≡ [] → Course arrival id (record s { fate = Closed })
-  -- it is cut off: bytes that came are not heard, events are not applied, or it is not told all
+  -- it is cut off: bytes that came are not read, events are not applied, or not all is written
   is_cut : (s : Standing) → Course arrival id s → (unheard : List ℕ) → Course arrival id (record s { given = s.given ++ unheard; pending = []; fate = Cut })
   -- what comes after its end is passed over
   passes_over : (s : Standing) → Course arrival id s → s.fate ≡ Ended → (bytes : List ℕ) → Course arrival id (record s { given = s.given ++ bytes })

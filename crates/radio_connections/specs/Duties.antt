@@ -1,4 +1,4 @@
--- What a worker owes to a connection in a turn, and what it may not do to it.
+-- What a worker must do for a connection in a turn, and what it may not do to it.
 use Rattle.std.specs.Prelude.{◌≡◌, ◌+◌, ◌<◌, ◌≤◌, ◌-◌, ◌⊎◌, ℕ, suc, Bool, true, false, List, [], ◌∷◌, ◌++◌, map}
 use Rattle.radio_events.specs.declared.event.Event.{Event}
 use Rattle.radio_events.specs.declared.event.Event.TheVariants.{Draw, Leave}
@@ -11,13 +11,13 @@ use Rattle.radio_connections.specs.declared.conn.Fate.TheVariants.{Open, Ended, 
 use Rattle.radio_connections.specs.Connections.{Connection}
 use Rattle.radio_connections.specs.Rooms.{draw_room}
 
--- what is owed is still written
+-- what is pending is still written
 abbrev pub IsWritten : Fate → Type 0
 IsWritten Cut = ⊥
 IsWritten Closed = ⊥
 IsWritten fate = Unit {0}
 
--- something is owed to it
+-- something is pending on it
 abbrev pub IsOwed : Connection → Type 0
 IsOwed c = c.outgoing ≡ [] → ⊥
 
@@ -41,7 +41,7 @@ pub record IsReadOnce (c c' : Connection) : Type 0 where
   pub reads : c'.calls.reads ≡ suc c.calls.reads
   pub room : c'.calls.room ≡ c.calls.room + 16384
 
--- One that is open, and to which nothing is owed, is asked for bytes, once.
+-- One that is open, and on which nothing is pending, is asked for bytes, once.
 -- rule: Reading; Unwanted bytes
 abbrev pub IsAsked : Connection → Connection → Type 0
 IsAsked c c' = c.status.fate ≡ Open → c.outgoing ≡ [] → IsReadOnce c c'
@@ -51,12 +51,12 @@ IsAsked c c' = c.status.fate ≡ Open → c.outgoing ≡ [] → IsReadOnce c c'
 abbrev pub IsAskedOnce : Connection → Connection → Type 0
 IsAskedOnce c c' = IsUnread c c' ⊎ IsReadOnce c c'
 
--- One to which something is owed is written to.
+-- One on which something is pending is written to.
 -- rule: Pending bytes first
 abbrev pub IsGiven : Connection → Connection → Type 0
 IsGiven c c' = IsWritten c.status.fate → IsOwed c → c.calls.writes < c'.calls.writes
 
--- its line has taken all that it was owed, and perhaps more
+-- its line has taken all that was pending, and perhaps more
 abbrev pub HasTakenAll : Connection → Connection → Type 0
 HasTakenAll c c' = (more : List ℕ) × (c'.taken ≡ (c.taken ++ c.outgoing) ++ more)
 
@@ -64,17 +64,18 @@ HasTakenAll c c' = (more : List ℕ) × (c'.taken ≡ (c.taken ++ c.outgoing) ++
 abbrev pub IsAtMostLeaving : ℕ → List Entry → Type 0
 IsAtMostLeaving id entries = (entries ≡ []) ⊎ ((reply : Reply) × (entries ≡ entry (Leave id) reply ∷ []))
 
--- Unless its line has taken all that it was owed, it is not read from, and nothing is applied for it but that its client leaves.
+-- Unless its line has taken all that was pending, it is not read from, and nothing is applied for it but that its client leaves.
 -- rule: Pending bytes first
 abbrev pub HasWaited : Connection → List Entry → Connection → Type 0
 HasWaited c entries c' = HasTakenAll c c' ⊎ (IsUnread c c' × IsAtMostLeaving c.id entries)
 
--- at this moment, nothing of what it is owed has moved for so long
+-- at this moment, nothing of what is pending has moved for so long
 -- rule: Cut off
 abbrev pub HasStalled : ℕ → ℕ → Connection → Type 0
 HasStalled ms patience c = patience ≤ ms - c.status.moved_ms
 
--- Who is still served has taken all that it was owed, or something of it has moved within this time: who has stalled is cut off.
+-- The line of a connection that is still served has taken all that was pending, or something of it has moved within this time.
+-- One that has stalled is cut off.
 -- rule: Cut off
 abbrev pub IsInTime : ℕ → ℕ → Connection → Connection → Type 0
 IsInTime ms patience c c' = IsWritten c'.status.fate → HasTakenAll c c' ⊎ (ms - c'.status.moved_ms < patience)
@@ -83,16 +84,16 @@ IsInTime ms patience c c' = IsWritten c'.status.fate → HasTakenAll c c' ⊎ (m
 abbrev pub HasTakenSome : Connection → Connection → Type 0
 HasTakenSome c c' = c'.taken ≡ c.taken → ⊥
 
--- it goes on, and nothing is owed to it
+-- it goes on, and nothing is pending on it
 abbrev pub IsIdle : Connection → Type 0
 IsIdle c = (c.status.fate ≡ Open) × (c.outgoing ≡ [])
 
--- its peer was told that nothing more is written
+-- its peer knows that nothing more is written
 abbrev pub IsFinishedNow : Connection → Connection → Type 0
 IsFinishedNow c c' = (c.status.is_finished ≡ false) × (c'.status.is_finished ≡ true)
 
--- That counts from the last turn in which its line took something, or nothing was owed to it when its turn came, or its peer was told that
--- nothing more is written: then the moment is that of the turn,
+-- That counts from the last turn in which its line took something, or nothing was pending when its turn came, or it was closed for
+-- writing: then the moment is that of the turn,
 -- rule: Cut off
 abbrev pub HasMoved : ℕ → Connection → Connection → Type 0
 HasMoved ms c c' = HasTakenSome c c' ⊎ (IsIdle c ⊎ IsFinishedNow c c') → c'.status.moved_ms ≡ ms
@@ -120,7 +121,7 @@ pub data Cause (ms patience : ℕ) (c c' : Connection) : Type 0 where
   WasCut : c.status.fate ≡ Cut → Cause ms patience c c'
   -- its line failed
   HasFailed : c.calls.faults < c'.calls.faults → Cause ms patience c c'
-  -- something is owed to it, and its line took nothing for too long
+  -- something is pending on it, and its line took nothing for too long
   TookNothing : IsOwed c' → HasStalled ms patience c' → Cause ms patience c c'
   -- it was open, and memory was refused
   WasRefused : c.status.fate ≡ Open → LacksMemory c c' → Cause ms patience c c'
@@ -130,11 +131,11 @@ pub data Cause (ms patience : ℕ) (c c' : Connection) : Type 0 where
 abbrev pub IsCutFor : ℕ → ℕ → Connection → Connection → Type 0
 IsCutFor ms patience c c' = c'.status.fate ≡ Cut → Cause ms patience c c'
 
--- its line told that its peer has closed, or failed
+-- its line reported that its peer has closed, or failed
 abbrev pub HasEnded : Connection → Connection → Type 0
 HasEnded c c' = (c.calls.closings < c'.calls.closings) ⊎ (c.calls.faults < c'.calls.faults)
 
--- it had ended, and a second has passed since its peer was told that nothing more is written
+-- it had ended, and a second has passed since it was closed for writing
 pub record HasLingered (ms : ℕ) (c : Connection) : Type 0 where
   pub ended : c.status.fate ≡ Ended
   pub told : c.status.is_finished ≡ true
@@ -145,7 +146,7 @@ pub record HasLingered (ms : ℕ) (c : Connection) : Type 0 where
 pub data WhyClosed (ms : ℕ) (c c' : Connection) : Type 0 where
   -- it was closed before
   WasClosed : c.status.fate ≡ Closed → WhyClosed ms c c'
-  -- its line told that its peer has closed, or failed
+  -- its line reported that its peer has closed, or failed
   LineHasEnded : HasEnded c c' → WhyClosed ms c c'
   -- it had ended, and nothing was ever written to it
   HeardNothing : c.status.fate ≡ Ended → c'.status.has_taken ≡ false → WhyClosed ms c c'
@@ -157,8 +158,8 @@ pub data WhyClosed (ms : ℕ) (c c' : Connection) : Type 0 where
 abbrev pub IsClosedFor : ℕ → Connection → Connection → Type 0
 IsClosedFor ms c c' = c'.status.fate ≡ Closed → WhyClosed ms c c'
 
--- It lingers: something was written to it, its peer was told that nothing more is, its line was read from and told no end, and less than a
--- second has passed since then.
+-- It lingers: something was written to it, it was closed for writing, its line was read from and reported no end, and less than a second
+-- has passed since then.
 -- rule: Lingering
 pub record Lingers (ms : ℕ) (c c' : Connection) : Type 0 where
   pub written : c'.status.has_taken ≡ true
@@ -167,12 +168,12 @@ pub record Lingers (ms : ℕ) (c c' : Connection) : Type 0 where
   pub goes : HasEnded c c' → ⊥
   pub in_time : ms - c'.status.moved_ms < 1000
 
--- Who had ended and is owed nothing lingers, or is closed.
+-- One that had ended and on which nothing is pending lingers, or is closed.
 -- rule: Lingering
 abbrev pub IsLetGo : ℕ → Connection → Connection → Type 0
 IsLetGo ms c c' = c.status.fate ≡ Ended → c'.status.fate ≡ Ended → c'.outgoing ≡ [] → Lingers ms c c'
 
--- Nobody is told that nothing more is written but who has ended, and whose line has taken all.
+-- Only one that has ended, and whose line has taken all, is closed for writing.
 -- rule: Lingering
 abbrev pub IsFinishedFor : Connection → Connection → Type 0
 IsFinishedFor c c' = IsFinishedNow c c' → (c.status.fate ≡ Ended) × HasTakenAll c c'
@@ -190,7 +191,7 @@ events_of entries = map (λ (e : Entry). e.event) entries
 abbrev pub AreFirstOf : List Entry → List Event → Type 0
 AreFirstOf entries events = (later : List Event) × (events ≡ events_of entries ++ later)
 
--- they are of the first events as which bytes are heard that its line gave
+-- they are of the first events that the bytes mean that its line gave
 pub record AreHeard (c : Connection) (entries : List Entry) (c' : Connection) : Type 0 where
   pub bytes : List ℕ
   pub heard : Heard
@@ -198,7 +199,7 @@ pub record AreHeard (c : Connection) (entries : List Entry) (c' : Connection) : 
   pub is : IsHeard c.session bytes heard
   pub first : AreFirstOf entries heard.events
 
--- nothing, or what was heard
+-- nothing, or what was read
 abbrev pub AreAtMostHeard : Connection → List Entry → Connection → Type 0
 AreAtMostHeard c entries c' = (entries ≡ []) ⊎ AreHeard c entries c'
 
@@ -226,7 +227,8 @@ pub record IsOneTurn (c : Connection) (entries : List Entry) (c' : Connection) :
 abbrev pub IsUnasked : ℕ → Connection → Type 0
 IsUnasked ms c = 500 ≤ ms - c.status.asked_ms
 
--- For one that goes on, to which nothing was owed and for which nothing was asked for so long, something is asked.
+-- For one that goes on, on which nothing was pending and for which nothing was asked for so long, something is
+-- asked.
 -- rule: Finishes are silent; Drawing
 abbrev pub IsAskedFor : ℕ → Connection → List Entry → Connection → Type 0
 IsAskedFor ms c entries c' = c.outgoing ≡ [] → c'.status.fate ≡ Open → IsUnasked ms c → entries ≡ [] → ⊥

@@ -15,7 +15,7 @@ use Rattle.radio_connections.specs.Rooms.{draw_room}
 use Rattle.radio_connections.specs.Answering.{IsSpared, IsUnwritten}
 use Rattle.radio_connections.specs.Serving.{IsServed, IsOneDraw, HasDrawn}
 
--- its number, what its line gave and took, what is owed, and how its session stands
+-- its number, what its line gave and took, what is pending, and its session
 pub record IsSame (c c' : Connection) : Type 0 where
   pub id : c'.id ≡ c.id
   pub given : c'.given ≡ c.given
@@ -32,7 +32,7 @@ pub data IsNoted (ms : ℕ) (c c' : Connection) : Type 0 where
   TookNone : c'.taken ≡ c.taken → c'.status ≡ record c.status { fate = c'.status.fate } → IsNoted ms c c'
   TookSome : HasTakenSome c c' → IsWritten c.status.fate → c'.status ≡ record c.status { moved_ms = ms; has_taken = true } → IsNoted ms c c'
 
--- at this moment it was written to: it goes on only if it did before, and is owed nothing new
+-- at this moment it was written to: it goes on only if it did before, and nothing new is pending
 pub record IsFlushed (ms : ℕ) (c c' : Connection) : Type 0 where
   pub served : IsServed c [] c'
   pub goes : c'.status.fate ≡ Open → c.status.fate ≡ Open
@@ -50,7 +50,7 @@ pub record IsFlushed (ms : ℕ) (c c' : Connection) : Type 0 where
   pub closings : c'.calls.closings ≡ c.calls.closings
   pub faults : (c'.status.fate ≡ Cut → ⊥) → c'.calls.faults ≡ c.calls.faults
 
--- it was given up, if nothing of what it is owed has moved for too long
+-- it was given up, if nothing of what is pending has moved for too long
 pub record IsPatient (ms patience : ℕ) (c c' : Connection) : Type 0 where
   pub served : IsServed c [] c'
   pub goes : c'.status.fate ≡ Open → c.status.fate ≡ Open
@@ -76,7 +76,7 @@ is_over Nothing is_long = is_long
 is_over HasClosed is_long = true
 is_over Fault is_long = true
 
--- it is noted that its peer was told that nothing more is written, and when, or nothing
+-- it is noted that it was closed for writing, and when, or nothing
 abbrev pub NotesFinish : ℕ → Connection → Connection → Type 0
 NotesFinish ms c c' =
     ((c'.status.is_finished ≡ c.status.is_finished) × (c'.status.moved_ms ≡ c.status.moved_ms)) ⊎ (IsFinishedNow c c' × (c'.status.moved_ms ≡ ms))
@@ -93,7 +93,7 @@ pub record IsEnded (ms : ℕ) (c c' : Connection) : Type 0 where
   pub closed : c'.status.fate ≡ Closed → WhyClosed ms c c'
   pub lingers : c'.status.fate ≡ Ended → Lingers ms c c'
 
--- its line was not called; it stands as before, or is not closed, and cut off only where memory was refused
+-- its line was not called; it is as before, or is not closed, and cut off only if memory was refused
 abbrev pub IsSparedBefore : Connection → Connection → Type 0
 IsSparedBefore c c' = (c' ≡ c) ⊎ IsSpared c c'
 
@@ -110,7 +110,7 @@ module _ {S : Type 0} (steps : Steps S) where
     pub asking : NotesAsking ms c entries c'
     pub unwritten : IsUnwritten c c'
 
-  -- what a connection does to which nothing is owed
+  -- the work of a connection on which nothing is pending
   pub record Works (ms : ℕ) (news : Bool) (from : S) (c : Connection) (to : S) (c' : Connection) : Type 0 where
     pub entries : List Entry
     pub chain : Chain steps from entries to
@@ -123,11 +123,11 @@ module _ {S : Type 0} (steps : Steps S) where
     pub lingers : c'.status.fate ≡ Ended → (c.status.fate ≡ Open) ⊎ ((c.status.fate ≡ Ended) × Lingers ms c c')
     pub taken : c'.taken ≡ c.taken
     pub has_taken : c'.status.has_taken ≡ c.status.has_taken
-    -- the moment of one that is open is this, and another's is as it was, unless its peer is told now that nothing more is written
+    -- the moment of one that is open is this, and another's is as it was, unless it is closed for writing now
     pub idle : c.status.fate ≡ Open → (c'.status.moved_ms ≡ ms) × (c'.status.is_finished ≡ c.status.is_finished)
     pub over : (c.status.fate ≡ Open → ⊥) → NotesFinish ms c c'
     pub finished : IsFinishedNow c c' → c.status.fate ≡ Ended
-    -- what was heard, and then a draw
+    -- what was read, and then a draw
     pub heard : List Entry
     pub draws : List Entry
     pub all : entries ≡ heard ++ draws

@@ -1,4 +1,4 @@
--- What a line tells of its bytes.
+-- What a line knows of its bytes.
 use Rattle.std.specs.Prelude.{◌≡◌, ◌+◌, ◌<◌, ◌≤◌, ℕ, suc, List, ◌++◌, length, take}
 use Rattle.radio_connections.specs.declared.line.Received.{Received}
 use Rattle.radio_connections.specs.declared.line.Received.TheVariants.{Bytes, Nothing, Closed, Fault}
@@ -6,7 +6,7 @@ use Rattle.radio_connections.specs.declared.line.Sent.{Sent}
 use Rattle.radio_connections.specs.declared.line.Sent.TheVariants.{Took, Nothing as TookNothing, Fault as HasFailed}
 
 -- how often a line was read from, for how many bytes there was room in all these reads, how often it was written to, how often it has failed,
--- and how often it has told that its peer has closed
+-- and how often it has reported that its peer has closed
 -- rule: Pending bytes first
 pub record Calls : Type 0 where
   pub reads : ℕ

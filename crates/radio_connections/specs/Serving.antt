@@ -14,15 +14,16 @@ use Rattle.radio_connections.specs.Duties.{IsLater, IsAsked, IsAskedOnce, IsGive
 use Rattle.radio_connections.specs.Duties.{IsLetGo, IsFinishedFor, HasLeft, IsOneTurn, IsAskedFor, NotesAsking}
 use Rattle.radio_connections.specs.Rooms.{draw_room}
 
--- What the line took, followed by what is owed to it, is what was told. Once it is closed, it took all; where it was cut off, the front.
+-- What the line took, followed by what is pending, is what was written for it. Once it is closed, it took all; if it was cut off, the
+-- front.
 -- rule: Reading
 abbrev pub IsHanded : Fate → List ℕ → List ℕ → List ℕ → Type 0
 IsHanded Cut text taken outgoing = (lost : List ℕ) × (text ≡ taken ++ lost)
 IsHanded Closed text taken outgoing = text ≡ taken
 IsHanded fate text taken outgoing = text ≡ taken ++ outgoing
 
--- The connection stands as it must where it came so, these entries were made for it, and these events are still to be applied:
--- there is a course of its client by which its line gave what it gave, and was handed what was told.
+-- The connection is in a sound state if it came so, these entries were made for it, and these events are still to be applied.
+-- There is a course of its client by which its line gave what it gave, and was given what was written.
 pub record StandsBefore (arrival : Arrival) (pending : List Event) (c : Connection) (entries : List Entry) : Type 0 where
   pub standing : Standing
   pub course : Course arrival c.id standing
@@ -40,7 +41,8 @@ pub record StandsBefore (arrival : Arrival) (pending : List Event) (c : Connecti
 abbrev pub Stands : Arrival → Connection → List Entry → Type 0
 Stands arrival c entries = StandsBefore arrival [] c entries
 
--- These entries were made for the connection: however it came, and whatever was made for it before, it stands with both.
+-- These entries were made for the connection: however it came, and whatever was made for it before, it is sound with
+-- both.
 -- rule: Reading
 pub record IsServed (c : Connection) (entries : List Entry) (c' : Connection) : Type 0 where
   pub same : c'.id ≡ c.id
@@ -55,7 +57,8 @@ IsOneDraw id room entries c' = c'.status.fate ≡ Open → (reply : Reply) × (e
 abbrev pub EndsWithDraw : ℕ → List Entry → Type 0
 EndsWithDraw id entries = (others : List Entry) × (reply : Reply) × (entries ≡ others ++ entry (Draw id draw_room) reply ∷ [])
 
--- Where there is news, one who has a seat and goes on has drawn, last of all, if nothing was owed to it when its turn came.
+-- If there is news, a connection that has a seat and goes on has drawn, last of all, if nothing was pending when its turn
+-- came.
 -- rule: Drawing
 abbrev pub HasDrawn : Bool → Connection → List Entry → Connection → Type 0
 HasDrawn news c entries c' = news ≡ true → c.outgoing ≡ [] → c'.status.fate ≡ Open → c'.status.sits ≡ true → EndsWithDraw c.id entries

@@ -1,4 +1,4 @@
--- What an event does to how one client, or one relay, stands.
+-- What an event does to the standing of one client or relay.
 use Rattle.std.specs.Prelude.{◌≡◌, ℕ, ◌<◌, true, false, List, Some}
 use Rattle.radio_policy.specs.declared.rule.Rule.{Rule}
 use Rattle.radio_policy.specs.declared.judgement.Verdict.TheVariants.{Allow}
@@ -24,9 +24,9 @@ use Rattle.radio_house.specs.Clients.{Client, client_of}
 use Rattle.radio_core.specs.Step.{reply_to, world_after}
 use Rattle.radio_house.specs.World.{World, standing_of, has_relay}
 
--- all that an event can do to how the client, or the relay, of this number stands, where a rule finishes it only for its cause
+-- all that an event can do to the standing of the client or relay of this number; a rule finishes it only for its cause
 pub data ClientStep (w : World) (Cause : Rule → Type 0) (event : Event) (id : ℕ) : Standing → Standing → Type 0 where
-  -- it stands as before
+  -- its standing is as before
   Stays : (standing : Standing) → ClientStep w Cause event id standing standing
   -- it arrives from an address that passes the address lists, with a number that was not given before
   Arrives : (peer : Peer) → event ≡ Arrive peer → passes w.house.lists peer ≡ true → w.house.last_id < id
@@ -45,7 +45,7 @@ pub data ClientStep (w : World) (Cause : Rule → Type 0) (event : Event) (id : 
   -- it asks to hear a mount, and the policy allows it
   SitsDown : (peer : Peer) (asked : ListenRequest) → event ≡ Listen asked → asked.id ≡ id → verdict_in (rows_to_listen w asked) ≡ Allow
       → ClientStep w Cause event id (Undecided peer) Sits
-  -- its data have come to their end
+  -- its data have ended
   StopsFeeding : (mount : List ℕ) → event ≡ SourceEnd id → has_relay w id ≡ false → ClientStep w Cause event id (Feeds mount) Answered
   -- it leaves
   Leaves : (standing : Standing) → event ≡ Leave id → has_relay w id ≡ false → ClientStep w Cause event id standing Unknown

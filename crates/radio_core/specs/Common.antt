@@ -31,7 +31,7 @@ common_of w = record {
   last_id = w.house.last_id;
 }
 
--- a number was given, if the reply tells one
+-- a number was given, if the reply names one
 abbrev pub common_numbered : Common → Reply → Common
 common_numbered common (Arrived id) = record common { last_id = id }
 common_numbered common reply = common

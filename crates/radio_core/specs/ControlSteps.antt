@@ -7,7 +7,7 @@ use Rattle.radio_changes.specs.KeptChanges.{kept_changed}
 use Rattle.radio_core.specs.Planned.{planned, with_counts}
 use Rattle.radio_house.specs.World.{World}
 
--- the reply, which tells how many were moved, or have finished, if it is such a one
+-- the reply, with how many were moved or have finished, if it is one that names them
 abbrev pub control_reply : World → Event → Reply
 control_reply w event = with_counts (planned w event).reply (counted w (planned w event).change)
 

@@ -16,7 +16,7 @@ use Rattle.radio_house.specs.World.{World, standing_of}
 use Rattle.radio_core.specs.Outcomes.{says, if_sitting}
 use Rattle.radio_house.specs.Waiting.{silence_of}
 
--- the listener is handed what stands at its place, which moves past it, and is told the title of then; at a mount that waits for a session that is nothing
+-- the listener gets the data at its place, which moves past them, and the title of then; at a mount that waits for a session these are nothing
 abbrev pub hands_out : ℕ → Seat → ℕ → Option Session → Outcome
 hands_out id seat room None = says Stray Nothing
 hands_out id seat room (Some session) =
@@ -45,7 +45,7 @@ moves_to id (Some place) = Advance id place
 abbrev pub IsMove : ℕ → Change → Type 0
 IsMove id change = (place : Option ℕ) × (change ≡ moves_to id place)
 
--- what comes of a draw that is replied to so, and moves it there
+-- the outcome of a draw that has this reply, and moves it there
 abbrev pub comes_to : ℕ → Drawing → Outcome
 comes_to id drawing = says drawing.reply (moves_to id drawing.place)
 

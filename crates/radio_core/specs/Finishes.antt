@@ -45,7 +45,8 @@ pub data Cause (w later : World) (event : Event) (id : ℕ) : Rule → Type 0 wh
   HisSessionIsKilled : (session : Session) → standing_of w id ≡ Feeds session.mount → session_of w.house.live session.mount ≡ Some session
       → IsCommanded w event (KillSource session.mount) → Cause w later event id SourceKilled
 
--- the event finishes the client by the rule: there is a cause, and it stands so, without a seat
+-- the event finishes the client by the rule: there is a cause, and that is its standing then,
+-- without a seat
 -- rule: Killed
 pub record Finishes (w : World) (event : Event) (id : ℕ) (rule : Rule) : Type 0 where
   pub cause : Cause w (world_after w event) event id rule

@@ -7,7 +7,7 @@ use Rattle.radio_house.specs.declared.standing.Standing.TheVariants.{Unknown, Fe
 use Rattle.radio_house.specs.World.{World, standing_of, has_relay}
 use Rattle.radio_core.specs.Outcomes.{says, unless_relayed}
 
--- the connection is closed of a client who stands so; a source's session ends first
+-- the connection of a client of this standing is closed; a source's session ends first
 abbrev pub leaves_from : ℕ → Standing → Outcome
 leaves_from id Unknown = says Stray Nothing
 leaves_from id (Feeds mount) = says Noted (EndAndLeave id mount)

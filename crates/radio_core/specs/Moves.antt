@@ -38,7 +38,7 @@ moved_into session seat = record seat { mount = session.mount; session = session
 -- the event brings the move, and this is the state before the first listener has its turn
 -- rule: End of a session
 pub data Brings (w : World) : Event → Move → World → Type 0 where
-  -- a source's data come to their end
+  -- a source's data end
   ByItsEnd : (him : ℕ) (mount : List ℕ) → standing_of w him ≡ Feeds mount → has_relay w him ≡ false → Brings w (SourceEnd him) (Ended mount) (session_over w mount)
   -- a source leaves, or a relay goes down
   ByItsLeaving : (event : Event) (him : ℕ) (mount : List ℕ) → Closes w him event → standing_of w him ≡ Feeds mount

@@ -19,7 +19,8 @@ use Rattle.radio_core.specs.Ways.{IsUndecided}
 use Rattle.radio_events.specs.Events.{client_in}
 use Rattle.radio_house.specs.World.{World, standing_of}
 
--- another client's event leaves it as it stands, unless it finishes it, or it has only arrived by it, or come up
+-- another client's event leaves its standing as it is, unless the event finishes it, or it has only arrived by
+-- it, or come up
 abbrev pub StandsOn : World → Event → ℕ → Type 0
 StandsOn w event id = (standing_of (world_after w event) id ≡ standing_of w id) ⊎
     ((rule : Rule) × Finishes w event id rule) ⊎
@@ -34,7 +35,7 @@ pub data HasCome (w : World) (id : ℕ) : Event → Type 0 where
   AsClient : (peer : Peer) → standing_of (world_after w (Arrive peer)) id ≡ Undecided peer → HasCome w id (Arrive peer)
   AsRelay : (mount : List ℕ) (shown : Shown) → standing_of (world_after w (RelayUp mount shown)) id ≡ Feeds mount → HasCome w id (RelayUp mount shown)
 
--- each reply is told to one whom it fits, and it stands as it says
+-- each reply fits its client, whose standing is then what the reply says
 -- rule: Other clients
 pub record RepliesFit (w : World) (event : Event) : Type 0 where
   pub arrived : (id : ℕ) → reply_to w event ≡ Arrived id → HasCome w id event × (w.house.last_id < id) × (standing_of w id ≡ Unknown)

@@ -1,4 +1,4 @@
--- What comes of an event: the reply, and the change of the state.
+-- The outcome of an event: the reply, and the change of the state.
 use Rattle.std.specs.Prelude.{ℕ, Bool, true, false, List}
 use Rattle.radio_policy.specs.declared.judgement.Verdict.{Verdict}
 use Rattle.radio_policy.specs.declared.judgement.Verdict.TheVariants.{Allow, Deny as Denied}
@@ -19,7 +19,8 @@ abbrev pub on_verdict : Verdict → Change → Outcome → Outcome
 on_verdict Allow denied allowed = allowed
 on_verdict (Denied rule) denied allowed = says (Deny rule) denied
 
--- an event that does not fit how its client stands: it is told if it has finished, and nothing changes
+-- an event that does not fit the standing of its client: the reply names the rule if it has finished,
+-- and nothing changes
 -- rule: Out of place
 abbrev pub out_of_place : Standing → Outcome
 out_of_place (HasFinished rule) = says (Finished rule) Nothing

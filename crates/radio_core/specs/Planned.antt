@@ -1,4 +1,4 @@
--- What is worked out of an event before its change is made: a reply that tells how many were moved, or have finished, is completed then.
+-- What is worked out of an event before its change is made. A reply that names how many were moved, or have finished, is completed then.
 use Rattle.radio_events.specs.declared.event.Event.{Event}
 use Rattle.radio_events.specs.declared.event.Event.TheVariants.{Command}
 use Rattle.radio_events.specs.declared.reply.Reply.{Reply}
@@ -17,7 +17,7 @@ told_counts (Moved other) counts = Moved counts.moved
 told_counts (Ended other) counts = Ended counts.ended
 told_counts text counts = text
 
--- the reply, with these for the number of those who were moved, or have finished, if it tells one
+-- the reply, with these numbers of those who were moved, or have finished, if it names any
 abbrev pub with_counts : Reply → Carried → Reply
 with_counts (SaysText text) counts = SaysText (told_counts text counts)
 with_counts reply counts = reply

@@ -7,7 +7,7 @@ use Rattle.radio_house.specs.declared.standing.Standing.TheVariants.{Feeds, Fini
 use Rattle.radio_core.specs.Outcomes.{says}
 use Rattle.radio_house.specs.World.{World, standing_of, has_relay}
 
--- the connection of a relay to its master is closed, which stands so: its session ends first, if it has not ended before
+-- the connection of a relay of this standing to its master is closed: its session ends first, if it has not ended before
 abbrev pub goes_down_from : ℕ → Standing → Outcome
 goes_down_from id (Feeds mount) = says Noted (EndAndLeave id mount)
 goes_down_from id (Finished rule) = says Noted (Forget id)

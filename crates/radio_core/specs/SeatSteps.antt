@@ -45,7 +45,7 @@ pub data IsSent (w later : World) (event : Event) (seat : Seat) (mount : List �
 pub data SeatStep (w : World) (Cause : Rule → Type 0) (event : Event) (id : ℕ) : Option Seat → List ℕ → Option Seat → Type 0 where
   -- it stays as it is, or it has none still
   Stays : (seat : Option Seat) → SeatStep w Cause event id seat [] seat
-  -- it draws, and is handed what stands at its place in the session in which it sits
+  -- it draws, and gets the data at its place in the session in which it sits
   IsHanded : (seat : Seat) (session : Session) (room : ℕ) → event ≡ Draw id room → heard_at w.house seat.mount ≡ Some session
       → session.number ≡ seat.session → seat.place + length (data_at session.stream seat.place room) ≤ end_of session.stream
       → SeatStep w Cause event id (Some seat) (data_at session.stream seat.place room)

@@ -60,7 +60,7 @@ pub data SessionStep (w : World) (event : Event) (mount : List ℕ) : Option Ses
   -- a command sets it
   IsRetitled : (session : Session) (text : List ℕ) → IsCommanded w event (SetTitle mount text)
       → SessionStep w event mount (Some session) (Some (record session { title = Some text }))
-  -- it ends: its source has come to the end of its data, or has left, or its relay has gone down, or it was sent nothing in the time that there is for it
+  -- it ends: its source's data have ended, or it has left, or its relay has gone down, or it was sent nothing in the time that there is for it
   Ends : (session : Session) → (event ≡ SourceEnd session.number) ⊎ (event ≡ Leave session.number) ⊎ (event ≡ RelayDown session.number)
       ⊎ ((ms : ℕ) × (event ≡ Clock ms) × (1000 * w.house.settings.limits.source_timeout ≤ ms - session.last_block)) → SessionStep w event mount (Some session) None
   -- a command ends it

@@ -28,7 +28,7 @@ pub record IsSound (w : World) : Type 0 where
   pub apart : AreApart w.house.live
   -- blocks start one after another
   pub starts : (mount : List ℕ) (session : Session) → session_of w.house.live mount ≡ Some session → AreRising session.stream.starts (end_of session.stream)
-  -- listeners stand in the order of their numbers
+  -- listeners are in the order of their numbers
   pub by_number : AreByNumber w.seats
   -- whoever has a seat sits, in the session that its mount has, or waits there for one
   pub sitting : (id : ℕ) (seat : Seat) → seat_of w.seats id ≡ Some seat → standing_of w id ≡ Sits

@@ -5,7 +5,7 @@ use Rattle.radio_core.specs.declared.outcome.Outcome.{Outcome}
 use Rattle.radio_house.specs.World.{World, standing_of, has_relay}
 use Rattle.radio_core.specs.Outcomes.{says, if_feeding, unless_relayed}
 
--- a source has come to the end of its data; a relay's end with its connection
+-- a source's data have ended; a relay's end with its connection
 -- rule: End of a session
 abbrev pub stops_feeding : World → ℕ → Outcome
 stops_feeding w id = if_feeding (standing_of w id) (λ mount. unless_relayed (has_relay w id) (says Noted (End id mount)))

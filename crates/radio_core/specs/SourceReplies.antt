@@ -1,4 +1,4 @@
--- What a source is replied goes by its data, and not by how they are cut into blocks.
+-- The replies to a source depend on its data, and not on how they are cut into blocks.
 use Rattle.std.specs.Prelude.{◌≡◌, ◌⊎◌, ℕ, ◌+◌, nat_lt, Bool, true, false, List, ◌++◌, length, Option, None, Some}
 use Rattle.radio_blocks.specs.Block.{IsBlock}
 use Rattle.radio_policy.specs.declared.rule.Rule.TheVariants.{NumbersSpent}

@@ -1,4 +1,4 @@
--- A core and the states that it stands for.
+-- A core and the states that it represents.
 use Rattle.std.specs.Prelude.{◌≡◌, ◌≤◌}
 use Rattle.radio_tables.specs.Lists.{Each}
 use Rattle.radio_parts.specs.Kept.{kept_from}

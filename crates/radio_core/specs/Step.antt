@@ -22,7 +22,7 @@ use Rattle.radio_core.specs.Clock.{hears_clock}
 use Rattle.radio_changes.specs.Changes.{changed}
 use Rattle.radio_core.specs.StandsFor.{StandsFor}
 
--- what comes of each event
+-- the outcome of each event
 unfoldable pub outcome : World → Event → Outcome
 outcome w (Arrive peer) = arrives w peer
 outcome w (Source asked) = asks_to_feed w asked
@@ -48,15 +48,15 @@ world_after w event = changed w (outcome w event).change
 abbrev pub Step : World → Event → Reply → World → Type 0
 Step w event reply w' = (reply ≡ reply_to w event) × (w' ≡ world_after w event)
 
--- a core stands for a state: it has all of it, but of each stream only what a queue keeps
+-- a core represents a state: it has all of it, but of each stream only what a queue keeps
 -- rule: Refused memory; Kept stream
 unfoldable pub Represents : World → World → Type 0
 Represents core w = StandsFor core w
 
--- there is a state for which it stands
+-- there is a state that it represents
 unfoldable pub StandsForSome : World → Type 0
 StandsForSome core = (w : World) × Represents core w
 
--- a core steps: it stands for some state, and whatever state that is, the event is a step from it
+-- a core steps: it represents some state, and whatever state that is, the event is a step from it
 abbrev pub core_steps : Steps World
 core_steps core event reply core' = StandsForSome core × ((w : World) → Represents core w → (w' : World) × Step w event reply w' × Represents core' w')

@@ -5,7 +5,7 @@ use Rattle.radio_core.specs.declared.outcome.Outcome.{Outcome}
 use Rattle.radio_house.specs.World.{World, standing_of}
 use Rattle.radio_core.specs.Outcomes.{says, if_feeding}
 
--- a source tells what is on the air: its mount has this title
+-- a source sets the title of what it plays: its mount has this title
 -- rule: Title of a session
 abbrev pub sets_title : World → ℕ → List ℕ → Outcome
 sets_title w id text = if_feeding (standing_of w id) (λ mount. says Noted (SetTitle mount text))

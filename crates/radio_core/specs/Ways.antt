@@ -42,12 +42,12 @@ use Rattle.radio_house.specs.Waiting.{heard_at}
 abbrev pub IsUndecided : World → ℕ → Type 0
 IsUndecided w id = (peer : Peer) × (standing_of w id ≡ Undecided peer)
 
--- the policy's rows for a block of one who stands so
+-- the policy's rows for a block of a client of this standing
 abbrev pub rows_from : House → List ℕ → Standing → List Row
 rows_from house block (Feeds mount) = rows_to_push house mount block
 rows_from house block standing = []
 
--- the policy's rows for what the event asks for, as things stand
+-- the policy's rows for what the event asks for, in this state
 abbrev pub rows_for : World → Event → List Row
 rows_for w (Arrive peer) = rows_to_arrive w.house peer
 rows_for w (Source asked) = rows_to_feed w.house asked
@@ -60,7 +60,7 @@ rows_for w event = []
 pub data Way (w : World) : Event → Outcome → Type 0 where
   -- it is out of place
   Misplaced : (event : Event) → Way w event (says Stray Nothing)
-  -- its client has finished, and is told the rule
+  -- its client has finished, and the reply names the rule
   IsFinished : (event : Event) (id : ℕ) (rule : Rule) → client_in event ≡ Some id → standing_of w id ≡ HasFinished rule
       → Way w event (says (Finished rule) Nothing)
   -- the policy denies it to one who did not ask for a mount

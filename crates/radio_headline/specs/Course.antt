@@ -1,4 +1,5 @@
--- What a script comes to: the events that are applied, in their order, each with the label on whose connection it was asked.
+-- The course of a script: the events that are applied, in their order, each with the label of the connection that asked for
+-- it.
 use Rattle.std.specs.Prelude.{◌≡◌, ℕ, if◌then◌else◌, List, [], ◌∷◌, ◌++◌, map, Option, None, Some}
 use Rattle.std.specs.Option.{option_map}
 use Rattle.radio_addr.specs.declared.peer.Peer.{Peer}
@@ -33,7 +34,8 @@ use Rattle.radio_floor.specs.declared.labelled.Connection.TheVariants.{Client, R
 use Rattle.radio_floor.specs.ScriptState.{ScriptState, opening_script, connection_of}
 use Rattle.radio_floor.specs.Transcript.{conduct}
 
--- an event is applied; it was asked on the connection of the label, if on any: a moment is told on none
+-- an event is applied; the connection of the label asked for it, if any did: no connection asks for a
+-- moment
 pub record Happening : Type 0 where
   pub label : Option ℕ
   pub event : Event
@@ -62,13 +64,13 @@ abbrev pub and_then : ℕ → Event → State → List Event → List Event
 and_then id event Running others = event ∷ others
 and_then id event (Shut ending) others = event ∷ (if is_leave event then [] else Leave id ∷ [])
 
--- those that are applied, from this state, where replies are told so
+-- those that are applied, from this state, if replies are written so
 abbrev pub applied : World → ℕ → Says → List Event → List Event
 applied w id says [] = []
 applied w id says (event ∷ events) =
     let told = said says (reply_to w event) in and_then id event told.state (applied (world_after w event) id told.says events)
 
--- what is asked when something comes to a client's connection, and how the conversation stands then
+-- what is asked when something arrives on a client's connection, and the conversation then
 abbrev pub IsAsked : Conversation → Input → Heard → Type 0
 IsAsked conversation (Data bytes) heard = IsHeard conversation bytes heard
 IsAsked conversation (Room room) heard = heard ≡ record { events = Draw conversation.id room ∷ []; conversation = conversation }
@@ -89,7 +91,7 @@ nothing_noted w = record { world = w; events = [] }
 abbrev pub noting : Steps Noted
 noting old event reply new = Step old.world event reply new.world × (new.events ≡ old.events ++ event ∷ [])
 
--- what comes to a relay's connection comes to that
+-- what arrives on a relay's connection has that result
 abbrev pub ComesToNoted : World → Pulling → Input → Noted → Type 0
 ComesToNoted w pulling (Data bytes) done =
     (now : Pulling) × (ends : State) × Takes noting pulling bytes (nothing_noted w) now ends done
@@ -99,7 +101,7 @@ ComesToNoted w pulling (Named text) done =
     (after : Standing) × AsksIf noting pulling.number (option_map (λ id. Title id (cleaned max_title text)) pulling.number) (nothing_noted w) after done
 ComesToNoted w pulling End done = GoesDown noting pulling.number (nothing_noted w) done
 
--- what happens on a connection when something comes to it
+-- what happens on a connection when something arrives on it
 abbrev pub HappensOn : ScriptState → ℕ → Connection → Input → List Happening → Type 0
 HappensOn state label (Client conversation) input happenings =
     (heard : Heard) × IsAsked conversation input heard
@@ -124,7 +126,7 @@ Happens state (Pull label mount) happenings = happenings ≡ []
 Happens state (To label input) happenings = HappensThere state label input happenings (connection_of state.connections label)
 Happens state (ClockIs ms) happenings = happenings ≡ record { label = None; event = Clock ms } ∷ []
 
--- how things stand, and what has happened
+-- the state, and what has happened
 pub record Course : Type 0 where
   pub state : ScriptState
   pub past : List Happening
@@ -135,7 +137,7 @@ courses web old delivery lines new =
     conduct web old.state delivery lines new.state
     × (happenings : List Happening) × Happens old.state delivery happenings × (new.past ≡ old.past ++ happenings)
 
--- the deliveries come to this text, and to this course
+-- the deliveries yield this text, and this course
 -- rule: Line of a script
 abbrev pub ComesTo : WebAnswers → Settings → Lists → List Delivery → List ℕ → Option ℕ → List Happening → Type 0
 ComesTo web settings lists deliveries text stop course = (last : ScriptState)

@@ -101,7 +101,8 @@ module _ (settings : Settings) (lists : Lists) (brought : ℕ → List ℕ) (cou
       -- it was finished before it had asked
       IsTooLate : (rule : Rule) → bytes ≡ [] → IsGiven w asked bytes (Finished rule)
 
-    -- one who asks so on the connection of the label, when this had happened: that is how the bytes are heard that have come, and it is given that
+    -- a client that asks so on the connection of the label, when this had happened: the bytes that have come are read as that request, and it is
+    -- given that
     pub record IsAnswered (given : ℕ → List ℕ) (label : ℕ) (asked : ListenRequest) (past : List Happening) : Type 0 where
       pub is_request : IsRequest (brought label) asked.id (Listen asked) []
       pub is_given : IsGiven (server_after past) asked (given label) (reply_to (server_after past) (Listen asked))

@@ -32,7 +32,7 @@ pub record IsWrittenBy (text : List ℕ) (lines : List TranscriptLine) : Type 0 
   pub is_written : written lines ≡ text
   pub by_no_others : AreLines lines → (others : List TranscriptLine) → AreLines others → written others ≡ text → others ≡ lines
 
--- A script comes to its transcript by a course, over which its connections bring what its deliveries do, and are given what the transcript's lines do.
+-- A script yields its transcript by a course. Over it the connections bring what the deliveries do, and are given what the transcript's lines do.
 pub record HearsSlices (web : WebAnswers) (settings : Settings) (lists : Lists) (deliveries : List Delivery) (text : List ℕ) (stop : Option ℕ) : Type 0 where
   pub course : List Happening
   pub comes : ComesTo web settings lists deliveries text stop course

@@ -15,8 +15,8 @@ use Rattle.radio_connections.specs.Course.{Arrival, Course as ConnectionCourse, 
 use Rattle.radio_headline.specs.Course.{Happening, log_on}
 use Rattle.radio_headline.specs.Listeners.{CourseHearsSlices}
 
--- the connection of a client that was let in has this course: by these settings of answers its line gave these bytes, these entries were made for it, and
--- it was told this of the replies
+-- the connection of a client that was let in has this course. By these settings of answers its line gave these bytes, these entries were made for it, and
+-- this was written of the replies
 pub record HasCourse (web : WebAnswers) (id : ℕ) (bytes : List ℕ) (entries : List Entry) (text : List ℕ) : Type 0 where
   pub arrival : Arrival
   pub let_in : arrival.reply ≡ Arrived id
@@ -27,7 +27,7 @@ pub record HasCourse (web : WebAnswers) (id : ℕ) (bytes : List ℕ) (entries :
   pub same_entries : standing.entries ≡ entries
   pub same_text : standing.text ≡ text
 
--- what is applied under a label, where its connection brought these bytes and was told this
+-- what is applied under a label whose connection brought these bytes and was written this
 pub data HasHappened (web : WebAnswers) (bytes : List ℕ) (entries : List Entry) (text : List ℕ) : Type 0 where
   -- nothing
   NothingWas : entries ≡ [] → HasHappened web bytes entries text
@@ -39,7 +39,7 @@ pub data HasHappened (web : WebAnswers) (bytes : List ℕ) (entries : List Entry
   WasLetGo : (id : ℕ) (made : List Entry) (reply : Reply) → HasCourse web id bytes made text → entries ≡ made ++ entry (Leave id) reply ∷ []
       → HasHappened web bytes entries text
 
--- it comes on a connection, or tells a moment
+-- it comes on a connection, or gives a moment
 abbrev pub HasLabelOrMoment : Happening → Type 0
 HasLabelOrMoment happening = happening.label ≡ None → (ms : ℕ) × (happening.event ≡ Clock ms)
 

@@ -32,7 +32,7 @@ pushed_by event = []
 abbrev pub pushed : List Event → List ℕ
 pushed events = flat_map pushed_by events
 
--- these bytes, from the client of this number, are heard as a request and what comes behind it
+-- these bytes, from the client of this number, are read as a request and what comes behind it
 pub record IsRequest (bytes : List ℕ) (id : ℕ) (request : Event) (behind : List Event) : Type 0 where
   pub web : WebAnswers
   pub peer : Peer

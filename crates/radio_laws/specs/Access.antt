@@ -12,8 +12,8 @@ use Rattle.radio_parts.specs.Stream.{data_at}
 use Rattle.radio_house.specs.World.{World, standing_of}
 use Rattle.radio_house.specs.Waiting.{heard_at}
 
--- these bytes are the listener's to hear, who draws: they stand at its place in what is heard at the mount where it sits, that mount is open to it, and the
--- title is the one it has
+-- these bytes are those that the listener may hear, which draws. They are at its place in what is heard at the mount where it sits, that mount is open to
+-- it, and the title is the one it has
 -- rule: Open to the listener
 pub record IsHis (w : World) (event : Event) (bytes : List ℕ) (title : Option (List ℕ)) : Type 0 where
   pub id : ℕ

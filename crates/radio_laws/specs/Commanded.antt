@@ -62,7 +62,8 @@ IsThere w (SetFallback mount fallback) = IsLive w mount
 IsThere w (AddUser mount user password) = has_users w.house.lists mount ≡ true
 IsThere w (DeleteUser mount user) = has_user_at w.house.lists mount user ≡ true
 
--- one who has asked for nothing yet, and may give the command, is told that it was done where what it needs is there
+-- a client that has asked for nothing yet, and may give the command, reads that it was done if what it needs is
+-- there
 -- rule: Commands are done
 abbrev pub WhoMayIsServed : World → Type 0
 WhoMayIsServed w = (asked : CommandRequest) (peer : Peer) (command : TheCommand) (pair : Credentials) → standing_of w asked.id ≡ Undecided peer
@@ -80,7 +81,7 @@ pub record IsGivenByRight (w : World) (event : Event) : Type 0 where
   pub may : MayGive w pair command
   pub there : IsThere w command
 
--- that a command was done is told only to one who may give it, where what it needs was there
+-- only a client that may give a command reads that it was done, if what it needs was there
 -- rule: Who may command
 abbrev pub OnlyWhoMayCommands : World → Event → Type 0
 OnlyWhoMayCommands w event = (text : ReplyText) → reply_to w event ≡ SaysText text → IsShort text → IsGivenByRight w event
@@ -98,7 +99,7 @@ pub data FaresByUsers (later : World) (mount : List ℕ) (id : ℕ) (seat : Seat
   IsShutOut : lets_in later.house.lists mount seat.pair ≡ false → seat_of later.seats id ≡ None → standing_of later id ≡ Finished ListenerPassword
       → FaresByUsers later mount id seat
 
--- the users of the mount have changed: as many have lost their seats there as the text tells, and each who sat there fares by the users as they are now
+-- the users of the mount have changed. As many have lost their seats there as the text says, and each who sat there fares by the users as they are now
 pub record HaveChanged (w : World) (event : Event) (mount : List ℕ) : Type 0 where
   pub count : ℕ
   pub told : reply_to w event ≡ SaysText (EndedText count)
@@ -114,7 +115,8 @@ HasPassword w mount user password = (pair : Credentials) → pair.user ≡ user
 abbrev pub IsNoUser : World → List ℕ → List ℕ → Type 0
 IsNoUser w mount user = (pair : Credentials) → pair.user ≡ user → lets_in w.house.lists mount (Some pair) ≡ false
 
--- what a command is to do is so afterwards, and what is said of it is true: as many have gone to the destination, or have finished, as the text tells
+-- what a command is to do is done afterwards, and what is said of it is true: as many have gone to the destination, or have finished, as the text
+-- says
 -- rule: Killed; Commands are done
 abbrev pub HasDone : World → Event → TheCommand → Type 0
 HasDone w event (MoveClients mount destination) = (count : ℕ) × (reply_to w event ≡ SaysText (Moved count))

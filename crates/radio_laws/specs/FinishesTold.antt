@@ -1,4 +1,4 @@
--- Who is told that it was finished.
+-- Which clients learn that they were finished.
 use Rattle.std.specs.Prelude.{◌≡◌, ℕ, Some, List, ◌∷◌, ◌++◌}
 use Rattle.radio_policy.specs.declared.rule.Rule.{Rule}
 use Rattle.radio_settings_values.specs.declared.settings.Settings.{Settings}
@@ -19,7 +19,7 @@ pub record WasFinished (settings : Settings) (lists : Lists) (events : List Even
   pub in_order : events ≡ before ++ event ∷ after
   pub finishes : Finishes (run_after settings lists before) event id rule
 
--- a client who is told that it was finished by a rule was finished by it at an earlier event
+-- a client that learns that a rule finished it was finished by that rule at an earlier event
 abbrev pub FinishedAreTold : Settings → Lists → List Event → Event → Type 0
 FinishedAreTold settings lists events event = (rule : Rule) → reply_to (run_after settings lists events) event ≡ Finished rule
     → (id : ℕ) × (client_in event ≡ Some id) × WasFinished settings lists events id rule

@@ -1,4 +1,5 @@
--- What an event does goes by the mounts that it can reach, and by no other: states that agree on these answer it alike, and agree on them still.
+-- What an event does depends on the mounts that it can reach, and on no other. States that agree on these answer it alike, and agree on them
+-- still.
 use Rattle.std.specs.Prelude.{◌≡◌, ◌↔◌, Bool, true, false, ℕ, List, Some}
 use Rattle.radio_settings_values.specs.Options.{options_for}
 use Rattle.radio_seats_rows.specs.declared.seat.Listener.{Listener}

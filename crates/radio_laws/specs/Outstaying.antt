@@ -1,4 +1,4 @@
--- After the clock was heard, nobody is there whose time is over.
+-- After a clock event nobody is there whose time is over.
 use Rattle.std.specs.Prelude.{◌≡◌, ℕ, nat_lt, true, false, List, Some}
 use Rattle.radio_events.specs.declared.event.Event.TheVariants.{Clock}
 use Rattle.radio_seats_rows.specs.declared.seat.Seat.{Seat}

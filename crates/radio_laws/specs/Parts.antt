@@ -1,4 +1,5 @@
--- One mount's part of the state goes by itself: a draw of one who sits there, a block of its source, a title.
+-- One mount's part of the state changes by itself: by a draw of a listener that sits there, a block of its
+-- source, a title.
 use Rattle.std.specs.Prelude.{◌≡◌, ℕ, Bool, if◌then◌else◌, List, Option, None, Some}
 use Rattle.std.specs.Str.{bytes_eq}
 use Rattle.radio_seats_rows.specs.declared.seat.Listener.{Listener}
@@ -26,7 +27,8 @@ is_at mount seat = bytes_eq seat.mount mount
 abbrev pub seat_at : List ℕ → List Listener → ℕ → Option Seat
 seat_at mount listeners id = seat_if (is_at mount) (seat_of listeners id)
 
--- The part is what stands at its mount: its session, and those who sit there, each in its seat. It may have other listeners, or none but them.
+-- The part is what is at its mount: its session, and the listeners that sit there, each in its seat. It may have other listeners, or none but
+-- them.
 pub record IsPartOf (w : World) (p : Part) : Type 0 where
   pub live : session_of w.house.live p.mount ≡ p.session
   pub seats : (id : ℕ) → seat_at p.mount p.listeners id ≡ seat_at p.mount w.seats id
@@ -44,7 +46,7 @@ pub record IsPartsStep (w later : World) (p after : Part) : Type 0 where
   pub here : IsPartOf later after
   pub there : IsLeftAlone (is_mount_of p) w later
 
--- what it is handed goes by the part alone, which alone changes
+-- what it gets depends on the part alone, which alone changes
 pub record DrawsByItsPart (w : World) (p : Part) (id room : ℕ) : Type 0 where
   pub by_part : outcome w (Draw id room) ≡ part_draws (as_heard w.house p) id room
   pub step : (place : ℕ) → (part_draws (as_heard w.house p) id room).change ≡ Advance id place

@@ -1,4 +1,4 @@
--- What the policy allows happens, and who sits is handed what stands at its place.
+-- What the policy allows happens, and a listener with a seat gets the data at its place.
 use Rattle.std.specs.Prelude.{◌≡◌, ℕ, ◌+◌, ◌-◌, ◌<◌, min, List, [], ◌∷◌, ◌++◌, true, false, length, Some, None}
 use Rattle.radio_policy.specs.declared.rule.Rule.{Rule}
 use Rattle.radio_policy.specs.Verdicts.{Allows}
@@ -36,8 +36,8 @@ pub record IsTakenIn (w : World) (asked : ListenRequest) : Type 0 where
   pub shows : head.shown ≡ session.shown
   pub sits : standing_of (world_after w (Listen asked)) asked.id ≡ Sits
 
--- a listener was handed what stands at its place in the stream of its mount, as much of it as is there and as it has room for, and the title that it has;
--- and its place is behind it
+-- a listener got the data at its place in the stream of its mount, as much as is there and as it has room for, and the title that it has. Its place is
+-- behind them
 -- rule: Draws
 pub record IsHanded (w : World) (id room : ℕ) : Type 0 where
   pub seat : Seat
@@ -82,7 +82,8 @@ pub record Serves (w : World) : Type 0 where
       → IsTakenIn w asked
   pub hands_out : (id room : ℕ) → standing_of w id ≡ Sits → IsHanded w id room
 
--- what is out of place changes nothing, and what is told that it was finished neither
+-- what is out of place changes nothing, nor does an event of a client that learns that it was
+-- finished
 pub record ChangesNothing (w : World) (event : Event) : Type 0 where
   pub stray : reply_to w event ≡ Stray → world_after w event ≡ w
   pub finished : (rule : Rule) → reply_to w event ≡ Finished rule → world_after w event ≡ w

@@ -59,7 +59,7 @@ abbrev pub IsThereToSee : World → Listing → Type 0
 IsThereToSee w (Clients mount) = IsLive w mount
 IsThereToSee w listing = Unit {0}
 
--- what a row tells of the mount of a session
+-- what a row says of the mount of a session
 pub record TellsOf (w : World) (fed : Session) (row : MountRow) : Type 0 where
   pub mount : row.public.mount ≡ fed.mount
   pub name : row.public.name ≡ fed.shown.name
@@ -72,14 +72,14 @@ pub record TellsOf (w : World) (fed : Session) (row : MountRow) : Type 0 where
   pub session : row.session ≡ fed.number
   pub fallback : (next : List ℕ) → FallsBack w fed.mount next ↔ (row.fallback ≡ Some next)
 
--- rows tell of the mounts of these sessions, one of each, in their order
+-- rows describe the mounts of these sessions, one of each, in their order
 abbrev pub TellOf : World → List Session → List MountRow → Type 0
 TellOf w [] [] = Unit {0}
 TellOf w (fed ∷ live) (row ∷ rows) = TellsOf w fed row × TellOf w live rows
 TellOf w [] (row ∷ rows) = ⊥
 TellOf w (fed ∷ live) [] = ⊥
 
--- what a row tells of a listener who sits: the user that it sent, and never its password
+-- what a row says of a listener with a seat: the user that it sent, and never its password
 pub record TellsOfListener (w : World) (listener : Listener) (row : ListedListener) : Type 0 where
   pub id : row.id ≡ listener.id
   pub seat : Seat
@@ -92,14 +92,14 @@ pub record TellsOfListener (w : World) (listener : Listener) (row : ListedListen
   pub user : (pair : Credentials) → seat.pair ≡ Some pair → row.user ≡ Some pair.user
   pub nobody : seat.pair ≡ None → row.user ≡ None
 
--- rows tell of these listeners, one of each, in their order
+-- rows describe these listeners, one of each, in their order
 abbrev pub TellOfListeners : World → List Listener → List ListedListener → Type 0
 TellOfListeners w [] [] = Unit {0}
 TellOfListeners w (listener ∷ them) (row ∷ rows) = TellsOfListener w listener row × TellOfListeners w them rows
 TellOfListeners w [] (row ∷ rows) = ⊥
 TellOfListeners w (listener ∷ them) [] = ⊥
 
--- the text tells what is there; who asks is counted among the clients
+-- the text says what is there; the client that asks is counted among the clients
 -- rule: Who may see; Waiting is not live
 abbrev pub Tells : World → Listing → ReplyText → Type 0
 Tells w Status text =
@@ -109,7 +109,8 @@ Tells w Mounts text = (rows : List MountRow) × TellOf w w.house.live rows × (t
 Tells w (Clients mount) text = (rows : List ListedListener) × TellOfListeners w (seats_at w.seats mount) rows × (text ≡ Json (listeners_text mount rows))
 Tells w Streams text = (rows : List MountRow) × TellOf w w.house.live rows × (text ≡ StreamList (stream_text rows))
 
--- a listing is shown: to one who may see it, who has had its answer then, where what it needs is there; it tells what is there, and nothing changes but that
+-- a listing is shown to a client that may see it, if what it needs is there. The client is answered then. The listing says what is there, and nothing else
+-- changes
 pub record IsShownByRight (w : World) (event : Event) (text : ReplyText) : Type 0 where
   pub asked : CommandRequest
   pub is_event : event ≡ Command asked
@@ -128,8 +129,8 @@ pub data IsPath (w : World) (path : List ℕ) : WebPath → Type 0 where
   StatusIsOn : path ≡ codes "/status-json.xsl" → w.house.settings.web.icecast_status ≡ true → IsPath w path IcecastStatus
   PageIsOn : path ≡ codes "/" → w.house.settings.web.page ≡ true → IsPath w path AtPage
 
--- the text tells what is there in Icecast's words on this visit: with the public URL of the settings, or else by the host by which the client calls the
--- server, and with the moment at which the server started, if the program says it
+-- the text says what is there in Icecast's words on this visit. It has the public URL of the settings, or else the host by which the client calls the
+-- server. It has the moment at which the server started, if the program says it
 pub record TellsAsIcecast (w : World) (visit : PageVisit) (text : ReplyText) : Type 0 where
   pub rows : List MountRow
   pub of_the_live : TellOf w w.house.live rows
@@ -241,7 +242,7 @@ pub record NoHiddenIsNamed (w : World) (asked : CommandRequest) (text : ReplyTex
 abbrev pub HiddenAreLeftOut : World → Type 0
 HiddenAreLeftOut w = (asked : CommandRequest) (text : ReplyText) → reply_to w (Command asked) ≡ SaysText text → NoHiddenIsNamed w asked text
 
--- nor in Icecast's words, which tell where those mounts are heard
+-- nor in Icecast's words, which say where those mounts are heard
 -- rule: Paths of the web site
 abbrev pub HiddenAreNotToldOnTheWeb : World → Type 0
 HiddenAreNotToldOnTheWeb w = (asked : ListenRequest) (text : ReplyText) → IsPath w asked.mount IcecastStatus → reply_to w (Listen asked) ≡ SaysText text

@@ -14,7 +14,7 @@ use Rattle.radio_parts.specs.Stream.{end_of}
 use Rattle.radio_house.specs.World.{World, opening}
 use Rattle.radio_house.specs.Waiting.{heard_at}
 
--- what stands between two places of some data
+-- what is between two places of some data
 abbrev pub between : ℕ → ℕ → List ℕ → List ℕ
 between start stop bytes = take (stop - start) (drop start bytes)
 
@@ -50,7 +50,7 @@ AreSlices sent (sitting ∷ others) (bytes ∷ rest) = IsSlice sent sitting byte
 AreSlices sent [] (bytes ∷ rest) = ⊥
 AreSlices sent (sitting ∷ others) [] = ⊥
 
--- what comes to a listener, cut where it sits down: what comes before its first sitting, and what comes in each
+-- what a listener gets, cut where it sits down: what comes before its first sitting, and what comes in each
 pub record Cut (A : Type 0) : Type 0 where
   pub before : List A
   pub each : List (List A)

@@ -1,4 +1,4 @@
--- The titles that sources and commands set, and those that listeners are told.
+-- The titles that sources and commands set, and those that listeners get.
 use Rattle.std.specs.Prelude.{◌≡◌, ℕ, Option, Some, None, List, [], ◌∷◌, ◌++◌, if◌then◌else◌}
 use Rattle.std.specs.List.{last_or}
 use Rattle.std.specs.Option.{option_map}
@@ -75,7 +75,7 @@ pub record IsLastTitle (settings : Settings) (lists : Lists) (events : List Even
   pub has_the_seat : seat_of (run_after settings lists events).seats id ≡ Some seat
   pub is_last : title ≡ last_title (opening settings lists) events seat.session
 
--- over every run, a listener who is handed data is told the last title that was set for its source
+-- over every run, a listener that gets data gets the last title that was set for its source
 -- rule: Title of a session
 abbrev pub TitlesAreTold : Settings → Lists → List Event → Event → Type 0
 TitlesAreTold settings lists events event = (bytes : List ℕ) (title : Option (List ℕ)) → reply_to (run_after settings lists events) event ≡ Drawn bytes title

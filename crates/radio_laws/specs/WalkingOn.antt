@@ -1,4 +1,4 @@
--- What a move makes of each listener, by what stands at its turn.
+-- What a move makes of each listener, by the state at its turn.
 use Rattle.std.specs.Prelude.{◌≡◌, ℕ, true, List, Some}
 use Rattle.radio_policy.specs.declared.rule.Rule.{Rule}
 use Rattle.radio_fallback.specs.declared.moves.Move.{Move}

@@ -32,7 +32,7 @@ pair_of request = option_and_then basic_pair (value_of (codes "Authorization") r
 abbrev pub value_or : List ℕ → List ℕ → RequestParts → List ℕ
 value_or other name request = unwrap_or (value_of name request.headers) other
 
--- what else a source tells of its stream: a description, a URL, a bit rate and parameters of the audio
+-- what else a source says of its stream: a description, a URL, a bit rate and parameters of the audio
 -- rule: Shown fields
 abbrev pub about_by : RequestParts → About
 about_by request = about_of
@@ -48,7 +48,7 @@ named_by request = shown_of
     (value_or [] (codes "ice-name") request)
     (value_or [] (codes "ice-genre") request)
 
--- what a source tells of its stream: these, and what else it says of the stream
+-- what a source says of its stream: these, and what else it says of the stream
 -- rule: Shown fields
 abbrev pub shown_by : RequestParts → Shown
 shown_by request = record (named_by request) { about = about_by request }
@@ -58,7 +58,7 @@ shown_by request = record (named_by request) { about = about_by request }
 abbrev pub wants_metadata : RequestParts → Bool
 wants_metadata request = is_word (codes "1") (value_of (codes "Icy-MetaData") request.headers)
 
--- the path that the target stands for: percent decoded (RFC 3986, section 2.1), where `+` stays
+-- the path of the target: percent decoded (RFC 3986, section 2.1), where `+` stays
 -- rule: Percent decoding
 abbrev pub path_in : RequestParts → List ℕ
 path_in request = percent_decode request.path
@@ -77,7 +77,8 @@ is_for_commands path = starts_with nat_eq path (codes "/admin/") || bytes_eq pat
 abbrev pub asks_to_feed : ℕ → RequestParts → Event
 asks_to_feed id request = Source (record { id = id; mount = path_in request; pair = pair_of request; shown = shown_by request })
 
--- the host by which the client calls the server, where it asks for what is told in full addresses
+-- the host by which the client calls the server, if it asks for the status, which has full
+-- addresses
 -- rule: Address of a stream
 abbrev pub host_for : List ℕ → RequestParts → List ℕ
 host_for path request = if bytes_eq path (codes "/status-json.xsl") then value_or [] (codes "Host") request else []

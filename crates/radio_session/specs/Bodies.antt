@@ -1,4 +1,4 @@
--- What a source's body is heard as, behind its head (RFC 9112, section 6).
+-- How a source's body is read, behind its head (RFC 9112, section 6).
 use Rattle.std.specs.Prelude.{◌≡◌, ℕ, true, List, [], ◌∷◌, ◌++◌, length, map, codes, Some}
 use Rattle.radio_events.specs.declared.event.Event.{Event}
 use Rattle.radio_events.specs.declared.event.Event.TheVariants.{Push, SourceEnd}

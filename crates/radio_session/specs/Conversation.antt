@@ -17,7 +17,7 @@ pub record Conversation : Type 0 where
   pub says : Says
   pub has_failed : Bool
 
--- a body that is heard has told neither its end nor a fault
+-- a body that is being read has given neither its end nor a fault
 abbrev pub IsOpen : Hears → Type 0
 IsOpen Head = Unit {0}
 IsOpen (Body body) = body ≡ unfed body.place
@@ -31,6 +31,6 @@ asking web = record { web = web; is_admitted = false; greeting = Welcome; closin
 abbrev pub fresh : WebAnswers → ℕ → Peer → Conversation
 fresh web id peer = record { id = id; peer = peer; held = []; hears = Head; says = asking web; has_failed = false }
 
--- how replies are told from now on
+-- how replies are written from now on
 abbrev pub saying_now : Conversation → Says → Conversation
 saying_now conversation says = record conversation { says = says }

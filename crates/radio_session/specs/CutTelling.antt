@@ -1,4 +1,4 @@
--- What a connection is told does not depend on how the bytes were cut that came on it.
+-- What is written to a connection does not depend on how the bytes were cut that came on it.
 use Rattle.std.specs.Prelude.{◌≡◌, ℕ, List, [], ◌∷◌, None}
 use Rattle.radio_events.specs.declared.state.State.{State}
 use Rattle.radio_events.specs.declared.state.State.TheVariants.{Running, Shut}
@@ -36,7 +36,8 @@ pub record AreToldAlike (one other : Exchange) : Type 0 where
   pub bytes : one.bytes ≡ other.bytes
   pub state : one.state ≡ other.state
 
--- However bytes are cut that come on a connection, and between which nothing else happens, they are told alike.
+-- However bytes are cut that come on a connection, and between which nothing else happens, the same is written
+-- to it.
 -- rule: Cuts do not matter
 abbrev pub CutsAreToldAlike : {S : Type 0} → Steps S → Type 0
 CutsAreToldAlike {S} steps = (conversation : Conversation) (bytes : List ℕ) (pieces others : List (List ℕ)) (from to end : S) (x y : Exchange) →
@@ -44,7 +45,7 @@ CutsAreToldAlike {S} steps = (conversation : Conversation) (bytes : List ℕ) (p
     IsCutting bytes pieces → IsCutting bytes others →
     IsToldIn steps conversation pieces from x to → IsToldIn steps conversation others from y end → AreToldAlike x y
 
--- Bytes that come in pieces are told as if they had come in one.
+-- For bytes that come in pieces the same is written as if they had come in one.
 -- rule: Cuts do not matter
 abbrev pub PiecesAreToldAsOne : {S : Type 0} → Steps S → Type 0
 PiecesAreToldAsOne {S} steps = (conversation after : Conversation) (bytes : List ℕ) (pieces : List (List ℕ)) (from to end : S) (cut whole : Exchange) →

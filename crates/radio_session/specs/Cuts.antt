@@ -20,7 +20,7 @@ atoms_of event = other event ∷ []
 abbrev pub atoms : List Event → List Atom
 atoms events = flat_map atoms_of events
 
--- no other reply comes before that with which the last word is told
+-- no other reply comes before that with which the last word is written
 abbrev pub awaiting_none : Closing → Closing
 awaiting_none closing = record closing { awaits = 0 }
 
@@ -39,29 +39,29 @@ pub record IsCutting (bytes : List ℕ) (pieces : List (List ℕ)) : Type 0 wher
   pub some : pieces ≢ []
   pub joined : concat pieces ≡ bytes
 
--- nothing was heard yet
+-- nothing was read yet
 abbrev pub unheard : Conversation → Heard
 unheard conversation = record { events = []; conversation = conversation }
 
--- what is heard of one piece, and then of the others
+-- what is read of one piece, and then of the others
 abbrev pub heard_then : Heard → Heard → Heard
 heard_then one others = record { events = one.events ++ others.events; conversation = others.conversation }
 
--- the pieces come on the connection one after another, and this is heard
+-- the pieces come on the connection one after another, and this is read
 -- rule: Cuts do not matter
 abbrev pub IsHeardIn : Conversation → List (List ℕ) → Heard → Type 0
 IsHeardIn conversation [] heard = heard ≡ unheard conversation
 IsHeardIn conversation (piece ∷ pieces) heard =
     (one : Heard) × IsHeard conversation piece one × (others : Heard) × IsHeardIn one.conversation pieces others × (heard ≡ heard_then one others)
 
--- However bytes are cut, they are heard alike.
+-- However bytes are cut, they are read alike.
 -- rule: Cuts do not matter
 abbrev pub CutsDoNotMatter : Type 0
 CutsDoNotMatter = (conversation : Conversation) (bytes : List ℕ) (pieces others : List (List ℕ)) (one other : Heard) →
     IsCutting bytes pieces → IsCutting bytes others →
     IsHeardIn conversation pieces one → IsHeardIn conversation others other → AreHeardAlike one other
 
--- Bytes that come in pieces are heard as if they had come in one.
+-- Bytes that come in pieces are read as if they had come in one.
 -- rule: Cuts do not matter
 abbrev pub PiecesAreHeardAsOne : Type 0
 PiecesAreHeardAsOne = (conversation : Conversation) (bytes : List ℕ) (pieces : List (List ℕ)) (cut whole : Heard) →

@@ -1,4 +1,4 @@
--- Servers that go by a source's data, and not by how they were cut into blocks.
+-- Servers that depend on a source's data, and not on how they were cut into blocks.
 use Rattle.std.specs.Prelude.{◌≡◌, ℕ, List, [], ◌++◌, ◌⊎◌}
 use Rattle.radio_blocks.specs.Block.{IsBlock}
 use Rattle.radio_events.specs.declared.event.Event.{Event}
@@ -13,7 +13,7 @@ HasOneReply {S} steps = (from to other : S) (event : Event) (reply again : Reply
     steps from event reply to → steps from event again other → (reply ≡ again) × (to ≡ other)
 
 module _ {S : Type 0} (steps : Steps S) (id : ℕ) where
-  -- What the client of this number is replied, as a source, goes by its data alone.
+  -- The replies to the client of this number, as a source, depend on its data alone.
   -- rule: Cuts do not matter
   pub record GoesByData : Type 0 where
     -- in a state, the reply to some data, and to their end once they have come

@@ -1,4 +1,4 @@
--- What a connection's events come to, one after another, whoever applies them.
+-- The result of a connection's events, one after another, whoever applies them.
 use Rattle.std.specs.Prelude.{◌≡◌, ℕ, Bool, true, false, List, [], ◌∷◌, ◌++◌}
 use Rattle.radio_events.specs.declared.event.Event.{Event}
 use Rattle.radio_events.specs.declared.event.Event.TheVariants.{Leave}
@@ -10,7 +10,8 @@ use Rattle.radio_events.specs.declared.state.State.TheVariants.{Running, Shut}
 use Rattle.radio_events.specs.declared.state.Ending.{Ending}
 use Rattle.radio_session.specs.Saying.{Said, said}
 
--- the bytes that went out, how replies are told from then on, and whether the connection goes on
+-- the bytes that were written, how replies are written from then on, and whether the connection
+-- goes on
 pub record Exchange : Type 0 where
   pub bytes : List ℕ
   pub says : Says
@@ -32,8 +33,8 @@ abbrev pub is_leave : Event → Bool
 is_leave (Leave id) = true
 is_leave event = false
 
--- the events are applied one after another, and each reply is told; where the connection ends, the others are not applied, and it leaves, unless that
--- is what it has just done
+-- the events are applied one after another, and each reply is written. If the connection ends, the others are not applied, and the client leaves,
+-- unless that is what it has just done
 module _ {S : Type 0} (steps : Steps S) (id : ℕ) where
   abbrev pub LeavesAfter : Bool → S → S → Type 0
   LeavesAfter true from to = to ≡ from

@@ -23,7 +23,7 @@ use Rattle.radio_session.specs.Asking.{asks_to_feed, asks_by_get}
 use Rattle.radio_session.specs.Conversation.{Conversation}
 use Rattle.radio_session.specs.Pushes.{pushes}
 
--- what was heard: events for the server, and how the conversation goes on
+-- what was read: events for the server, and the conversation after them
 pub record Heard : Type 0 where
   pub events : List Event
   pub conversation : Conversation
@@ -32,7 +32,8 @@ pub record Heard : Type 0 where
 abbrev pub going_on : Conversation → Hears → Conversation
 going_on conversation hears = record conversation { held = []; hears = hears }
 
--- after these events the last is applied, which closes the conversation: its reply tells the last word
+-- after these events the last is applied, which closes the conversation: its reply is written with the
+-- last word
 abbrev pub closes_with : Conversation → List Event → Event → LastWord → Heard
 closes_with conversation events last word = record {
   events = events ++ last ∷ [];
@@ -43,7 +44,7 @@ closes_with conversation events last word = record {
 abbrev pub nothing_held : Conversation → Conversation
 nothing_held conversation = record conversation { held = [] }
 
--- the connection refuses by its own rule: the client leaves, and is told then
+-- the connection refuses by its own rule: the client leaves, and then reads the rule
 -- rule: Bad head; Bad method
 abbrev pub refuses : Conversation → Rule → Heard
 refuses conversation rule = closes_with conversation [] (Leave conversation.id) (Refusal rule)
@@ -55,7 +56,7 @@ body_closes true fault = Some Complete
 body_closes false (Some fault) = Some Faulty
 body_closes false None = None
 
--- the data of a body are delivered after the events before; where the body closes, the source has come to its end
+-- the data of a body are delivered after the events before; if the body closes, the source's data have ended
 abbrev pub delivered : Conversation → List Event → Place → Option LastWord → Heard
 delivered conversation events place None = record { events = events; conversation = going_on conversation (Body (unfed place)) }
 delivered conversation events place (Some word) = closes_with conversation events (SourceEnd conversation.id) word
@@ -67,7 +68,7 @@ body_heard conversation before place bytes =
     delivered conversation (before ++ pushes conversation.id (data_of place bytes)) (after place bytes)
     (body_closes (has_ended (after place bytes)) (fault_at (after place bytes)))
 
--- what the client is told where it is admitted as a source
+-- what the client reads if it is admitted as a source
 abbrev pub greeted : Conversation → RequestParts → Conversation
 greeted conversation request = record conversation { says = record conversation.says { greeting = greeting_of request } }
 
@@ -97,13 +98,13 @@ head_heard conversation bytes (Ok More) = record { events = []; conversation = r
 head_heard conversation bytes (Ok (Whole request length)) = request_heard (nothing_held conversation) request (drop length bytes)
 head_heard conversation bytes (Err fault) = refuses conversation BadHead
 
--- the bytes are heard as part of a head, as data, or not at all
+-- the bytes are read as part of a head, as data, or not at all
 abbrev pub HearsAs : Hears → Conversation → List ℕ → Heard → Type 0
 HearsAs Head conversation bytes heard = (reading : Result (Progress RequestParts) HeadFault)
     × IsReading ShowsRequest (conversation.held ++ bytes) reading × (heard ≡ head_heard conversation (conversation.held ++ bytes) reading)
 HearsAs (Body body) conversation bytes heard = heard ≡ body_heard (nothing_held conversation) [] body.place bytes
 HearsAs Nothing conversation bytes heard = heard ≡ record { events = []; conversation = conversation }
 
--- the bytes come on the connection, and this is heard
+-- the bytes come on the connection, and this is read
 abbrev pub IsHeard : Conversation → List ℕ → Heard → Type 0
 IsHeard conversation bytes heard = HearsAs conversation.hears conversation bytes heard

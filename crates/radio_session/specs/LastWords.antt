@@ -1,4 +1,4 @@
--- What a connection is told last, and the word by which it is shut.
+-- What is written last on a connection, and the word by which it is shut.
 use Rattle.std.specs.Prelude.{◌≡◌, ℕ, true, false, List, [], codes, None, Some}
 use Rattle.radio_policy.specs.declared.rule.Rule.{Rule}
 use Rattle.radio_policy.specs.declared.rule.Status.{Status}
@@ -17,7 +17,7 @@ use Rattle.radio_answers.specs.Answers.{text_answer}
 use Rattle.radio_session.specs.Saying.{Said, said}
 use Rattle.radio_answers.specs.WebAnswers.{answered_by}
 
--- these bytes are told, and the connection is shut with this word
+-- these bytes are written, and the connection is shut with this word
 pub record EndsWith (told : Said) (bytes word : List ℕ) : Type 0 where
   pub ending : Ending
   pub bytes_told : told.bytes ≡ bytes
@@ -28,7 +28,8 @@ pub record EndsWith (told : Said) (bytes word : List ℕ) : Type 0 where
 abbrev pub IsAsking : Says → Type 0
 IsAsking says = says.is_admitted ≡ false
 
--- The denial of what was asked is told in an answer of the rule's status that names the rule, and the word is the rule's.
+-- The denial of what was asked is written as an answer of the rule's status that names the rule, and the word is the
+-- rule's.
 -- rule: Answer to a denial
 abbrev pub DenialsNameTheirRule : Type 0
 DenialsNameTheirRule = (says : Says) (rule : Rule) (status : Status) → IsAsking says → status_of rule ≡ Some status
@@ -44,12 +45,12 @@ RulesWithoutStatusAreSilent = (says : Says) (rule : Rule) → status_of rule ≡
 abbrev pub LateDenialsAreSilent : Type 0
 LateDenialsAreSilent = (says : Says) (rule : Rule) → says.is_admitted ≡ true → EndsWith (said says (Deny rule)) [] (word_of rule)
 
--- who was finished by a rule is told nothing, and the word is the rule's
+-- nothing is written to a client that a rule finished, and the word is the rule's
 -- rule: Finishes are silent
 abbrev pub FinishesAreSilent : Type 0
 FinishesAreSilent = (says : Says) (rule : Rule) → EndsWith (said says (Finished rule)) [] (word_of rule)
 
--- A command that was done is told in an answer of its text, and then the connection is done.
+-- A command that was done gets an answer of its text, and then the connection is done.
 -- rule: Commands by GET
 abbrev pub CommandsAreAnswered : Type 0
 CommandsAreAnswered = (says : Says) (text : CommandText) → IsAsking says → EndsWith (said says (Text text)) (text_answer says.web text) (codes "done")
@@ -58,20 +59,20 @@ CommandsAreAnswered = (says : Says) (text : CommandText) → IsAsking says → E
 abbrev pub IsAbout : Says → LastWord → Type 0
 IsAbout says word = says.closing ≡ Some (record { awaits = 0; word = word })
 
--- the connection's own refusal is told as a denial, once the client has left
+-- the connection's own refusal is written as a denial, once the client has left
 -- rule: Bad head
 abbrev pub RefusalsNameTheirRule : Type 0
 RefusalsNameTheirRule = (says : Says) (rule : Rule) (status : Status) → IsAbout says (Refusal rule) → status_of rule ≡ Some status
     → EndsWith (said says Noted) (answered_by says.web (denial_text status (word_of rule))) (word_of rule)
 
--- a source whose body is whole is told that it was admitted, if it was not told before; then it is done
+-- a source whose body is whole reads that it was admitted, if it did not before; then it is done
 -- rule: Greeting of a source
 abbrev pub WholeBodiesAreDone : Type 0
 WholeBodiesAreDone = (says : Says) → IsAbout says Complete →
     (says.greeting ≡ Welcome → EndsWith (said says Noted) [] (codes "done"))
     × (says.greeting ≡ Continue → EndsWith (said says Noted) (answered_by says.web source_text) (codes "done"))
 
--- a source in whose body there is a fault is told nothing
+-- nothing is written to a source in whose body there is a fault
 -- rule: End of a body
 abbrev pub FaultyBodiesAreSilent : Type 0
 FaultyBodiesAreSilent = (says : Says) → IsAbout says Faulty → EndsWith (said says Noted) [] (codes "bad-body")

@@ -21,7 +21,7 @@ use Rattle.radio_events.specs.declared.state.State.TheVariants.{Running, Shut}
 use Rattle.radio_events.specs.declared.state.Ending.{Ending}
 use Rattle.radio_events.specs.declared.state.Ending.TheVariants.{Done, By, BadBody}
 
--- what a reply comes to: bytes that go out, how replies are told from then on, and whether the connection goes on
+-- the result of a reply: bytes to write, how replies are written from then on, and whether the connection goes on
 pub record Said : Type 0 where
   pub bytes : List ℕ
   pub says : Says
@@ -35,7 +35,7 @@ tells bytes says = record { bytes = bytes; says = says; state = Running }
 abbrev pub ends : List ℕ → Says → Ending → Said
 ends bytes says ending = record { bytes = bytes; says = says; state = Shut ending }
 
--- one reply less is awaited before that which tells the last word
+-- one reply less is awaited before that with the last word
 abbrev pub one_less : Closing → Closing
 one_less closing = record closing { awaits = closing.awaits - 1 }
 
@@ -54,13 +54,13 @@ seated says interval = admitted (record says { weaver = weaver_at interval })
 abbrev pub drew : Says → Call → Says
 drew says draw = counted (record says { weaver = after_draw says.weaver draw })
 
--- what a source is told that is admitted
+-- what an admitted source reads first
 -- rule: Greeting of a source
 abbrev pub greeting_text : WebAnswers → Greeting → List ℕ
 greeting_text web Welcome = answered_by web source_text
 greeting_text web Continue = continue_text
 
--- what a source is told whose body has come to its end: the answer, if it was only asked to go on before
+-- what a source reads whose body has ended: the answer, if it was only asked to go on before
 abbrev pub body_text : WebAnswers → Greeting → List ℕ
 body_text web Welcome = []
 body_text web Continue = answered_by web source_text
@@ -94,7 +94,7 @@ noted says None = tells [] says
 noted says (Some closing) =
     if closing.awaits == 0 then ends (last_text says.web says.greeting closing.word) says (last_ending closing.word) else tells [] (counted says)
 
--- what is told of a reply
+-- what is written of a reply
 -- rule: Answer to a denial
 abbrev pub said : Says → Reply → Said
 said says (Arrived id) = tells [] (counted says)

@@ -1,4 +1,4 @@
--- What is told on a listener's connection: its head, and then the data of its draws, with metadata between them where it asked for it.
+-- What is written on a listener's connection: its head, and then the data of its draws, with metadata between them if it asked for it.
 use Rattle.std.specs.Prelude.{◌≡◌, ℕ, List, [], ◌∷◌, ◌++◌, map, Option, None, Some}
 use Rattle.radio_icy.specs.Block.{title_text}
 use Rattle.radio_icy.specs.Weaving.{Call}
@@ -16,12 +16,12 @@ use Rattle.radio_session.specs.Draws.{draw, joined_draws}
 use Rattle.radio_answers.specs.Answers.{head_text}
 use Rattle.radio_session.specs.Saying.{said}
 
--- what is told later, while the connection goes on
+-- what is written later, while the connection goes on
 abbrev pub while_open : State → List ℕ → List ℕ
 while_open Running later = later
 while_open (Shut ending) later = []
 
--- all that is told of replies, one after another, up to the end of the connection
+-- all that is written of replies, one after another, up to the end of the connection
 abbrev pub told : Says → List Reply → List ℕ
 told says [] = []
 told says (reply ∷ replies) = (said says reply).bytes ++ while_open (said says reply).state (told (said says reply).says replies)
@@ -42,20 +42,20 @@ AdmitNobody (Feeding ∷ replies) = ⊥
 AdmitNobody (Seated interval head ∷ replies) = ⊥
 AdmitNobody (reply ∷ replies) = AdmitNobody replies
 
--- What follows a listener's head on its connection are the joined data of its draws, woven at the interval that the head tells.
+-- What follows a listener's head on its connection are the joined data of its draws, woven at the interval that the head names.
 abbrev pub DrawsFollowTheHead : Type 0
 DrawsFollowTheHead = (says : Says) (interval : Option ℕ) (head : StreamHead) (replies : List Reply) →
     says.closing ≡ None → AdmitNobody replies →
     told says (Seated interval head ∷ replies)
     ≡ head_text says.web interval head ++ joined_draws interval (draws_of replies)
 
--- where it tells none, they are the data alone
+-- if it names none, they are the data alone
 abbrev pub PlainDrawsAreTheirData : Type 0
 PlainDrawsAreTheirData = (interval : Option ℕ) (draws : List Call) →
     interval_told interval ≡ None → joined_draws interval draws ≡ sound_of_calls draws
 
--- Where it tells one, a block stands after each interval of the data.
--- It has the title of the draw that brought the interval's last byte, where another was sent last, or none; else it is a zero byte.
+-- If it names one, a block follows each interval of the data. It has the title of the draw that brought the interval's last byte,
+-- if another was sent last, or none; else it is a zero byte.
 abbrev pub JoinedDrawsAreWoven : Type 0
 JoinedDrawsAreWoven = (interval : Option ℕ) (n : ℕ) (draws : List Call) →
     interval_told interval ≡ Some n → IsWoven n draws (joined_draws interval draws)
