@@ -1,4 +1,4 @@
--- From where on listeners are told of news at once, and sources are read slowly.
+-- When listeners get news at once, and sources are read slowly.
 use Rattle.std.specs.Prelude.{ℕ, ◌*◌, ◌/◌, min, nat_lt, nat_le, if◌then◌else◌}
 use Rattle.radio_lines.specs.declared.pace.Pace.{Pace}
 use Rattle.radio_lines.specs.declared.pace.Pace.TheVariants.{Free, Slow, Stopped}
@@ -8,7 +8,7 @@ use Rattle.radio_lines.specs.declared.pace.Pace.TheVariants.{Free, Slow, Stopped
 abbrev pub slow_at : ℕ → ℕ
 slow_at queue_size = min 131072 (queue_size / 4)
 
--- listeners are told of news at once if so many bytes have come for them: of all news if little is kept
+-- listeners get news at once if so many bytes have come for them: all news if little is kept
 -- rule: News waits
 abbrev pub much_at : ℕ → ℕ
 much_at queue_size = if nat_lt queue_size 65536 then 0 else slow_at queue_size / 4

@@ -18,7 +18,7 @@ abbrev pub UndrawnHoldUp : Type 0
 UndrawnHoldUp = (drawn latest : ℕ) (report : Report) → has_drawn report.state ≡ false → latest ≤ report.turn_ms + most_still
     → (drawn_with drawn latest report ≤ report.drawn_news) × (drawn_with drawn latest report ≤ drawn)
 
--- all are told no later moment than a worker that has begun has read up to
+-- all get no later moment than a worker that has begun has read up to
 abbrev pub BegunAreWaitedFor : Type 0
 BegunAreWaitedFor = (least : ℕ) (report : Report)
     → (report.works ≡ true → least_read least report ≤ report.read_ms) × (report.works ≡ false → least_read least report ≡ least)

@@ -16,7 +16,7 @@ use Rattle.radio_board.specs.Sums.{drawn_after, first_come, least_of, most_of, l
 abbrev pub holds_up : ℕ → Report → Bool
 holds_up latest report = not (has_drawn report.state) && is_served report.turn_ms latest
 
--- of some number of times that workers were told of news, up to which this worker's listeners have drawn too
+-- of some number of times that workers got news, up to which this worker's listeners have drawn too
 abbrev pub drawn_with : ℕ → ℕ → Report → ℕ
 drawn_with drawn latest report = least_of drawn (holds_up latest report) report.drawn_news
 
@@ -46,7 +46,7 @@ loses_newcomers latest report = nat_lt 0 report.newcomers && not (is_served repo
 abbrev pub step_to_wait : Bool → Step
 step_to_wait is_paused = if is_paused then Pause else LieDown
 
--- by which step it is told of news
+-- by which step it gets news
 abbrev pub step_of_news : Bool → Step
 step_of_news is_much = if is_much then MuchNews else News
 
@@ -62,7 +62,7 @@ number_after step state = if number_of (after step state) == number_of state the
 abbrev pub is_much : ℕ → ℕ → Report → Bool
 is_much much received report = nat_le much (left_to_draw received report.drawn report.has_listeners)
 
--- whether the worker of this number is told of news: its listeners may have some, and it has listeners
+-- whether the worker of this number gets news: its listeners may have some, and it has listeners
 abbrev pub is_told : NewsFor → ℕ → Report → Bool
 is_told news number report = is_for news number && report.has_listeners
 
@@ -70,7 +70,8 @@ is_told news number report = is_for news number && report.has_listeners
 abbrev pub news_came : ℕ → Report → ℕ
 news_came now report = if has_news report.state then report.came_us else now
 
--- what a worker reports once a turn came to this: what its listeners have drawn, and what it serves
+-- what a worker reports once a turn had this result: what its listeners have drawn, and what it
+-- serves
 abbrev pub after_turn : TurnDone → Report → Report
 after_turn done report = record report {
   drawn = drawn_after report.drawn done.received done.has_more;
@@ -78,6 +79,6 @@ after_turn done report = record report {
   has_listeners = done.has_listeners;
 }
 
--- the step that a worker takes between two reports: its first listeners are told of news
+-- the step that a worker takes between two reports: its first listeners get news
 abbrev pub step_between : Report → Report → Option Step
 step_between before next = if first_come before.has_listeners next.has_listeners then Some News else None

@@ -11,7 +11,7 @@ most_step = 500
 abbrev pub most_still : ℕ
 most_still = 2000
 
--- what the system's clock told last, and the time that was served up to then, in milliseconds
+-- the last moment of the system's clock, and the time that was served up to then, in milliseconds
 pub record Served : Type 0 where
   pub clock : ℕ
   pub served : ℕ
@@ -20,13 +20,13 @@ pub record Served : Type 0 where
 abbrev pub grown : ℕ → Served → ℕ
 grown clock s = min (2 ^ 64 - 1) (s.served + min most_step (clock - s.clock))
 
--- the system's clock tells this moment, and all workers have read up to that one: what has passed since the clock told the last
+-- the system's clock has this moment, and all workers have read up to that one. What has passed since the clock's last moment
 -- counts, but no more than a step, and only up to a step beyond what all have read
 -- rule: Server time
 abbrev pub served_by : ℕ → ℕ → Served → Served
 served_by clock told s = record { clock = clock; served = max s.served (min (grown clock s) (min (2 ^ 64 - 1) (told + most_step))) }
 
--- up to which moment all may be told: it is as long ago as a worker waits at most
+-- the moment that all may get: it is as long ago as a worker waits at most
 -- rule: Server time
 abbrev pub settled : Served → ℕ
 settled s = s.served - most_rest

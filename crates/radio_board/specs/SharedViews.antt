@@ -5,8 +5,8 @@ use Rattle.radio_board.specs.declared.shared.Limits.{Limits}
 use Rattle.radio_board.specs.declared.worker_desk.WorkerDesk.{WorkerDesk}
 use Rattle.radio_board.specs.Paces.{slow_at, much_at}
 
--- where its memory comes from; the desks of its workers; how many connections may linger, of all together; and from how many bytes on that listeners are behind
--- sources are read slowly, and listeners are told of news at once
+-- where its memory comes from; the desks of its workers; how many connections may linger, of all together. And how many bytes behind listeners are when sources
+-- are read slowly, and when listeners get news at once
 pub record SharedOf : Type 0 where
   pub alloc : Global
   pub desks : List WorkerDesk

@@ -6,7 +6,7 @@ use Rattle.radio_board.specs.declared.worker_state.Step.{Step}
 use Rattle.radio_board.specs.declared.worker_state.Step.TheVariants.{News, MuchNews, LieDown, BeginRound, EndRound}
 use Rattle.radio_board.specs.States.{has_news, has_drawn, waits, after}
 
--- news that a worker is told of is there, whatever it does at that moment
+-- news that a worker gets is there, whatever it does at that moment
 abbrev pub NewsIsThere : Type 0
 NewsIsThere = (state : WorkerState) → (has_news (after News state) ≡ true) × (has_news (after MuchNews state) ≡ true)
 

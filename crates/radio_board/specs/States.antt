@@ -1,4 +1,4 @@
--- What a worker does, as those see it who tell it of news, and wake it.
+-- What a worker does, as the threads see it that give it news, and wake it.
 use Rattle.std.specs.Prelude.{ℕ, Bool, true, false}
 use Rattle.radio_board.specs.declared.worker_state.WorkerState.{WorkerState}
 use Rattle.radio_board.specs.declared.worker_state.WorkerState.TheVariants.{Awake, Drawing, Asleep, Paused}
@@ -19,7 +19,7 @@ waits (Drawing news) = false
 waits Asleep = true
 waits (Paused news) = true
 
--- whether its listeners have drawn all the news that it was told of
+-- whether its listeners have drawn all the news that it got
 -- rule: Closing of a source
 abbrev pub has_drawn : WorkerState → Bool
 has_drawn (Awake true) = false

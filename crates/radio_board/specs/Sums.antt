@@ -41,6 +41,7 @@ first_come had has = has && not had
 abbrev pub newcomers_left : ℕ → ℕ → Option ℕ
 newcomers_left newcomers most = if nat_lt 0 (min newcomers most) then Some (newcomers - most) else None
 
--- which worker is told of a newcomer: the one that takes newcomers next, or the one for which it was put
+-- which worker is woken for a newcomer: the one that takes newcomers next, or the one for which it was
+-- put
 abbrev pub taker_of : Option ℕ → ℕ → ℕ
 taker_of next own = unwrap_or next own

@@ -29,7 +29,7 @@ open_of fields = do
   peer ← peer_of field.1
   Some (Open label peer)
 
--- `pull C MOUNT`: the name stands as it is, without escapes
+-- `pull C MOUNT`: the name is written as it is, without escapes
 unfoldable pub pull_of : List ℕ → Option Delivery
 pull_of fields = do
   field ← cut 32 fields
@@ -91,7 +91,7 @@ fields_of word fields =
     (if bytes_eq word (codes "in") then in_of fields else
     (if bytes_eq word (codes "room") then room_of fields else other_fields_of word fields))
 
--- the delivery that a line stands for, if it is one
+-- the delivery that a line writes, if it is one
 -- rule: Line of a script
 unfoldable pub delivery_of : List ℕ → Option Delivery
 delivery_of line = do

@@ -1,5 +1,5 @@
--- How the bytes of a delivery stand in a script and in a transcript. The bytes 0x20 to 0x7E other
--- than the backslash stand for themselves, the others behind a backslash.
+-- How the bytes of a delivery are written in a script and in a transcript. The bytes 0x20 to 0x7E
+-- other than the backslash are written as they are, the others behind a backslash.
 use Rattle.std.specs.Prelude.{ℕ, ◌+◌, ◌*◌, ◌/◌, ◌%◌, nat_lt, nat_le, ◌==◌, ◌&&◌, not, Bool, List, [], ◌∷◌, ◌++◌, Option, Some, None, if◌then◌else◌}
 use Rattle.std.specs.Option.{option_map, option_to_list}
 use Rattle.std.specs.Char.{digit_value, digit_char}
@@ -8,7 +8,7 @@ use Rattle.radio_deliveries.specs.declared.escapes.EscapePlace.{EscapePlace}
 use Rattle.radio_deliveries.specs.declared.escapes.EscapePlace.TheVariants.{Between, Escape, High, Low}
 use Rattle.radio_deliveries.specs.Steps.{◌>>=◌}
 
--- a byte that stands for itself
+-- a byte that is written as it is
 abbrev pub is_plain : ℕ → Bool
 is_plain b = nat_le 32 b && nat_le b 126 && not (b == 92)
 
@@ -48,7 +48,7 @@ step_at (Low high) b = do
   second ← hex_value_of b
   Some (Between, Some (first * 16 + second))
 
--- the bytes that the rest of a text stands for, read from this place on
+-- the bytes that the rest of a text writes, read from this place on
 abbrev pub unescaped_from : EscapePlace → List ℕ → Option (List ℕ)
 unescaped_from Between [] = Some []
 unescaped_from place [] = None
@@ -56,8 +56,8 @@ unescaped_from place (b ∷ text) = do
   step ← step_at place b
   option_map (λ bytes. option_to_list step.1 ++ bytes) (unescaped_from step.0 text)
 
--- the bytes that a text stands for, if each backslash in it begins an escape and each other byte
--- stands for itself
+-- the bytes that a text writes, if each backslash in it begins an escape and each other byte is
+-- written as it is
 -- rule: Escapes
 unfoldable pub unescaped : List ℕ → Option (List ℕ)
 unescaped text = unescaped_from Between text

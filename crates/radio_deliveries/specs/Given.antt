@@ -17,7 +17,7 @@ line_text (shut label word) = shut_line label word
 abbrev pub written : List TranscriptLine → List ℕ
 written lines = flat_map line_text lines
 
--- a line as it may stand in a transcript: a label that can be opened, bytes, and a word without a line feed
+-- a line of a transcript: a label that can be opened, bytes, and a word without a line feed
 abbrev pub IsLine : TranscriptLine → Type 0
 IsLine (out label bytes) = (label < 2 ^ 32) × AllByRecursion (λ b. b < 256) bytes
 IsLine (shut label word) = (label < 2 ^ 32) × (has_feed word ≡ false)

@@ -1,4 +1,4 @@
--- What a tally keeps beside its device.
+-- What a tally keeps in addition to its device.
 use Rattle.std.specs.Prelude.{ℕ, Bool}
 use Rattle.radio_deliveries.specs.declared.tally.Tally.{Tally}
 

@@ -21,7 +21,7 @@ abbrev pub shut_lines : ℕ → Option (List ℕ) → List ℕ
 shut_lines label None = []
 shut_lines label (Some word) = shut_line label word
 
--- What a delivery to connection C comes to: at most one `out` line, and then at most one `shut`
+-- The lines of a delivery to connection C: at most one `out` line, and then at most one `shut`
 -- line.
 -- rule: Line of a script
 unfoldable pub answer_lines : ℕ → List ℕ → Option (List ℕ) → List ℕ

@@ -1,4 +1,4 @@
--- What a transcript tells of the end of a connection.
+-- What a transcript says of the end of a connection.
 use Rattle.std.specs.Prelude.{◌≡◌, ℕ, List, [], ◌∷◌, codes, None, Some}
 use Rattle.radio_policy.specs.declared.rule.Rule.{Rule}
 use Rattle.radio_policy.specs.declared.rule.Status.{Status}
@@ -20,7 +20,8 @@ use Rattle.radio_session.specs.declared.session.LastWord.TheVariants.{Complete, 
 use Rattle.radio_session.specs.LastWords.{IsAbout, IsAsking}
 use Rattle.radio_floor.specs.ScriptState.{ScriptState, exchanges, closes, opens}
 
--- whatever events were behind it, with this event the connection of the label is told these bytes, and shut with this word
+-- whatever events were behind it, with this event these bytes are written to the connection of the label, and it is shut
+-- with this word
 abbrev pub ShutsWith : ScriptState → ℕ → Conversation → Event → List ℕ → List ℕ → Type 0
 ShutsWith state label conversation event bytes word =
     (events : List Event) → (exchanges state label conversation (event ∷ events)).lines ≡ Some (answer_lines label bytes (Some word))

@@ -10,7 +10,7 @@ use Rattle.radio_floor.specs.declared.labelled.Labelled.{Labelled}
 use Rattle.radio_floor.specs.ScriptState.{IsPerformed}
 use Rattle.radio_floor.specs.ScriptServer.{script_state_of, performed_as}
 
--- Whatever state the core stood for, the delivery comes to these lines from it, and the core stands for the state after it.
+-- Whatever state the core represented, the delivery yields these lines from it, and the core represents the state after it.
 abbrev pub Performs : WebAnswers → World → List Labelled → Delivery → Option (List ℕ) → World → List Labelled → Type 0
 Performs web core connections delivery lines core' connections' = (w : World) → Represents core w →
     (w' : World) × Represents core' w' × IsPerformed web (script_state_of w connections) delivery (performed_as lines w' connections')

@@ -1,4 +1,4 @@
--- The events that deliveries come to.
+-- The events that deliveries yield.
 use Rattle.std.specs.Prelude.{◌≡◌, ◌⊎◌, ℕ, List, [], ◌∷◌, ◌++◌, map, Option, None, Some}
 use Rattle.radio_addr.specs.declared.peer.Peer.{Peer}
 use Rattle.radio_values.specs.Cleaning.{cleaned}
@@ -23,14 +23,15 @@ use Rattle.radio_floor.specs.declared.labelled.Connection.TheVariants.{Client, R
 use Rattle.radio_floor.specs.ScriptState.{ScriptState, opening_script, connection_of}
 use Rattle.radio_floor.specs.Transcript.{conduct, IsTranscriptOf}
 
--- what is asked of the server when something comes to a client's connection
+-- what is asked of the server when something arrives on a client's connection
 abbrev pub IsAskedBy : Conversation → Input → List Event → Type 0
 IsAskedBy conversation (Data bytes) asked = (heard : Heard) × IsHeard conversation bytes heard × (asked ≡ heard.events)
 IsAskedBy conversation (Room room) asked = asked ≡ Draw conversation.id room ∷ []
 IsAskedBy conversation (Named text) asked = asked ≡ Title conversation.id (cleaned max_title text) ∷ []
 IsAskedBy conversation End asked = asked ≡ Leave conversation.id ∷ []
 
--- what is asked of the server when something comes to the connection of the relay that has this number, or is given it
+-- what is asked of the server when something arrives on the connection of the relay that has this number, or is given
+-- it
 abbrev pub IsAskedByRelay : Pulling → ℕ → Input → List Event → Type 0
 IsAskedByRelay pulling id (Data bytes) asked =
     (pulled : Pulled) × IsPulledAt pulling.stage bytes pulled × (asked ≡ map (event_of pulling.mount id) (items_of pulled.parts))
@@ -43,16 +44,17 @@ abbrev pub MayHave : Option ℕ → ℕ → Type 0
 MayHave None id = Unit {0}
 MayHave (Some number) id = number ≡ id
 
--- of what is asked, the first events come about, and behind them there may be the last; how many is told by the state that they lead to
+-- of what is asked, the first events come about, and behind them there may be the last; how many these are follows from the state that
+-- they lead to
 pub record ComeAbout (last : Event) (asked events : List Event) : Type 0 where
   pub front : List Event
   pub rest : List Event
   pub in_order : asked ≡ front ++ rest
   pub come : (events ≡ front) ⊎ (events ≡ front ++ last ∷ [])
 
--- a delivery comes to these events, if they lead to the state that it leads to
+-- a delivery yields these events, if they lead to the state that it leads to
 pub data ComesToEvents (state : ScriptState) : Delivery → List Event → Type 0 where
-  -- none: its label is at fault, its connection was shut before, a relay connects, or what it comes to changes nothing and is left out
+  -- none: its label is at fault, its connection was shut before, a relay connects, or its event changes nothing and is left out
   Nothing : (delivery : Delivery) → ComesToEvents state delivery []
   Arrives : (label : ℕ) (peer : Peer) → ComesToEvents state (Open label peer) (Arrive peer ∷ [])
   Ticks : (ms : ℕ) → ComesToEvents state (ClockIs ms) (Clock ms ∷ [])
@@ -63,24 +65,24 @@ pub data ComesToEvents (state : ScriptState) : Delivery → List Event → Type 
       → connection_of state.connections label ≡ Some (Some (Relay pulling)) → MayHave pulling.number id → IsAskedByRelay pulling id input asked
       → ComeAbout (RelayDown id) asked events → ComesToEvents state (To label input) events
 
--- how things stand, and the events that have led there from the opening state
+-- the state, and the events that have led there from the opening state
 pub record Traced : Type 0 where
   pub state : ScriptState
   pub events : List Event
 
--- a delivery is performed, and the events that it comes to, which lead the server from its state to the next, are noted behind those before
+-- a delivery is performed, and its events, which lead the server from its state to the next, are noted behind those before
 abbrev pub traces : WebAnswers → Conduct Traced
 traces web old delivery lines new =
     conduct web old.state delivery lines new.state
     × (events : List Event) × ComesToEvents old.state delivery events × (new.events ≡ old.events ++ events)
     × (new.state.world ≡ world_after_all old.state.world events)
 
--- the deliveries come to this text and to these events, in their order
+-- the deliveries yield this text and these events, in their order
 abbrev pub ComeToEvents : WebAnswers → Settings → Lists → List Delivery → List ℕ → Option ℕ → List Event → Type 0
 ComeToEvents web settings lists deliveries text stop events = (last : ScriptState)
     × Runs (traces web) (record { state = opening_script settings lists; events = [] }) 1 deliveries text stop (record { state = last; events = events })
 
--- deliveries that come to a transcript come to events
+-- deliveries that yield a transcript yield events
 abbrev pub ScriptsComeToEvents : Type 0
 ScriptsComeToEvents = (web : WebAnswers) (settings : Settings) (lists : Lists) (deliveries : List Delivery) (text : List ℕ) (stop : Option ℕ)
     → IsTranscriptOf web settings lists deliveries text stop → (events : List Event) × ComeToEvents web settings lists deliveries text stop events

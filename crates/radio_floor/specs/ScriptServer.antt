@@ -19,25 +19,28 @@ script_state_of w connections = record { world = w; connections = connections }
 abbrev pub performed_as : Option (List ℕ) → World → List Labelled → Performed
 performed_as lines w connections = record { lines = lines; state = script_state_of w connections }
 
--- Some text was added to the lines, and whatever state the core stood for, the arrival comes to it, and the core stands for the state after it.
+-- Some text was added to the lines. Whatever state the core represented, the arrival yields that text, and the core represents the state after
+-- it.
 abbrev pub OpensAs : WebAnswers → World → List Labelled → ℕ → Peer → List ℕ → World → List Labelled → List ℕ → Type 0
 OpensAs web core connections label peer lines core' connections' lines' =
     (text : List ℕ) × (lines' ≡ lines ++ text)
     × ((w : World) → Represents core w
     → (w' : World) × Represents core' w' × (opens web (script_state_of w connections) label peer ≡ performed_as (Some text) w' connections'))
 
--- whatever state the core stood for, the relay of this mount connects, or there is none, and the core is as it was
+-- whatever state the core represented, the relay of this mount connects, or there is none, and the core is as it
+-- was
 abbrev pub ConnectsAs : World → List Labelled → ℕ → List ℕ → Option (List ℕ) → List Labelled → Type 0
 ConnectsAs core connections label mount text connections' = (w : World) → Represents core w
     → connects (script_state_of w connections) label (relay_named w mount) ≡ performed_as text w connections'
 
--- a connection of a label that is now so was told this, as what is performed
+-- this was written to a connection of a label that is now so, as what is performed
 abbrev pub answered_under : List Labelled → ℕ → DeliveryAnswer → Connection → World → Performed
 answered_under connections label told connection w =
     performed_as (Some (told_lines label told.bytes.items told.state)) w
     (with_connection connections label (kept_unless connection told.state))
 
--- Whatever state the core stood for, and whatever the labels are: it comes of it so, and the core stands for the state after it.
+-- Whatever state the core represented, and whatever the labels are, this is the result, and the core represents the state after
+-- it.
 abbrev pub AnswersAs : World → World → DeliveryAnswer → Connection → (ScriptState → ℕ → Performed → Type 0) → Type 0
 AnswersAs core core' told connection Done =
     (w : World) → Represents core w → (w' : World) × Represents core' w'
@@ -49,7 +52,7 @@ PullsAs core core' ends pulling Done =
     (w : World) → Represents core w → (w' : World) × Represents core' w'
     × ((connections : List Labelled) (label : ℕ) → Done (script_state_of w connections) label (pulled_on (script_state_of w connections) label pulling ends w'))
 
--- something comes to what became of a label: its connection is dealt with, if it has one; of want of memory nothing is said
+-- something arrives for what became of a label: its connection is served, if it has one; of want of memory nothing is said
 abbrev pub AnswersOn : World → Input → Option Connection → Result (Option DeliveryAnswer) AllocError → World → Option Connection → Type 0
 AnswersOn core input None result core' connection' = (result ≡ Ok None) × (core' ≡ core) × (connection' ≡ None)
 AnswersOn core input (Some connection) result core' connection' =
@@ -57,7 +60,7 @@ AnswersOn core input (Some connection) result core' connection' =
     × (connection' ≡ kept_unless now told.state)
     × AnswersAs core core' told now (λ state label done. ComesTo state label connection input done))
 
--- something comes to a label, which stays that label
+-- something arrives for a label, which stays that label
 abbrev pub AnswersUnder : World → Input → Labelled → Result (Option DeliveryAnswer) AllocError → World → Labelled → Type 0
 AnswersUnder core input labelled result core' labelled' =
     (labelled'.label ≡ labelled.label) × AnswersOn core input labelled.connection result core' labelled'.connection

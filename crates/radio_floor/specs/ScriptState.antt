@@ -1,4 +1,4 @@
--- The server behind a script: what each delivery comes to.
+-- The server behind a script, and the result of each delivery.
 use Rattle.std.specs.Prelude.{◌≡◌, ℕ, Bool, ◌==◌, List, [], ◌∷◌, Option, None, Some, find, if◌then◌else◌}
 use Rattle.std.specs.Str.{bytes_eq}
 use Rattle.std.specs.Option.{option_map}
@@ -51,7 +51,7 @@ opening_script settings lists = record { world = opening settings lists; connect
 abbrev pub has_label : ℕ → Labelled → Bool
 has_label label connection = connection.label == label
 
--- labels stand in rising order
+-- labels are in rising order
 abbrev pub by_label : Labelled → Labelled → Ordering
 by_label a b = nat_cmp a.label b.label
 
@@ -75,7 +75,7 @@ last_word (Shut ending) = Some (ending_word ending)
 abbrev pub told_lines : ℕ → List ℕ → State → List ℕ
 told_lines label bytes state = answer_lines label bytes (last_word state)
 
--- what a delivery comes to: None where its label is at fault, else some lines; and how things stand after it
+-- the result of a delivery: None if its label is at fault, else some lines; and the state after it
 pub record Performed : Type 0 where
   pub lines : Option (List ℕ)
   pub state : ScriptState
@@ -157,7 +157,8 @@ closes state label conversation =
       state = record { world = world_after state.world (Leave conversation.id); connections = with_connection state.connections label None };
     }
 
--- what comes to a client's connection comes to that (a relation, since the grammar of heads is one; there is one answer)
+-- what arrives on a client's connection has this result (a relation, since the grammar of heads is one; there is one
+-- answer)
 abbrev pub ComesToClient : ScriptState → ℕ → Conversation → Input → Performed → Type 0
 ComesToClient state label conversation (Data bytes) done =
     (heard : Heard) × IsHeard conversation bytes heard × (exchanges state label heard.conversation heard.events ≡ done)
@@ -165,7 +166,8 @@ ComesToClient state label conversation (Room room) done = exchanges state label 
 ComesToClient state label conversation (Named text) done = exchanges state label conversation (Title conversation.id (cleaned max_title text) ∷ []) ≡ done
 ComesToClient state label conversation End done = closes state label conversation ≡ done
 
--- nothing more goes out on the connection to a master; the pull stands so, or is shut, and so does the server
+-- nothing more is written on the connection to a master; the pull has this state, or is shut, and so does the
+-- server
 abbrev pub pulled_on : ScriptState → ℕ → Pulling → State → World → Performed
 pulled_on state label pulling ends w = record {
   lines = Some (told_lines label [] ends);
@@ -178,7 +180,7 @@ AsksOn state label pulling event done =
     (after : Standing) × (w : World) × AsksIf Step pulling.number event state.world after w
     × (pulled_on state label (record pulling { number = after.number }) after.state w ≡ done)
 
--- what comes to a relay's connection comes to that
+-- what arrives on a relay's connection has this result
 -- rule: Relay goes down
 abbrev pub ComesToRelay : ScriptState → ℕ → Pulling → Input → Performed → Type 0
 ComesToRelay state label pulling (Data bytes) done =
@@ -188,7 +190,7 @@ ComesToRelay state label pulling (Named text) done = AsksOn state label pulling 
 ComesToRelay state label pulling End done =
     (w : World) × GoesDown Step pulling.number state.world w × (pulled_on state label pulling (Shut Done) w ≡ done)
 
--- what comes to a connection comes to that
+-- what arrives on a connection has this result
 abbrev pub ComesTo : ScriptState → ℕ → Connection → Input → Performed → Type 0
 ComesTo state label (Client conversation) input done = ComesToClient state label conversation input done
 ComesTo state label (Relay pulling) input done = ComesToRelay state label pulling input done
@@ -212,7 +214,7 @@ abbrev pub for_new_label : ScriptState → Performed → Option (Option Connecti
 for_new_label state performed None = performed
 for_new_label state performed (Some connection) = at_fault state
 
--- from this state the delivery comes to that
+-- from this state the delivery has this result
 -- rule: Line of a script; Labels
 abbrev pub IsPerformed : WebAnswers → ScriptState → Delivery → Performed → Type 0
 IsPerformed web state (Open label peer) performed =

@@ -9,7 +9,7 @@ use Rattle.radio_floor.specs.ScriptState.{ScriptState, opening_script, IsPerform
 use Rattle.radio_script.specs.Runs.{Conduct, Runs}
 use Rattle.radio_script.specs.Plays.{Plays}
 
--- from this state the delivery comes to these lines, or is at fault, and to that state
+-- from this state the delivery yields these lines, or is at fault, and leads to that state
 abbrev pub conduct : WebAnswers → Conduct ScriptState
 conduct web old delivery lines new = IsPerformed web old delivery (record { lines = lines; state = new })
 

@@ -27,7 +27,7 @@ is_client id client = client.id == id
 abbrev pub client_of : List Client → ℕ → Option Client
 client_of clients id = find (is_client id) clients
 
--- clients stand in the order of their numbers
+-- clients are in the order of their numbers
 abbrev pub by_number : Client → Client → Ordering
 by_number a b = nat_cmp a.id b.id
 

@@ -137,7 +137,7 @@ listen_facts_at house seats mount pair = let found = found_at (sight_of house) s
 abbrev pub listen_facts : House → List Listener → ListenRequest → Option ListenFacts
 listen_facts house seats asked = (if names_mount house.settings asked.mount then Some (listen_facts_at house seats asked.mount asked.pair) else None)
 
--- the policy's rows for each action, as things stand
+-- the policy's rows for each action, in this state
 -- rule: Order for a connection
 abbrev pub rows_to_arrive : House → Peer → List Row
 rows_to_arrive house peer = arrive_rows (arrive_facts house peer)

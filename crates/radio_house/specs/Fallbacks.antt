@@ -19,7 +19,7 @@ is_set_for mount set = bytes_eq set.mount mount
 abbrev pub set_for : List Fallback → List ℕ → Option Fallback
 set_for fallbacks mount = find (is_set_for mount) fallbacks
 
--- they stand in the order of their mounts' bytes
+-- they are in the order of their mounts' bytes
 abbrev pub by_name : Fallback → Fallback → Ordering
 by_name a b = slice_cmp nat_cmp a.mount b.mount
 

@@ -16,7 +16,7 @@ use Rattle.radio_house.specs.Waiting.{shown_by_nobody}
 abbrev pub is_live_mount : List ℕ → LiveMount → Bool
 is_live_mount mount row = bytes_eq row.mount mount
 
--- they stand in the order of their mounts' bytes
+-- they are in the order of their mounts' bytes
 abbrev pub live_by_name : LiveMount → LiveMount → Ordering
 live_by_name a b = slice_cmp nat_cmp a.mount b.mount
 

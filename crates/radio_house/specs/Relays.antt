@@ -26,7 +26,7 @@ is_relay id relay = relay.id == id
 abbrev pub relay_of : List Relay → ℕ → Option Relay
 relay_of relays id = find (is_relay id) relays
 
--- relays stand in the order of their numbers
+-- relays are in the order of their numbers
 abbrev pub in_order_of_number : Relay → Relay → Ordering
 in_order_of_number a b = nat_cmp a.id b.id
 

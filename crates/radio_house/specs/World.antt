@@ -46,7 +46,7 @@ abbrev pub standing_of_listener : Option Listener → Standing
 standing_of_listener None = IsAnswered
 standing_of_listener (Some listener) = standing_seated listener.seating
 
--- how a client from this address stands who does this, and is this listener if it is one
+-- the standing of a client from this address that does this, and is this listener if it is one
 abbrev pub standing_by : Option Listener → Peer → ClientState → Standing
 standing_by listener peer Undecided = IsUndecided peer
 standing_by listener peer (Feeds mount) = IsFeeding mount
@@ -54,7 +54,7 @@ standing_by listener peer Listens = standing_of_listener listener
 standing_by listener peer Answered = IsAnswered
 standing_by listener peer (Ended rule) = Finished rule
 
--- and how a relay stands that does this
+-- and of a relay that does this
 abbrev pub standing_relayed : RelayState → Standing
 standing_relayed (RelayFeeds mount) = IsFeeding mount
 standing_relayed (RelayEnded rule) = Finished rule
@@ -67,7 +67,7 @@ abbrev pub standing_in : Option Relay → Option Listener → Option Client → 
 standing_in relay listener None = standing_of_relay relay
 standing_in relay listener (Some client) = standing_by listener client.peer client.state
 
--- how the client, or the relay, of this number stands
+-- the standing of the client or relay of this number
 -- rule: Client states
 abbrev pub standing_of : World → ℕ → Standing
 standing_of w id = standing_in (relay_of w.house.relays id) (listener_of w.seats id) (client_of w.house.clients id)

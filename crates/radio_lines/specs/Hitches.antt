@@ -1,4 +1,4 @@
--- Calls of a stream that come to nothing. Moments are in milliseconds.
+-- Calls of a stream that do nothing. Moments are in milliseconds.
 use Rattle.std.specs.Prelude.{◌≡◌, ◌⊎◌, ℕ}
 use Rattle.std.specs.declared.io.ErrorKind.{ErrorKind}
 use Rattle.std.specs.declared.io.ErrorKind.TheVariants.{WouldBlock, Interrupted}
@@ -11,7 +11,7 @@ use Rattle.radio_lines.specs.declared.stream.Hitch.{Hitch}
 use Rattle.radio_lines.specs.declared.stream.Hitch.TheVariants.{Waits, BrokenOff, Failed}
 use Rattle.radio_lines.specs.Ready.{without_bytes, without_room}
 
--- why a call came to nothing whose fault is of this kind: it would have waited, or was broken off; any other is a failure
+-- why a call did nothing whose fault is of this kind: it would have waited, or was broken off; any other is a failure
 abbrev pub hitch_of : ErrorKind → Hitch
 hitch_of WouldBlock = Waits
 hitch_of Interrupted = BrokenOff
@@ -41,7 +41,7 @@ ready_to_write Waits ms ready = without_room ms ready
 ready_to_write BrokenOff ms ready = ready
 ready_to_write Failed ms ready = ready
 
--- a read leaves the readiness, unless the call came to nothing
+-- a read leaves the readiness, unless the call did nothing
 abbrev pub IsReadyToRead : Received → Ready → Ready → Type 0
 IsReadyToRead received before now =
     (now ≡ before) ⊎ ((hitch : Hitch) × (received ≡ received_at hitch) × (now ≡ ready_to_read hitch before))

@@ -30,6 +30,6 @@ abbrev pub StalledAreAskedAgain : Type 0
 StalledAreAskedAgain = (ready : Ready) (ms now : ℕ) → ms < 2 ^ 63
     → (now < ms + 1000 → may_write now (without_room ms ready) ≡ false) × (ms + 1000 ≤ now → may_write now (without_room ms ready) ≡ true)
 
--- unless the system tells of room
+-- unless the system reports room
 abbrev pub RoomIsTaken : Type 0
 RoomIsTaken = (ready : Ready) (notice : SocketReport) (ms now : ℕ) → notice.writes ≡ true → may_write now (after_told notice (without_room ms ready)) ≡ true

@@ -6,11 +6,11 @@ use Rattle.radio_connections.specs.Moments.{later}
 use Rattle.radio_lines.specs.declared.ready.Ready.{Ready}
 use Rattle.radio_lines.specs.declared.ready.SocketReport.{SocketReport}
 
--- nothing was told of it yet: it is to be asked, and what comes is wanted
+-- nothing was reported of it yet: it is to be asked, and what comes is wanted
 abbrev pub fresh : Ready
 fresh = record { is_readable = true; is_writable = true; is_over = false; is_passed_over = false; read_from_ms = 0; write_from_ms = 0 }
 
--- the system has told this; a socket that is over is to be asked at once, since it tells so then
+-- the system has reported this; a socket that is over is to be asked at once, since it says so then
 abbrev pub after_told : SocketReport → Ready → Ready
 after_told notice r = record r {
   is_readable = r.is_readable || notice.reads || notice.is_over;
@@ -34,7 +34,7 @@ after_read filled ms r =
 abbrev pub has_more : Ready → Bool
 has_more r = r.is_readable && not r.is_passed_over
 
--- a write at this moment would have waited, or took a part: it is asked again when the system tells of room, or after a second
+-- a write at this moment would have waited, or took a part: it is asked again when the system reports room, or after a second
 -- rule: Full sockets
 abbrev pub without_room : ℕ → Ready → Ready
 without_room ms r = record r { is_writable = false; write_from_ms = later ms 1000 }
@@ -55,6 +55,6 @@ may_read ms r = r.is_readable && nat_le r.read_from_ms ms
 abbrev pub may_write : ℕ → Ready → Bool
 may_write ms r = r.is_writable || nat_le r.write_from_ms ms
 
--- what an event of the system tells: it is over if it has failed, or a side of it was closed
+-- what an event of the system reports: it is over if it has failed, or a side of it was closed
 abbrev pub notice_of : Event → SocketReport
 notice_of e = record { reads = is_readable e; writes = is_writable e; is_over = is_error e || is_read_closed e || is_write_closed e }

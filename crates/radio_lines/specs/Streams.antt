@@ -1,4 +1,4 @@
--- What a call of a stream came to, as far as the bytes of the stream are known.
+-- The result of a call of a stream, as far as the bytes of the stream are known.
 use Rattle.std.specs.Prelude.{◌<◌, ◌≤◌, ℕ, List, length, take, Option}
 use Rattle.std.specs.Io.KnownBytes.{Keeps, Appends, Consumes, IsAtEnd}
 use Rattle.radio_connections.specs.declared.line.Received.{Received}

@@ -4,7 +4,7 @@ use Rattle.mio.specs.declared.token.Token.{Token}
 use Rattle.radio_lines.specs.declared.sockets.Polled.{Polled}
 use Rattle.radio_lines.specs.declared.sockets.PollReport.{PollReport}
 
--- what was heard, at this moment in microseconds
+-- what was reported, at this moment in microseconds
 abbrev pub heard_at : ℕ → PollReport → Polled
 heard_at us told = record { ms = us / 1000; us = us; is_ready = told.is_ready; is_called = told.is_called }
 

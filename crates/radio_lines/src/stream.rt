@@ -23,7 +23,7 @@ impl Shut for TcpStream {
     }
 }
 
-/// Why a call of a stream failed.
+/// Why a call of a stream did nothing.
 #[derive(Clone, Copy, Debug, PartialEq, Eq)]
 pub(crate) enum Hitch {
     /// It would have waited.
@@ -34,7 +34,7 @@ pub(crate) enum Hitch {
     Failed,
 }
 
-/// Returns why a call failed whose fault is of this kind.
+/// Returns why a call did nothing whose fault is of this kind.
 fn hitch_of(kind: ErrorKind) -> Hitch
     ensures { result ≡ hitch_of kind }
 {
@@ -46,7 +46,7 @@ fn hitch_of(kind: ErrorKind) -> Hitch
 }
 
 impl Hitch {
-    /// Returns what a line answers to a read that failed.
+    /// Returns what a line answers to a read that did nothing.
     fn received(self) -> Received
         ensures { result ≡ received_at self }
     {
@@ -56,7 +56,7 @@ impl Hitch {
         }
     }
 
-    /// Returns what a line answers to a write that failed.
+    /// Returns what a line answers to a write that did nothing.
     fn sent(self) -> Sent
         ensures { result ≡ sent_at self }
     {
@@ -66,7 +66,7 @@ impl Hitch {
         }
     }
 
-    /// Returns what a socket is ready for once a read failed.
+    /// Returns what a socket is ready for once a read did nothing.
     fn after_read(self, ready: Ready) -> Ready
         ensures { result ≡ ready_to_read self ready }
     {
@@ -76,7 +76,7 @@ impl Hitch {
         }
     }
 
-    /// Returns what a socket is ready for once a write failed at `ms`, in milliseconds.
+    /// Returns what a socket is ready for once a write did nothing at `ms`, in milliseconds.
     fn after_write(self, ready: Ready, ms: u64) -> Ready
         ensures { result ≡ ready_to_write self ms ready }
     {

@@ -1,4 +1,4 @@
--- What is noted of a relay for the log, and what is told of it.
+-- What is noted of a relay for the log, and what is logged of it.
 use Rattle.std.specs.Prelude.{◌≡◌, ◌⊎◌, ℕ, true, false, ◌+◌, ◌-◌, ◌^◌, min, List, [], length, Option, None, Some, MatchBool}
 use Rattle.radio_events.specs.declared.event.Event.{Event}
 use Rattle.radio_events.specs.declared.event.Event.TheVariants.{RelayUp as RelayComesUp, Push, Title as SetsTitle}
@@ -17,7 +17,8 @@ use Rattle.radio_masters.specs.Failures.{IsNoted}
 abbrev pub IsCopyOf : List ℕ → List ℕ → Type 0
 IsCopyOf text copy = (copy ≡ text) ⊎ (copy ≡ [])
 
--- what is to be told of an event if it is done: that a relay comes up, how much sound has come, and a title
+-- what is to be logged of an event if it is done: that a relay comes up, how much sound has come, and a
+-- title
 abbrev pub IsSayingOf : Event → Saying → Type 0
 IsSayingOf (RelayComesUp mount shown) (Up text) = IsCopyOf shown.content_type text.items
 IsSayingOf (RelayComesUp mount shown) saying = ⊥
@@ -26,7 +27,8 @@ IsSayingOf (SetsTitle id text) (Title title) = IsCopyOf text title.items
 IsSayingOf (SetsTitle id text) saying = ⊥
 IsSayingOf event saying = saying ≡ Nothing
 
--- what of it is told, by the reply: a relay is up if it has a number, and sound and titles count if they were taken
+-- what of it is logged, by the reply: a relay is up if it has a number, and sound and titles count if they were
+-- taken
 abbrev pub due : Reply → Saying → Saying
 due (Arrived id) (Up text) = Up text
 due Noted (Sound count) = Sound count
@@ -45,19 +47,19 @@ up = record { is_up = true; sound = 0; failing = None }
 abbrev pub sounded : RelayCourse → ℕ → RelayCourse
 sounded course count = record course { sound = min (2 ^ 64 - 1) (course.sound + count) }
 
--- what is noted once this is told
+-- what is noted once this is logged
 abbrev pub said : RelayCourse → Saying → RelayCourse
 said course (Up text) = up
 said course (Sound count) = sounded course count
 said course (Title title) = course
 said course Nothing = course
 
--- the line of a failure that is told so often, if it is told
+-- the line of a failure that is logged so often, if it is logged
 abbrev pub line_of : Option ℕ → EndLine
 line_of None = NoLine
 line_of (Some times) = Failed times
 
--- the pull of a relay that was not up has ended: it has failed, which is told as `IsNoted` says
+-- the pull of a relay that was not up has ended: it has failed, which is logged as `IsNoted` says
 abbrev pub HasFailed : RelayCourse → RelayEnd → ℕ → RelayCourse → EndLine → Type 0
 HasFailed course why ms after line =
     (failed : Failing) × (told : Option ℕ) × IsNoted course.failing why ms failed told

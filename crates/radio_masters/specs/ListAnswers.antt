@@ -15,7 +15,7 @@ use Rattle.radio_masters.specs.declared.list_answer.MasterListFault.TheVariants.
 abbrev pub max_list : ℕ
 max_list = 1048576
 
--- a body of a length that a number tells
+-- a body of the length of a number
 abbrev pub body_of_length : Option ℕ → List ℕ → Result (List ℕ) MasterListFault
 body_of_length None rest = Err TooLong
 body_of_length (Some n) rest = if nat_lt (length rest) n then Err Cut else Ok (take n rest)
@@ -45,8 +45,8 @@ abbrev pub IsListBody : List ℕ → Bool → Result (List ℕ) MasterListFault 
 IsListBody bytes has_closed body =
     (reading : Result (Progress ResponseParts) HeadFault) × IsReading ShowsResponse bytes reading × (body ≡ body_as has_closed bytes reading)
 
--- a slave's connection to its master: what is still owed of the request, what the line gave and took and how often it was called, and what is
--- kept of the answer
+-- a slave's connection to its master: what is still to be written of the request, what the line gave and took and how often it was called,
+-- and what is kept of the answer
 pub record ListOver : Type 0 where
   pub outgoing : List ℕ
   pub given : List ℕ
@@ -58,7 +58,7 @@ pub record ListOver : Type 0 where
 abbrev pub most_held : ℕ
 most_held = 1064960
 
--- why no list comes of a turn: the line has failed; more has come than is kept; or what has come whole has no list
+-- why a turn yields no list: the line has failed; more has come than is kept; or what has come whole has no list
 abbrev pub WhyNoList : MasterListFault → ListOver → ListOver → Type 0
 WhyNoList fault pull pull' =
     ((fault ≡ Cut) × (pull'.calls.faults ≡ suc pull.calls.faults))

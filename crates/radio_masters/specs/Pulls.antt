@@ -16,7 +16,7 @@ use Rattle.radio_pull.specs.Course.{AsksIf, Takes}
 use Rattle.radio_masters.specs.declared.mount_pull.PullTurn.{PullTurn}
 use Rattle.radio_masters.specs.declared.mount_pull.PullTurn.TheVariants.{Running as GoesOn, Shut as IsShut, Closed, Failed, OutOfMemory}
 
--- what was owed to a line and what it took became these: it took the front of what was owed
+-- what was pending and what the line took became these: it took the front of what was pending
 pub record IsWritten (outgoing taken outgoing' taken' : List ℕ) : Type 0 where
   pub part : List ℕ
   pub front : outgoing ≡ part ++ outgoing'
@@ -41,7 +41,8 @@ status_in (Ok (Whole head length)) = Some head.status
 status_in (Ok More) = None
 status_in (Err fault) = None
 
--- a pull over a line: what is still owed of the request, all that the line gave and took, how often it was called, and the front of the answer
+-- a pull over a line: what is still to be written of the request, all that the line gave and took, how often it was called, and the front of
+-- the answer
 pub record PullOver : Type 0 where
   pub relay : Pulling
   pub outgoing : List ℕ
@@ -50,7 +51,7 @@ pub record PullOver : Type 0 where
   pub calls : Calls
   pub front : List ℕ
 
--- what a turn comes to where the pull stands so
+-- the result of a turn if the pull has this state
 abbrev pub turn_of : State → PullTurn
 turn_of Running = GoesOn
 turn_of (Shut ending) = IsShut ending
@@ -70,7 +71,8 @@ GoesOnHere Closed = ⊥
 GoesOnHere Failed = ⊥
 GoesOnHere turn = Unit {0}
 
--- by a turn's end the line has told that its master has closed, or that it has failed; else it was read from once
+-- by a turn's end the line has reported that its master has closed, or that it has failed; else it was read from
+-- once
 abbrev pub IsCalled : PullTurn → Calls → Calls → Type 0
 IsCalled Closed before now = now.closings ≡ suc before.closings
 IsCalled Failed before now = now.faults ≡ suc before.faults
@@ -90,7 +92,7 @@ module _ {S : Type 0} (steps : Steps S) where
   Hears relay [] from relay' state to = IsProbed relay from relay' state to
   Hears relay (byte ∷ bytes) from relay' state to = Takes steps relay (byte ∷ bytes) from relay' state to
 
-  -- what comes of it by the turn's end: where the line is over nothing came, and where memory was refused nothing is said
+  -- its result by the turn's end: if the line is over nothing came, and if memory was refused nothing is said
   -- rule: Turn of a pull
   abbrev pub Comes : Pulling → List ℕ → S → PullTurn → Pulling → S → Type 0
   Comes relay bytes from GoesOn relay' to = Hears relay bytes from relay' Running to
@@ -99,7 +101,8 @@ module _ {S : Type 0} (steps : Steps S) where
   Comes relay bytes from Failed relay' to = (bytes ≡ []) × (relay' ≡ relay) × (to ≡ from)
   Comes relay bytes from OutOfMemory relay' to = Unit {0}
 
-  -- a turn: the line takes the front of what is owed and is read from once, unless it has failed by then, and what comes of what it gave
+  -- a turn: the line takes the front of what is pending and is read from once, unless it has failed by then, and the result of what it
+  -- gave
   -- rule: Turn of a pull
   pub record IsTurn (pull : PullOver) (from : S) (turn : PullTurn) (pull' : PullOver) (to : S) : Type 0 where
     pub bytes : List ℕ

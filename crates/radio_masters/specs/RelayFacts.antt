@@ -62,6 +62,6 @@ long_list = Warning (record {
   place = record { table = []; line = 0; did_you_mean = []; belongs_to = [] };
 })
 
--- it is told of the first list that is too long after one that was not
+-- the first list is logged that is too long after one that was not
 abbrev pub is_told : Bool → Bool → Bool
 is_told was_long is_long = is_long && not was_long

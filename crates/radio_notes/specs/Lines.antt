@@ -16,7 +16,7 @@ line_at moment fact = line (record { moment = moment; fact = fact })
 abbrev pub lines_at : Moment → List Fact → List ℕ
 lines_at moment facts = flat_map (line_at moment) facts
 
--- the line that tells how many were lost, if some were
+-- the line that says how many were lost, if some were
 abbrev pub report_of : Moment → ℕ → List ℕ
 report_of moment lost = if lost == 0 then [] else line_at moment (Lost lost)
 
@@ -24,7 +24,8 @@ report_of moment lost = if lost == 0 then [] else line_at moment (Lost lost)
 abbrev pub losing : ℕ → Waiting → Waiting
 losing count w = record w { lost = capped (w.lost + count) }
 
--- a report and lines wait behind the others, and no loss is left to be told; or these lines, so many of them, are lost too
+-- a report and lines wait behind the others, and no loss is left to be reported; or these lines, so many of them, are lost
+-- too
 abbrev pub IsPushed : List ℕ → List ℕ → ℕ → Waiting → Waiting → Type 0
 IsPushed report lines count old new =
     (new ≡ record { lines = old.lines ++ (report ++ lines); lost = 0 }) ⊎ (new ≡ losing count old)

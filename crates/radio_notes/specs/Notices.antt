@@ -1,4 +1,4 @@
--- What is to be told of an event, and what of it is told once the server has replied.
+-- What is to be logged of an event, and what of it is logged once the server has replied.
 use Rattle.std.specs.Prelude.{◌≡◌, ℕ, List, [], ◌∷◌, length, min}
 use Rattle.radio_addr.specs.declared.peer.Peer.{Peer}
 use Rattle.radio_events.specs.declared.event.Event.{Event}
@@ -30,17 +30,17 @@ abbrev pub IsMadeAt : ℕ → List Fact → Notice → Type 0
 IsMadeAt seconds facts notice =
     (moment : Moment) × IsSecond (min seconds last_second) moment × IsMadeOf moment facts notice
 
--- nothing is to be told if there are no facts
+-- nothing is to be logged if there are no facts
 abbrev pub IsToldAt : ℕ → List Fact → Notice → Type 0
 IsToldAt seconds [] notice = notice ≡ Nothing
 IsToldAt seconds (fact ∷ facts) notice = IsMadeAt seconds (fact ∷ facts) notice
 
--- of a block its length is to be told, and of every other event its facts
+-- of a block its length is to be logged, and of every other event its facts
 abbrev pub IsNoticeAt : ℕ → Peer → List ℕ → Event → Notice → Type 0
 IsNoticeAt seconds peer agent (Push id block) notice = notice ≡ Block (length block)
 IsNoticeAt seconds peer agent event notice = IsToldAt seconds (facts_of peer agent event) notice
 
--- what is told if it is done: lines where an answer says so, a block where it was taken
+-- what is logged if it is done: lines if an answer says so, a block if it was taken
 abbrev pub if_answered : Notice → Notice
 if_answered (Block count) = Nothing
 if_answered notice = notice
@@ -49,7 +49,7 @@ abbrev pub if_taken : Notice → Notice
 if_taken (Block count) = Block count
 if_taken notice = Nothing
 
--- what of a notice is told, by what is noted of the reply: nothing of what was denied
+-- what of a notice is logged, by what is noted of the reply: nothing of what was denied
 -- rule: Lines of changes
 abbrev pub due : Told → Notice → Notice
 due Noted notice = if_taken notice
@@ -58,12 +58,13 @@ due Text notice = if_answered notice
 due Shown notice = if_answered notice
 due told notice = Nothing
 
--- how many bytes of a stream have come by what is told
+-- how many bytes of a stream have come by what is logged
 abbrev pub fed : Notice → ℕ
 fed (Block count) = count
 fed notice = 0
 
--- lines that are told wait behind the others, or are lost; those for which memory was refused are lost; all else leaves the log alone
+-- lines that are logged wait behind the others, or are lost; those for which memory was refused are lost; all else leaves the log
+-- alone
 abbrev pub IsToldOf : Moment → Notice → Waiting → Waiting → Type 0
 IsToldOf moment (Lines lines count) old new = IsAdded moment lines.items count old new
 IsToldOf moment (Lost count) old new = new ≡ losing count old

@@ -1,4 +1,4 @@
--- What is kept of a request, and what is heard by some bytes.
+-- What is kept of a request, and what is read from some bytes.
 use Rattle.std.specs.Prelude.{◌≡◌, ℕ, List, [], ◌∷◌, take, codes, Option, None, Some, Ok, unwrap_or}
 use Rattle.percent_encoding.specs.Percent.{percent_decode}
 use Rattle.radio_creds.specs.Authorization.{basic_pair}
@@ -16,7 +16,7 @@ use Rattle.radio_notes.specs.declared.heard.Heard.TheVariants.{Part, Request, No
 use Rattle.radio_notes.specs.Agents.{agent_among}
 use Rattle.radio_notes.specs.Kept.{Kept, nothing_kept}
 
--- what is kept of a request, if one was heard
+-- what is kept of a request, if one was read
 abbrev pub kept_of : Heard → Kept
 kept_of (Request request) = request
 kept_of heard = nothing_kept
@@ -64,8 +64,8 @@ abbrev pub IsRequestIn : List ℕ → List Event → Kept → Type 0
 IsRequestIn bytes (Listen asked ∷ events) kept = kept ≡ kept_of_listener asked (agent_among (fields_at 10 bytes))
 IsRequestIn bytes events kept = IsOfHead bytes kept
 
--- what is heard by the bytes of a head, which mean these events: the bytes are kept up to the first event, and then the request.
--- If memory is refused, nothing is known
+-- what is read from the bytes of a head, which mean these events: the bytes are kept up to the first event, and then the
+-- request. If memory is refused, nothing is known
 abbrev pub IsHeardBy : List ℕ → List Event → Heard → Type 0
 IsHeardBy bytes events Nothing = Unit {0}
 IsHeardBy bytes [] (Part held) = held.items ≡ bytes

@@ -1,4 +1,4 @@
--- What the head of a master's answer tells of the stream behind it.
+-- What the head of a master's answer says of the stream behind it.
 use Rattle.std.specs.Prelude.{ℕ, zero, suc, not, ◌==◌, List, [], codes, Option, None, Some, is_some, unwrap_or, Result, Ok, Err, if◌then◌else◌}
 use Rattle.radio_heads.specs.Headers.{default_content_type, value_of}
 use Rattle.radio_heads.specs.Response.{ResponseParts}
@@ -39,13 +39,13 @@ shown_by head = record (named_by head) { about = about_by head }
 abbrev pub max_interval : ℕ
 max_interval = 16777216
 
--- the interval that a number tells: one of 1 byte at least
+-- the interval of a number: one of 1 byte at least
 abbrev pub interval_of : Option ℕ → Result (Option ℕ) PullFault
 interval_of None = Err BadMetaint
 interval_of (Some zero) = Err BadMetaint
 interval_of (Some (suc n)) = Ok (Some (suc n))
 
--- the interval that the header `icy-metaint` tells: without it there are no metadata
+-- the interval of the header `icy-metaint`: without it there are no metadata
 abbrev pub interval_told : Option (List ℕ) → Result (Option ℕ) PullFault
 interval_told None = Ok None
 interval_told (Some text) = interval_of (number_of 10 max_interval text)

@@ -9,7 +9,7 @@ use Rattle.radio_relay.specs.Pulled.{Part, Standing, GoesOn, Stops, Pulled, goes
 abbrev pub behind : List Part → Pulled → Pulled
 behind parts pulled = record { parts = parts ++ pulled.parts; standing = pulled.standing }
 
--- these parts were pulled in, and the pull stands so: where it goes on, this comes next
+-- these parts were pulled in, and this is the state of the pull: if it goes on, this comes next
 abbrev pub Continues : List Part → Standing → (PullStage → Pulled → Type 0) → Pulled → Type 0
 Continues parts (GoesOn stage) Next pulled = (rest : Pulled) × Next stage rest × (pulled ≡ behind parts rest)
 Continues parts (Stops fault) Next pulled = pulled ≡ record { parts = parts; standing = Stops fault }

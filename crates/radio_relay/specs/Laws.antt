@@ -39,13 +39,13 @@ abbrev pub PlainIsSound : Type 0
 PlainIsSound = (head : ResponseParts) (rest : List ℕ) → interval_in head ≡ Ok None
     → (sound_in (answer_pulled head rest).parts ≡ rest) × (titles_in (answer_pulled head rest).parts ≡ [])
 
--- behind a head with an interval stand the bare sound, and the titles of the texts of its blocks
+-- behind a head with an interval are the bare sound, and the titles of the texts of its blocks
 abbrev pub WovenIsBare : Type 0
 WovenIsBare = (head : ResponseParts) (n : ℕ) (rest : List ℕ) → interval_in head ≡ Ok (Some n)
     → (sound_in (answer_pulled head rest).parts ≡ bare n rest)
     × (titles_in (answer_pulled head rest).parts ≡ titles_of_texts (block_texts n rest))
 
--- a title that a relay hands on as it is
+-- a title that a relay passes on unchanged
 pub record IsRelayable (title : List ℕ) : Type 0 where
   pub is_title : IsTitle title
   pub no_url : HasNoUrlInside title

@@ -30,7 +30,7 @@ abbrev pub title_parts : Option (List ℕ) → List Part
 title_parts None = []
 title_parts (Some title) = TitlePart (cleaned max_title title) ∷ []
 
--- what is heard in a woven stream: sound, or the title of a text, if it has one
+-- what is taken out of a woven stream: sound, or the title of a text, if it has one
 abbrev pub parts_of_atom : Atom → List Part
 parts_of_atom (SoundByte b) = SoundPart b ∷ []
 parts_of_atom (WholeText text) = title_parts (title_of text)
@@ -53,12 +53,12 @@ abbrev pub stream_with : Option ℕ → PulledStream
 stream_with None = Plain
 stream_with (Some n) = Woven (new_unweaving n)
 
--- how a pull stands: it goes on, or it stops with a fault
+-- the state of a pull: it goes on, or it stops with a fault
 pub data Standing : Type 0 where
   GoesOn : PullStage → Standing
   Stops : PullFault → Standing
 
--- what is pulled in, in order, and how the pull stands then
+-- what is pulled in, in order, and the state of the pull then
 pub record Pulled : Type 0 where
   pub parts : List Part
   pub standing : Standing

@@ -11,7 +11,8 @@ use Rattle.radio_settings_values.specs.declared.settings.Master.{Master}
 use Rattle.radio_settings_values.specs.declared.settings.RelaySetting.{RelaySetting}
 use Rattle.radio_settings_values.specs.declared.settings.SlaveSetting.{SlaveSetting}
 
--- a byte that stands for itself in a path: a letter, a digit, or one of `-`, `.`, `_`, `~` and `/` (RFC 3986, sections 2.3 and 3.3)
+-- a byte that is written as it is in a path: a letter, a digit, or one of `-`, `.`, `_`, `~` and `/` (RFC 3986, sections 2.3 and
+-- 3.3)
 abbrev pub is_path_byte : ℕ → Bool
 is_path_byte b = is_ascii_alphanumeric b || b == 45 || b == 46 || b == 95 || b == 126 || b == 47
 

@@ -24,7 +24,7 @@ abbrev pub with_names : List (List ℕ) → List (List ℕ) → List (List ℕ)
 with_names names [] = names
 with_names names (text ∷ texts) = with_names (with_name names text) texts
 
--- what stands before each LF and after the last, without one CR at its end
+-- what is before each LF and after the last, without one CR at its end
 abbrev pub lines_of : List ℕ → List (List ℕ)
 lines_of text = map without_return (fields_at 10 text)
 

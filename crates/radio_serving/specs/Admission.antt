@@ -1,4 +1,4 @@
--- How a connection comes to a worker.
+-- How a worker takes a connection in.
 use Rattle.std.specs.Prelude.{◌≡◌, ◌⊎◌, ℕ, List, [], ◌∷◌, ◌++◌}
 use Rattle.radio_addr.specs.declared.peer.Peer.{Peer}
 use Rattle.radio_events.specs.declared.event.Event.TheVariants.{Arrive}

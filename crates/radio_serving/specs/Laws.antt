@@ -39,14 +39,14 @@ abbrev pub LeaversFeedNoMore : Type 0
 LeaversFeedNoMore = (id : ℕ) (before : Feeding) → feeds id before ≡ false → without_source id (with_source id before) ≡ before
 
 module _ {S : Type 0} (steps : Steps S) (refuses : S → Event → Type 0) where
-  -- the worker tells the server the time in a turn at this moment, of which it knows that somebody has told another, unless it is refused memory for that
+  -- the worker gives the server the time in a turn at this moment, of which it knows that another was given, unless it is refused memory for that
   abbrev pub IsToldIn : ℕ → ℕ → WorkerOf S → Type 0
   IsToldIn ms told before = (after : WorkerOf S) → Ticks steps refuses ms told before after → (after.told_ms ≡ ms) ⊎ refuses before.server (Clock ms)
 
-  -- if for fifty milliseconds nobody told the server the time, neither the worker nor others, the worker does
+  -- if for fifty milliseconds nobody gave the server the time, neither the worker nor others, the worker does
   abbrev pub TimeIsTold : Type 0
   TimeIsTold = (ms told : ℕ) (before : WorkerOf S) → before.told_ms + 50 ≤ ms → told + 50 ≤ ms → IsToldIn ms told before
 
-  -- if the worker did not for a second it does, whatever others have told
+  -- if the worker did not for a second it does, whatever others have given
   abbrev pub TimeIsToldByEach : Type 0
   TimeIsToldByEach = (ms told : ℕ) (before : WorkerOf S) → before.told_ms + 1000 ≤ ms → IsToldIn ms told before

@@ -12,7 +12,7 @@ pub record Feeding : Type 0 where
 abbrev pub nobody_feeds : Feeding
 nobody_feeds = record { numbers = []; is_blind = false }
 
--- where a client stands among them
+-- the place of a client among them
 abbrev pub place_among : ℕ → List ℕ → Option ℕ
 place_among id numbers = position (λ n. n == id) numbers
 

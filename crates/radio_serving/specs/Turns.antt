@@ -12,11 +12,11 @@ use Rattle.radio_connections.specs.Serving.{Stands, ServesInTurn}
 use Rattle.radio_serving.specs.declared.turn.Turn.{Turn}
 use Rattle.radio_serving.specs.Workers.{WorkerOf}
 
--- the session of one that stands as it must, and is open, has not failed
+-- the session of an open connection in a sound state has not failed
 abbrev pub OpenSessionsHaveNotFailed : Type 0
 OpenSessionsHaveNotFailed = (arrival : Arrival) (c : Connection) (entries : List Entry) → Stands arrival c entries → c.status.fate ≡ Open → c.session.has_failed ≡ false
 
--- whether a moment is known to the server: the worker itself told it one within the last 50 milliseconds, or somebody did, and the worker itself within
+-- whether a moment is known to the server: the worker itself gave it one within the last 50 milliseconds, or somebody did, and the worker itself within
 -- the last second
 -- rule: Server time
 abbrev pub is_known : ℕ → ℕ → ℕ → Bool
@@ -35,19 +35,19 @@ module _ {S : Type 0} (steps : Steps S) where
   HasApplied refuses true from event to = (reply : Reply) × steps from event reply to
   HasApplied refuses false from event to = (to ≡ from) × refuses from event
 
-  -- the worker tells the server this moment, unless that is refused for want of memory; if it is known, it does not
+  -- the worker gives the server this moment, unless that is refused for want of memory; if it is known, it does not
   abbrev pub TicksUnless : Bool → (S → Event → Type 0) → ℕ → WorkerOf S → WorkerOf S → Type 0
   TicksUnless true refuses ms before after = after ≡ before
   TicksUnless false refuses ms before after =
       ((after.told_ms ≡ ms) × (after.patience_ms ≡ before.patience_ms) × (after.web ≡ before.web) × HasApplied refuses true before.server (Clock ms) after.server)
       ⊎ ((after ≡ before) × refuses before.server (Clock ms))
 
-  -- the server is told this moment exactly if it is not known, where somebody has told it another
+  -- the server gets this moment exactly if it is not known, where it was given another
   -- rule: Server time
   abbrev pub Ticks : (S → Event → Type 0) → ℕ → ℕ → WorkerOf S → WorkerOf S → Type 0
   Ticks refuses ms told before after = TicksUnless (is_known ms told before.told_ms) refuses ms before after
 
-  -- A turn: the server is told the time if it is due, each connection is served, and those that are over are closed.
+  -- A turn: the server gets the time if it is due, each connection is served, and those that are over are closed.
   -- rule: Server time
   pub record IsTurn (refuses : S → Event
       → Type 0) (turn : Turn) (before : WorkerOf S) (conns : List Connection) (after : WorkerOf S) (conns' : List Connection) : Type 0 where

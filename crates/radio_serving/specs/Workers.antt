@@ -2,7 +2,8 @@
 use Rattle.std.specs.Prelude.{ℕ}
 use Rattle.radio_answers.specs.declared.web_answers.WebAnswers.{WebAnswers}
 
--- whom it asks, what the settings say of answers, when it last told it the time, and for how long a line may take nothing of what it is owed, in milliseconds
+-- the server that it asks, what the settings say of answers, when it last gave that the time, and for how long a line may take nothing of what is pending, in
+-- milliseconds
 -- rule: Reading
 pub record WorkerOf (S : Type 0) : Type 0 where
   pub server : S
