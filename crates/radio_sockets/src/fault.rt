@@ -25,9 +25,9 @@ pub enum ServeFault {
 
 impl fmt::Display for ServeFault {
     ghost use Rattle.std.specs.Prelude.{Some};
-    ghost use Rattle.radio_sockets.specs.Faults.{fault_line};
+    ghost use Rattle.radio_sockets.specs.Faults.{serve_fault_text};
 
-    ghost output = { λ fault. Some (fault_line fault) };
+    ghost output = { λ fault. Some (serve_fault_text fault) };
 
     fn fmt<W: fmt::Write>(&self, f: &mut fmt::Formatter<W>) -> fmt::Result {
         f.write_str(match self {

@@ -18,10 +18,10 @@ use Rattle.radio_startup.specs.declared.fault.FileFault.TheVariants.{CannotRead,
 use Rattle.radio_startup.specs.declared.notices.Dated.{Dated}
 
 -- the reason that is known of a fault: the system's words for a file that cannot be read, the reader's for a text that is not TOML
-abbrev pub IsReasonOf : FileFault → List ℕ → Type 0
-IsReasonOf (CannotRead path error) reason = Unit {0}
-IsReasonOf (NotToml misreading) reason = reason ≡ string_bytes misreading.reason
-IsReasonOf fault reason = reason ≡ []
+abbrev pub IsReasonOfFile : FileFault → List ℕ → Type 0
+IsReasonOfFile (CannotRead path error) reason = Unit {0}
+IsReasonOfFile (NotToml misreading) reason = reason ≡ string_bytes misreading.reason
+IsReasonOfFile fault reason = reason ≡ []
 
 -- what stands in front of the word that may have been meant, that word, and what stands behind it
 abbrev pub hint_of : Meant → List ℕ × List ℕ × List ℕ

@@ -3,8 +3,8 @@
 ghost use Rattle.std.specs.Prelude.{◌≡◌, ◌++◌, IfSome, codes};
 ghost use Rattle.std.specs.String.{string_bytes};
 ghost use Rattle.std.specs.Fmt.{IsPlainFormatter, WritesOnOk, decimal};
-ghost use Rattle.radio_startup.specs.FaultLines.{exit_status, file_of, key_of, place_of, settings_status};
-ghost use Rattle.radio_startup.specs.Sayings.{IsReasonOf};
+ghost use Rattle.radio_startup.specs.FaultLines.{file_status, file_in, key_in, place_in_file, settings_status};
+ghost use Rattle.radio_startup.specs.Sayings.{IsReasonOfFile};
 
 use crate::misreading::Misreading;
 use crate::notices::words_of;
@@ -42,7 +42,7 @@ impl FileFault {
     /// The status with which the program ends: 3, and 1 where memory was refused.
     // rule: Fault of a call
     pub fn status(&self) -> u8
-        ensures { result ≡ exit_status self.now }
+        ensures { result ≡ file_status self.now }
     {
         match self {
             FileFault::CannotRead { .. } | FileFault::Line { .. } | FileFault::NotToml(_) => 3,
@@ -53,7 +53,7 @@ impl FileFault {
 
     /// The path of the file that is at fault; `settings` is that of the settings. It is empty where memory was refused.
     pub fn file<'a>(&'a self, settings: &'a str) -> &'a str
-        ensures { result.now ≡ file_of self.now settings.now }
+        ensures { result.now ≡ file_in self.now settings.now }
     {
         match self {
             FileFault::CannotRead { path, .. } | FileFault::Line { path, .. } => path.as_str(),
@@ -64,7 +64,7 @@ impl FileFault {
 
     /// The line and the column of the fault, both counted from 1; 0 where none is known.
     pub fn place(&self) -> (u64, u64)
-        ensures { result ≡ place_of self.now }
+        ensures { result ≡ place_in_file self.now }
     {
         match self {
             FileFault::Line { line, .. } => (*line as u64, 0),
@@ -78,7 +78,7 @@ impl FileFault {
 
     /// Where the settings have it, if it is a fault of a key; else all is empty.
     pub fn key(&self) -> FaultyKey<'_>
-        ensures { result ≡ key_of self.now }
+        ensures { result ≡ key_in self.now }
     {
         match self {
             FileFault::Settings { at: Some(at), .. } => FaultyKey {
@@ -102,7 +102,7 @@ impl FileFault {
 
     /// The reason that the system, or the reader of TOML, gives; empty where none is known. `None` where memory is refused.
     pub fn reason(&self, alloc: Global) -> Option<String>
-        ensures { IfSome result (λ reason. IsReasonOf self.now (string_bytes reason)) }
+        ensures { IfSome result (λ reason. IsReasonOfFile self.now (string_bytes reason)) }
     {
         match self {
             FileFault::CannotRead { error, .. } => words_of(alloc, error),
@@ -146,9 +146,9 @@ fn write_line<W: fmt::Write>(f: &mut fmt::Formatter<W>, path: &str, line: usize)
 
 impl fmt::Display for FileFault {
     ghost use Rattle.std.specs.Prelude.{Some};
-    ghost use Rattle.radio_startup.specs.FaultLines.{fault_line};
+    ghost use Rattle.radio_startup.specs.FaultLines.{file_fault_text};
 
-    ghost output = { λ fault. Some (fault_line fault) };
+    ghost output = { λ fault. Some (file_fault_text fault) };
 
     fn fmt<W: fmt::Write>(&self, f: &mut fmt::Formatter<W>) -> fmt::Result {
         match self {

@@ -4,10 +4,10 @@ use Rattle.std.specs.String.{string_bytes}
 use Rattle.radio_log.specs.declared.facts.Fact.{Fact}
 use Rattle.radio_log.specs.declared.facts.Fact.TheVariants.{Fault as TellsFault}
 use Rattle.radio_log.specs.declared.facts.FaultyKey.{FaultyKey}
-use Rattle.radio_startup.specs.FaultLines.{fault_line as file_fault_text, exit_status as file_status, file_of as file_in, place_of as place_in, key_of as key_in, no_key}
-use Rattle.radio_startup.specs.Sayings.{IsReasonOf as IsReasonOfFile}
+use Rattle.radio_startup.specs.FaultLines.{file_fault_text, file_status, file_in, place_in_file, key_in, no_key}
+use Rattle.radio_startup.specs.Sayings.{IsReasonOfFile}
 use Rattle.radio_deliveries.specs.Words.{play_fault_text}
-use Rattle.radio_sockets.specs.Faults.{fault_line as serve_fault_text}
+use Rattle.radio_sockets.specs.Faults.{serve_fault_text}
 use Rattle.radiod.specs.declared.fault.Fault.{Fault}
 use Rattle.radiod.specs.declared.fault.NotBound.{NotBound}
 use Rattle.radiod.specs.declared.fault.NotBound.TheVariants.{NoAddress, Refused}
@@ -40,7 +40,7 @@ file_of (File fault) settings = file_in fault settings
 file_of fault settings = []
 
 abbrev pub place_of : Fault → ℕ × ℕ
-place_of (File fault) = place_in fault
+place_of (File fault) = place_in_file fault
 place_of fault = (0, 0)
 
 abbrev pub key_of : Fault → FaultyKey
