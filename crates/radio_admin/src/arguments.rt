@@ -64,8 +64,8 @@ fn as_fallback(text: &[u8]) -> Option<Option<MountName>>
     }
 }
 
-/// The user that a query names, as `username`; `None` where it is absent, or no file of users can name it so: it has 1
-/// to 255 bytes, of which none is a colon or a line end, and the first is no `#`.
+/// Returns the user that a query names, as `username`. `None` if it is absent, or no file of users can name it so. It
+/// has 1 to 255 bytes, of which none is a colon or a line end, and the first is no `#`.
 pub fn user_in(alloc: Global, query: &[u8]) -> Result<Option<String>, OutOfMemory>
     ensures { IfOk result (λ found. option_map (λ text. string_bytes text) found ≡ user_in query.now) }
 {

@@ -7,8 +7,8 @@ use Rattle.radio_board.specs.declared.news.NewsFor.TheVariants.{Nobody, AllBut, 
 abbrev pub as_moment : ℕ → ℕ
 as_moment us = min (2 ^ 64 - 1) us
 
--- a round of one of so many workers begins at the earliest so many times the shortest of its last rounds after the last one began: 20 times, or 10 times for
--- each worker, if that is more
+-- a round of one of so many workers begins so many times the shortest of its last rounds after the last one began, at the earliest. It is 20 times, or 10
+-- times for each worker, if that is more
 -- rule: News waits
 abbrev pub spacing_for : ℕ → ℕ
 spacing_for workers = max (as_moment (workers * 10)) 20
@@ -17,8 +17,8 @@ spacing_for workers = max (as_moment (workers * 10)) 20
 abbrev pub most_wait : ℕ
 most_wait = 250000
 
--- when the last round began; how long the last eight took, the latest first; whether the news of the last one came before its
--- pause had ended; and how many times the shortest passes from one to the next
+-- when the last round began, and how long the last eight took, the latest first. Whether the news of the last one came before
+-- its pause had ended. And how many times the shortest passes from one to the next
 pub record Rounds : Type 0 where
   pub began : ℕ
   pub took : List ℕ

@@ -20,8 +20,8 @@ load_of connections newcomers = min (2 ^ 64 - 1) (connections + newcomers)
 abbrev pub may_linger : ℕ → ℕ → ℕ → ℕ
 may_linger count all most = count - (all - most)
 
--- up to which of all bytes listeners have drawn who had drawn some before: as many as had come, but no more than a draw brings if
--- one of them has more to draw; there are at most 64 bits
+-- up to which of all bytes listeners have drawn that had drawn some before. It is as many as had come, but no more than a draw
+-- brings if one of them has more to draw; there are at most 64 bits
 abbrev pub drawn_after : ℕ → ℕ → Bool → ℕ
 drawn_after before received has_more = if has_more then min received (min (2 ^ 64 - 1) (before + draw_room)) else received
 

@@ -17,7 +17,8 @@ use Rattle.radio_facts.specs.Streams.{burst_of, head_of, interval_for}
 use Rattle.radio_core.specs.Outcomes.{says, on_verdict, if_undecided}
 use Rattle.radio_house.specs.Waiting.{heard_at}
 
--- the seat of a new listener where its walk landed, at a mount with this session, or one that waits for one: the mount that it asked for is its home, and it begins at the start of a block
+-- the seat of a new listener whose walk landed at a mount with this session, or at one that waits for one. The mount that it asked for is its home, and it
+-- begins at the start of a block
 -- rule: Start of the burst
 abbrev pub first_seat : House → ListenRequest → Peer → Session → Seat
 first_seat house asked peer session = record {

@@ -59,8 +59,8 @@ pub data SeatStep (w : World) (Cause : Rule → Type 0) (event : Event) (id : �
   IsGiven : (seat : Seat) (session : Session) → ComesUpOn event seat.mount → session_of w.house.live seat.mount ≡ None
       → session_of (world_after w event).house.live seat.mount ≡ Some session → session.stream.bytes ≡ [] → seat.session ≡ 0 → seat.place ≡ 0
       → (0 == session.number) ≡ false → SeatStep w Cause event id (Some seat) [] (Some (record seat { session = session.number }))
-  -- a move that the event brings takes it, at its turn, to the end of the stream of another mount, which is live and lets it in, or of its own, which
-  -- waits for a session from then on
+  -- a move that the event brings takes it, at its turn, to the end of a stream. It is the stream of another mount, which is live and lets it in, or
+  -- of its own, which waits for a session from then on
   IsMoved : (seat : Seat) (session : Session) → TakesTo w event id session.mount → IsSent w (world_after w event) event seat session.mount
       → heard_at (world_after w event).house session.mount ≡ Some session → lets_in (world_after w event).house.lists session.mount seat.pair ≡ true
       → (seat.session == session.number) ≡ false → SeatStep w Cause event id (Some seat) [] (Some (moved_into session seat))

@@ -40,8 +40,8 @@ pub fn lists_are_their_commands()
 /// begins for which it waits.
 // rule: Changes of seats; Seat of a newcomer; Called home
 pub fn seats_are_their_listeners()
-    // after any events, a seat changes only if its listener draws, a client that the policy allows asks for a live mount, a
-    // move takes it, or it is lost by leaving or by a rule that holds then
+    // after any events, a seat changes only if its listener draws, or a client that the policy allows asks for a live
+    // mount. Or a move takes it, or it is lost by leaving or by a rule that holds then
     ensures steps { (settings : Settings) (lists : Lists) (events : List Event) (event : Event) → SeatsStep (run_after settings lists events) event }
 {}
 

@@ -72,7 +72,7 @@ impl Users {
     /// Returns true if the first well-formed line of the pair's user has the digest of the pair's password.
     ///
     /// It takes no memory. One digest is made whether the user is listed or not, and two digests are compared in the
-    /// same number of steps wherever they differ: so the time of the answer does not show who is listed.
+    /// same number of steps wherever they differ. So the time of the answer does not show who is listed.
     // rule: User list
     pub fn accepts(&self, pair: &Pair) -> bool
         ensures { IsTrue result ↔ Accepts self.now pair.now }

@@ -1,6 +1,5 @@
 //! What a line of a script delivers, the lines that a transcript has of it, and why a script is not
-//! played to its end; and the devices of a script, which count their calls and their failures. It
-//! knows nobody who performs deliveries.
+//! played to its end. And the devices of a script, which count their calls and their failures.
 //!
 //! - A line of a script: [`read_delivery`], its bytes read by [`unescape`].
 //! - A line of a transcript: [`push_answer`], its bytes written by [`push_escaped`].

@@ -21,9 +21,8 @@ pub fn the_transcript_is_one()
     pulling_is_one();
 }
 
-/// A connection that is shut has the word of the rule that shut it, `bad-body` for a fault in its body, or `done` if
-/// its peer closed it, its command was done or its body is whole. A denial, and the connection's own refusal, have the
-/// answer that names the rule, if the rule has a status; a done command has the answer that says so.
+/// A connection that is shut has the word of the rule that shut it, or `bad-body` for a fault in its body. It has
+/// `done` if its peer closed it, its command was done or its body is whole.
 // rule: Finishes are silent; Answer to a denial; Commands by GET; Last word; Greeting of a source
 pub fn last_words_are_told()
     ensures arrivals { DeniedArrivalsAreTold }

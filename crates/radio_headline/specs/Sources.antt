@@ -49,8 +49,8 @@ pub record DeliversItsBody (settings : Settings) (lists : Lists) (brought : ℕ 
   pub undelivered : List ℕ
   pub is_front : pushed behind ≡ delivered (opening settings lists) (events_in course) asked.id ++ undelivered
 
--- On the connection of the label a master's answer comes, whose head shows this of the stream, and all that the relay delivers under this number
--- is a front of the sound that the answer pulls in behind that.
+-- On the connection of the label a master's answer comes, whose head shows this of the stream. All that the relay delivers under this number is
+-- a front of the sound that the answer pulls in behind that head.
 pub record DeliversItsSound (settings : Settings) (lists : Lists) (brought : ℕ → List ℕ) (course : List Happening) (label number : ℕ) (shown : Shown)
     : Type 0 where
   pub pulled : Pulled

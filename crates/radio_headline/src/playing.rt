@@ -34,8 +34,9 @@ pub fn play<R: CountedRead, W: CountedWrite>(
     ensures plays { IfKnown (R.remaining reader.old) (R.remaining reader.new) (λ script left.
         Writes (W.contents writer.old) (W.contents writer.new) (W.calls writer.old) (W.calls writer.new) (λ written turns.
         PlaysScript web settings lists script left result written turns)) }
-    // if the script is played to its end, what was written is what its listeners, sources and commanders get by the policy:
-    // each listener slices of what the script's sources delivered, and each denied client the first rule that denies it
+    // if the script is played to its end, what was written is what its listeners, sources and commanders get by the
+    // policy. Each listener gets slices of what the script's sources delivered, and each denied client the first rule
+    // that denies it
     ensures hears { IfKnown (R.remaining reader.old) (R.remaining reader.new) (λ script left.
         Writes (W.contents writer.old) (W.contents writer.new) (W.calls writer.old) (W.calls writer.new) (λ written turns.
         (done : Unit {0}) → result ≡ Ok done → HearsSlices web settings lists (deliveries_from 1 (lines_of script)) written None)) }

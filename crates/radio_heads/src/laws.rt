@@ -58,8 +58,8 @@ pub fn unsaid_origins_change_nothing()
     ensures { IsUnchanged }
 {}
 
-/// What `write_web_answer` writes is read back with its headers, whatever bytes follow it, where the policy has at most 4096
-/// bytes and no other value more than 255; values come back without the white space at their ends.
+/// What `write_web_answer` writes is read back with its headers, whatever bytes follow it. The policy must have at most
+/// 4096 bytes and each other value at most 255. Values come back without the white space at their ends.
 // rule: Answers are read back
 pub fn web_answers_read_back()
     ensures { WebAnswersAreReadBack }

@@ -36,8 +36,8 @@ pub fn joined_weaving()
         → after_calls w (calls ++ more) ≡ after_calls (after_calls w calls) more }
 {}
 
-/// The bare sound of a stream, by two cases: all of it, where it has no more than the interval; or else the first
-/// interval, and past a byte q and 16 q bytes the bare sound of the rest.
+/// The bare sound of a stream, by two cases. It is all of the stream, if that has no more than the interval. Else
+/// it is the first interval, and past a byte q and 16 q bytes the bare sound of the rest.
 pub fn bare_streams()
     ensures short { (n : ℕ) (out : List ℕ) → length out ≤ n → bare n out ≡ out }
     ensures long { (n : ℕ) (out : List ℕ)

@@ -50,8 +50,8 @@ pub data MayGive (w : World) (pair : Credentials) : TheCommand → Type 0 where
 abbrev pub IsLive : World → List ℕ → Type 0
 IsLive w mount = (session : Session) × (session_of w.house.live mount ≡ Some session)
 
--- what a command needs is there: a live mount; to move its listeners, another one; to finish a listener, that it sits there; to change users, a mount
--- that has users, live or not, and to take one away, that it is one of them
+-- what a command needs is there: a live mount. To move its listeners, there is another one; to finish a listener, it sits there. To change users,
+-- there is a mount that has users, live or not; to take one away, it is one of them
 -- rule: Commands are done
 abbrev pub IsThere : World → TheCommand → Type 0
 IsThere w (MoveClients mount destination) = IsLive w mount × IsLive w destination × (mount ≡ destination → ⊥)

@@ -221,7 +221,7 @@ AreVisitedAlike w v = (asked other : ListenRequest) (text said : ReplyText) → 
     → w.house.settings.web.public_url ≡ v.house.settings.web.public_url → w.house.settings.listen.address ≡ v.house.settings.listen.address → w.house.settings.listen.port ≡ v.house.settings.listen.port
     → reply_to w (Listen asked) ≡ SaysText text → reply_to v (Listen other) ≡ SaysText said → body_of text ≡ body_of said
 
--- two states that agree on what everybody may see of the live mounts show everybody and every relay the same bytes, whatever else they hold; and those with
+-- two states that agree on what everybody may see of the live mounts show everybody and every relay the same bytes, whatever else they hold. Those with
 -- equal rows for a viewer show it the same
 -- rule: Hidden mounts
 pub record SightIsKept (w v : World) : Type 0 where

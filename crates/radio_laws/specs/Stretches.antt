@@ -79,8 +79,8 @@ abbrev pub StretchesAreWhole : Settings → Lists → List Event → Type 0
 StretchesAreWhole settings lists events = (id : ℕ) → AreStretches (delivered (opening settings lists) events) (sittings (opening settings lists) events id)
     (handed (opening settings lists) events id)
 
--- over every run, what a listener is handed from one sitting to the next, or to the end, is one slice of what the source delivered in whose session it
--- sits, from where it sat down; and before the first it is handed nothing
+-- over every run, what a listener gets from one sitting to the next, or to the end, is one slice. It is of what the source delivered in whose session
+-- it sits, from where it sat down. Before the first it gets nothing
 abbrev pub StretchesAreCut : Settings → Lists → List Event → Type 0
 StretchesAreCut settings lists events = (id : ℕ) → let w = opening settings lists in let cut = cut_at_sittings (λ v event. handed_at v event id) w events id in
     (cut.before ≡ []) × AreSlices (delivered w events) (sittings w events id) cut.each

@@ -12,7 +12,7 @@ pub data FallsBack (w : World) (mount next : List ℕ) : Type 0 where
   ByTheSettings : (options_for w.house.settings mount).listeners.fallback_mount ≡ Some next → set_for w.house.fallbacks mount ≡ None → FallsBack w mount next
   ByACommand : (set : Fallback) → set_for w.house.fallbacks mount ≡ Some set → set.fallback ≡ Some next → FallsBack w mount next
 
--- a walk goes on from the mount to the next one, to which its listeners fall back: the mount has no source and waits for none, or as many sit there as may and
+-- a walk goes on from the mount to the next one, to which its listeners fall back. The mount has no source and waits for none, or as many sit there as may and
 -- `fallback-when-full` is set
 -- rule: Passing a walk on; End at a waiting mount
 pub data GoesOn (w : World) (mount next : List ℕ) : Type 0 where

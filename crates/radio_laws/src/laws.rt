@@ -137,8 +137,8 @@ pub fn mounts_wait_on_demand()
 /// What the policy allows happens, and what is out of place, or comes from a finished client, changes nothing.
 // rule: Out of place; Allowed actions; End of a session; Blocks of a source; Draws; Relay comes up
 pub fn whoever_may_is_served()
-    // after any events, what the policy allows happens; a title and the end of a source's data are noted; and a listener with
-    // a seat gets the data at its place, as much as is there and as it has room for
+    // after any events, what the policy allows happens, and a title and the end of a source's data are noted. A
+    // listener with a seat gets the data at its place, as much as is there and as it has room for
     ensures served { (settings : Settings) (lists : Lists) (events : List Event) → Serves (run_after settings lists events) }
     // what is out of place, or comes from a finished client, changes nothing
     ensures nothing { (settings : Settings) (lists : Lists) (events : List Event) (event : Event) → ChangesNothing (run_after settings lists events) event }
@@ -178,8 +178,9 @@ pub fn listeners_walk_on()
 // rule: Admin password; Killed; Source killed; Who may command; Move clients; Metadata; Fallbacks; Change of users
 // rule: Users shut out; Commands are done
 pub fn commands_are_done()
-    // after any events, only a client that sent the user and the password of the admin reads that a command was done, or, for
-    // a title and a fallback, of the mount's source, and only if what it needs was there
+    // after any events, a client reads that a command was done only if it sent the user and the password of the
+    // admin, and what the command needs was there. For a title and a fallback, those of the mount's source suffice
+    // too
     ensures may { (settings : Settings) (lists : Lists) (events : List Event) (event : Event) → OnlyWhoMayCommands (run_after settings lists events) event }
     // each client that may give one reads that it was done, if what it needs is there
     ensures served { (settings : Settings) (lists : Lists) (events : List Event) → WhoMayIsServed (run_after settings lists events) }
@@ -223,8 +224,8 @@ pub fn sight_is_kept()
     ensures hidden { (settings : Settings) (lists : Lists) (events : List Event) → HiddenAreLeftOut (run_after settings lists events) }
     // nor in Icecast's words
     ensures untold { (settings : Settings) (lists : Lists) (events : List Event) → HiddenAreNotToldOnTheWeb (run_after settings lists events) }
-    // of any two stations, after any events of each: if they agree on what everybody may see of the live mounts that are not
-    // hidden, they show everybody and every relay the same bytes, whatever else they hold
+    // of any two stations, after any events of each, if they agree on what everybody may see of the live mounts that
+    // are not hidden: they show everybody and every relay the same bytes, whatever else they hold
     ensures alike { (settings others : Settings) (lists files : Lists) (events more : List Event)
         → SightIsKept (run_after settings lists events) (run_after others files more) }
 {
@@ -235,8 +236,8 @@ pub fn sight_is_kept()
 /// A listener that gets data gets with them the last title that was set for the source of its session, or none.
 // rule: Metadata; Title of a session
 pub fn listeners_are_told_titles()
-    // over every run, a listener that gets data gets with them the last title that was set for the source in whose session it
-    // sits, by the source or by a command that names its mount, or none if none was set
+    // over every run, a listener that gets data gets with them the last title that was set for the source in whose
+    // session it sits. The source set it, or a command that names its mount; there is none if none was set
     ensures told { (settings : Settings) (lists : Lists) (events : List Event) (event : Event) → TitlesAreTold settings lists events event }
 {}
 

@@ -133,8 +133,8 @@ impl Activity {
         }
     }
 
-    /// Returns for how many milliseconds the next turn waits at most: not at all if a line has had something to do since this
-    /// was asked the last time, one if a line was held back, and else so many.
+    /// Returns for how many milliseconds the next turn waits at most. It does not wait if a line has had something to
+    /// do since this was last asked. It waits one if a line was held back, and else so many.
     pub fn wait_ms(&self, longest_ms: u64) -> u64
         ensures { (need : Need) × (result ≡ turn_wait need longest_ms) }
     {

@@ -134,8 +134,8 @@ impl Visit {
         }
     }
 
-    /// Returns what the log says of the client, which is gone at this moment, in milliseconds: by what was read from
-    /// it, and the mount where it was last, which is empty if it is the one that it asked for.
+    /// Returns what the log says of the client, which is gone at this moment, in milliseconds. It says what was read
+    /// from it, and the mount where it was last, which is empty if it is the one that it asked for.
     // rule: Last mount; Line of a client
     pub(crate) fn client_ended<'a>(
         self,

@@ -21,8 +21,8 @@ mounts_of relays = map (λ (relay : Begun). relay.setting.local_mount) relays
 abbrev pub are_same : List (List ℕ) → List (List ℕ) → Bool
 are_same names others = pointwise bytes_eq names others
 
--- of those that wait these begin at a moment: they have their turn in the places that are free, by how many sources there may be,
--- how many relays run, and how many places are kept
+-- those of the waiting relays that begin at a moment. They have their turn in the places that are free, by how many sources there
+-- may be, how many relays run, and how many places are kept
 pub record IsChosen (ms sources running kept : ℕ) (waiting chosen : List WaitingRelay) : Type 0 where
   pub turn : 0 < free_places sources running kept → HaveTheirTurn ms (free_places sources running kept) waiting chosen
   pub full : free_places sources running kept ≡ 0 → chosen ≡ []

@@ -12,8 +12,9 @@ use std::sync::Mutex;
 /// The newest list of a slave's master, until it is taken.
 pub(crate) type NewestList = Mutex<Option<BTreeSet<MountName>>>;
 
-/// A station whose relays are kept running: the net over which their masters are reached, the server that they feed,
-/// what its threads report to each other, its settings, and where the slave's list is handed over.
+/// A station whose relays are kept running. It has the net over which their masters are reached, the server that
+/// they feed, and what its threads report to each other. It has its settings, and where the slave's list is handed
+/// over.
 #[derive(Drop)]
 pub(crate) struct RelayedStation<'a, N: Network, S> {
     pub(crate) net: &'a N,

@@ -8,8 +8,8 @@ ghost use Rattle.radio_relay.specs.Laws.{PlainIsSound, WovenIsBare, RelaysLoseNo
 use radio_heads::{answers_read_back, heads_lie_within, readings_agree, settled};
 use radio_icy::laws::{bare_of_woven, cut_streams, titles_of_texts, unwoven_streams};
 
-/// However a master's answer is cut into pieces, the same is pulled in: what its head shows, the same sound and titles
-/// in the same order, and the same fault, in the piece that has it.
+/// However a master's answer is cut into pieces, the same is pulled in. That is what its head shows, the same sound
+/// and titles in the same order, and the same fault, in the piece that has it.
 // rule: Pulled stream
 pub fn cuts_do_not_matter()
     ensures cuts { CutsDoNotMatter }

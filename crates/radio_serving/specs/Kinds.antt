@@ -12,8 +12,8 @@ use Rattle.radio_serving.specs.declared.kind.Kind.{Kind}
 use Rattle.radio_serving.specs.declared.kind.Kind.TheVariants.{News, Command, Feeds, Leaves, Own}
 use Rattle.radio_serving.specs.Sources.{Feeding, with_source, blinded, without_source, may_feed}
 
--- a block, a title, the end of a source and a relay that goes up or down are news; a command is, if it is done; a source and a leave may
--- be; all else concerns its client alone
+-- a block, a title, the end of a source and a relay that goes up or down are news. A command is, if it is done; a source and a leave may
+-- be. All else concerns its client alone
 abbrev pub kind_of : Event → Kind
 kind_of (Push id block) = News
 kind_of (SourceEnd id) = News
@@ -25,7 +25,7 @@ kind_of (Source request) = Feeds request.id
 kind_of (Leave id) = Leaves id
 kind_of event = Own
 
--- who feeds a mount after an event of this kind had this reply: one more if it began to feed, without it if it has left; where memory
+-- who feeds a mount after an event of this kind had this reply: one more if it began to feed, without it if it has left. If memory
 -- was refused for its number, each may be one
 abbrev pub FeedsAfter : Kind → Reply → Feeding → Feeding → Type 0
 FeedsAfter (Feeds id) SaysFeeding f f' = (f' ≡ with_source id f) ⊎ (f' ≡ blinded f)

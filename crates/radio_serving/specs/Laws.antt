@@ -18,8 +18,8 @@ abbrev pub found_after_all : List (Entry × Bool) → Found
 found_after_all [] = nothing_found
 found_after_all (one ∷ earlier) = found_after (kind_of one.0.event) one.0.reply one.1 (found_after_all earlier)
 
--- whether listeners may have news by an event that had this reply: a block, a title, an end of a source, a relay that came up or went
--- down, a command that was done, or the leaving of a client that had fed a mount
+-- whether listeners may have news by an event that had this reply. It is a block, a title, an end of a source, a relay that came up
+-- or went down, or a command that was done. Or it is the leaving of a client that had fed a mount
 abbrev pub may_be_news : Event → Reply → Bool → Bool
 may_be_news (Push id block) reply fed = true
 may_be_news (Title id text) reply fed = true

@@ -95,8 +95,8 @@ pub(crate) fn news_for(number: usize, may_tell: bool) -> NewsFor
     }
 }
 
-/// Returns for how many milliseconds the acceptor waits at most: not at all if it `is_called`, shorter if a connection may wait that
-/// can't be accepted yet, or one waits for a worker that may not be served.
+/// Returns for how many milliseconds the acceptor waits at most. It does not wait if it `is_called`. It waits shorter
+/// if a connection may wait that can't be accepted yet, or one waits for a worker that may not be served.
 pub(crate) fn acceptor_wait(is_called: bool, may_accept: bool, newcomers: usize) -> u64
     ensures { result ≡ acceptor_wait is_called may_accept newcomers }
 {

@@ -38,9 +38,9 @@ impl Model for Field {
 }
 
 impl Field {
-    /// Bytes from outside as a field: read as UTF-8 with U+FFFD for each part that is none, without the characters
-    /// that may not be shown, and cut to the longest front of at most 255 bytes that ends between two characters.
-    /// An `Err` means that memory ran out.
+    /// Returns bytes from outside as a field. They are read as UTF-8 with U+FFFD for each part that is none,
+    /// without the characters that may not be shown. They are cut to the longest front of at most 255 bytes that
+    /// ends between two characters.
     pub fn clean(alloc: Global, bytes: &[u8]) -> Result<Field, OutOfMemory>
         ensures { IfOk result (λ field. field ≡ cleaned max_field bytes.now) }
     {

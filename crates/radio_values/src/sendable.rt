@@ -37,9 +37,9 @@ impl Model for Title {
 }
 
 impl Title {
-    /// Bytes from outside as a title: read as UTF-8 with U+FFFD for each part that is none, without the characters
-    /// that may not be sent, and cut to the longest front of at most [`MAX_TITLE`](crate::MAX_TITLE) bytes that ends
-    /// between two characters. An `Err` means that memory ran out.
+    /// Returns bytes from outside as a title. They are read as UTF-8 with U+FFFD for each part that is none, without
+    /// the characters that may not be sent. They are cut to the longest front of at most
+    /// [`MAX_TITLE`](crate::MAX_TITLE) bytes that ends between two characters.
     // rule: Cleaned texts
     pub fn clean(alloc: Global, text: &[u8]) -> Result<Title, OutOfMemory>
         ensures { IfOk result (λ title. title ≡ cleaned max_title text.now) }
