@@ -11,7 +11,7 @@ use Rattle.radio_connections.specs.declared.line.Sent.{Sent}
 use Rattle.radio_connections.specs.declared.line.Sent.TheVariants.{Took, Nothing as TakesNothing, Fault as HasBroken}
 use Rattle.radio_connections.specs.Lines.{Calls, after_read, after_write}
 use Rattle.radio_connections.specs.Connections.{Connection, Refused, refused_one, one_refusal}
-use Rattle.radio_connections.specs.Duties.{IsLater, IsUnread, IsReadOnce, LacksMemory, HasEnded}
+use Rattle.radio_connections.specs.Duties.{IsLater, LineIsUnread, IsReadOnce, LacksMemory, HasEnded}
 
 -- its line was not called
 pub later_same : {c c' : Connection} → c'.calls ≡ c.calls → c'.taken ≡ c.taken → c'.refused ≡ c.refused → IsLater c c'
@@ -152,27 +152,27 @@ later_by_write {c} {c'} answer part calls taken refused = record {
 pub written_once : (before after : Calls) (answer : Sent) → after ≡ after_write answer before → before.writes < after.writes
 written_once before after answer calls = omega (arith, ap (λ (x : Calls). x.writes) calls, writes_after answer before)
 
-pub unread_by_write : {c c' : Connection} (answer : Sent) → c'.calls ≡ after_write answer c.calls → IsUnread c c'
+pub unread_by_write : {c c' : Connection} (answer : Sent) → c'.calls ≡ after_write answer c.calls → LineIsUnread c c'
 unread_by_write {c} {c'} answer calls = record {
   reads = ap (λ (x : Calls). x.reads) calls ∙ (unread_by answer c.calls).0;
   room = ap (λ (x : Calls). x.room) calls ∙ (unread_by answer c.calls).1;
 }
 
 -- one that was not called was not read from
-pub unread_same : {c c' : Connection} → c'.calls ≡ c.calls → IsUnread c c'
+pub unread_same : {c c' : Connection} → c'.calls ≡ c.calls → LineIsUnread c c'
 unread_same {c} {c'} calls = record { reads = ap (λ (x : Calls). x.reads) calls; room = ap (λ (x : Calls). x.room) calls }
 
-pub unread_then : (a b c : Connection) → IsUnread a b → IsUnread b c → IsUnread a c
+pub unread_then : (a b c : Connection) → LineIsUnread a b → LineIsUnread b c → LineIsUnread a c
 unread_then a b c f g = record { reads = g.reads ∙ f.reads; room = g.room ∙ f.room }
 
 -- one read, before and behind which it is not read from
-pub once_between : (a b c d : Connection) → IsUnread a b → IsReadOnce b c → IsUnread c d → IsReadOnce a d
+pub once_between : (a b c d : Connection) → LineIsUnread a b → IsReadOnce b c → LineIsUnread c d → IsReadOnce a d
 once_between a b c d f read g = record {
   reads = g.reads ∙ read.reads ∙ ap suc f.reads;
   room = g.room ∙ read.room ∙ ap (λ n. n + 16384) f.room;
 }
 
-pub once_at_most : (a b c d : Connection) → IsUnread a b → IsUnread b c ⊎ IsReadOnce b c → IsUnread c d → IsUnread a d ⊎ IsReadOnce a d
+pub once_at_most : (a b c d : Connection) → LineIsUnread a b → LineIsUnread b c ⊎ IsReadOnce b c → LineIsUnread c d → LineIsUnread a d ⊎ IsReadOnce a d
 once_at_most a b c d f (inl none) g = inl (unread_then a c d (unread_then a b c f none) g)
 once_at_most a b c d f (inr read) g = inr (once_between a b c d f read g)
 

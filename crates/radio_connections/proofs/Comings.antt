@@ -7,7 +7,7 @@ use Rattle.radio_answers.specs.declared.web_answers.WebAnswers.{WebAnswers}
 use Rattle.radio_connections.specs.declared.conn.ConnStatus.{ConnStatus}
 use Rattle.radio_connections.specs.declared.conn.Fate.TheVariants.{Open, Ended}
 use Rattle.radio_connections.specs.Lines.{Calls}
-use Rattle.radio_connections.specs.Connections.{Connection, newly_come, IsTurnedAway}
+use Rattle.radio_connections.specs.Connections.{Connection, newly_come, ClientIsTurnedAway}
 use Rattle.radio_connections.specs.Course.{Arrival, LetsNobodyIn, newcomer, stranger, arrives, turned_away}
 use Rattle.radio_connections.specs.Admission.{IsTakenIn, first_entries}
 use Rattle.radio_connections.proofs.Standing.{stands_so}
@@ -42,7 +42,7 @@ none_made peer (Finished rule) nobody = refl
 none_made peer Stray nobody = refl
 
 pub is_turned_away : (arrival : Arrival) (given taken : List ℕ) (ms : ℕ) (c : Connection) → LetsNobodyIn arrival.reply
-    → IsTurnedAway arrival.web arrival.reply given taken ms c → IsTakenIn arrival given taken c
+    → ClientIsTurnedAway arrival.web arrival.reply given taken ms c → IsTakenIn arrival given taken c
 is_turned_away arrival given taken ms c nobody away g t =
     stands_so c [] (first_entries arrival.peer arrival.reply) (stranger arrival) Ended (turned_away nobody) (sym (away.given_so_far ∙ g))
     (sym (none_made arrival.peer arrival.reply nobody)) refl

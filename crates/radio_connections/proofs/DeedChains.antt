@@ -9,7 +9,7 @@ use Rattle.radio_events.specs.Servers.{Steps, Chain}
 use Rattle.radio_connections.specs.Connections.{Connection, is_open}
 use Rattle.radio_connections.specs.declared.conn.Fate.TheVariants.{Open, Closed, Cut}
 use Rattle.radio_connections.specs.Duties.{IsReadOnce, LacksMemory}
-use Rattle.radio_connections.specs.Duties.{HasEnded, HasLeft, AreAtMostHeard, IsUnasked, IsAtMostDraw, room_for}
+use Rattle.radio_connections.specs.Duties.{HasEnded, ClientHasLeft, AreAtMostHeard, IsUnasked, IsAtMostDraw, draw_room_for}
 use Rattle.radio_connections.specs.Rooms.{draw_room}
 use Rattle.radio_connections.specs.Serving.{IsServed, IsOneDraw}
 use Rattle.radio_connections.specs.Answering.{IsUnwritten, AreOf, IsHeardOn}
@@ -57,7 +57,7 @@ module _ {S : Type 0} (steps : Steps S) where
   }
 
   -- or has left before, or is not over
-  pub leaves_nothing : {from to : S} {c : Connection} → to ≡ from → HasLeft c c → Leaves steps from c to c
+  pub leaves_nothing : {from to : S} {c : Connection} → to ≡ from → ClientHasLeft c c → Leaves steps from c to c
   leaves_nothing {from} {to} {c} e left = record {
     entries = [];
     chain = e;
@@ -164,7 +164,7 @@ module _ {S : Type 0} (steps : Steps S) where
 
   -- its moment is noted, and then it draws
   pub draws_after : {ms room : ℕ} {news : Bool} {from to : S} {a c : Connection} → is_open a.status.fate ≡ true → (a.status.sits ≡ true → room ≡ draw_room)
-      → room ≡ room_for a.status.sits → DrawsFor steps room from (asked_at ms a) to c → Draws steps ms news from a to c
+      → room ≡ draw_room_for a.status.sits → DrawsFor steps room from (asked_at ms a) to c → Draws steps ms news from a to c
   draws_after {ms} {room} {news} {from} {to} {a} {c} goes full fits drew = record {
     entries = drew.entries;
     chain = drew.chain;

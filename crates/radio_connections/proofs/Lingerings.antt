@@ -8,7 +8,7 @@ use Rattle.radio_connections.specs.Lines.{Calls, after_read}
 use Rattle.radio_connections.specs.Connections.{Connection, is_open}
 use Rattle.radio_connections.specs.Duties.{IsReadOnce, HasEnded, WhyClosed, LineHasEnded, LingeredOn, Lingers}
 use Rattle.radio_connections.specs.Serving.{IsServed}
-use Rattle.radio_connections.specs.Leaving.{HasAnswered, is_over, NotesFinish, IsEnded}
+use Rattle.radio_connections.specs.Leaving.{HasAnswered, is_over, NotesFinish, StaysEnded}
 use Rattle.radio_connections.proofs.Deeds.{le_by, lt_by, closed_not_cut, closed_not_ended, ended_not_cut}
 
 -- what a read tells of an end is counted
@@ -80,7 +80,7 @@ closed_status {s} {t} e = ap (λ (x : ConnStatus). let y : ConnStatus = record x
 pub ended_by_close : {ms : ℕ} {a c : Connection} (m n : Connection) → a.status.fate ≡ Ended → m.status.is_finished ≡ true → NotesFinish ms a m
     → m.calls ≡ a.calls → (received : Received) → HasAnswered received m.calls n.calls → is_over received (nat_le 1000 (ms - m.status.moved_ms)) ≡ true
     → n.status ≡ m.status → IsServed a [] c → IsReadOnce a c → c.calls ≡ n.calls → c.taken ≡ a.taken → c.status ≡ record n.status { fate = Closed }
-    → n.status.has_taken ≡ a.status.has_taken → IsEnded ms a c
+    → n.status.has_taken ≡ a.status.has_taken → StaysEnded ms a c
 ended_by_close {ms} {a} {c} m n ended told notes calls received answered over same served read still taken status has_taken = record {
   served = served;
   over = ap (λ (s : ConnStatus). is_open s.fate) status;
@@ -100,7 +100,7 @@ ended_by_close {ms} {a} {c} m n ended told notes calls received answered over sa
 pub ended_by_lingering : {ms : ℕ} {a c : Connection} (m : Connection) → a.status.fate ≡ Ended → a.status.has_taken ≡ true → m.status.is_finished ≡ true
     → NotesFinish ms a m → m.calls ≡ a.calls → (received : Received) → HasAnswered received m.calls c.calls
     → is_over received (nat_le 1000 (ms - m.status.moved_ms)) ≡ false → c.status ≡ m.status → m.status.fate ≡ a.status.fate → IsServed a [] c
-    → IsReadOnce a c → c.taken ≡ a.taken → m.status.has_taken ≡ a.status.has_taken → IsEnded ms a c
+    → IsReadOnce a c → c.taken ≡ a.taken → m.status.has_taken ≡ a.status.has_taken → StaysEnded ms a c
 ended_by_lingering {ms} {a} {c} m ended written told notes calls received answered over same fate served read taken has_taken =
     let goes : c.status.fate ≡ Ended = ap (λ (s : ConnStatus). s.fate) same ∙ fate ∙ ended in
     let kept : c.status.has_taken ≡ a.status.has_taken = ap (λ (s : ConnStatus). s.has_taken) same ∙ has_taken in

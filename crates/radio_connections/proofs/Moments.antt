@@ -9,7 +9,7 @@ use Rattle.radio_connections.specs.declared.conn.ConnStatus.{ConnStatus}
 use Rattle.radio_connections.specs.Connections.{Connection}
 use Rattle.radio_connections.specs.Duties.{IsLater, HasTakenSome, IsIdle, IsFinishedNow, HasMoved, NotesTaking}
 use Rattle.radio_connections.specs.Answering.{IsUnwritten}
-use Rattle.radio_connections.specs.Leaving.{IsNoted, TookNone, TookSome, IsFlushed, IsPatient, NotesFinish, Works, Leaves}
+use Rattle.radio_connections.specs.Leaving.{WriteIsNoted, TookNone, TookSome, IsFlushed, IsPatient, NotesFinish, Works, Leaves}
 use Rattle.radio_connections.proofs.Askings.{unwritten_then}
 use Rattle.radio_connections.proofs.Deeds.{none_behind}
 
@@ -36,25 +36,25 @@ open_or Cut = inr (λ e. cc)
 
 -- a part of what is noted of a write
 
-pub noted_finished : {ms : ℕ} {a b : Connection} → IsNoted ms a b → b.status.is_finished ≡ a.status.is_finished
+pub noted_finished : {ms : ℕ} {a b : Connection} → WriteIsNoted ms a b → b.status.is_finished ≡ a.status.is_finished
 noted_finished {ms} {a} {b} (TookNone taken noted) = ap (λ (s : ConnStatus). s.is_finished) noted
 noted_finished {ms} {a} {b} (TookSome some goes noted) = ap (λ (s : ConnStatus). s.is_finished) noted
 
-pub noted_asked : {ms : ℕ} {a b : Connection} → IsNoted ms a b → b.status.asked_ms ≡ a.status.asked_ms
+pub noted_asked : {ms : ℕ} {a b : Connection} → WriteIsNoted ms a b → b.status.asked_ms ≡ a.status.asked_ms
 noted_asked {ms} {a} {b} (TookNone taken noted) = ap (λ (s : ConnStatus). s.asked_ms) noted
 noted_asked {ms} {a} {b} (TookSome some goes noted) = ap (λ (s : ConnStatus). s.asked_ms) noted
 
-pub noted_left : {ms : ℕ} {a b : Connection} → IsNoted ms a b → b.status.has_left ≡ a.status.has_left
+pub noted_left : {ms : ℕ} {a b : Connection} → WriteIsNoted ms a b → b.status.has_left ≡ a.status.has_left
 noted_left {ms} {a} {b} (TookNone taken noted) = ap (λ (s : ConnStatus). s.has_left) noted
 noted_left {ms} {a} {b} (TookSome some goes noted) = ap (λ (s : ConnStatus). s.has_left) noted
 
 -- what is noted of what was taken is noted on
-pub noted_on : {ms : ℕ} {a b : Connection} → IsNoted ms a b → a.status.has_taken ≡ true → b.status.has_taken ≡ true
+pub noted_on : {ms : ℕ} {a b : Connection} → WriteIsNoted ms a b → a.status.has_taken ≡ true → b.status.has_taken ≡ true
 noted_on {ms} {a} {b} (TookNone taken noted) before = ap (λ (s : ConnStatus). s.has_taken) noted ∙ before
 noted_on {ms} {a} {b} (TookSome some goes noted) before = ap (λ (s : ConnStatus). s.has_taken) noted
 
 -- a write that took nothing is no write
-pub unwritten_by : {ms : ℕ} {a b : Connection} → IsNoted ms a b → b.taken ≡ a.taken → IsUnwritten a b
+pub unwritten_by : {ms : ℕ} {a b : Connection} → WriteIsNoted ms a b → b.taken ≡ a.taken → IsUnwritten a b
 unwritten_by {ms} {a} {b} (TookNone taken noted) same = record {
   taken = same;
   moved = ap (λ (s : ConnStatus). s.moved_ms) noted;
@@ -64,7 +64,7 @@ unwritten_by {ms} {a} {b} (TookNone taken noted) same = record {
 unwritten_by {ms} {a} {b} (TookSome some goes noted) same = absurd (some same)
 
 -- what is noted beside that
-noted_between : {ms : ℕ} {a b c d : Connection} → IsUnwritten a b → IsNoted ms b c → IsUnwritten c d
+noted_between : {ms : ℕ} {a b c d : Connection} → IsUnwritten a b → WriteIsNoted ms b c → IsUnwritten c d
     → IsUnwritten a d ⊎ (HasTakenSome a d × (d.status.moved_ms ≡ ms) × (d.status.has_taken ≡ true))
 noted_between {ms} {a} {b} {c} {d} before (TookNone taken noted) behind =
     inl (unwritten_then before (unwritten_then (unwritten_by {ms = ms} {a = b} {b = c} (TookNone taken noted) taken) behind))
@@ -117,7 +117,7 @@ module _ {S : Type 0} (steps : Steps S) where
 
     by_some : HasTakenSome a f → f.status.moved_ms ≡ ms
     by_some some = by_first first.noted behind where
-      by_first : IsNoted ms a b → IsUnwritten c f ⊎ (HasTakenSome c f × (f.status.moved_ms ≡ ms) × (f.status.has_taken ≡ true)) → f.status.moved_ms ≡ ms
+      by_first : WriteIsNoted ms a b → IsUnwritten c f ⊎ (HasTakenSome c f × (f.status.moved_ms ≡ ms) × (f.status.has_taken ≡ true)) → f.status.moved_ms ≡ ms
       by_first noted (inr took) = took.1
       by_first (TookSome took goes noted) (inl same) = same.moved ∙ worked_on (ap (λ (s : ConnStatus). s.moved_ms) noted)
       by_first (TookNone taken noted) (inl same) = absurd (some (same.taken ∙ works.taken ∙ taken))
@@ -164,7 +164,7 @@ module _ {S : Type 0} (steps : Steps S) where
 
     noted_some : HasTakenSome a f → f.status.has_taken ≡ true
     noted_some some = by_first first.noted behind where
-      by_first : IsNoted ms a b → IsUnwritten c f ⊎ (HasTakenSome c f × (f.status.moved_ms ≡ ms) × (f.status.has_taken ≡ true)) → f.status.has_taken ≡ true
+      by_first : WriteIsNoted ms a b → IsUnwritten c f ⊎ (HasTakenSome c f × (f.status.moved_ms ≡ ms) × (f.status.has_taken ≡ true)) → f.status.has_taken ≡ true
       by_first noted (inr took) = took.2
       by_first (TookSome took goes noted) (inl same) = same.has_taken ∙ works.has_taken ∙ ap (λ (s : ConnStatus). s.has_taken) noted
       by_first (TookNone taken noted) (inl same) = absurd (some (same.taken ∙ works.taken ∙ taken))
@@ -186,7 +186,7 @@ module _ {S : Type 0} (steps : Steps S) where
     pub kept_untold : IsFinishedNow a c → ⊥
     kept_untold told = false≢true (sym told.0 ∙ sym (noted_finished first.noted) ∙ sym unwritten_behind.finished ∙ told.1)
 
-    kept_by_some : HasTakenSome a c → IsNoted ms a b → (c.status.moved_ms ≡ ms) × (c.status.has_taken ≡ true)
+    kept_by_some : HasTakenSome a c → WriteIsNoted ms a b → (c.status.moved_ms ≡ ms) × (c.status.has_taken ≡ true)
     kept_by_some took (TookNone taken noted) = absurd (took (unwritten_behind.taken ∙ taken))
     kept_by_some took (TookSome now goes noted) = (
       unwritten_behind.moved ∙ ap (λ (s : ConnStatus). s.moved_ms) noted,

@@ -6,8 +6,8 @@ use Rattle.radio_events.specs.Servers.{Steps}
 use Rattle.radio_connections.specs.Connections.{Connection}
 use Rattle.radio_connections.specs.declared.conn.Fate.TheVariants.{Open, Ended, Closed, Cut}
 use Rattle.radio_connections.specs.declared.conn.ConnStatus.{ConnStatus}
-use Rattle.radio_connections.specs.Duties.{IsWritten, IsLater, IsUnread, IsAtMostLeaving, HasTakenAll, HasStalled, LacksMemory, Cause, WasCut, HasFailed, TookNothing, WasRefused}
-use Rattle.radio_connections.specs.Duties.{HasEnded, WhyClosed, WasClosed, LineHasEnded, HeardNothing, LingeredOn, Lingers, AreAtMostHeard, IsAtMostDraw, room_for}
+use Rattle.radio_connections.specs.Duties.{IsWritten, IsLater, LineIsUnread, IsAtMostLeaving, HasTakenAll, HasStalled, LacksMemory, WhyCut, WasCut, HasFailed, TookNothing, WasRefused}
+use Rattle.radio_connections.specs.Duties.{HasEnded, WhyClosed, WasClosed, LineHasEnded, HeardNothing, LingeredOn, Lingers, AreAtMostHeard, IsAtMostDraw, draw_room_for}
 use Rattle.radio_connections.specs.Serving.{EndsWithDraw, ServesInTurn}
 use Rattle.radio_connections.specs.Answering.{IsUnwritten}
 use Rattle.radio_connections.specs.Leaving.{IsFlushed, IsPatient, Works, Leaves}
@@ -17,7 +17,7 @@ use Rattle.radio_session.specs.Conversation.{Conversation}
 use Rattle.radio_session.specs.Hearing.{IsHeard}
 use Rattle.radio_connections.proofs.Askings.{none_of_first}
 use Rattle.radio_connections.specs.Lines.{Calls}
-use Rattle.radio_connections.specs.Leaving.{IsNoted, TookNone, TookSome}
+use Rattle.radio_connections.specs.Leaving.{WriteIsNoted, TookNone, TookSome}
 use Rattle.radio_connections.proofs.Deeds.{ended_not_open}
 use Rattle.radio_connections.proofs.DeedChains.{chain_then}
 use Rattle.radio_connections.proofs.Moments.{unwritten_by_leaving, noted_finished, noted_asked, noted_on, noted_left, moved_in_turn, not_moved, told_in, notes_taking}
@@ -28,23 +28,23 @@ module _ {S : Type 0} (steps : Steps S) where
   -- why it is cut off, once it was worked for
   cause_of : {news : Bool} {from one : S} {ms patience : ℕ} {a b c d e f : Connection} → IsFlushed ms a b → b.outgoing ≡ [] → Works steps ms news from b one c → IsLater c d
       → d.status.fate ≡ c.status.fate → d.session ≡ c.session → IsFlushed ms d e → IsLater e f → f.status.fate ≡ e.status.fate → f.session ≡ e.session
-      → f.status.fate ≡ Cut → Cause ms patience a f
+      → f.status.fate ≡ Cut → WhyCut ms patience a f
   cause_of {news} {from} {one} {ms} {patience} {a} {b} {c} {d} {e} {f} first none works on left left_session last over same same_session cut = by_last (last.cut (sym same ∙ cut)) where
     grown : b.calls.faults ≤ f.calls.faults
     grown = omega (arith, works.served.later.faults, on.faults, last.served.later.faults, over.faults)
 
-    by_first : (a.status.fate ≡ Cut) ⊎ (a.calls.faults < b.calls.faults) → Cause ms patience a f
+    by_first : (a.status.fate ≡ Cut) ⊎ (a.calls.faults < b.calls.faults) → WhyCut ms patience a f
     by_first (inl was) = WasCut was
     by_first (inr more) = HasFailed (omega (arith, more, grown))
 
-    by_work : (b.status.fate ≡ Cut) ⊎ ((b.status.fate ≡ Open) × LacksMemory b c) → Cause ms patience a f
+    by_work : (b.status.fate ≡ Cut) ⊎ ((b.status.fate ≡ Open) × LacksMemory b c) → WhyCut ms patience a f
     by_work (inl was) = by_first (first.cut was)
     by_work (inr (goes, lacks)) =
         WasRefused (first.goes goes)
         (lacks_on a b c f first.served.later.refused (omega (arith, on.refused, last.served.later.refused, over.refused))
         (same_session ∙ last.session ∙ left_session) lacks)
 
-    by_last : (d.status.fate ≡ Cut) ⊎ (d.calls.faults < e.calls.faults) → Cause ms patience a f
+    by_last : (d.status.fate ≡ Cut) ⊎ (d.calls.faults < e.calls.faults) → WhyCut ms patience a f
     by_last (inl was) = by_work (works.cut (sym left ∙ was))
     by_last (inr more) = HasFailed (omega (arith, first.served.later.faults, works.served.later.faults, on.faults, more, over.faults))
 
@@ -62,14 +62,14 @@ module _ {S : Type 0} (steps : Steps S) where
     ended_before was = sym (first.fate (ended_not_cut b.status.fate was)) ∙ was
 
     -- nothing is written on what is closed
-    untouched : IsNoted ms d e → e.status.has_taken ≡ d.status.has_taken
+    untouched : WriteIsNoted ms d e → e.status.has_taken ≡ d.status.has_taken
     untouched (TookNone taken noted) = ap (λ (s : ConnStatus). s.has_taken) noted
     untouched (TookSome some goes noted) = absurd (subst IsWritten (left.fate ∙ at_c) goes)
 
     still : f.status.has_taken ≡ c.status.has_taken
     still = (unwritten_by_leaving steps over).has_taken ∙ untouched last.noted ∙ (unwritten_by_leaving steps left).has_taken
 
-    long_before : IsNoted ms a b → 1000 ≤ ms - b.status.moved_ms → 1000 ≤ ms - a.status.moved_ms
+    long_before : WriteIsNoted ms a b → 1000 ≤ ms - b.status.moved_ms → 1000 ≤ ms - a.status.moved_ms
     long_before (TookNone taken noted) long = subst (λ (n : ℕ). 1000 ≤ ms - n) (ap (λ (s : ConnStatus). s.moved_ms) noted) long
     long_before (TookSome some goes noted) long = absurd (not_long ms b.status.moved_ms (ap (λ (s : ConnStatus). s.moved_ms) noted) long)
 
@@ -109,7 +109,7 @@ module _ {S : Type 0} (steps : Steps S) where
           more,
         )))
 
-    in_time : IsNoted ms d e → ms - c.status.moved_ms < 1000 → ms - e.status.moved_ms < 1000
+    in_time : WriteIsNoted ms d e → ms - c.status.moved_ms < 1000 → ms - e.status.moved_ms < 1000
     in_time (TookNone taken noted) short =
         subst (λ (n : ℕ). ms - n < 1000) (sym (ap (λ (s : ConnStatus). s.moved_ms) noted ∙ (unwritten_by_leaving steps left).moved)) short
     in_time (TookSome some goes noted) short = omega (arith, ap (λ (s : ConnStatus). s.moved_ms) noted)
@@ -173,8 +173,8 @@ module _ {S : Type 0} (steps : Steps S) where
       left = left.entries ++ over.entries;
       all = ap (λ (xs : List Entry). xs ++ (left.entries ++ over.entries)) works.all ∙ append_assoc works.heard works.draws (left.entries ++ over.entries);
       asks = by_asks works.asks;
-      draws = subst (λ (id : ℕ). IsAtMostDraw id (room_for f.status.sits) works.draws) first.served.same
-          (subst (λ (sits : Bool). IsAtMostDraw b.id (room_for sits) works.draws) (sym (over.sits ∙ last.sits ∙ left.sits)) works.draws_once);
+      draws = subst (λ (id : ℕ). IsAtMostDraw id (draw_room_for f.status.sits) works.draws) first.served.same
+          (subst (λ (sits : Bool). IsAtMostDraw b.id (draw_room_for sits) works.draws) (sym (over.sits ∙ last.sits ∙ left.sits)) works.draws_once);
       leaves = subst (λ (id : ℕ). IsAtMostLeaving id (left.entries ++ over.entries)) (works.served.same ∙ first.served.same)
           (at_most_once left over (last.served.same ∙ left.served.same) (noted_left last.noted));
     };
@@ -185,7 +185,7 @@ module _ {S : Type 0} (steps : Steps S) where
       none = λ goes empty. still_asked ∙ works.asking.none (open_before goes) (sym (alone goes) ∙ empty) ∙ noted_asked first.noted;
     };
   } where
-    unread : IsUnread c f
+    unread : LineIsUnread c f
     unread = unread_then c d f (unread_same left.calls) (unread_then d e f last.unread (unread_same over.calls))
 
     open_before : f.status.fate ≡ Open → c.status.fate ≡ Open
@@ -261,18 +261,18 @@ module _ {S : Type 0} (steps : Steps S) where
     at_most : IsAtMostLeaving a.id left.entries
     at_most = subst (λ (id : ℕ). IsAtMostLeaving id left.entries) (rests.served.same ∙ first.served.same) left.leaving
 
-    unread : IsUnread a c
+    unread : LineIsUnread a c
     unread = unread_then a b c first.unread (unread_then b m c rests.unread (unread_same left.calls))
 
     by_leave : (c.status.has_left ≡ true) ⊎ (m.refused.leavings < c.refused.leavings) → (c.status.has_left ≡ true) ⊎ (a.refused.leavings < c.refused.leavings)
     by_leave (inl left) = inl left
     by_leave (inr more) = inr (omega (arith, first.served.later.leavings, rests.served.later.leavings, more))
 
-    by_first : (a.status.fate ≡ Cut) ⊎ (a.calls.faults < b.calls.faults) → Cause ms patience a c
+    by_first : (a.status.fate ≡ Cut) ⊎ (a.calls.faults < b.calls.faults) → WhyCut ms patience a c
     by_first (inl was) = WasCut was
     by_first (inr more) = HasFailed (omega (arith, more, rests.served.later.faults, left.served.later.faults))
 
-    by_wait : (b.status.fate ≡ Cut) ⊎ HasStalled ms patience b → Cause ms patience a c
+    by_wait : (b.status.fate ≡ Cut) ⊎ HasStalled ms patience b → WhyCut ms patience a c
     by_wait (inl was) = by_first (first.cut was)
     by_wait (inr stalled) =
         TookNothing (λ nothing. some (sym rests.outgoing ∙ sym left.same.outgoing ∙ nothing)) (subst (λ (n : ℕ). patience ≤ ms - n) (sym still.moved) stalled)

@@ -6,10 +6,10 @@ use Rattle.radio_events.specs.Servers.{Steps}
 use Rattle.radio_connections.specs.Connections.{Connection}
 use Rattle.radio_connections.specs.declared.conn.Fate.TheVariants.{Open, Ended, Closed, Cut}
 use Rattle.radio_connections.specs.Duties.{IsReadOnce, LacksMemory}
-use Rattle.radio_connections.specs.Duties.{HasEnded, WasClosed, LineHasEnded, AreAtMostHeard, IsAtMostDraw, room_for}
+use Rattle.radio_connections.specs.Duties.{HasEnded, WasClosed, LineHasEnded, AreAtMostHeard, IsAtMostDraw, draw_room_for}
 use Rattle.radio_connections.specs.Serving.{IsServed, EndsWithDraw}
 use Rattle.radio_connections.specs.Answering.{IsUnwritten}
-use Rattle.radio_connections.specs.Leaving.{IsEnded, IsSparedBefore, Listens, Works, Draws}
+use Rattle.radio_connections.specs.Leaving.{StaysEnded, IsSparedBefore, Listens, Works, Draws}
 use Rattle.radio_connections.proofs.Calling.{later_none, lacks_on, ended_on, unread_same, once_between}
 use Rattle.radio_connections.proofs.Deeds.{not_over, served_then, served_by_none}
 use Rattle.std.proofs.lemmas.Bool.{false≢true}
@@ -52,8 +52,8 @@ module _ {S : Type 0} (steps : Steps S) where
     draws = drew.entries;
     all = refl;
     asks = by_asks heard.heard;
-    draws_once = subst (λ (id : ℕ). IsAtMostDraw id (room_for c.status.sits) drew.entries) same_id
-        (subst (λ (sits : Bool). IsAtMostDraw n.id (room_for sits) drew.entries) (sym drew.sits) drew.once);
+    draws_once = subst (λ (id : ℕ). IsAtMostDraw id (draw_room_for c.status.sits) drew.entries) same_id
+        (subst (λ (sits : Bool). IsAtMostDraw n.id (draw_room_for sits) drew.entries) (sym drew.sits) drew.once);
     asked_for = λ stays_on long none. drew.asked_for (subst (λ (n : ℕ). 500 ≤ ms - n) (sym (still_asked stays_on none)) long) stays_on
         (none_of_second heard.entries drew.entries none);
     asking = asking_from asked (asking_then drew.goes heard.asking drew.asking);
@@ -92,7 +92,7 @@ module _ {S : Type 0} (steps : Steps S) where
     })
 
   -- one that has ended is not asked for
-  pub ends_in_turn : {ms : ℕ} {news : Bool} (from : S) {c c' : Connection} → c.status.fate ≡ Ended → IsEnded ms c c' → Works steps ms news from c from c'
+  pub ends_in_turn : {ms : ℕ} {news : Bool} (from : S) {c c' : Connection} → c.status.fate ≡ Ended → StaysEnded ms c c' → Works steps ms news from c from c'
   ends_in_turn {ms} {news} from {c} {c'} ended ends = record {
     entries = [];
     chain = refl;

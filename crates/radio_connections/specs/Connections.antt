@@ -86,7 +86,7 @@ abbrev pub without_first : List Connection → List Connection
 without_first cs = without_at (position lingers cs) cs
 
 -- a client was not let in, and its answer is pending; its line gave and took this
-pub record IsTurnedAway (web : WebAnswers) (denial : Reply) (given taken : List ℕ) (ms : ℕ) (c : Connection) : Type 0 where
+pub record ClientIsTurnedAway (web : WebAnswers) (denial : Reply) (given taken : List ℕ) (ms : ℕ) (c : Connection) : Type 0 where
   pub id : c.id ≡ 0
   pub given_so_far : c.given ≡ given
   pub taken_so_far : c.taken ≡ taken

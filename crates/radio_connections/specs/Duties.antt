@@ -32,7 +32,7 @@ pub record IsLater (c c' : Connection) : Type 0 where
   pub taken : (more : List ℕ) × (c'.taken ≡ c.taken ++ more)
 
 -- it is not read from
-pub record IsUnread (c c' : Connection) : Type 0 where
+pub record LineIsUnread (c c' : Connection) : Type 0 where
   pub reads : c'.calls.reads ≡ c.calls.reads
   pub room : c'.calls.room ≡ c.calls.room
 
@@ -43,18 +43,18 @@ pub record IsReadOnce (c c' : Connection) : Type 0 where
 
 -- One that is open, and on which nothing is pending, is asked for bytes, once.
 -- rule: Reading; Unwanted bytes
-abbrev pub IsAsked : Connection → Connection → Type 0
-IsAsked c c' = c.status.fate ≡ Open → c.outgoing ≡ [] → IsReadOnce c c'
+abbrev pub LineIsAsked : Connection → Connection → Type 0
+LineIsAsked c c' = c.status.fate ≡ Open → c.outgoing ≡ [] → IsReadOnce c c'
 
 -- No connection is asked more often than once in a turn.
 -- rule: Reading
 abbrev pub IsAskedOnce : Connection → Connection → Type 0
-IsAskedOnce c c' = IsUnread c c' ⊎ IsReadOnce c c'
+IsAskedOnce c c' = LineIsUnread c c' ⊎ IsReadOnce c c'
 
 -- One on which something is pending is written to.
 -- rule: Pending bytes first
-abbrev pub IsGiven : Connection → Connection → Type 0
-IsGiven c c' = IsWritten c.status.fate → IsOwed c → c.calls.writes < c'.calls.writes
+abbrev pub LineIsGiven : Connection → Connection → Type 0
+LineIsGiven c c' = IsWritten c.status.fate → IsOwed c → c.calls.writes < c'.calls.writes
 
 -- its line has taken all that was pending, and perhaps more
 abbrev pub HasTakenAll : Connection → Connection → Type 0
@@ -67,7 +67,7 @@ IsAtMostLeaving id entries = (entries ≡ []) ⊎ ((reply : Reply) × (entries �
 -- Unless its line has taken all that was pending, it is not read from, and nothing is applied for it but that its client leaves.
 -- rule: Pending bytes first
 abbrev pub HasWaited : Connection → List Entry → Connection → Type 0
-HasWaited c entries c' = HasTakenAll c c' ⊎ (IsUnread c c' × IsAtMostLeaving c.id entries)
+HasWaited c entries c' = HasTakenAll c c' ⊎ (LineIsUnread c c' × IsAtMostLeaving c.id entries)
 
 -- at this moment, nothing of what is pending has moved for so long
 -- rule: Cut off
@@ -77,8 +77,8 @@ HasStalled ms patience c = patience ≤ ms - c.status.moved_ms
 -- The line of a connection that is still served has taken all that was pending, or something of it has moved within this time.
 -- One that has stalled is cut off.
 -- rule: Cut off
-abbrev pub IsInTime : ℕ → ℕ → Connection → Connection → Type 0
-IsInTime ms patience c c' = IsWritten c'.status.fate → HasTakenAll c c' ⊎ (ms - c'.status.moved_ms < patience)
+abbrev pub LineIsInTime : ℕ → ℕ → Connection → Connection → Type 0
+LineIsInTime ms patience c c' = IsWritten c'.status.fate → HasTakenAll c c' ⊎ (ms - c'.status.moved_ms < patience)
 
 -- its line has taken something
 abbrev pub HasTakenSome : Connection → Connection → Type 0
@@ -116,20 +116,20 @@ LacksMemory c c' = (c'.session.has_failed ≡ true) ⊎ (c.refused.events < c'.r
 
 -- why a connection may be cut off in a turn
 -- rule: Cut off
-pub data Cause (ms patience : ℕ) (c c' : Connection) : Type 0 where
+pub data WhyCut (ms patience : ℕ) (c c' : Connection) : Type 0 where
   -- it was cut off before
-  WasCut : c.status.fate ≡ Cut → Cause ms patience c c'
+  WasCut : c.status.fate ≡ Cut → WhyCut ms patience c c'
   -- its line failed
-  HasFailed : c.calls.faults < c'.calls.faults → Cause ms patience c c'
+  HasFailed : c.calls.faults < c'.calls.faults → WhyCut ms patience c c'
   -- something is pending on it, and its line took nothing for too long
-  TookNothing : IsOwed c' → HasStalled ms patience c' → Cause ms patience c c'
+  TookNothing : IsOwed c' → HasStalled ms patience c' → WhyCut ms patience c c'
   -- it was open, and memory was refused
-  WasRefused : c.status.fate ≡ Open → LacksMemory c c' → Cause ms patience c c'
+  WasRefused : c.status.fate ≡ Open → LacksMemory c c' → WhyCut ms patience c c'
 
 -- It is cut off only for such a cause.
 -- rule: Cut off
 abbrev pub IsCutFor : ℕ → ℕ → Connection → Connection → Type 0
-IsCutFor ms patience c c' = c'.status.fate ≡ Cut → Cause ms patience c c'
+IsCutFor ms patience c c' = c'.status.fate ≡ Cut → WhyCut ms patience c c'
 
 -- its line reported that its peer has closed, or failed
 abbrev pub HasEnded : Connection → Connection → Type 0
@@ -180,8 +180,8 @@ IsFinishedFor c c' = IsFinishedNow c c' → (c.status.fate ≡ Ended) × HasTake
 
 -- Who is over has left, or its leaving was refused for want of memory.
 -- rule: Lingering
-abbrev pub HasLeft : Connection → Connection → Type 0
-HasLeft c c' = (c'.status.fate ≡ Open → ⊥) → (c'.status.has_left ≡ true) ⊎ (c.refused.leavings < c'.refused.leavings)
+abbrev pub ClientHasLeft : Connection → Connection → Type 0
+ClientHasLeft c c' = (c'.status.fate ≡ Open → ⊥) → (c'.status.has_left ≡ true) ⊎ (c.refused.leavings < c'.refused.leavings)
 
 -- the events that were applied
 abbrev pub events_of : List Entry → List Event
@@ -204,9 +204,9 @@ abbrev pub AreAtMostHeard : Connection → List Entry → Connection → Type 0
 AreAtMostHeard c entries c' = (entries ≡ []) ⊎ AreHeard c entries c'
 
 -- the room of a draw for who has a seat, and for who has none
-abbrev pub room_for : Bool → ℕ
-room_for true = draw_room
-room_for false = 0
+abbrev pub draw_room_for : Bool → ℕ
+draw_room_for true = draw_room
+draw_room_for false = 0
 
 -- nothing, or one draw with this room
 abbrev pub IsAtMostDraw : ℕ → ℕ → List Entry → Type 0
@@ -220,7 +220,7 @@ pub record IsOneTurn (c : Connection) (entries : List Entry) (c' : Connection) :
   pub left : List Entry
   pub all : entries ≡ heard ++ (drawn ++ left)
   pub asks : AreAtMostHeard c heard c'
-  pub draws : IsAtMostDraw c.id (room_for c'.status.sits) drawn
+  pub draws : IsAtMostDraw c.id (draw_room_for c'.status.sits) drawn
   pub leaves : IsAtMostLeaving c.id left
 
 -- nothing was asked of the server for it for half a second

@@ -9,8 +9,8 @@ use Rattle.radio_connections.specs.declared.line.Received.{Received}
 use Rattle.radio_connections.specs.declared.line.Received.TheVariants.{Bytes, Nothing, Closed as HasClosed, Fault}
 use Rattle.radio_connections.specs.Lines.{Calls}
 use Rattle.radio_connections.specs.Connections.{Connection, Refused, is_open, one_refusal}
-use Rattle.radio_connections.specs.Duties.{IsWritten, IsUnread, IsReadOnce, IsAskedOnce, IsGiven, IsAtMostLeaving, HasStalled, HasTakenSome, IsFinishedNow}
-use Rattle.radio_connections.specs.Duties.{LacksMemory, HasEnded, WhyClosed, Lingers, HasLeft, AreAtMostHeard, room_for, IsAtMostDraw, IsUnasked, NotesAsking}
+use Rattle.radio_connections.specs.Duties.{IsWritten, LineIsUnread, IsReadOnce, IsAskedOnce, LineIsGiven, IsAtMostLeaving, HasStalled, HasTakenSome, IsFinishedNow}
+use Rattle.radio_connections.specs.Duties.{LacksMemory, HasEnded, WhyClosed, Lingers, ClientHasLeft, AreAtMostHeard, draw_room_for, IsAtMostDraw, IsUnasked, NotesAsking}
 use Rattle.radio_connections.specs.Rooms.{draw_room}
 use Rattle.radio_connections.specs.Answering.{IsSpared, IsUnwritten}
 use Rattle.radio_connections.specs.Serving.{IsServed, IsOneDraw, HasDrawn}
@@ -28,9 +28,9 @@ abbrev pub IsCutByFault : Connection → Connection → Type 0
 IsCutByFault c c' = c'.status.fate ≡ Cut → (c.status.fate ≡ Cut) ⊎ (c.calls.faults < c'.calls.faults)
 
 -- what is noted of a write at this moment: nothing where its line took nothing, and else that it took something, and when
-pub data IsNoted (ms : ℕ) (c c' : Connection) : Type 0 where
-  TookNone : c'.taken ≡ c.taken → c'.status ≡ record c.status { fate = c'.status.fate } → IsNoted ms c c'
-  TookSome : HasTakenSome c c' → IsWritten c.status.fate → c'.status ≡ record c.status { moved_ms = ms; has_taken = true } → IsNoted ms c c'
+pub data WriteIsNoted (ms : ℕ) (c c' : Connection) : Type 0 where
+  TookNone : c'.taken ≡ c.taken → c'.status ≡ record c.status { fate = c'.status.fate } → WriteIsNoted ms c c'
+  TookSome : HasTakenSome c c' → IsWritten c.status.fate → c'.status ≡ record c.status { moved_ms = ms; has_taken = true } → WriteIsNoted ms c c'
 
 -- at this moment it was written to: it goes on only if it did before, and nothing new is pending
 pub record IsFlushed (ms : ℕ) (c c' : Connection) : Type 0 where
@@ -40,12 +40,12 @@ pub record IsFlushed (ms : ℕ) (c c' : Connection) : Type 0 where
   pub none : c.outgoing ≡ [] → c'.outgoing ≡ []
   pub all : c'.outgoing ≡ [] → c'.taken ≡ c.taken ++ c.outgoing
   pub idle : c.outgoing ≡ [] → c'.status.fate ≡ c.status.fate
-  pub unread : IsUnread c c'
+  pub unread : LineIsUnread c c'
   pub session : c'.session ≡ c.session
-  pub given : IsGiven c c'
+  pub given : LineIsGiven c c'
   pub cut : IsCutByFault c c'
   pub fate : (c'.status.fate ≡ Cut → ⊥) → c'.status.fate ≡ c.status.fate
-  pub noted : IsNoted ms c c'
+  pub noted : WriteIsNoted ms c c'
   pub given_same : c'.given ≡ c.given
   pub closings : c'.calls.closings ≡ c.calls.closings
   pub faults : (c'.status.fate ≡ Cut → ⊥) → c'.calls.faults ≡ c.calls.faults
@@ -54,7 +54,7 @@ pub record IsFlushed (ms : ℕ) (c c' : Connection) : Type 0 where
 pub record IsPatient (ms patience : ℕ) (c c' : Connection) : Type 0 where
   pub served : IsServed c [] c'
   pub goes : c'.status.fate ≡ Open → c.status.fate ≡ Open
-  pub unread : IsUnread c c'
+  pub unread : LineIsUnread c c'
   pub cut : c'.status.fate ≡ Cut → (c.status.fate ≡ Cut) ⊎ HasStalled ms patience c
   pub closed : c'.status.fate ≡ Closed → c.status.fate ≡ Closed
   pub in_time : IsWritten c'.status.fate → ms - c.status.moved_ms < patience
@@ -82,7 +82,7 @@ NotesFinish ms c c' =
     ((c'.status.is_finished ≡ c.status.is_finished) × (c'.status.moved_ms ≡ c.status.moved_ms)) ⊎ (IsFinishedNow c c' × (c'.status.moved_ms ≡ ms))
 
 -- it had ended, and has not begun again, nor is it cut off; it is closed only for a cause, and lingers otherwise
-pub record IsEnded (ms : ℕ) (c c' : Connection) : Type 0 where
+pub record StaysEnded (ms : ℕ) (c c' : Connection) : Type 0 where
   pub served : IsServed c [] c'
   pub over : is_open c'.status.fate ≡ false
   pub whole : c'.status.fate ≡ Cut → ⊥
@@ -132,7 +132,7 @@ module _ {S : Type 0} (steps : Steps S) where
     pub draws : List Entry
     pub all : entries ≡ heard ++ draws
     pub asks : AreAtMostHeard c heard c'
-    pub draws_once : IsAtMostDraw c.id (room_for c'.status.sits) draws
+    pub draws_once : IsAtMostDraw c.id (draw_room_for c'.status.sits) draws
     pub asked_for : c'.status.fate ≡ Open → IsUnasked ms c → entries ≡ [] → ⊥
     pub asking : NotesAsking ms c entries c'
 
@@ -156,7 +156,7 @@ module _ {S : Type 0} (steps : Steps S) where
     pub calls : c'.calls ≡ c.calls
     pub same : IsSame c c'
     pub noted : c'.status ≡ record c.status { has_left = c'.status.has_left }
-    pub left : HasLeft c c'
+    pub left : ClientHasLeft c c'
 
   -- a draw with this room was applied, or the connection was cut off
   pub record DrawsFor (room : ℕ) (from : S) (c : Connection) (to : S) (c' : Connection) : Type 0 where
@@ -177,7 +177,7 @@ module _ {S : Type 0} (steps : Steps S) where
     pub goes : c'.status.fate ≡ Open → c.status.fate ≡ Open
     pub drawn : news ≡ true → c.status.sits ≡ true → IsOneDraw c.id draw_room entries c'
     pub asked_for : IsUnasked ms c → c'.status.fate ≡ Open → entries ≡ [] → ⊥
-    pub once : IsAtMostDraw c.id (room_for c.status.sits) entries
+    pub once : IsAtMostDraw c.id (draw_room_for c.status.sits) entries
     pub sits : c'.status.sits ≡ c.status.sits
     pub asking : NotesAsking ms c entries c'
     pub given : c'.given ≡ c.given

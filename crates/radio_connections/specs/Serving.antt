@@ -10,8 +10,8 @@ use Rattle.radio_connections.specs.declared.conn.Fate.{Fate}
 use Rattle.radio_connections.specs.declared.conn.Fate.TheVariants.{Open, Closed, Cut}
 use Rattle.radio_connections.specs.Connections.{Connection}
 use Rattle.radio_connections.specs.Course.{Arrival, Standing, Course}
-use Rattle.radio_connections.specs.Duties.{IsLater, IsAsked, IsAskedOnce, IsGiven, HasWaited, IsCutFor, IsInTime, HasMoved, HasNotMoved, NotesTaking, IsClosedFor}
-use Rattle.radio_connections.specs.Duties.{IsLetGo, IsFinishedFor, HasLeft, IsOneTurn, IsAskedFor, NotesAsking}
+use Rattle.radio_connections.specs.Duties.{IsLater, LineIsAsked, IsAskedOnce, LineIsGiven, HasWaited, IsCutFor, LineIsInTime, HasMoved, HasNotMoved, NotesTaking, IsClosedFor}
+use Rattle.radio_connections.specs.Duties.{IsLetGo, IsFinishedFor, ClientHasLeft, IsOneTurn, IsAskedFor, NotesAsking}
 use Rattle.radio_connections.specs.Rooms.{draw_room}
 
 -- What the line took, followed by what is pending, is what was written for it. Once it is closed, it took all; if it was cut off, the
@@ -70,19 +70,19 @@ module _ {S : Type 0} (steps : Steps S) where
     pub chain : Chain steps from entries to
     pub served : IsServed c entries c'
     pub drawn : HasDrawn news c entries c'
-    pub asked : IsAsked c c'
+    pub asked : LineIsAsked c c'
     pub once : IsAskedOnce c c'
-    pub given : IsGiven c c'
+    pub given : LineIsGiven c c'
     pub waited : HasWaited c entries c'
     pub cut : IsCutFor ms patience c c'
-    pub in_time : IsInTime ms patience c c'
+    pub in_time : LineIsInTime ms patience c c'
     pub moved : HasMoved ms c c'
     pub unmoved : HasNotMoved c c'
     pub taking : NotesTaking c c'
     pub closed : IsClosedFor ms c c'
     pub let_go : IsLetGo ms c c'
     pub finished : IsFinishedFor c c'
-    pub left : HasLeft c c'
+    pub left : ClientHasLeft c c'
     pub one : IsOneTurn c entries c'
     pub asked_for : IsAskedFor ms c entries c'
     pub asking : NotesAsking ms c entries c'

@@ -119,7 +119,7 @@ impl<L: Line> Model for Conn<L> {
 }
 
 impl<L: Line> Conn<L> {
-    ghost use Rattle.radio_connections.specs.Connections.{newly_come, newly_ended, stays, lingers, IsTurnedAway};
+    ghost use Rattle.radio_connections.specs.Connections.{newly_come, newly_ended, stays, lingers, ClientIsTurnedAway};
     ghost use Rattle.std.specs.Prelude.{OnErr};
     ghost use Rattle.radio_connections.specs.Admission.{IsTakenIn};
     ghost use Rattle.radio_connections.specs.Course.{LetsNobodyIn};
@@ -149,7 +149,7 @@ impl<L: Line> Conn<L> {
         denial: Reply,
         ms: u64,
     ) -> Result<Conn<L>, OutOfMemory>
-        ensures { IfOk result (λ c. IsTurnedAway web denial (L.given line) (L.taken line) ms c) }
+        ensures { IfOk result (λ c. ClientIsTurnedAway web denial (L.given line) (L.taken line) ms c) }
     {
         let account = denied_account(alloc, &denial, ms);
         let mut session = Session::new(alloc, web, 0, peer);

@@ -5,10 +5,10 @@ use Rattle.radio_events.specs.Servers.{Steps}
 use Rattle.radio_masters.specs.declared.mount_pull.PullTurn.{PullTurn}
 use Rattle.radio_masters.specs.declared.mount_pull.PullTurn.TheVariants.{Running, Shut, Closed, Failed, OutOfMemory}
 use Rattle.radio_masters.specs.ListAnswers.{ListOver}
-use Rattle.radio_masters.specs.Pulls.{Comes, GoesOnHere, IsCalled, IsTurn, IsWritten, KeepsFront, PullOver, front_of}
+use Rattle.radio_masters.specs.Pulls.{Comes, GoesOnHere, IsCalledIn, IsTurn, FrontIsTaken, KeepsFront, PullOver, front_with}
 
 -- a turn that does not end by its line, and has read from it once
-pub called_on : (turn : PullTurn) (before now : Calls) → GoesOnHere turn → now.reads ≡ suc before.reads → IsCalled turn before now
+pub called_on : (turn : PullTurn) (before now : Calls) → GoesOnHere turn → now.reads ≡ suc before.reads → IsCalledIn turn before now
 called_on Running before now goes e = e
 called_on (Shut ending) before now goes e = e
 called_on Closed before now goes e = absurd goes
@@ -16,7 +16,7 @@ called_on Failed before now goes e = absurd goes
 called_on OutOfMemory before now goes e = e
 
 -- a turn for which the front was kept
-pub kept_on : (turn : PullTurn) (front bytes front' : List ℕ) → front' ≡ front_of front bytes → KeepsFront turn front bytes front'
+pub kept_on : (turn : PullTurn) (front bytes front' : List ℕ) → front' ≡ front_with front bytes → KeepsFront turn front bytes front'
 kept_on Running front bytes front' e = e
 kept_on (Shut ending) front bytes front' e = e
 kept_on Closed front bytes front' e = e
@@ -25,8 +25,8 @@ kept_on OutOfMemory front bytes front' e = tt
 
 -- a turn in which bytes came, told of how the pull stands within
 pub turn_heard : {S : Type 0} (steps : Steps S) (pull before after : PullOver) (bytes : List ℕ) (from to : S) (turn : PullTurn) → before ≡ pull
-    → IsWritten before.outgoing before.taken after.outgoing after.taken → after.given ≡ before.given ++ bytes
-    → Comes steps before.relay bytes from turn after.relay to → IsCalled turn before.calls after.calls
+    → FrontIsTaken before.outgoing before.taken after.outgoing after.taken → after.given ≡ before.given ++ bytes
+    → Comes steps before.relay bytes from turn after.relay to → IsCalledIn turn before.calls after.calls
     → KeepsFront turn before.front bytes after.front → IsTurn steps pull from turn after to
 turn_heard steps pull before after bytes from to turn e written given comes called front =
     subst (λ (p : PullOver). IsTurn steps p from turn after to) e

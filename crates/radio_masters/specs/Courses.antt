@@ -11,7 +11,7 @@ use Rattle.radio_masters.specs.declared.relay_course.RelayCourse.{RelayCourse}
 use Rattle.radio_masters.specs.declared.relay_course.Saying.{Saying}
 use Rattle.radio_masters.specs.declared.relay_course.Saying.TheVariants.{Nothing, Up, Sound, Title}
 use Rattle.radio_masters.specs.declared.relay_end.RelayEnd.{RelayEnd}
-use Rattle.radio_masters.specs.Failures.{IsNoted}
+use Rattle.radio_masters.specs.Failures.{FailureIsNoted}
 
 -- a copy of a text; an empty one if memory was refused for it
 abbrev pub IsCopyOf : List ℕ → List ℕ → Type 0
@@ -48,25 +48,25 @@ abbrev pub sounded : RelayCourse → ℕ → RelayCourse
 sounded course count = record course { sound = min (2 ^ 64 - 1) (course.sound + count) }
 
 -- what is noted once this is logged
-abbrev pub said : RelayCourse → Saying → RelayCourse
-said course (Up text) = up
-said course (Sound count) = sounded course count
-said course (Title title) = course
-said course Nothing = course
+abbrev pub after_saying : RelayCourse → Saying → RelayCourse
+after_saying course (Up text) = up
+after_saying course (Sound count) = sounded course count
+after_saying course (Title title) = course
+after_saying course Nothing = course
 
 -- the line of a failure that is logged so often, if it is logged
 abbrev pub line_of : Option ℕ → EndLine
 line_of None = NoLine
 line_of (Some times) = Failed times
 
--- the pull of a relay that was not up has ended: it has failed, which is logged as `IsNoted` says
+-- the pull of a relay that was not up has ended: it has failed, which is logged as `FailureIsNoted` says
 abbrev pub HasFailed : RelayCourse → RelayEnd → ℕ → RelayCourse → EndLine → Type 0
 HasFailed course why ms after line =
-    (failed : Failing) × (told : Option ℕ) × IsNoted course.failing why ms failed told
+    (failed : Failing) × (told : Option ℕ) × FailureIsNoted course.failing why ms failed told
     × (after ≡ record course { failing = Some failed }) × (line ≡ line_of told)
 
 -- the pull has ended: a relay that was up is gone
 -- rule: Failures of relays
-abbrev pub HasEnded : RelayCourse → RelayEnd → ℕ → RelayCourse → EndLine → Type 0
-HasEnded course why ms after line =
+abbrev pub PullHasEnded : RelayCourse → RelayEnd → ℕ → RelayCourse → EndLine → Type 0
+PullHasEnded course why ms after line =
     MatchBool course.is_up ((after ≡ record course { is_up = false }) × (line ≡ Gone)) (HasFailed course why ms after line)

@@ -17,7 +17,7 @@ IsOneMore n n' = (n + 1 < 2 ^ 64 → n' ≡ n + 1) × (n ≤ n')
 
 -- what is known of the relay when it has failed at a moment, and how often it has if that is logged
 -- rule: Failures of relays
-pub record IsNoted (before : Option Failing) (why : RelayEnd) (ms : ℕ) (after : Failing) (told : Option ℕ) : Type 0 where
+pub record FailureIsNoted (before : Option Failing) (why : RelayEnd) (ms : ℕ) (after : Failing) (told : Option ℕ) : Type 0 where
   -- the first failure is logged
   pub first : before ≡ None → (after ≡ told_now why ms) × (told ≡ Some 1)
   -- so is one for another reason

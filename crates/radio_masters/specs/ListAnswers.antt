@@ -55,12 +55,12 @@ pub record ListOver : Type 0 where
   pub came : List ℕ
 
 -- how much is kept of an answer: a list and its head
-abbrev pub most_held : ℕ
-most_held = 1064960
+abbrev pub most_of_answer : ℕ
+most_of_answer = 1064960
 
 -- why a turn yields no list: the line has failed; more has come than is kept; or what has come whole has no list
 abbrev pub WhyNoList : MasterListFault → ListOver → ListOver → Type 0
 WhyNoList fault pull pull' =
     ((fault ≡ Cut) × (pull'.calls.faults ≡ suc pull.calls.faults))
-    ⊎ ((fault ≡ TooLong) × ((bytes : List ℕ) × (pull'.given ≡ pull.given ++ bytes) × (most_held < length pull.came + length bytes)))
+    ⊎ ((fault ≡ TooLong) × ((bytes : List ℕ) × (pull'.given ≡ pull.given ++ bytes) × (most_of_answer < length pull.came + length bytes)))
     ⊎ IsListBody pull'.came true (Err fault)

@@ -17,7 +17,7 @@ use Rattle.radio_masters.specs.declared.mount_pull.PullTurn.{PullTurn}
 use Rattle.radio_masters.specs.declared.mount_pull.PullTurn.TheVariants.{Running as GoesOn, Shut as IsShut, Closed, Failed, OutOfMemory}
 
 -- what was pending and what the line took became these: it took the front of what was pending
-pub record IsWritten (outgoing taken outgoing' taken' : List ℕ) : Type 0 where
+pub record FrontIsTaken (outgoing taken outgoing' taken' : List ℕ) : Type 0 where
   pub part : List ℕ
   pub front : outgoing ≡ part ++ outgoing'
   pub took : taken' ≡ taken ++ part
@@ -32,8 +32,8 @@ abbrev pub max_head : ℕ
 max_head = 8192
 
 -- the front of an answer, when these bytes have come behind it: they are added as far as a head may reach
-abbrev pub front_of : List ℕ → List ℕ → List ℕ
-front_of front bytes = front ++ take (max_head - length front) bytes
+abbrev pub front_with : List ℕ → List ℕ → List ℕ
+front_with front bytes = front ++ take (max_head - length front) bytes
 
 -- the status of an answer whose front is read so
 abbrev pub status_in : Result (Progress ResponseParts) HeadFault → Option ℕ
@@ -63,7 +63,7 @@ probe_of number = option_map (λ id. Draw id 0) number
 -- the front of the answer is kept, unless memory was refused
 abbrev pub KeepsFront : PullTurn → List ℕ → List ℕ → List ℕ → Type 0
 KeepsFront OutOfMemory front bytes front' = Unit {0}
-KeepsFront turn front bytes front' = front' ≡ front_of front bytes
+KeepsFront turn front bytes front' = front' ≡ front_with front bytes
 
 -- a turn that does not end by its line
 abbrev pub GoesOnHere : PullTurn → Type 0
@@ -73,10 +73,10 @@ GoesOnHere turn = Unit {0}
 
 -- by a turn's end the line has reported that its master has closed, or that it has failed; else it was read from
 -- once
-abbrev pub IsCalled : PullTurn → Calls → Calls → Type 0
-IsCalled Closed before now = now.closings ≡ suc before.closings
-IsCalled Failed before now = now.faults ≡ suc before.faults
-IsCalled turn before now = now.reads ≡ suc before.reads
+abbrev pub IsCalledIn : PullTurn → Calls → Calls → Type 0
+IsCalledIn Closed before now = now.closings ≡ suc before.closings
+IsCalledIn Failed before now = now.faults ≡ suc before.faults
+IsCalledIn turn before now = now.reads ≡ suc before.reads
 
 module _ {S : Type 0} (steps : Steps S) where
   -- the server is asked whether the relay goes on
@@ -106,8 +106,8 @@ module _ {S : Type 0} (steps : Steps S) where
   -- rule: Turn of a pull
   pub record IsTurn (pull : PullOver) (from : S) (turn : PullTurn) (pull' : PullOver) (to : S) : Type 0 where
     pub bytes : List ℕ
-    pub written : IsWritten pull.outgoing pull.taken pull'.outgoing pull'.taken
+    pub written : FrontIsTaken pull.outgoing pull.taken pull'.outgoing pull'.taken
     pub given : pull'.given ≡ pull.given ++ bytes
     pub comes : Comes pull.relay bytes from turn pull'.relay to
-    pub called : IsCalled turn pull.calls pull'.calls
+    pub called : IsCalledIn turn pull.calls pull'.calls
     pub front : KeepsFront turn pull.front bytes pull'.front

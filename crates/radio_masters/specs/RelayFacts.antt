@@ -21,9 +21,9 @@ relay_word NotWished = codes "not-wished"
 relay_word OutOfMemory = codes "out-of-memory"
 
 -- the word for the end of its mount
-abbrev pub mount_word : RelayEnd → List ℕ
-mount_word (By (ByRule rule)) = mount_word_by rule
-mount_word end = codes "source-left"
+abbrev pub relay_mount_word : RelayEnd → List ℕ
+relay_mount_word (By (ByRule rule)) = mount_word_by rule
+relay_mount_word end = codes "source-left"
 
 -- a master as the log names it: its name and its port
 abbrev pub master_text : Master → List ℕ
@@ -45,7 +45,7 @@ gone_fact mount master why end sound =
 
 -- the mount of a relay whose pull has ended so is live no more
 abbrev pub mount_gone_fact : List ℕ → PullEnd → Fact
-mount_gone_fact mount end = MountGone mount (mount_word end.why)
+mount_gone_fact mount end = MountGone mount (relay_mount_word end.why)
 
 -- a relay has failed, so often
 -- rule: Failures of relays

@@ -1,7 +1,7 @@
 //! A server, as a relay asks it.
 
 ghost use Rattle.std.specs.Prelude.{◌≡◌, IfOk};
-ghost use Rattle.radio_masters.specs.Askers.{HasEndedBy, asked_of};
+ghost use Rattle.radio_masters.specs.Askers.{HasEndedBy, untried_asker};
 
 use crate::OutOfMemory;
 use crate::failing::Failing;
@@ -36,7 +36,7 @@ impl<S: Server + Drop> RelayServer<S> {
         server: S,
         relay: &RelaySetting,
     ) -> Result<RelayServer<S>, OutOfMemory>
-        ensures { IfOk result (λ asked. asked ≡ asked_of server) }
+        ensures { IfOk result (λ asked. asked ≡ untried_asker server) }
     {
         let log = RelayLog::new(alloc, relay)?;
         Ok(RelayServer { server, log })

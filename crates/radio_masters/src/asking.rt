@@ -1,7 +1,7 @@
 //! A request, as far as its line has not taken it.
 
 ghost use Rattle.std.specs.Prelude.{◌≡◌, ◌≤◌, ◌<◌, drop, length};
-ghost use Rattle.radio_masters.specs.Pulls.{HasBorne, IsWritten};
+ghost use Rattle.radio_masters.specs.Pulls.{HasBorne, FrontIsTaken};
 
 use radio_connections::{Line, Sent};
 use std::marker::Model;
@@ -49,7 +49,7 @@ impl Asking {
 
     /// Writes once what the line takes of it, if something is left. Whether the line has not failed.
     pub(crate) fn write<L: Line>(&mut self, line: &mut L) -> bool
-        ensures written { IsWritten self.old (L.taken line.old) self.new (L.taken line.new) }
+        ensures written { FrontIsTaken self.old (L.taken line.old) self.new (L.taken line.new) }
         ensures given { L.given line.new ≡ L.given line.old }
         ensures borne { HasBorne result (L.calls line.old) (L.calls line.new) }
     {
@@ -61,7 +61,7 @@ impl Asking {
 
     fn write_once<L: Line>(&mut self, line: &mut L) -> bool
         requires { 0 < length self.old }
-        ensures written { IsWritten self.old (L.taken line.old) self.new (L.taken line.new) }
+        ensures written { FrontIsTaken self.old (L.taken line.old) self.new (L.taken line.new) }
         ensures given { L.given line.new ≡ L.given line.old }
         ensures borne { HasBorne result (L.calls line.old) (L.calls line.new) }
     {

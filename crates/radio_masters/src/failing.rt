@@ -1,7 +1,7 @@
 //! How often the log says that a relay fails.
 
 ghost use Rattle.std.specs.Prelude.{◌≡◌, Some};
-ghost use Rattle.radio_masters.specs.Failures.{IsNoted, told_now};
+ghost use Rattle.radio_masters.specs.Failures.{FailureIsNoted, told_now};
 
 use crate::RelayEnd;
 
@@ -25,7 +25,7 @@ pub struct Failing {
 /// A failure is logged if it is the first, if its reason is another than before, or if the last line is an hour old.
 // rule: Failures of relays
 pub fn note_failure(before: Option<Failing>, why: RelayEnd, ms: u64) -> (Failing, Option<u64>)
-    ensures { IsNoted before why ms result.0 result.1 }
+    ensures { FailureIsNoted before why ms result.0 result.1 }
 {
     let Some(failing) = before else {
         return (first_of(why, ms), Some(1));
@@ -39,7 +39,7 @@ pub fn note_failure(before: Option<Failing>, why: RelayEnd, ms: u64) -> (Failing
 
 /// The same of a relay that has failed for this reason before.
 fn failed_again(failing: Failing, ms: u64) -> (Failing, Option<u64>)
-    ensures { IsNoted (Some failing) failing.why ms result.0 result.1 }
+    ensures { FailureIsNoted (Some failing) failing.why ms result.0 result.1 }
 {
     let times = failing.untold.saturating_add(1);
     if ms.saturating_sub(failing.told_ms) < TOLD_AGAIN_MS {

@@ -4,8 +4,8 @@ ghost use Rattle.std.specs.Prelude.{◌≡◌, ◌≢◌, ◌⊎◌, ◌+◌, �
 ghost use Rattle.radio_relay.specs.Request.{list_request};
 ghost use Rattle.radio_relay.specs.StreamList.{names_listed};
 ghost use Rattle.radio_masters.specs.declared.list_answer.MasterListFault.TheVariants.{OutOfMemory as NoMemory, TooLong};
-ghost use Rattle.radio_masters.specs.ListAnswers.{IsListBody, WhyNoList, most_held};
-ghost use Rattle.radio_masters.specs.Pulls.{IsWritten};
+ghost use Rattle.radio_masters.specs.ListAnswers.{IsListBody, WhyNoList, most_of_answer};
+ghost use Rattle.radio_masters.specs.Pulls.{FrontIsTaken};
 
 use crate::OutOfMemory;
 use crate::asking::Asking;
@@ -64,7 +64,7 @@ impl<L: Line> ListPull<L> {
         &mut self,
         buffer: &mut [u8],
     ) -> Result<Option<BTreeSet<MountName>>, MasterListFault>
-        ensures written { IsWritten self.old.outgoing self.old.taken self.new.outgoing self.new.taken }
+        ensures written { FrontIsTaken self.old.outgoing self.old.taken self.new.outgoing self.new.taken }
         ensures came { OnOk result ((bytes : List ℕ) × (self.new.given ≡ self.old.given ++ bytes) × (self.new.came ≡ self.old.came ++ bytes)) }
         ensures list { IfOk result (λ list. IfSome list (λ names. (body : List ℕ) × IsListBody self.new.came true (Ok body) × (names.keys ≡ names_listed body))) }
         ensures fault { IfErr result (λ fault. fault ≢ NoMemory → WhyNoList fault self.old self.new) }
@@ -90,7 +90,7 @@ impl<L: Line> ListPull<L> {
 /// These bytes have come behind those that are held.
 fn hold(held: &mut Vec<u8>, bytes: &[u8]) -> Result<(), MasterListFault>
     ensures held { OnOk result (held.new.items ≡ held.old.items ++ bytes.now) }
-    ensures fault { IfErr result (λ fault. (fault ≡ NoMemory) ⊎ ((fault ≡ TooLong) × (most_held < length held.old.items + length bytes.now))) }
+    ensures fault { IfErr result (λ fault. (fault ≡ NoMemory) ⊎ ((fault ≡ TooLong) × (most_of_answer < length held.old.items + length bytes.now))) }
 {
     if bytes.len() > MOST_HELD.saturating_sub(held.len()) {
         return Err(MasterListFault::TooLong);

@@ -8,7 +8,7 @@ ghost use Rattle.radio_heads.specs.declared.outcome.HeadFault.{HeadFault};
 ghost use Rattle.radio_heads.specs.declared.outcome.Progress.{Progress};
 ghost use Rattle.radio_heads.specs.Reading.{IsReading};
 ghost use Rattle.radio_heads.specs.Response.{ResponseParts, ShowsResponse};
-ghost use Rattle.radio_masters.specs.Pulls.{Comes, GoesOnHere, IsTurn, KeepsFront, front_of, status_in, turn_of};
+ghost use Rattle.radio_masters.specs.Pulls.{Comes, GoesOnHere, IsTurn, KeepsFront, front_with, status_in, turn_of};
 
 use crate::OutOfMemory;
 use crate::asking::Asking;
@@ -145,7 +145,7 @@ fn keep_and_hear<S: Server>(
 
 /// Adds these bytes to the front of an answer, as far as a head may reach.
 fn keep_front(front: &mut Vec<u8>, bytes: &[u8]) -> Result<(), OutOfMemory>
-    ensures { OnOk result (front.new.items ≡ front_of front.old.items bytes.now) }
+    ensures { OnOk result (front.new.items ≡ front_with front.old.items bytes.now) }
 {
     let room = MAX_HEAD.saturating_sub(front.len());
     front.extend_from_slice(&bytes[..bytes.len().min(room)])

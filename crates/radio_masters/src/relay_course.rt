@@ -1,7 +1,7 @@
 //! What is noted of a relay for the log, and what is logged of it.
 
 ghost use Rattle.std.specs.Prelude.{◌≡◌};
-ghost use Rattle.radio_masters.specs.Courses.{HasEnded, IsCopyOf, IsSayingOf, begun, due, line_of, said, sounded, up};
+ghost use Rattle.radio_masters.specs.Courses.{PullHasEnded, IsCopyOf, IsSayingOf, begun, due, line_of, after_saying, sounded, up};
 
 use crate::RelayEnd;
 use crate::failing::{Failing, note_failure};
@@ -104,7 +104,7 @@ impl RelayCourse {
 
     /// Returns what is noted once this is logged.
     pub(crate) fn after(self, saying: &Saying) -> RelayCourse
-        ensures { result ≡ said self saying.now }
+        ensures { result ≡ after_saying self saying.now }
     {
         match saying {
             Saying::Up(_) => RelayCourse::up(),
@@ -138,7 +138,7 @@ impl RelayCourse {
     /// hour.
     // rule: Failures of relays
     pub(crate) fn ended(self, why: RelayEnd, ms: u64) -> (RelayCourse, EndLine)
-        ensures { HasEnded self why ms result.0 result.1 }
+        ensures { PullHasEnded self why ms result.0 result.1 }
     {
         if self.is_up {
             return (

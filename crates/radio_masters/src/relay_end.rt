@@ -3,7 +3,7 @@
 ghost use Rattle.std.specs.Prelude.{◌≡◌};
 ghost use Rattle.radio_events.specs.declared.state.Ending.TheVariants.{BadPull};
 ghost use Rattle.radio_masters.specs.Ends.{end_by, keeps_place};
-ghost use Rattle.radio_masters.specs.RelayFacts.{mount_word};
+ghost use Rattle.radio_masters.specs.RelayFacts.{relay_mount_word};
 
 use radio_notes::mount_word_by;
 use radio_policy::Rule;
@@ -53,7 +53,7 @@ impl RelayEnd {
 
     /// The word for the end of its mount.
     pub(crate) fn word_of_mount(self) -> &'static str
-        ensures { result.now ≡ mount_word self }
+        ensures { result.now ≡ relay_mount_word self }
     {
         match self {
             RelayEnd::By(Ending::By(rule)) => mount_word_by(rule),

@@ -2,7 +2,7 @@
 
 ghost use Rattle.std.specs.Prelude.{◌≡◌, IfOk};
 ghost use Rattle.std.specs.String.{string_bytes};
-ghost use Rattle.radio_masters.specs.Courses.{HasEnded, IsCopyOf, IsSayingOf, begun, due, said};
+ghost use Rattle.radio_masters.specs.Courses.{PullHasEnded, IsCopyOf, IsSayingOf, begun, due, after_saying};
 ghost use Rattle.radio_masters.specs.declared.relay_course.EndLine.{EndLine};
 ghost use Rattle.radio_masters.specs.RelayFacts.{failed_fact, gone_fact, master_text, mount_gone_fact, relay_word, title_fact, up_fact};
 
@@ -71,7 +71,7 @@ impl RelayLog {
 
     /// Notes what was asked for, and logs it, if this reply says that it is done.
     pub(crate) fn note(&mut self, saying: Saying, reply: &Reply)
-        ensures course { self.new.course ≡ said self.old.course (due reply.now saying) }
+        ensures course { self.new.course ≡ after_saying self.old.course (due reply.now saying) }
         ensures mount { self.new.mount ≡ self.old.mount }
         ensures master { self.new.master ≡ self.old.master }
     {
@@ -116,7 +116,7 @@ impl RelayLog {
     /// Logs that the relay has ended so, or did not come up. A failure that lasts is logged once an
     /// hour.
     pub(crate) fn end(&mut self, end: PullEnd)
-        ensures course { (line : EndLine) × HasEnded self.old.course end.why end.ms self.new.course line }
+        ensures course { (line : EndLine) × PullHasEnded self.old.course end.why end.ms self.new.course line }
         ensures mount { self.new.mount ≡ self.old.mount }
         ensures master { self.new.master ≡ self.old.master }
     {

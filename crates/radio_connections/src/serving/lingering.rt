@@ -3,7 +3,7 @@
 ghost use Rattle.std.specs.Prelude.{◌≡◌, ◌-◌, [], true, nat_le};
 ghost use Rattle.radio_connections.specs.Duties.{IsReadOnce};
 ghost use Rattle.radio_connections.specs.Serving.{IsServed};
-ghost use Rattle.radio_connections.specs.Leaving.{IsEnded, NotesFinish, HasAnswered, is_over};
+ghost use Rattle.radio_connections.specs.Leaving.{StaysEnded, NotesFinish, HasAnswered, is_over};
 
 use crate::serving::{LINGER_MS, Now};
 use crate::workspace::READ_ROOM;
@@ -15,7 +15,7 @@ use crate::{Conn, Fate, Line, Received};
 pub(crate) fn linger<L: Line>(conn: &mut Conn<L>, buffer: &mut [u8; READ_ROOM], now: Now)
     requires fate { conn.old.status.fate ≡ Fate.Ended }
     requires all { conn.old.outgoing ≡ [] }
-    ensures { IsEnded now.ms conn.old conn.new }
+    ensures { StaysEnded now.ms conn.old conn.new }
 {
     if conn.status.has_taken {
         wait_for_close(conn, buffer, now);
@@ -29,7 +29,7 @@ fn wait_for_close<L: Line>(conn: &mut Conn<L>, buffer: &mut [u8; READ_ROOM], now
     requires fate { conn.old.status.fate ≡ Fate.Ended }
     requires written { conn.old.status.has_taken ≡ true }
     requires all { conn.old.outgoing ≡ [] }
-    ensures { IsEnded now.ms conn.old conn.new }
+    ensures { StaysEnded now.ms conn.old conn.new }
 {
     finish(conn, now);
     if is_over(pass_over(conn, buffer), conn.status.moved_ms, now) {

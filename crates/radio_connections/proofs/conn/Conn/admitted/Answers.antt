@@ -4,7 +4,7 @@ use Rattle.radio_events.specs.declared.reply.Reply.TheVariants.{Arrived, Deny}
 use Rattle.radio_policy.specs.declared.rule.Rule.{Rule}
 use Rattle.radio_session.specs.Conversation.{asking}
 use Rattle.radio_session.specs.Saying.{said}
-use Rattle.radio_connections.specs.Connections.{Connection, IsTurnedAway}
+use Rattle.radio_connections.specs.Connections.{Connection, ClientIsTurnedAway}
 use Rattle.radio_connections.specs.Course.{Arrival}
 use Rattle.radio_connections.specs.Admission.{IsTakenIn}
 use Rattle.radio_connections.proofs.Comings.{comes_in, is_turned_away, lets_nobody_in}
@@ -31,7 +31,7 @@ returns-in_default-clause-taken_in g c =
     let given = g.L.Line.given c.args.line in
     let taken = g.L.Line.taken c.args.line in
     let arrival : Arrival = record { web = c.args.web; peer = c.args.peer; reply = c.args.reply } in
-    if_ok_more (λ (x : Connection). IsTurnedAway c.args.web c.args.reply given taken c.args.ms x) (λ (x : Connection). IsTakenIn arrival given taken x)
+    if_ok_more (λ (x : Connection). ClientIsTurnedAway c.args.web c.args.reply given taken c.args.ms x) (λ (x : Connection). IsTakenIn arrival given taken x)
     (λ x away. is_turned_away arrival given taken c.args.ms x (lets_nobody_in c.args.reply c.in_default.not-Arrived) away)
     c.turned_away.result c.turned_away.ensures
 
@@ -48,13 +48,13 @@ pub returns-in_default-clause-answers : goal.returns-in_default-clause-answers
 returns-in_default-clause-answers g c =
     let given = g.L.Line.given c.args.line in
     let taken = g.L.Line.taken c.args.line in
-    if_ok_more (λ (x : Connection). IsTurnedAway c.args.web c.args.reply given taken c.args.ms x) (λ (x : Connection). x.session.says.web ≡ c.args.web)
+    if_ok_more (λ (x : Connection). ClientIsTurnedAway c.args.web c.args.reply given taken c.args.ms x) (λ (x : Connection). x.session.says.web ≡ c.args.web)
     (λ x away. away.web_of_it) c.turned_away.result c.turned_away.ensures
 
 pub returns-in_default-clause-denial : goal.returns-in_default-clause-denial
 returns-in_default-clause-denial g c =
     let given = g.L.Line.given c.args.line in
     let taken = g.L.Line.taken c.args.line in
-    if_ok_more (λ (x : Connection). IsTurnedAway c.args.web c.args.reply given taken c.args.ms x)
+    if_ok_more (λ (x : Connection). ClientIsTurnedAway c.args.web c.args.reply given taken c.args.ms x)
     (λ (x : Connection). (rule : Rule) → c.args.reply ≡ Deny rule → x.outgoing ≡ (said (asking c.args.web) (Deny rule)).bytes)
     (λ x away rule denied. away.outgoing ∙ ap (λ (r : Reply). (said (asking c.args.web) r).bytes) denied) c.turned_away.result c.turned_away.ensures

@@ -1,7 +1,7 @@
 use Rattle.std.proofs.Common.{◌-◌, nat_le, refl, sym, ◌∙◌, ap}
 use Rattle.std.proofs.lemmas.Bool.{false≢true}
 use Rattle.radio_connections.specs.Connections.{Connection}
-use Rattle.radio_connections.specs.Duties.{room_for}
+use Rattle.radio_connections.specs.Duties.{draw_room_for}
 use Rattle.radio_connections.proofs.Deeds.{not_over}
 use Rattle.radio_connections.proofs.Askings.{long_by}
 use Rattle.radio_connections.proofs.DeedChains.{draws_nothing, draws_as, draws_after}
@@ -26,10 +26,10 @@ pub returns-then-conn : goal.returns-then-conn
 returns-then-conn g c =
     draws_as g.S.Server.steps c.conn.view_is
     (draws_after g.S.Server.steps (sym c.is_open.ensures ∙ c.if-not-is_open.false)
-    (λ sits. refl) (sym (ap room_for c.if-conn.true)) c.draw_for.ensures)
+    (λ sits. refl) (sym (ap draw_room_for c.if-conn.true)) c.draw_for.ensures)
 
 pub returns-else-conn : goal.returns-else-conn
 returns-else-conn g c =
     draws_as g.S.Server.steps c.conn.view_is
     (draws_after g.S.Server.steps (sym c.is_open.ensures ∙ c.if-not-is_open.false)
-    (λ sits. absurd (false≢true (sym c.if-conn.false ∙ sits))) (sym (ap room_for c.if-conn.false)) c.draw_for-else-conn.ensures)
+    (λ sits. absurd (false≢true (sym c.if-conn.false ∙ sits))) (sym (ap draw_room_for c.if-conn.false)) c.draw_for-else-conn.ensures)
