@@ -11,7 +11,7 @@ use Rattle.radio_keys.specs.Rows.{first_fault}
 use Rattle.radio_settings_values.specs.declared.settings.Settings.{Settings}
 use Rattle.radio_settings_values.specs.Repeats.{first_repeat, first_repeat_after, is_among}
 use Rattle.radio_settings.specs.Document.{document_faults, document_reading, settings_or_fault, settings_of, reading_of}
-use Rattle.radio_settings.specs.Laws.{AreAllWell, AreApart, IsFirstFault, IsFaultOf, AreSettingsOf, IsFirstRepeat}
+use Rattle.radio_settings.specs.Laws.{AreAllWell, AreApart, IsFirstFault, IsFaultOfText, AreSettingsOf, IsFirstRepeat}
 
 abbrev pub Faults : Type 0
 Faults = List (Option SettingsFault)
@@ -56,7 +56,7 @@ settings_in d (Some found) settings h = absurd (cc)
 abbrev read_as : Option Members → Result Settings SettingsFault
 read_as o = option_map_or document_reading o (Err NotToml)
 
-fault_read : (text : List ℕ) (o : Option Members) (fault : SettingsFault) → parse_document text ≡ o → read_as o ≡ Err fault → IsFaultOf text fault
+fault_read : (text : List ℕ) (o : Option Members) (fault : SettingsFault) → parse_document text ≡ o → read_as o ≡ Err fault → IsFaultOfText text fault
 fault_read text None fault is h = inl (is, cc)
 fault_read text (Some d) fault is h =
     inr (record { document = d; is_toml = is; is_first = cut_at_fault (document_faults d) fault (fault_in d (first_fault (document_faults d)) fault h) })
@@ -67,11 +67,11 @@ settings_read text (Some d) settings is h =
     let parts = settings_in d (first_fault (document_faults d)) settings h in
     record { document = d; is_toml = is; is_well = all_well (document_faults d) parts.0; is_set = parts.1 }
 
-pub fault_of_reading : (text : List ℕ) (fault : SettingsFault) → reading_of text ≡ Err fault → IsFaultOf text fault
+pub fault_of_reading : (text : List ℕ) (fault : SettingsFault) → reading_of text ≡ Err fault → IsFaultOfText text fault
 unfolding reading_of
 fault_of_reading text fault h = fault_read text (parse_document text) fault refl h
 
-pub reading_of_fault : (text : List ℕ) (fault : SettingsFault) → IsFaultOf text fault → reading_of text ≡ Err fault
+pub reading_of_fault : (text : List ℕ) (fault : SettingsFault) → IsFaultOfText text fault → reading_of text ≡ Err fault
 unfolding reading_of
 reading_of_fault text fault (inl h) = ap read_as h.0 ∙ ap Err (sym h.1)
 reading_of_fault text fault (inr h) = ap read_as h.is_toml ∙ ap (settings_or_fault h.document) (fault_at_cut (document_faults h.document) fault h.is_first)

@@ -6,12 +6,12 @@ use Rattle.radio_keys.specs.declared.fault.SettingsFault.{SettingsFault}
 use Rattle.radio_keys.specs.declared.key.Key.TheVariants.{SourcePassword, AdminUser, AdminPassword, MountName, Server, Port, OnDemand}
 use Rattle.radio_keys.specs.declared.key.Key.TheVariants.{MasterServer, MasterPort, MasterUsername, MasterPassword, MasterUpdateInterval}
 use Rattle.radio_keys.specs.Rows.{fault_at, faults_in, first_fault, flag, mount_name, number, optional, required, row, text}
-use Rattle.radio_settings.specs.Access.{access_fault, address_rows, addresses_fault, relay_access_fault, relay_access_rows}
-use Rattle.radio_settings.specs.Logins.{login_fault, login_rows}
-use Rattle.radio_settings.specs.Masters.{master_fault, master_rows}
-use Rattle.radio_settings.specs.Mounts.{listener_rows, listeners_fault, mount_fault, options_fault, source_fault, source_rows, stream_fault, stream_rows}
-use Rattle.radio_settings.specs.Mounts.{user_rows, users_fault}
-use Rattle.radio_settings.specs.Relays.{relay_mounts_fault, pair_fault, pair_rows, relay_fault, relay_mount_rows}
+use Rattle.radio_settings.specs.Access.{access_fault, address_keys, addresses_fault, relay_access_fault, relay_access_keys}
+use Rattle.radio_settings.specs.Logins.{login_fault, login_keys}
+use Rattle.radio_settings.specs.Masters.{master_fault, master_keys}
+use Rattle.radio_settings.specs.Mounts.{listener_keys, listeners_fault, mount_fault, options_fault, source_fault, source_keys, stream_fault, stream_keys}
+use Rattle.radio_settings.specs.Mounts.{user_keys, users_fault}
+use Rattle.radio_settings.specs.Relays.{relay_mounts_fault, pair_fault, pair_keys, relay_fault, relay_mount_keys}
 use Rattle.radio_settings.specs.Slave.{slave_fault}
 use Rattle.radio_settings.proofs.FaultLemmas.{first_fault-append, in_groups}
 
@@ -26,14 +26,14 @@ pub access_parts : (t : Members) → access_fault t ≡ first_fault (
 unfolding access_fault login_fault relay_access_fault addresses_fault
 access_parts t =
     ap (option_or (fault_at (row SourcePassword text required) t))
-    (in_groups (faults_in (login_rows AdminUser AdminPassword) t) (faults_in relay_access_rows t) (faults_in address_rows t))
+    (in_groups (faults_in (login_keys AdminUser AdminPassword) t) (faults_in relay_access_keys t) (faults_in address_keys t))
 
 pub options_parts : (t : Members) → options_fault t ≡ first_fault (
     source_fault t ∷ listeners_fault t ∷ first_fault (stream_fault t ∷ users_fault t ∷ []) ∷ [])
 unfolding options_fault source_fault listeners_fault stream_fault users_fault
 options_parts t =
-    first_fault-append (faults_in source_rows t) (faults_in listener_rows t ++ (faults_in stream_rows t ++ faults_in user_rows t))
-    ∙ ap (option_or (source_fault t)) (in_groups (faults_in listener_rows t) (faults_in stream_rows t) (faults_in user_rows t))
+    first_fault-append (faults_in source_keys t) (faults_in listener_keys t ++ (faults_in stream_keys t ++ faults_in user_keys t))
+    ∙ ap (option_or (source_fault t)) (in_groups (faults_in listener_keys t) (faults_in stream_keys t) (faults_in user_keys t))
 
 pub mount_parts : (t : Members) → mount_fault t ≡ option_or (fault_at (row MountName mount_name required) t) (options_fault t)
 unfolding mount_fault options_fault
@@ -43,10 +43,10 @@ pub relay_parts : (t : Members) → relay_fault t ≡ first_fault (
     master_fault Server Port t ∷ relay_mounts_fault t ∷ pair_fault t ∷ fault_at (row OnDemand flag optional) t ∷ [])
 unfolding relay_fault master_fault relay_mounts_fault pair_fault
 relay_parts t =
-    let mounts = faults_in relay_mount_rows t in
-    let pair = faults_in pair_rows t in
+    let mounts = faults_in relay_mount_keys t in
+    let pair = faults_in pair_keys t in
     let on_demand = fault_at (row OnDemand flag optional) t in
-    first_fault-append (faults_in (master_rows Server Port) t) (mounts ++ (pair ++ on_demand ∷ []))
+    first_fault-append (faults_in (master_keys Server Port) t) (mounts ++ (pair ++ on_demand ∷ []))
     ∙ ap (option_or (master_fault Server Port t)) (in_two_and_one mounts pair on_demand)
 
 pub slave_parts : (t : Members) → slave_fault t ≡ first_fault (
@@ -54,5 +54,5 @@ pub slave_parts : (t : Members) → slave_fault t ≡ first_fault (
     ∷ fault_at (row MasterUpdateInterval (number 1 86400) optional) t ∷ [])
 unfolding slave_fault master_fault login_fault
 slave_parts t =
-    in_two_and_one (faults_in (master_rows MasterServer MasterPort) t) (faults_in (login_rows MasterUsername MasterPassword) t)
+    in_two_and_one (faults_in (master_keys MasterServer MasterPort) t) (faults_in (login_keys MasterUsername MasterPassword) t)
     (fault_at (row MasterUpdateInterval (number 1 86400) optional) t)

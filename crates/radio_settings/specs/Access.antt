@@ -8,26 +8,26 @@ use Rattle.radio_keys.specs.Rows.{Row, row, faults_in, first_fault, text, requir
 use Rattle.radio_settings_values.specs.declared.settings.AccessSettings.{AccessSettings}
 use Rattle.radio_settings_values.specs.declared.settings.AddressLists.{AddressLists}
 use Rattle.radio_settings_values.specs.declared.settings.RelayAccess.{RelayAccess}
-use Rattle.radio_settings.specs.Logins.{login_rows, login_of}
+use Rattle.radio_settings.specs.Logins.{login_keys, login_of}
 
-abbrev pub relay_access_rows : List Row
-relay_access_rows = row RelayUser text optional ∷ row RelayPassword text optional ∷ []
+abbrev pub relay_access_keys : List Row
+relay_access_keys = row RelayUser text optional ∷ row RelayPassword text optional ∷ []
 
-abbrev pub address_rows : List Row
-address_rows = row DenyIp text optional ∷ row AllowIp text optional ∷ []
+abbrev pub address_keys : List Row
+address_keys = row DenyIp text optional ∷ row AllowIp text optional ∷ []
 
-abbrev pub access_rows : List Row
-access_rows = row SourcePassword text required ∷ (login_rows AdminUser AdminPassword ++ (relay_access_rows ++ address_rows))
+abbrev pub access_keys : List Row
+access_keys = row SourcePassword text required ∷ (login_keys AdminUser AdminPassword ++ (relay_access_keys ++ address_keys))
 
 -- the first fault of these keys, and of some of them
 unfoldable pub access_fault : Members → Option SettingsFault
-access_fault document = first_fault (faults_in access_rows document)
+access_fault document = first_fault (faults_in access_keys document)
 
 unfoldable pub relay_access_fault : Members → Option SettingsFault
-relay_access_fault document = first_fault (faults_in relay_access_rows document)
+relay_access_fault document = first_fault (faults_in relay_access_keys document)
 
 unfoldable pub addresses_fault : Members → Option SettingsFault
-addresses_fault document = first_fault (faults_in address_rows document)
+addresses_fault document = first_fault (faults_in address_keys document)
 
 unfoldable pub relay_access_of : Members → RelayAccess
 relay_access_of document =

@@ -13,38 +13,38 @@ use Rattle.radio_settings_values.specs.declared.settings.MountSetting.{MountSett
 use Rattle.radio_settings_values.specs.declared.settings.RelaySetting.{RelaySetting}
 use Rattle.radio_settings_values.specs.declared.settings.Settings.{Settings}
 use Rattle.radio_settings_values.specs.Repeats.{first_repeat}
-use Rattle.radio_settings.specs.Access.{access_rows, access_of}
-use Rattle.radio_settings.specs.Listen.{listen_rows, listen_of}
-use Rattle.radio_settings.specs.Limits.{limit_rows, limits_of}
-use Rattle.radio_settings.specs.Web.{web_rows, web_of}
+use Rattle.radio_settings.specs.Access.{access_keys, access_of}
+use Rattle.radio_settings.specs.Listen.{listen_keys, listen_of}
+use Rattle.radio_settings.specs.Limits.{limit_keys, limits_of}
+use Rattle.radio_settings.specs.Web.{web_keys, web_of}
 use Rattle.radio_settings.specs.WebNames.{web_name_faults}
-use Rattle.radio_settings.specs.Mounts.{mount_rows, options_of, mounts_of}
-use Rattle.radio_settings.specs.Relays.{relay_rows, relays_of}
-use Rattle.radio_settings.specs.Slave.{slave_rows, slave_of}
+use Rattle.radio_settings.specs.Mounts.{mount_keys, options_of, mounts_of}
+use Rattle.radio_settings.specs.Relays.{relay_keys, relays_of}
+use Rattle.radio_settings.specs.Slave.{slave_keys, slave_of}
 
 abbrev pub access_faults : Members → List (Option SettingsFault)
-access_faults document = faults_in access_rows document
+access_faults document = faults_in access_keys document
 
 -- a table that may be absent: its name comes before its keys
 abbrev pub listen_faults : Members → List (Option SettingsFault)
-listen_faults document = table_fault Listen document ∷ faults_in listen_rows (table_or_empty Listen document)
+listen_faults document = table_fault Listen document ∷ faults_in listen_keys (table_or_empty Listen document)
 
 abbrev pub limits_faults : Members → List (Option SettingsFault)
-limits_faults document = table_fault Limits document ∷ faults_in limit_rows (table_or_empty Limits document)
+limits_faults document = table_fault Limits document ∷ faults_in limit_keys (table_or_empty Limits document)
 
 abbrev pub web_faults : Members → List (Option SettingsFault)
-web_faults document = table_fault Web document ∷ faults_in web_rows (table_or_empty Web document)
+web_faults document = table_fault Web document ∷ faults_in web_keys (table_or_empty Web document)
 
 -- a list of tables: its name comes before the keys of all, and the tables follow one after the other
 abbrev pub mounts_faults : Members → List (Option SettingsFault)
-mounts_faults document = list_fault Mount document ∷ flat_map (faults_in mount_rows) (tables_at Mount document)
+mounts_faults document = list_fault Mount document ∷ flat_map (faults_in mount_keys) (tables_at Mount document)
 
 abbrev pub relays_faults : Members → List (Option SettingsFault)
-relays_faults document = list_fault Relay document ∷ flat_map (faults_in relay_rows) (tables_at Relay document)
+relays_faults document = list_fault Relay document ∷ flat_map (faults_in relay_keys) (tables_at Relay document)
 
 -- a table some keys of which must be there, if it is
 abbrev pub slave_faults : Members → List (Option SettingsFault)
-slave_faults document = table_fault Slave document ∷ option_map_or (faults_in slave_rows) (table_at Slave document) []
+slave_faults document = table_fault Slave document ∷ option_map_or (faults_in slave_keys) (table_at Slave document) []
 
 -- the names of the mounts, and the local mounts of the relays
 abbrev pub mount_names : List MountSetting → List (List ℕ)

@@ -28,8 +28,8 @@ pub record IsDocumentFault (text : List ℕ) (fault : SettingsFault) : Type 0 wh
   pub is_first : IsFirstFault (document_faults document) fault
 
 -- what is wrong with a text: it is not TOML, or its document has a fault
-abbrev pub IsFaultOf : List ℕ → SettingsFault → Type 0
-IsFaultOf text fault = ((parse_document text ≡ None) × (fault ≡ NotToml)) ⊎ IsDocumentFault text fault
+abbrev pub IsFaultOfText : List ℕ → SettingsFault → Type 0
+IsFaultOfText text fault = ((parse_document text ≡ None) × (fault ≡ NotToml)) ⊎ IsDocumentFault text fault
 
 -- the text is TOML without a fault, and sets this
 -- rule: Reading settings

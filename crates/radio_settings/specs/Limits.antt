@@ -7,8 +7,8 @@ use Rattle.radio_keys.specs.Lookup.{number_or}
 use Rattle.radio_keys.specs.Rows.{Row, row, faults_in, first_fault, number, optional}
 use Rattle.radio_settings_values.specs.declared.settings.LimitSettings.{LimitSettings}
 
-abbrev pub limit_rows : List Row
-limit_rows =
+abbrev pub limit_keys : List Row
+limit_keys =
     row Clients (number 1 1000000) optional
     ∷ row Sources (number 1 100000) optional
     ∷ row QueueSize (number 1 1073741824) optional
@@ -19,7 +19,7 @@ limit_rows =
 
 -- the first fault of its keys
 unfoldable pub limits_fault : Members → Option SettingsFault
-limits_fault table = first_fault (faults_in limit_rows table)
+limits_fault table = first_fault (faults_in limit_keys table)
 
 unfoldable pub limits_of : Members → LimitSettings
 limits_of table = record {

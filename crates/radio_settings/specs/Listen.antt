@@ -10,19 +10,19 @@ use Rattle.radio_keys.specs.Rows.{Row, row, faults_in, first_fault, text, number
 use Rattle.radio_settings_values.specs.declared.settings.ListenSettings.{ListenSettings}
 
 -- where it listens, and by how many threads it serves
-abbrev pub socket_rows : List Row
-socket_rows = row Address text optional ∷ row Port (number 0 65535) optional ∷ row Workers (number 1 64) optional ∷ []
+abbrev pub socket_keys : List Row
+socket_keys = row Address text optional ∷ row Port (number 0 65535) optional ∷ row Workers (number 1 64) optional ∷ []
 
 -- whose connections name their clients
-abbrev pub proxy_rows : List Row
-proxy_rows = row ProxyFrom text optional ∷ []
+abbrev pub proxy_keys : List Row
+proxy_keys = row ProxyFrom text optional ∷ []
 
-abbrev pub listen_rows : List Row
-listen_rows = socket_rows ++ proxy_rows
+abbrev pub listen_keys : List Row
+listen_keys = socket_keys ++ proxy_keys
 
 -- the first fault of its keys
 unfoldable pub listen_fault : Members → Option SettingsFault
-listen_fault table = first_fault (faults_in listen_rows table)
+listen_fault table = first_fault (faults_in listen_keys table)
 
 -- the path of the list of proxies, if there is one
 abbrev pub proxies_of : Members → Option (List ℕ)

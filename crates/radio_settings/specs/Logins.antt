@@ -7,12 +7,12 @@ use Rattle.radio_keys.specs.Lookup.{text_or}
 use Rattle.radio_keys.specs.Rows.{Row, row, faults_in, first_fault, text, required, optional}
 use Rattle.radio_settings_values.specs.declared.settings.Login.{Login}
 
-abbrev pub login_rows : Key → Key → List Row
-login_rows username password = row username text optional ∷ row password text required ∷ []
+abbrev pub login_keys : Key → Key → List Row
+login_keys username password = row username text optional ∷ row password text required ∷ []
 
 -- the first fault of the two keys
 unfoldable pub login_fault : Key → Key → Members → Option SettingsFault
-login_fault username password table = first_fault (faults_in (login_rows username password) table)
+login_fault username password table = first_fault (faults_in (login_keys username password) table)
 
 unfoldable pub login_of : Key → Key → List ℕ → Members → Login
 login_of username password default table =

@@ -7,12 +7,12 @@ use Rattle.radio_keys.specs.Lookup.{field_or_empty, number_or}
 use Rattle.radio_keys.specs.Rows.{Row, row, faults_in, first_fault, text, number, required, optional}
 use Rattle.radio_settings_values.specs.declared.settings.Master.{Master}
 
-abbrev pub master_rows : Key → Key → List Row
-master_rows server port = row server text required ∷ row port (number 1 65535) optional ∷ []
+abbrev pub master_keys : Key → Key → List Row
+master_keys server port = row server text required ∷ row port (number 1 65535) optional ∷ []
 
 -- the first fault of the two keys
 unfoldable pub master_fault : Key → Key → Members → Option SettingsFault
-master_fault server port table = first_fault (faults_in (master_rows server port) table)
+master_fault server port table = first_fault (faults_in (master_keys server port) table)
 
 unfoldable pub master_of : Key → Key → Members → Master
 master_of server port table = record { server = field_or_empty server table; port = number_or port table 8000 }

@@ -17,11 +17,11 @@ use Rattle.radio_settings_values.specs.declared.settings.MountSetting.{MountSett
 use Rattle.radio_settings_values.specs.declared.settings.StreamOptions.{StreamOptions}
 use Rattle.radio_settings_values.specs.declared.settings.UserOptions.{UserOptions}
 
-abbrev pub source_rows : List Row
-source_rows = row Username text optional ∷ row Password text optional ∷ []
+abbrev pub source_keys : List Row
+source_keys = row Username text optional ∷ row Password text optional ∷ []
 
-abbrev pub listener_rows : List Row
-listener_rows =
+abbrev pub listener_keys : List Row
+listener_keys =
     row MaxListeners (number 0 1000000) optional
     ∷ row MaxListenerDuration (number 1 31536000) optional
     ∷ row FallbackMount mount_name optional
@@ -30,49 +30,49 @@ listener_rows =
     ∷ []
 
 -- what the settings say of a stream beyond its name and genre
-abbrev pub about_rows : List Row
-about_rows =
+abbrev pub about_keys : List Row
+about_keys =
     row StreamDescription text optional
     ∷ row StreamUrl text optional
     ∷ row Bitrate text optional
     ∷ []
 
-abbrev pub stream_rows : List Row
-stream_rows =
+abbrev pub stream_keys : List Row
+stream_keys =
     row Hidden flag optional
     ∷ row BurstSize (number 0 1073741824) optional
     ∷ row Mp3MetadataInterval (number 1 1000000) optional
     ∷ row StreamName text optional
     ∷ row Genre text optional
-    ∷ about_rows
+    ∷ about_keys
 
-abbrev pub user_rows : List Row
-user_rows = row Htpasswd text optional ∷ row AllowDuplicateUsers flag optional ∷ []
+abbrev pub user_keys : List Row
+user_keys = row Htpasswd text optional ∷ row AllowDuplicateUsers flag optional ∷ []
 
-abbrev pub option_rows : List Row
-option_rows = source_rows ++ (listener_rows ++ (stream_rows ++ user_rows))
+abbrev pub option_keys : List Row
+option_keys = source_keys ++ (listener_keys ++ (stream_keys ++ user_keys))
 
-abbrev pub mount_rows : List Row
-mount_rows = row MountName mount_name required ∷ option_rows
+abbrev pub mount_keys : List Row
+mount_keys = row MountName mount_name required ∷ option_keys
 
 -- the first fault of all its keys but its name, and of some of them
 unfoldable pub options_fault : Members → Option SettingsFault
-options_fault table = first_fault (faults_in option_rows table)
+options_fault table = first_fault (faults_in option_keys table)
 
 unfoldable pub source_fault : Members → Option SettingsFault
-source_fault table = first_fault (faults_in source_rows table)
+source_fault table = first_fault (faults_in source_keys table)
 
 unfoldable pub listeners_fault : Members → Option SettingsFault
-listeners_fault table = first_fault (faults_in listener_rows table)
+listeners_fault table = first_fault (faults_in listener_keys table)
 
 unfoldable pub stream_fault : Members → Option SettingsFault
-stream_fault table = first_fault (faults_in stream_rows table)
+stream_fault table = first_fault (faults_in stream_keys table)
 
 unfoldable pub about_fault : Members → Option SettingsFault
-about_fault table = first_fault (faults_in about_rows table)
+about_fault table = first_fault (faults_in about_keys table)
 
 unfoldable pub users_fault : Members → Option SettingsFault
-users_fault table = first_fault (faults_in user_rows table)
+users_fault table = first_fault (faults_in user_keys table)
 
 -- its source's password is by default that of the whole station
 unfoldable pub source_of : AccessSettings → Members → Login
@@ -116,7 +116,7 @@ options_of access limits table =
 
 -- the first fault of the keys of one
 unfoldable pub mount_fault : Members → Option SettingsFault
-mount_fault table = first_fault (faults_in mount_rows table)
+mount_fault table = first_fault (faults_in mount_keys table)
 
 unfoldable pub mount_of : AccessSettings → LimitSettings → Members → MountSetting
 mount_of access limits table = record {

@@ -7,19 +7,19 @@ use Rattle.radio_keys.specs.Lookup.{text_at, text_or, flag_or, tables_at}
 use Rattle.radio_keys.specs.Rows.{Row, row, faults_in, first_fault, text, flag, mount_name, required, optional, required_with}
 use Rattle.radio_settings_values.specs.declared.settings.Login.{Login}
 use Rattle.radio_settings_values.specs.declared.settings.RelaySetting.{RelaySetting}
-use Rattle.radio_settings.specs.Masters.{master_rows, master_of}
+use Rattle.radio_settings.specs.Masters.{master_keys, master_of}
 
 -- both a user and a password, or neither
 -- rule: Pair of a relay
-abbrev pub pair_rows : List Row
-pair_rows = row Username text (required_with Password) ∷ row Password text (required_with Username) ∷ []
+abbrev pub pair_keys : List Row
+pair_keys = row Username text (required_with Password) ∷ row Password text (required_with Username) ∷ []
 
 -- the mount to pull, and the mount that it feeds
-abbrev pub relay_mount_rows : List Row
-relay_mount_rows = row Mount mount_name required ∷ row LocalMount mount_name optional ∷ []
+abbrev pub relay_mount_keys : List Row
+relay_mount_keys = row Mount mount_name required ∷ row LocalMount mount_name optional ∷ []
 
-abbrev pub relay_rows : List Row
-relay_rows = master_rows Server Port ++ (relay_mount_rows ++ (pair_rows ++ row OnDemand flag optional ∷ []))
+abbrev pub relay_keys : List Row
+relay_keys = master_keys Server Port ++ (relay_mount_keys ++ (pair_keys ++ row OnDemand flag optional ∷ []))
 
 abbrev pub login_from : Option (List ℕ) → Option (List ℕ) → Option Login
 login_from (Some username) (Some password) = Some (record { username = username; password = password })
@@ -27,7 +27,7 @@ login_from _ _ = None
 
 -- the first fault of the two mounts
 unfoldable pub relay_mounts_fault : Members → Option SettingsFault
-relay_mounts_fault table = first_fault (faults_in relay_mount_rows table)
+relay_mounts_fault table = first_fault (faults_in relay_mount_keys table)
 
 abbrev pub pulled_mount_of : Members → List ℕ
 pulled_mount_of table = text_or Mount table []
@@ -38,14 +38,14 @@ local_mount_of table = text_or LocalMount table (pulled_mount_of table)
 
 -- the first fault of the two keys
 unfoldable pub pair_fault : Members → Option SettingsFault
-pair_fault table = first_fault (faults_in pair_rows table)
+pair_fault table = first_fault (faults_in pair_keys table)
 
 unfoldable pub pair_of : Members → Option Login
 pair_of table = login_from (text_at Username table) (text_at Password table)
 
 -- the first fault of the keys of one
 unfoldable pub relay_fault : Members → Option SettingsFault
-relay_fault table = first_fault (faults_in relay_rows table)
+relay_fault table = first_fault (faults_in relay_keys table)
 
 unfoldable pub relay_of : Members → RelaySetting
 relay_of table = record {

@@ -10,13 +10,13 @@ use Rattle.radio_settings.specs.declared.section.Section.{Section}
 use Rattle.radio_settings.specs.declared.section.Section.TheVariants.{Top, Listen, Limits, Web, Mount, Relay, Slave}
 use Rattle.radio_settings.specs.declared.section.ValueKind.{ValueKind}
 use Rattle.radio_settings.specs.declared.section.ValueKind.TheVariants.{Text, Number, Flag, MountName, Origin, Table, Tables}
-use Rattle.radio_settings.specs.Access.{access_rows}
-use Rattle.radio_settings.specs.Listen.{listen_rows}
-use Rattle.radio_settings.specs.Limits.{limit_rows}
-use Rattle.radio_settings.specs.Web.{web_rows}
-use Rattle.radio_settings.specs.Mounts.{mount_rows}
-use Rattle.radio_settings.specs.Relays.{relay_rows}
-use Rattle.radio_settings.specs.Slave.{slave_rows}
+use Rattle.radio_settings.specs.Access.{access_keys}
+use Rattle.radio_settings.specs.Listen.{listen_keys}
+use Rattle.radio_settings.specs.Limits.{limit_keys}
+use Rattle.radio_settings.specs.Web.{web_keys}
+use Rattle.radio_settings.specs.Mounts.{mount_keys}
+use Rattle.radio_settings.specs.Relays.{relay_keys}
+use Rattle.radio_settings.specs.Slave.{slave_keys}
 
 -- the name of a table in lines of the log
 abbrev pub section_word : Section → List ℕ
@@ -52,13 +52,13 @@ as_named known = (known.0, content_of known.1)
 
 -- the rows by which a table is read
 abbrev pub rows_of : Section → List Row
-rows_of Top = access_rows
-rows_of Listen = listen_rows
-rows_of Limits = limit_rows
-rows_of Web = web_rows
-rows_of Mount = mount_rows
-rows_of Relay = relay_rows
-rows_of Slave = slave_rows
+rows_of Top = access_keys
+rows_of Listen = listen_keys
+rows_of Limits = limit_keys
+rows_of Web = web_keys
+rows_of Mount = mount_keys
+rows_of Relay = relay_keys
+rows_of Slave = slave_keys
 
 -- the tables of a document are keys of it
 abbrev pub tables_in : Section → List NamedContent

@@ -6,19 +6,19 @@ use Rattle.radio_keys.specs.declared.key.Key.TheVariants.{MasterServer, MasterPo
 use Rattle.radio_keys.specs.Lookup.{number_or}
 use Rattle.radio_keys.specs.Rows.{Row, row, faults_in, first_fault, number, optional}
 use Rattle.radio_settings_values.specs.declared.settings.SlaveSetting.{SlaveSetting}
-use Rattle.radio_settings.specs.Logins.{login_rows, login_of}
-use Rattle.radio_settings.specs.Masters.{master_rows, master_of}
+use Rattle.radio_settings.specs.Logins.{login_keys, login_of}
+use Rattle.radio_settings.specs.Masters.{master_keys, master_of}
 
-abbrev pub slave_rows : List Row
-slave_rows =
-    master_rows MasterServer MasterPort
-    ++ (login_rows MasterUsername MasterPassword
+abbrev pub slave_keys : List Row
+slave_keys =
+    master_keys MasterServer MasterPort
+    ++ (login_keys MasterUsername MasterPassword
     ++ row MasterUpdateInterval (number 1 86400) optional
     ∷ [])
 
 -- the first fault of its keys
 unfoldable pub slave_fault : Members → Option SettingsFault
-slave_fault table = first_fault (faults_in slave_rows table)
+slave_fault table = first_fault (faults_in slave_keys table)
 
 unfoldable pub slave_of : Members → SlaveSetting
 slave_of table = record {

@@ -11,12 +11,12 @@ use Rattle.radio_settings_values.specs.declared.web.WebSettings.{WebSettings}
 use Rattle.radio_settings.specs.declared.web.AnswerSettings.{AnswerSettings}
 
 -- what the web site has
-abbrev pub site_rows : List Row
-site_rows = row AllowOrigin origin optional ∷ row IcecastStatus flag optional ∷ row Page flag optional ∷ row PublicUrl text optional ∷ []
+abbrev pub site_keys : List Row
+site_keys = row AllowOrigin origin optional ∷ row IcecastStatus flag optional ∷ row Page flag optional ∷ row PublicUrl text optional ∷ []
 
 -- how requests and answers are dealt with
-abbrev pub answer_rows : List Row
-answer_rows =
+abbrev pub answer_keys : List Row
+answer_keys =
     row CacheControl flag optional
     ∷ row BrowserCommands flag optional
     ∷ row LogPolls flag optional
@@ -24,12 +24,12 @@ answer_rows =
     ∷ []
 
 -- rule: Web table
-abbrev pub web_rows : List Row
-web_rows = site_rows ++ answer_rows
+abbrev pub web_keys : List Row
+web_keys = site_keys ++ answer_keys
 
 -- the first fault of its keys
 unfoldable pub web_fault : Members → Option SettingsFault
-web_fault table = first_fault (faults_in web_rows table)
+web_fault table = first_fault (faults_in web_keys table)
 
 unfoldable pub web_of : Members → WebSettings
 web_of table = record {
@@ -40,7 +40,7 @@ web_of table = record {
 }
 
 unfoldable pub answers_fault : Members → Option SettingsFault
-answers_fault table = first_fault (faults_in answer_rows table)
+answers_fault table = first_fault (faults_in answer_keys table)
 
 -- what the table says of answers
 -- rule: Web table; Polls

@@ -9,13 +9,13 @@ ghost use Rattle.radio_keys.specs.declared.key.Key.TheVariants.{SourcePassword, 
 ghost use Rattle.radio_settings_values.specs.declared.settings.Settings.{Settings};
 ghost use Rattle.radio_settings.specs.Document.{reading_of};
 ghost use Rattle.radio_settings_values.specs.Repeats.{first_repeat};
-ghost use Rattle.radio_settings.specs.Laws.{AreApart, AreSettingsOf, IsFaultOf, IsFirstRepeat};
+ghost use Rattle.radio_settings.specs.Laws.{AreApart, AreSettingsOf, IsFaultOfText, IsFirstRepeat};
 
 /// A text has a fault exactly if it is not TOML, or if some row of its document has that fault and every row
 /// before it is well. It has settings exactly if it is TOML and every row is well.
 // rule: Reading settings
 pub fn first_faults()
-    ensures fault { (text : List ℕ) (fault : SettingsFault) → (reading_of text ≡ Err fault) ↔ IsFaultOf text fault }
+    ensures fault { (text : List ℕ) (fault : SettingsFault) → (reading_of text ≡ Err fault) ↔ IsFaultOfText text fault }
     ensures settings { (text : List ℕ) (settings : Settings) → (reading_of text ≡ Ok settings) ↔ AreSettingsOf text settings }
 {}
 

@@ -6,7 +6,7 @@ ghost use Rattle.toml.specs.View.{table_view};
 ghost use Rattle.radio_keys.specs.Rows.{faults_in, first_fault};
 ghost use Rattle.radio_keys.specs.Reading.{Reads, ReadsAs};
 ghost use Rattle.radio_settings.specs.Parts.{mounts_fault};
-ghost use Rattle.radio_settings.specs.Mounts.{about_fault, about_of, listeners_fault, listeners_of, mount_fault, mount_of, mount_rows, mounts_of};
+ghost use Rattle.radio_settings.specs.Mounts.{about_fault, about_of, listeners_fault, listeners_of, mount_fault, mount_of, mount_keys, mounts_of};
 ghost use Rattle.radio_settings.specs.Mounts.{options_fault, options_of, source_fault, source_of, stream_fault, stream_of, users_fault, users_of};
 
 use crate::{Key, OutOfMemory, SettingsFault};
@@ -42,7 +42,7 @@ fn mounts_in(
     limits: &LimitSettings,
 ) -> Result<Vec<MountSetting>, SettingsFault>
     ensures { let ts = map (λ t. table_view t.now) tables.now in
-        ReadsAs (λ v. v.items) (first_fault (flat_map (faults_in mount_rows) ts)) (map (mount_of access.now limits.now) ts) result }
+        ReadsAs (λ v. v.items) (first_fault (flat_map (faults_in mount_keys) ts)) (map (mount_of access.now limits.now) ts) result }
 {
     let mut mounts = Vec::new(alloc);
     for table in tables {

@@ -6,7 +6,7 @@ ghost use Rattle.radio_keys.specs.Rows.{faults_in, first_fault};
 ghost use Rattle.radio_keys.specs.Reading.{Reads, ReadsAs};
 ghost use Rattle.radio_settings.specs.Parts.{relays_fault};
 ghost use Rattle.radio_settings.specs.Relays.{local_mount_of, login_from, pulled_mount_of, relay_mounts_fault, pair_fault};
-ghost use Rattle.radio_settings.specs.Relays.{pair_of, relay_fault, relay_rows, relay_of, relays_of};
+ghost use Rattle.radio_settings.specs.Relays.{pair_of, relay_fault, relay_keys, relay_of, relays_of};
 
 use crate::masters::master;
 use crate::{Key, SettingsFault};
@@ -28,7 +28,7 @@ pub fn relays(alloc: Global, document: &Table) -> Result<Vec<RelaySetting>, Sett
 
 fn relays_in(alloc: Global, tables: &[&Table]) -> Result<Vec<RelaySetting>, SettingsFault>
     ensures { let ts = map (λ t. table_view t.now) tables.now in
-        ReadsAs (λ v. v.items) (first_fault (flat_map (faults_in relay_rows) ts)) (map relay_of ts) result }
+        ReadsAs (λ v. v.items) (first_fault (flat_map (faults_in relay_keys) ts)) (map relay_of ts) result }
 {
     let mut relays = Vec::new(alloc);
     for table in tables {
