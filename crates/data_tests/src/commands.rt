@@ -93,7 +93,7 @@ const ROWS: &[(&[u8], &[u8], &str)] = &[
     (b"/admin/", b"mount=/a", "no command"),
 ];
 
-/// A query of `/admin/metadata`, and the title that it sets at `/a`; `None` where an argument is missing.
+/// A query of `/admin/metadata`, and the title that it sets at `/a`; `None` if an argument is missing.
 const TITLES: &[(&[u8], Option<&[u8]>)] = &[
     (b"mode=updinfo&mount=/a&song=x", Some(b"x")),
     (

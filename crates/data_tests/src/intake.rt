@@ -83,7 +83,7 @@ fn put_many<R: Wait>(rt: &R, intake: &Intake<u64>, mut pass: IntakePass<u64>) ->
     pass
 }
 
-// Takes as many lines, and tries again where there is none; their sum.
+// Takes as many lines, and tries again if there is none; their sum.
 fn take_many<R: Wait>(
     rt: &R,
     intake: &Intake<u64>,

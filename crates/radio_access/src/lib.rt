@@ -17,5 +17,5 @@ pub use content_type::{is_refused_type, refused_types_are_named};
 pub use lists::{Lists, MountUsers};
 pub use source_pair::is_source_pair;
 
-/// What a call answers where memory was refused. Nothing has changed then.
+/// What a call answers if memory was refused. Nothing has changed then.
 pub type OutOfMemory = std::alloc::AllocError;

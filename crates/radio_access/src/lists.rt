@@ -141,7 +141,7 @@ impl Lists {
         self.allowed = Some(list);
     }
 
-    /// Closes a mount to all but these users; where there are none, nobody is let in. `OutOfMemory` where memory was
+    /// Closes a mount to all but these users; if there are none, nobody is let in. `OutOfMemory` if memory was
     /// refused; nothing has changed then.
     pub fn set_users(&mut self, mount: MountName, users: Users) -> Result<(), OutOfMemory>
         ensures ok { OnOk result (self.new ≡ with_users self.old mount users) }
@@ -168,7 +168,7 @@ impl Lists {
     }
 
     /// Lets the user in with this password, and no more as it was before; where the mount has no users, nothing changes.
-    /// `OutOfMemory` where memory was refused; nothing has changed then.
+    /// `OutOfMemory` if memory was refused; nothing has changed then.
     // rule: Change of users
     pub fn set_user(
         &mut self,

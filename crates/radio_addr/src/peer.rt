@@ -74,7 +74,7 @@ impl Peer {
     }
 }
 
-/// The peer of a text, or `None` exactly where the text is no address (RFC 4291, section 2.2).
+/// The peer of a text, or `None` exactly if the text is no address (RFC 4291, section 2.2).
 ///
 /// An IPv4 address is four decimal numbers to 255 with no needless zeros in front. An IPv6 address is eight groups of
 /// one to four hexadecimal digits; one `::` may replace one zero group or more, and the last two groups may be written

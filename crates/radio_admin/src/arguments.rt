@@ -17,7 +17,7 @@ const UPDATE: &str = "updinfo";
 /// What comes between an artist and a title.
 const BETWEEN: &str = " - ";
 
-/// The mount that an argument names; `None` where it is absent, or is no name of a mount.
+/// The mount that an argument names; `None` if it is absent, or is no name of a mount.
 pub fn mount_in(alloc: Global, name: &str, query: &[u8]) -> Result<Option<MountName>, OutOfMemory>
     ensures { IfOk result (λ found. found ≡ mount_in name.now query.now) }
 {
@@ -27,7 +27,7 @@ pub fn mount_in(alloc: Global, name: &str, query: &[u8]) -> Result<Option<MountN
     }
 }
 
-/// The number that an argument writes; `None` where it is absent, or is no whole number of 64 bits in digits alone.
+/// The number that an argument writes; `None` if it is absent, or is no whole number of 64 bits in digits alone.
 pub fn number_in(alloc: Global, name: &str, query: &[u8]) -> Result<Option<u64>, OutOfMemory>
     ensures { IfOk result (λ found. found ≡ number_in name.now query.now) }
 {
@@ -37,7 +37,7 @@ pub fn number_in(alloc: Global, name: &str, query: &[u8]) -> Result<Option<u64>,
     }
 }
 
-/// The fallback that an argument names, `Some(None)` where it is empty; `None` where it is absent, or is neither empty
+/// The fallback that an argument names, `Some(None)` if it is empty; `None` if it is absent, or is neither empty
 /// nor the name of a mount.
 pub fn fallback_in(
     alloc: Global,

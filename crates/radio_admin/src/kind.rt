@@ -69,7 +69,7 @@ impl CommandKind {
         }
     }
 
-    /// The command that a path names; `None` where it names none. Paths are compared byte by byte.
+    /// The command that a path names; `None` if it names none. Paths are compared byte by byte.
     #[tactic(auto, unfolding(crate::specs::Kinds::kind_of))]
     pub fn at(path: &[u8]) -> Option<CommandKind>
         ensures { result ≡ kind_of path.now }

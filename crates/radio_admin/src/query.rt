@@ -11,7 +11,7 @@ use form_urlencoded::{decode, raw_pairs};
 use std::alloc::Global;
 use std::borrow::CowStr;
 
-/// The first argument of a name, decoded; `None` where there is none of that name.
+/// The first argument of a name, decoded; `None` if there is none of that name.
 #[tactic(auto, unfolding(crate::specs::Arguments::argument))]
 pub fn argument(alloc: Global, name: &str, query: &[u8]) -> Result<Option<String>, OutOfMemory>
     ensures { IfOk result (λ found. option_map (λ text. string_bytes text) found ≡ argument name.now query.now) }

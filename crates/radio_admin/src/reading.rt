@@ -31,7 +31,7 @@ pub fn read_path(alloc: Global, path: &[u8]) -> Result<Vec<u8>, OutOfMemory>
 /// The first argument of a name counts. Names and values are form decoded (WHATWG URL Standard, section 5.1): `+` is a
 /// space, escapes are decoded, and what is not UTF-8 becomes U+FFFD. An argument that is not of its form counts as absent.
 ///
-/// `NoCommand` comes exactly where the path names no command, and `MissingArgument` exactly where an argument of its
+/// `NoCommand` comes exactly if the path names no command, and `MissingArgument` exactly if an argument of its
 /// command is missing.
 // rule: No command; Missing argument; Metadata
 #[tactic(auto, unfolding(crate::specs::Commands::command_in))]
@@ -63,7 +63,7 @@ fn command_at(
     }
 }
 
-/// The command of a kind, with its arguments, of which `mount` has been read; `None` where one is missing.
+/// The command of a kind, with its arguments, of which `mount` has been read; `None` if one is missing.
 fn command_of(
     alloc: Global,
     kind: CommandKind,

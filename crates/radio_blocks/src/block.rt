@@ -31,7 +31,7 @@ impl Model for Block {
 }
 
 impl Block {
-    /// The block of these bytes; `None` where they are none, or more than 4096. They are kept as they are: a slice keeps
+    /// The block of these bytes; `None` if they are none, or more than 4096. They are kept as they are: a slice keeps
     /// all the memory that it was cut from, and whoever has one of a larger piece calls [`Block::copied`].
     // rule: Cut into blocks
     pub fn new(bytes: Bytes) -> Option<Block>
@@ -47,8 +47,8 @@ impl Block {
         }
     }
 
-    /// The block of these bytes. They are copied only where they fill less than half of their memory, so a block keeps
-    /// at most twice its bytes. `Err` where memory was refused.
+    /// The block of these bytes. They are copied only if they fill less than half of their memory, so a block keeps
+    /// at most twice its bytes. `Err` if memory was refused.
     pub fn of_vec(alloc: Global, bytes: Vec<u8>) -> Result<Block, OutOfMemory>
         requires { IsBlock bytes.items }
         ensures { IfOk result (λ block. block ≡ bytes.items) }
@@ -59,7 +59,7 @@ impl Block {
         })
     }
 
-    /// The block of these bytes, which are copied. `Err` where memory was refused.
+    /// The block of these bytes, which are copied. `Err` if memory was refused.
     pub fn copied(alloc: Global, bytes: &[u8]) -> Result<Block, OutOfMemory>
         requires { IsBlock bytes.now }
         ensures { IfOk result (λ block. block ≡ bytes.now) }
@@ -101,7 +101,7 @@ impl Block {
     }
 
     /// Another handle on the same bytes, which need not be copied for it.
-    /// `OutOfMemory` where memory was refused.
+    /// `OutOfMemory` if memory was refused.
     pub fn share(&self) -> Result<Block, OutOfMemory>
         ensures { IfOk result (λ block. block ≡ self.now) }
     {

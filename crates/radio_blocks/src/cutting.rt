@@ -9,7 +9,7 @@ use std::alloc::Global;
 /// The first of the blocks that data make, and the data behind it.
 ///
 /// So a loop that takes the first block of what is left, until nothing is left, takes the blocks of the data in order.
-/// `Err` where memory was refused.
+/// `Err` if memory was refused.
 pub fn first_block(alloc: Global, bytes: &[u8]) -> Result<(Block, &[u8]), OutOfMemory>
     requires { 0 < length bytes.now }
     ensures blocks { IfOk result (λ parts. blocks_of bytes.now ≡ parts.0 ∷ blocks_of parts.1.now) }

@@ -46,7 +46,7 @@ impl Gathering {
         }
     }
 
-    /// Adds data. `Err` where memory was refused; a part may have been added then, so the gathering is of no use.
+    /// Adds data. `Err` if memory was refused; a part may have been added then, so the gathering is of no use.
     pub fn add(&mut self, bytes: &[u8]) -> Result<(), OutOfMemory>
         ensures { OnOk result (self.new ≡ self.old ++ bytes.now) }
     {
@@ -85,7 +85,7 @@ impl Gathering {
         Ok(())
     }
 
-    /// The data in blocks: all of 4096 bytes but the last. `Err` where memory was refused.
+    /// The data in blocks: all of 4096 bytes but the last. `Err` if memory was refused.
     pub fn into_blocks(self) -> Result<Vec<Block>, OutOfMemory>
         ensures { IfOk result (λ blocks. blocks.items ≡ blocks_of self) }
     {

@@ -26,5 +26,5 @@ pub use pieces::Pieces;
 pub use place::Place;
 pub use queue::{BlockQueue, DrawFault};
 
-/// What a call answers where memory was refused. Nothing has changed then, unless it is said.
+/// What a call answers if memory was refused. Nothing has changed then, unless it is said.
 pub type OutOfMemory = std::alloc::AllocError;

@@ -55,7 +55,7 @@ impl Pieces {
     }
 
     /// Appends at most `room` bytes of the chunks, from the chunk at `index` on, but for the `skip` bytes at the front.
-    /// They are not copied. `OutOfMemory` where memory was refused; the pieces are unchanged then.
+    /// They are not copied. `OutOfMemory` if memory was refused; the pieces are unchanged then.
     pub(crate) fn append_from(
         &mut self,
         chunks: &VecDeque<Chunk>,
@@ -80,7 +80,7 @@ impl Pieces {
         Ok(())
     }
 
-    /// Equal pieces: the slices are shared with these. `OutOfMemory` where memory was refused.
+    /// Equal pieces: the slices are shared with these. `OutOfMemory` if memory was refused.
     pub fn again(&self) -> Result<Pieces, OutOfMemory>
         ensures { IfOk result (λ pieces. pieces ≡ self.now) }
     {
@@ -104,7 +104,7 @@ impl Pieces {
         }
     }
 
-    /// Writes the bytes behind those of a buffer. `OutOfMemory` where memory was refused; the buffer is unchanged then.
+    /// Writes the bytes behind those of a buffer. `OutOfMemory` if memory was refused; the buffer is unchanged then.
     pub fn write_to(&self, out: &mut Vec<u8>) -> Result<(), OutOfMemory>
         ensures ok { OnOk result (out.new.items ≡ out.old.items ++ self.now) }
         ensures err { OnErr result (out.new.items ≡ out.old.items) }
@@ -134,7 +134,7 @@ fn is_last_block(chunks: &VecDeque<Chunk>, index: usize) -> bool
     index < chunks.len() && chunks.len() - index == 1 && chunks[index].is_block()
 }
 
-/// As much of the last chunk, which is a single block. `OutOfMemory` where memory was refused.
+/// As much of the last chunk, which is a single block. `OutOfMemory` if memory was refused.
 // rule: Draws
 fn last_part(
     chunks: &VecDeque<Chunk>,
@@ -148,7 +148,7 @@ fn last_part(
     chunks[index].part(skip, room)
 }
 
-/// A slice, and behind it as much of the chunks. `OutOfMemory` where memory was refused.
+/// A slice, and behind it as much of the chunks. `OutOfMemory` if memory was refused.
 fn one_and_parts(
     alloc: Global,
     first: &Bytes,
@@ -166,7 +166,7 @@ fn one_and_parts(
 }
 
 /// Puts at most `room` bytes of the chunks behind the slices, from the chunk at `index` on, but for the `skip` bytes at
-/// the front: a slice of each block that has some of them. `OutOfMemory` where memory was refused; the slices are
+/// the front: a slice of each block that has some of them. `OutOfMemory` if memory was refused; the slices are
 /// unchanged then.
 fn push_all_parts(
     slices: &mut Vec<Bytes>,

@@ -36,5 +36,5 @@ pub use shared::{Limits, NewsCounts, Shared};
 pub use worker_desk::{NotedMoment, WorkerDesk};
 pub use worker_state::{Step, WorkerState};
 
-/// What a call answers where memory was refused.
+/// What a call answers if memory was refused.
 pub type OutOfMemory = std::alloc::AllocError;

@@ -21,5 +21,5 @@ mod users;
 pub use change::Change;
 pub use timed_state::TimedState;
 
-/// What a call answers where memory was refused. Nothing has changed then, unless it is said.
+/// What a call answers if memory was refused. Nothing has changed then, unless it is said.
 pub type OutOfMemory = std::alloc::AllocError;

@@ -18,7 +18,7 @@ use radio_values::MountName;
 
 impl ServerState {
     /// The command is done, and the client who gave it has had its answer; how many it has moved or finished.
-    /// `OutOfMemory` where memory was refused; nothing has changed then.
+    /// `OutOfMemory` if memory was refused; nothing has changed then.
     pub(crate) fn obey(&mut self, id: u64, command: Command) -> Result<Carried, OutOfMemory>
         ensures ok { OnOk result (self.new ≡ changed self.old (Change.Obey id command)) }
         ensures counts { IfOk result (λ counts. counts ≡ counted self.old (Change.Obey id command)) }
@@ -47,7 +47,7 @@ impl ServerState {
     }
 
     /// A user of the mount is set, and the client who gave the command has had its answer; how many are
-    /// finished. `OutOfMemory` where memory was refused; nothing has changed then.
+    /// finished. `OutOfMemory` if memory was refused; nothing has changed then.
     fn obey_user(
         &mut self,
         id: u64,

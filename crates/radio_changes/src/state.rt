@@ -81,7 +81,7 @@ impl ServerState {
         House::of(&self.registry, self.listeners.parts())
     }
 
-    /// The mount where the listener of this number sits, or sat last; none where there is no such
+    /// The mount where the listener of this number sits, or sat last; none if there is no such
     /// listener.
     pub(crate) fn last_mount(&self, id: u64) -> Option<&MountName>
         ensures { option_copied result ≡ last_mount_of self.now.seats id }

@@ -140,7 +140,7 @@ impl TimedState {
     }
 
     /// Makes a change, and notes when what it brings is due; answers how many listeners it has moved
-    /// and finished. `OutOfMemory` where memory was refused; nothing has changed then.
+    /// and finished. `OutOfMemory` if memory was refused; nothing has changed then.
     fn commit_noting_due(&mut self, change: Change) -> Result<Carried, OutOfMemory>
         ensures ok { OnOk result (self.new ≡ kept_changed self.old change) }
         ensures counts { IfOk result (λ counts. counts ≡ counted self.old change) }

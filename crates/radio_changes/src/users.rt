@@ -11,7 +11,7 @@ use radio_values::MountName;
 
 impl ServerState {
     /// The users of the mount let this one in with this password from now on, and those lose their
-    /// seats there whom they do not let in; how many they are. `OutOfMemory` where memory was
+    /// seats there whom they do not let in; how many they are. `OutOfMemory` if memory was
     /// refused; nothing has changed then.
     pub(crate) fn add_user(
         &mut self,

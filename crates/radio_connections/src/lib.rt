@@ -31,5 +31,5 @@ pub use serving::drawing::{DRAW_ROOM, fills_room};
 pub use serving::moment::serve;
 pub use workspace::Workspace;
 
-/// What a call answers where memory was refused.
+/// What a call answers if memory was refused.
 pub type OutOfMemory = std::alloc::AllocError;

@@ -37,7 +37,7 @@ impl Refusals {
         }
     }
 
-    /// Applies an event. `OutOfMemory` where the server was refused memory: then this is counted, and
+    /// Applies an event. `OutOfMemory` if the server was refused memory: then this is counted, and
     /// nothing else has changed.
     pub(crate) fn apply<S: Server>(
         &mut self,

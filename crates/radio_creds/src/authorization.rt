@@ -22,10 +22,10 @@ const SCHEME: &[u8] = b"Basic";
 /// every other value: another scheme, no space after it, anything else around the base64, no padding, bits that are
 /// left over, or no colon.
 ///
-/// `Err` where there is no memory for the decoded bytes.
+/// `Err` if there is no memory for the decoded bytes.
 // rule: Authorization
 pub fn basic(alloc: Global, value: &[u8]) -> Result<Option<Pair>, OutOfMemory>
-    // A pair is found exactly where the value is one by the standard, and it is that pair.
+    // A pair is found exactly if the value is one by the standard, and it is that pair.
     ensures exact { IfOk result (λ found.
         (pair : Credentials) → (found ≡ Some pair) ↔ IsBasicPair value.now pair) }
     // The same as a function of the value.

@@ -9,7 +9,7 @@ ghost use Rattle.radio_creds.specs.UserList.{IsFirstOf, has_line_of, has_user, u
 
 use radio_texts::laws::cuts;
 
-/// A line has a user and a digest exactly where it is `user:digest` by the format.
+/// A line has a user and a digest exactly if it is `user:digest` by the format.
 // rule: User list
 pub fn lines_of_users()
     ensures { (line user digest : List ℕ)

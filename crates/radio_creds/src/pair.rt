@@ -35,7 +35,7 @@ impl Model for Pair {
 }
 
 impl Pair {
-    /// The pair of a text `user:password`, which is cut at its first colon. `None` where it has no colon.
+    /// The pair of a text `user:password`, which is cut at its first colon. `None` if it has no colon.
     pub(crate) fn of_text(text: Vec<u8>) -> Option<Pair>
         ensures { result ≡ credentials_of text.items }
     {
@@ -44,7 +44,7 @@ impl Pair {
         Some(Pair { text, colon })
     }
 
-    /// Another pair of the same user and the same password. `Err` where there is no memory for it.
+    /// Another pair of the same user and the same password. `Err` if there is no memory for it.
     pub fn copy(&self) -> Result<Pair, OutOfMemory>
         ensures { IfOk result (λ copy. copy ≡ self.now) }
     {

@@ -51,7 +51,7 @@ impl Users {
     /// user is what is before the first colon, and may be empty. Empty lines, lines that begin with `#` and lines of
     /// another form are ignored. If a user has several lines, the first one counts.
     ///
-    /// `Err` where there is no memory for the list.
+    /// `Err` if there is no memory for the list.
     // rule: User list
     pub fn read(alloc: Global, bytes: &[u8]) -> Result<Users, OutOfMemory>
         ensures { IfOk result (λ users. users ≡ users_of bytes.now) }
@@ -92,7 +92,7 @@ impl Users {
         self.digest_of(user).is_some()
     }
 
-    /// Lists the user with this password, whatever was listed of it before. `OutOfMemory` where memory was refused;
+    /// Lists the user with this password, whatever was listed of it before. `OutOfMemory` if memory was refused;
     /// nothing has changed then.
     // rule: Change of users
     pub fn set(&mut self, alloc: Global, user: &[u8], password: &[u8]) -> Result<(), OutOfMemory>

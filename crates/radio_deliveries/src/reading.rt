@@ -23,7 +23,7 @@ pub enum LineRead {
     TooLong,
 }
 
-/// Reads a line into `line`, without its line feed. It is refused with `Read` where the reader
+/// Reads a line into `line`, without its line feed. It is refused with `Read` if the reader
 /// failed, and with `OutOfMemory`, and for nothing else.
 pub fn read_line<R: CountedRead>(reader: &mut R, line: &mut Vec<u8>) -> Result<LineRead, PlayFault>
     ensures reads { ReadsLine (R.remaining reader.old) (R.remaining reader.new)

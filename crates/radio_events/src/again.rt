@@ -13,7 +13,7 @@ use radio_creds::Pair;
 use radio_values::{MountName, Shown, Title};
 
 impl Event {
-    /// An equal event. `OutOfMemory` where memory was refused.
+    /// An equal event. `OutOfMemory` if memory was refused.
     pub fn again(&self) -> Result<Event, OutOfMemory>
         ensures value { IfOk result (λ event. event ≡ self.now) }
         // of the end of a session, a connection and a relay, and of the clock, it is never refused
@@ -39,7 +39,7 @@ impl Event {
     }
 }
 
-/// An equal block of this source. `OutOfMemory` where memory was refused.
+/// An equal block of this source. `OutOfMemory` if memory was refused.
 fn push_again(id: u64, block: &Block) -> Result<Event, OutOfMemory>
     ensures { IfOk result (λ event. event ≡ Event.Push id block.now) }
 {
@@ -49,7 +49,7 @@ fn push_again(id: u64, block: &Block) -> Result<Event, OutOfMemory>
     })
 }
 
-/// An equal title of this source. `OutOfMemory` where memory was refused.
+/// An equal title of this source. `OutOfMemory` if memory was refused.
 fn title_again(id: u64, text: &Title) -> Result<Event, OutOfMemory>
     ensures { IfOk result (λ event. event ≡ Event.Title id text.now) }
 {
@@ -59,7 +59,7 @@ fn title_again(id: u64, text: &Title) -> Result<Event, OutOfMemory>
     })
 }
 
-/// The same relay's coming. `OutOfMemory` where memory was refused.
+/// The same relay's coming. `OutOfMemory` if memory was refused.
 fn relay_again(mount: &Bytes, shown: &Boxed<Shown>) -> Result<Event, OutOfMemory>
     ensures { IfOk result (λ event. event ≡ Event.RelayUp mount.now shown.now) }
 {
@@ -70,7 +70,7 @@ fn relay_again(mount: &Bytes, shown: &Boxed<Shown>) -> Result<Event, OutOfMemory
     })
 }
 
-/// An equal request. `OutOfMemory` where memory was refused.
+/// An equal request. `OutOfMemory` if memory was refused.
 fn source_again(asked: &Boxed<SourceRequest>) -> Result<Boxed<SourceRequest>, OutOfMemory>
     ensures { IfOk result (λ again. again ≡ asked.now) }
 {
@@ -83,7 +83,7 @@ fn source_again(asked: &Boxed<SourceRequest>) -> Result<Boxed<SourceRequest>, Ou
     Boxed::new(asked.allocator(), again)
 }
 
-/// An equal request. `OutOfMemory` where memory was refused.
+/// An equal request. `OutOfMemory` if memory was refused.
 fn listen_again(asked: &Boxed<ListenRequest>) -> Result<Boxed<ListenRequest>, OutOfMemory>
     ensures { IfOk result (λ again. again ≡ asked.now) }
 {
@@ -97,7 +97,7 @@ fn listen_again(asked: &Boxed<ListenRequest>) -> Result<Boxed<ListenRequest>, Ou
     Boxed::new(asked.allocator(), again)
 }
 
-/// An equal visit. `OutOfMemory` where memory was refused.
+/// An equal visit. `OutOfMemory` if memory was refused.
 fn visit_again(visit: &PageVisit) -> Result<PageVisit, OutOfMemory>
     ensures { IfOk result (λ again. again ≡ visit.now) }
 {
@@ -107,14 +107,14 @@ fn visit_again(visit: &PageVisit) -> Result<PageVisit, OutOfMemory>
     })
 }
 
-/// An equal request, in an allocation of its own. `OutOfMemory` where memory was refused.
+/// An equal request, in an allocation of its own. `OutOfMemory` if memory was refused.
 fn boxed_again(asked: &Boxed<CommandRequest>) -> Result<Boxed<CommandRequest>, OutOfMemory>
     ensures { IfOk result (λ again. again ≡ asked.now) }
 {
     Boxed::new(asked.allocator(), request_again(asked)?)
 }
 
-/// An equal request. `OutOfMemory` where memory was refused.
+/// An equal request. `OutOfMemory` if memory was refused.
 fn request_again(asked: &CommandRequest) -> Result<CommandRequest, OutOfMemory>
     ensures { IfOk result (λ again. again ≡ asked.now) }
 {
@@ -125,7 +125,7 @@ fn request_again(asked: &CommandRequest) -> Result<CommandRequest, OutOfMemory>
     })
 }
 
-/// The same again. `OutOfMemory` where memory was refused.
+/// The same again. `OutOfMemory` if memory was refused.
 fn asked_again(asked: &Asked) -> Result<Asked, OutOfMemory>
     ensures { IfOk result (λ again. again ≡ asked.now) }
 {
@@ -137,7 +137,7 @@ fn asked_again(asked: &Asked) -> Result<Asked, OutOfMemory>
     }
 }
 
-/// An equal command. `OutOfMemory` where memory was refused.
+/// An equal command. `OutOfMemory` if memory was refused.
 fn command_again(command: &Command) -> Result<Command, OutOfMemory>
     ensures { IfOk result (λ again. again ≡ command.now) }
 {
@@ -171,7 +171,7 @@ fn command_again(command: &Command) -> Result<Command, OutOfMemory>
     }
 }
 
-/// The same user and password for the mount. `OutOfMemory` where memory was refused.
+/// The same user and password for the mount. `OutOfMemory` if memory was refused.
 fn add_again(mount: MountName, user: &Bytes, password: &Bytes) -> Result<Command, OutOfMemory>
     ensures { IfOk result (λ again. again ≡ Command.AddUser mount user.now password.now) }
 {
@@ -182,7 +182,7 @@ fn add_again(mount: MountName, user: &Bytes, password: &Bytes) -> Result<Command
     })
 }
 
-/// The pair again, if there is one. `OutOfMemory` where memory was refused.
+/// The pair again, if there is one. `OutOfMemory` if memory was refused.
 fn pair_again(pair: &Option<Pair>) -> Result<Option<Pair>, OutOfMemory>
     ensures { IfOk result (λ again. again ≡ pair.now) }
 {

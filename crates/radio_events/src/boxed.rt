@@ -22,7 +22,7 @@ impl<T> Model for Boxed<T> {
 }
 
 impl<T: Drop> Boxed<T> {
-    /// This value, in an allocation. `OutOfMemory` where memory was refused.
+    /// This value, in an allocation. `OutOfMemory` if memory was refused.
     pub fn new(alloc: Global, value: T) -> Result<Boxed<T>, OutOfMemory>
         ensures { IfOk result (λ boxed. boxed ≡ value) }
     {

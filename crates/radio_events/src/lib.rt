@@ -36,5 +36,5 @@ pub use shared_server::SharedServer;
 pub use state::{Ending, State};
 pub use text::ReplyText;
 
-/// What a call answers where memory was refused. Nothing has changed then.
+/// What a call answers if memory was refused. Nothing has changed then.
 pub type OutOfMemory = std::alloc::AllocError;

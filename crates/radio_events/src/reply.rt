@@ -27,7 +27,7 @@ impl Drop for StreamHead {
 impl StreamHead {
     ghost use Rattle.std.specs.Prelude.{◌≡◌, IfOk};
 
-    /// An equal one. `OutOfMemory` where memory was refused.
+    /// An equal one. `OutOfMemory` if memory was refused.
     pub fn again(&self) -> Result<StreamHead, OutOfMemory>
         ensures { IfOk result (λ head. head ≡ self.now) }
     {
@@ -76,7 +76,7 @@ impl Reply {
     ghost use Rattle.std.specs.Prelude.{◌≡◌, IsOk, IfOk};
     ghost use Rattle.radio_events.specs.Replies.{HoldsNoText};
 
-    /// An equal reply. `OutOfMemory` where memory was refused.
+    /// An equal reply. `OutOfMemory` if memory was refused.
     pub fn again(&self) -> Result<Reply, OutOfMemory>
         ensures value { IfOk result (λ reply. reply ≡ self.now) }
         // of a reply with neither data nor names, titles or listings it is never refused

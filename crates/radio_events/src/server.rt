@@ -16,7 +16,7 @@ pub trait Server {
     // in this state the event may be refused for want of memory
     ghost refuses: { Self → EventOf → Type 0 };
 
-    /// Applies an event. `OutOfMemory` where memory was refused; nothing has changed then.
+    /// Applies an event. `OutOfMemory` if memory was refused; nothing has changed then.
     fn apply(&mut self, event: Event) -> Result<Reply, OutOfMemory>
         ensures ok { IfOk result (λ reply. steps self.old event reply self.new) }
         ensures err { OnErr result (self.new ≡ self.old) }

@@ -20,10 +20,10 @@ pub trait SharedServer {
     // in this state of its pass the event may be refused for want of memory
     ghost refuses: { Self.Pass → EventOf → Type 0 };
 
-    /// A pass for one more who asks. `None` where there is none left.
+    /// A pass for one more who asks. `None` if there is none left.
     fn pass<R: Wait>(&self, rt: &R) -> Option<Self::Pass>;
 
-    /// Applies an event for the one who has this pass. `OutOfMemory` where memory was refused; nothing
+    /// Applies an event for the one who has this pass. `OutOfMemory` if memory was refused; nothing
     /// has changed then.
     fn apply<R: Wait>(
         &self,
@@ -39,6 +39,6 @@ pub trait SharedServer {
     fn last_mount<R: Wait>(&self, rt: &R, id: u64) -> Option<MountName>;
 
     /// The mounts where somebody sits, which relays feed on demand, in the order of their bytes.
-    /// `OutOfMemory` where memory was refused.
+    /// `OutOfMemory` if memory was refused.
     fn wanted<R: Wait>(&self, rt: &R) -> Result<Vec<MountName>, OutOfMemory>;
 }

@@ -35,7 +35,7 @@ pub enum ReplyText {
 }
 
 impl ReplyText {
-    /// An equal text. `OutOfMemory` where memory was refused.
+    /// An equal text. `OutOfMemory` if memory was refused.
     pub fn again(&self) -> Result<ReplyText, OutOfMemory>
         ensures value { IfOk result (λ text. text ≡ self.now) }
         // of one that is no listing it is never refused
@@ -58,7 +58,7 @@ impl ReplyText {
     }
 }
 
-/// An equal text for everybody. `OutOfMemory` where memory was refused.
+/// An equal text for everybody. `OutOfMemory` if memory was refused.
 fn public_again(
     bytes: &Bytes,
     allow_origin: &Option<AllowedOrigin>,

@@ -17,7 +17,7 @@ use radio_policy::{ArriveFacts, ListenFacts, PushFacts, RelayFacts, SourceFacts}
 use radio_settings_values::Settings;
 use radio_values::{MountName, Shown};
 
-/// The mount that a path names; `None` where it names none, or is one of the web site's.
+/// The mount that a path names; `None` if it names none, or is one of the web site's.
 // rule: Bad mount
 pub fn mount_named(house: &House<'_>, path: &[u8]) -> Option<MountName>
     ensures { MatchOption result (names_mount house.now.settings path.now ≡ false)

@@ -17,5 +17,5 @@ pub use facts::{arrive_facts, listen_facts, mount_named, push_facts, relay_facts
 pub use streams::{burst_of, head_of, interval_for, shown_for};
 pub use waiting::{silence, wanted};
 
-/// What a call answers where memory was refused.
+/// What a call answers if memory was refused.
 pub type OutOfMemory = std::alloc::AllocError;

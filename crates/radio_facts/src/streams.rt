@@ -10,7 +10,7 @@ use radio_house::House;
 use radio_settings_values::AboutOptions;
 use radio_values::{About, Field, MountName, Shown};
 
-/// What a stream on the mount shows, which itself shows this. `OutOfMemory` where memory was
+/// What a stream on the mount shows, which itself shows this. `OutOfMemory` if memory was
 /// refused.
 // rule: Shown fields
 pub fn shown_for(house: &House<'_>, mount: &MountName, shown: &Shown) -> Result<Shown, OutOfMemory>
@@ -25,7 +25,7 @@ pub fn shown_for(house: &House<'_>, mount: &MountName, shown: &Shown) -> Result<
     })
 }
 
-/// What else it says of itself. `OutOfMemory` where memory was refused.
+/// What else it says of itself. `OutOfMemory` if memory was refused.
 fn about_for(set: &AboutOptions, about: &About) -> Result<About, OutOfMemory>
     ensures { IfOk result (λ both. both ≡ about_for set.now about.now) }
 {
@@ -37,7 +37,7 @@ fn about_for(set: &AboutOptions, about: &About) -> Result<About, OutOfMemory>
     })
 }
 
-/// What the head of a stream says that shows this. `OutOfMemory` where memory was refused.
+/// What the head of a stream says that shows this. `OutOfMemory` if memory was refused.
 pub fn head_of(house: &House<'_>, shown: &Shown) -> Result<StreamHead, OutOfMemory>
     ensures { IfOk result (λ head. head ≡ head_of house.now shown.now) }
 {
@@ -74,7 +74,7 @@ pub fn interval_for(house: &House<'_>, mount: &MountName, wants_metadata: bool) 
     }
 }
 
-/// The field that is set, or else the other. `OutOfMemory` where memory was refused.
+/// The field that is set, or else the other. `OutOfMemory` if memory was refused.
 fn field_or(set: &Option<Field>, other: &Field) -> Result<Field, OutOfMemory>
     ensures { IfOk result (λ field. field ≡ unwrap_or set.now other.now) }
 {

@@ -15,7 +15,7 @@ use radio_values::{MountName, Shown};
 use std::alloc::Global;
 use std::collections::BTreeSet;
 
-/// What is heard at a mount that waits for a session. `OutOfMemory` where memory was refused.
+/// What is heard at a mount that waits for a session. `OutOfMemory` if memory was refused.
 pub fn silence(alloc: Global, house: &House<'_>, mount: MountName) -> Result<Session, OutOfMemory>
     ensures { IfOk result (λ session. session ≡ silence_at house.now mount) }
 {
@@ -28,7 +28,7 @@ pub fn silence(alloc: Global, house: &House<'_>, mount: MountName) -> Result<Ses
 }
 
 /// The mounts where one of these listeners sits, which relays feed on demand, in the order of
-/// their bytes. `OutOfMemory` where memory was refused.
+/// their bytes. `OutOfMemory` if memory was refused.
 pub fn wanted(
     alloc: Global,
     house: &House<'_>,
@@ -40,7 +40,7 @@ pub fn wanted(
     names_of(alloc, &names)
 }
 
-/// The mounts that these relays feed on demand where somebody sits. `OutOfMemory` where memory was
+/// The mounts that these relays feed on demand where somebody sits. `OutOfMemory` if memory was
 /// refused.
 fn wanted_among(
     alloc: Global,
@@ -57,7 +57,7 @@ fn wanted_among(
 }
 
 /// The mount is named too that the relay feeds, if somebody sits there and it is on demand.
-/// `OutOfMemory` where memory was refused.
+/// `OutOfMemory` if memory was refused.
 fn add_wanted(
     names: &mut BTreeSet<MountName>,
     seats: &Listeners,

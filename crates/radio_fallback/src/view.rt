@@ -28,7 +28,7 @@ pub trait View {
     fn allows_duplicates(&self, mount: &MountName) -> bool
         ensures { result ≡ (sight self.now).allows_duplicates mount.now };
 
-    /// The mount to which a walk goes on from this one; `None` where there is no such mount.
+    /// The mount to which a walk goes on from this one; `None` if there is no such mount.
     fn fallback(&self, mount: &MountName) -> Option<MountName>
         ensures { result ≡ (sight self.now).fallback mount.now };
 

@@ -25,7 +25,7 @@ pub struct WalkFinding {
 }
 
 impl WalkFinding {
-    /// The rule that stops a walk that finds this; `None` where it may sit there.
+    /// The rule that stops a walk that finds this; `None` if it may sit there.
     pub fn stop(&self) -> Option<Rule>
         ensures { result ≡ stop_of self.now }
     {

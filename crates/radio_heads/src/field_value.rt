@@ -34,7 +34,7 @@ impl<'a> FieldValue<'a> {
         FieldValue { bytes }
     }
 
-    /// The value of these bytes; `None` where a header may not have them.
+    /// The value of these bytes; `None` if a header may not have them.
     // rule: Answers are read back
     pub fn read(bytes: &'a [u8]) -> Option<FieldValue<'a>>
         ensures may { IsSome result ↔ IsFieldText bytes.now }

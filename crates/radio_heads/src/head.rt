@@ -52,7 +52,7 @@ impl<'b> Head<'b> {
         self.path
     }
 
-    /// What follows the first question mark of the target; `None` where it has no question mark.
+    /// What follows the first question mark of the target; `None` if it has no question mark.
     pub fn query(&self) -> Option<&'b [u8]>
         ensures { option_copied result ≡ self.now.query }
     {
@@ -60,7 +60,7 @@ impl<'b> Head<'b> {
     }
 
     /// The value of the first header of that name, ASCII case disregarded, without the white
-    /// space around it; `None` where there is no such header.
+    /// space around it; `None` if there is no such header.
     // rule: Grammar of heads; Two lengths
     pub fn value(&self, name: &str) -> Option<&'b [u8]>
         ensures { option_copied result ≡ value_of name.now self.now.headers }

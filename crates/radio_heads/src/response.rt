@@ -54,7 +54,7 @@ impl<'b> ResponseHead<'b> {
     }
 
     /// The value of the first header of that name, ASCII case disregarded, without the white
-    /// space around it; `None` where there is no such header.
+    /// space around it; `None` if there is no such header.
     pub fn value(&self, name: &str) -> Option<&'b [u8]>
         ensures { option_copied result ≡ value_of name.now self.now.headers }
     {

@@ -35,7 +35,7 @@ impl Registry {
         self.clients.change(&id, &SetState { state });
     }
 
-    /// A client has come, and has this number. `OutOfMemory` where memory was refused; nothing has
+    /// A client has come, and has this number. `OutOfMemory` if memory was refused; nothing has
     /// changed then.
     pub fn admit(&mut self, id: u64, peer: Peer) -> Result<(), OutOfMemory>
         ensures ok { OnOk result (self.new ≡ record self.old { clients = with_client self.old.clients (newcomer id peer self.old.time); last_id = id }) }
@@ -114,7 +114,7 @@ impl Registry {
     }
 
     /// The users of the mount let this one in with this password from now on, and no more as they did before; where it has
-    /// no users, nothing changes. `OutOfMemory` where memory was refused; nothing has changed then.
+    /// no users, nothing changes. `OutOfMemory` if memory was refused; nothing has changed then.
     // rule: Change of users
     pub fn add_user(
         &mut self,

@@ -118,7 +118,7 @@ impl<'a> House<'a> {
         self.parts.is_spent_by(mount, more)
     }
 
-    /// The name of the mount, shared with its session where it is live. `OutOfMemory` where memory
+    /// The name of the mount, shared with its session where it is live. `OutOfMemory` if memory
     /// was refused.
     pub fn shared_name(&self, alloc: Global, mount: MountName) -> Result<KeptName, OutOfMemory>
         ensures { IfOk result (λ name. name ≡ mount) }

@@ -35,5 +35,5 @@ pub use registry::Registry;
 pub use relays::RelayState;
 pub use standing::Standing;
 
-/// What a call answers where memory was refused. Nothing has changed then, unless it is said.
+/// What a call answers if memory was refused. Nothing has changed then, unless it is said.
 pub type OutOfMemory = std::alloc::AllocError;

@@ -33,7 +33,7 @@ impl Registry {
     }
 
     /// Listeners can be seated from now on at each mount that a relay feeds on demand. `OutOfMemory`
-    /// where memory was refused; then they can be at some of these.
+    /// if memory was refused; then they can be at some of these.
     fn prepare_on_demand(&self, seats: &mut Listeners) -> Result<(), OutOfMemory>
         ensures each { OnOk result ((mount : _) → is_on_demand self.now.settings mount ≡ true → is_prepared seats.new.prepared mount ≡ true) }
         ensures others { (mount : _) → is_prepared seats.old.prepared mount ≡ true → is_prepared seats.new.prepared mount ≡ true }
@@ -44,7 +44,7 @@ impl Registry {
     }
 
     /// Listeners can be seated from now on at the mount, and at each that a relay feeds on demand.
-    /// `OutOfMemory` where memory was refused; then they can be at some of these.
+    /// `OutOfMemory` if memory was refused; then they can be at some of these.
     pub fn prepare_to_seat(
         &self,
         seats: &mut Listeners,
@@ -62,7 +62,7 @@ impl Registry {
     }
 }
 
-/// Listeners can be seated from now on where these relays feed on demand. `OutOfMemory` where memory
+/// Listeners can be seated from now on where these relays feed on demand. `OutOfMemory` if memory
 /// was refused; then they can be at some of these mounts.
 fn prepare_each(relays: &[RelaySetting], seats: &mut Listeners) -> Result<(), OutOfMemory>
     ensures each { OnOk result ((mount : _) → feeds_on_demand relays.now mount ≡ true → is_prepared seats.new.prepared mount ≡ true) }
@@ -77,7 +77,7 @@ fn prepare_each(relays: &[RelaySetting], seats: &mut Listeners) -> Result<(), Ou
 }
 
 /// Listeners can be seated from now on where this relay feeds on demand, if it does. `OutOfMemory`
-/// where memory was refused; nothing has changed then.
+/// if memory was refused; nothing has changed then.
 fn prepare_for(relay: &RelaySetting, seats: &mut Listeners) -> Result<(), OutOfMemory>
     ensures its { OnOk result (relay.now.on_demand ≡ true → is_prepared seats.new.prepared relay.now.local_mount ≡ true) }
     ensures others { (mount : _) → is_prepared seats.old.prepared mount ≡ true → is_prepared seats.new.prepared mount ≡ true }

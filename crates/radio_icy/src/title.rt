@@ -10,7 +10,7 @@ const BEFORE_URL: &[u8] = b"StreamUrl=";
 /// The title in the text of a metadata block, as `X` in `StreamTitle='X';`.
 ///
 /// A title may itself have `';` in it: it ends at the first `';` that the text's end or `StreamUrl=` follows.
-/// `None` where the text does not begin with `StreamTitle='`, or has no such end.
+/// `None` if the text does not begin with `StreamTitle='`, or has no such end.
 // rule: Title of a block
 pub fn title_of(text: &[u8]) -> Option<&[u8]>
     ensures { option_copied result ≡ title_of text.now }

@@ -66,7 +66,7 @@ impl Weaver {
     }
 
     /// Appends the bytes of `sound` to `out`, and the block of each interval that ends in them. `title` is the stream's
-    /// title now, of at most [`MAX_TITLE`] bytes, or `None` where it has none.
+    /// title now, of at most [`MAX_TITLE`] bytes, or `None` if it has none.
     ///
     /// An `Err` means that memory ran out: the weaver and the bytes of `out` are then as they were.
     // rule: Metadata block

@@ -36,7 +36,7 @@ impl<L> Model for Intake<L> {
 }
 
 impl<L> Intake<L> {
-    /// An empty intake, and the pass that has all its parts. `OutOfMemory` where memory was refused.
+    /// An empty intake, and the pass that has all its parts. `OutOfMemory` if memory was refused.
     pub fn new(alloc: Global) -> Result<(Intake<L>, IntakePass<L>), OutOfMemory>
         ensures whole { IfOk result (λ made. made.1 ≡ unused made.0 all_parts) }
     {
@@ -72,7 +72,7 @@ impl<L> Intake<L> {
         ensures ok { OnOk result (pass.new ≡ record pass.old { put = pass.old.put ++ line ∷ [] }) }
         ensures back { IfErr result (λ handed. handed ≡ line) }
         ensures err { OnErr result (pass.new ≡ pass.old) }
-        // who has all parts is handed it back exactly where [`ROOM`] are left
+        // who has all parts is handed it back exactly if [`ROOM`] are left
         ensures room { pass.old.parts ≡ all_parts → MatchResult result (λ _. length pass.old.put < length pass.old.taken + ROOM) (λ _. length pass.old.put ≡ length pass.old.taken + ROOM) }
     {
         self.queue.push_as::<PutsOne, R>(rt, &mut pass.hand, line)

@@ -22,5 +22,5 @@ pub use intake::{Intake, ROOM};
 pub use laws::accepting_rests;
 pub use pass::IntakePass;
 
-/// What a call answers where memory was refused.
+/// What a call answers if memory was refused.
 pub type OutOfMemory = std::alloc::AllocError;

@@ -13,7 +13,7 @@ use crate::{Key, SettingsFault, value_at};
 use std::alloc::Global;
 use toml::{Table, Value};
 
-/// The table of a name; `None` where the document has nothing of that name.
+/// The table of a name; `None` if the document has nothing of that name.
 ///
 /// `WrongKind`: what it has there is no table.
 pub fn table_at(document: &Table, key: Key) -> Result<Option<&Table>, SettingsFault>
@@ -71,7 +71,7 @@ pub fn tables_at<'a>(
     }
 }
 
-/// The tables that some values are; `None` where one of them is no table.
+/// The tables that some values are; `None` if one of them is no table.
 fn tables_of<'a>(
     alloc: Global,
     values: &'a [Value],

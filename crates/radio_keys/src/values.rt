@@ -13,7 +13,7 @@ use radio_values::{AllowedOrigin, Field, MountName, Text, Within};
 use std::alloc::Global;
 use toml::{Table, Value};
 
-/// The value at a key, of whatever kind; `None` where the key is absent.
+/// The value at a key, of whatever kind; `None` if the key is absent.
 pub fn value_at(table: &Table, key: Key) -> Option<&Value>
     ensures { option_map (λ v. view v.now) result ≡ value_at key (table_view table.now) }
 {
@@ -48,7 +48,7 @@ fn read_required_text(table: &Table, key: Key) -> Result<&str, SettingsFault>
     }
 }
 
-/// A copy of the text at a key; `None` where the key is absent.
+/// A copy of the text at a key; `None` if the key is absent.
 ///
 /// `WrongKind`: the value is no text. `OutOfMemory`: there was no memory for the copy.
 pub fn text(alloc: Global, table: &Table, key: Key) -> Result<Option<Text>, SettingsFault>
@@ -85,7 +85,7 @@ pub fn required_text(alloc: Global, table: &Table, key: Key) -> Result<Text, Set
     Ok(Text::new(alloc, text)?)
 }
 
-/// A copy of the text at a key that must be there where the other key is; `None` where both are absent.
+/// A copy of the text at a key that must be there where the other key is; `None` if both are absent.
 ///
 /// `Missing`: the key is absent, and the other is there. `WrongKind`: the value is no text. `OutOfMemory`: there was no
 /// memory for the copy.
@@ -104,7 +104,7 @@ pub fn text_with(
     text(alloc, table, key)
 }
 
-/// The text at a key, cleaned as heads show it; `None` where the key is absent.
+/// The text at a key, cleaned as heads show it; `None` if the key is absent.
 ///
 /// `WrongKind`: the value is no text. `OutOfMemory`: there was no memory for the copy.
 pub fn field(alloc: Global, table: &Table, key: Key) -> Result<Option<Field>, SettingsFault>
@@ -149,7 +149,7 @@ pub fn origin(
     }
 }
 
-/// The number at a key; `None` where the key is absent.
+/// The number at a key; `None` if the key is absent.
 ///
 /// `WrongKind`: the value is no integer. `OutOfRange`: the integer does not lie from `LOW` to `HIGH`.
 pub fn number<const LOW: u32, const HIGH: u32>(
@@ -190,7 +190,7 @@ pub fn number_or<const LOW: u32, const HIGH: u32>(
     }
 }
 
-/// The integer as a number of the range; `None` where it lies outside.
+/// The integer as a number of the range; `None` if it lies outside.
 fn within<const LOW: u32, const HIGH: u32>(integer: i64) -> Option<Within<LOW, HIGH>>
     ensures { result ≡ (if is_between LOW HIGH (natural integer) then natural integer else None) }
 {
@@ -222,7 +222,7 @@ pub fn flag_or(table: &Table, key: Key, default: bool) -> Result<bool, SettingsF
     }
 }
 
-/// The name of a mount at a key; `None` where the key is absent.
+/// The name of a mount at a key; `None` if the key is absent.
 ///
 /// `WrongKind`: the value is no text. `BadName`: the text is not the name of a mount.
 pub fn name(table: &Table, key: Key) -> Result<Option<MountName>, SettingsFault>

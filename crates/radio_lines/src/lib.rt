@@ -36,5 +36,5 @@ pub use reach::{Network, SystemNet};
 pub use sockets::{Polled, Sockets};
 pub use stream::Shut;
 
-/// What a call answers where memory was refused.
+/// What a call answers if memory was refused.
 pub type OutOfMemory = std::alloc::AllocError;

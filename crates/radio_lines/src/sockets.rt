@@ -89,7 +89,7 @@ impl Sockets {
     /// Returns those of a thread that has none yet, and its waker, which ends a wait of [`hear`](Sockets::hear) from
     /// another thread; the system's fault if it reports nothing of sockets.
     ///
-    /// `OutOfMemory` where memory was refused.
+    /// `OutOfMemory` if memory was refused.
     pub fn new<N: Network>(
         net: &N,
         alloc: Global,

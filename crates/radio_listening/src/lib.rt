@@ -17,5 +17,5 @@ pub use radio_lines::{Network, SystemNet};
 pub use radio_serving::WebAnswers;
 pub use radio_sockets::{BindFault, ServeFault};
 
-/// What a call answers where memory was refused.
+/// What a call answers if memory was refused.
 pub type OutOfMemory = std::alloc::AllocError;

@@ -88,7 +88,7 @@ impl Listening {
     }
 
     /// Accepts connections, and serves them by this server, until a fault. A worker that can't be started is left out;
-    /// `OutOfMemory` where none can be, or where memory was refused before one began.
+    /// `OutOfMemory` if none can be, or if memory was refused before one began.
     ///
     /// Of the settings, which are those of the server, its relays and its slave are read: each relay is pulled over `net`
     /// in a thread of its own.
@@ -208,7 +208,7 @@ pub(crate) struct ServedStation<'a, R, N: Network, S> {
     pub(crate) shared: &'a Shared,
 }
 
-/// Serves connections through an intake, until all stop. `OutOfMemory` where memory was refused for it, or for the
+/// Serves connections through an intake, until all stop. `OutOfMemory` if memory was refused for it, or for the
 /// workers' slots.
 fn serve_all<R, N, S>(
     station: &ServedStation<'_, R, N, S>,
@@ -232,7 +232,7 @@ where
     }
 }
 
-/// Serves connections through this intake, whose pass the acceptor and the workers share. `OutOfMemory` where memory was
+/// Serves connections through this intake, whose pass the acceptor and the workers share. `OutOfMemory` if memory was
 /// refused for the workers' slots.
 fn serve_through<R, N, S>(
     station: &ServedStation<'_, R, N, S>,

@@ -29,7 +29,7 @@ impl Object {
         }
     }
 
-    /// Puts a member into its place, as the next ones do. `OutOfMemory` where memory was refused;
+    /// Puts a member into its place, as the next ones do. `OutOfMemory` if memory was refused;
     /// nothing has changed then.
     pub(crate) fn put(&mut self, name: &str, value: Value) -> Result<(), OutOfMemory>
         ensures { OnOk result (members_in self.new ≡ with_member name.now (view value) (members_in self.old)) }
@@ -59,7 +59,7 @@ impl Object {
         self.put_text(name, shown)
     }
 
-    /// A text, the empty one where there is none.
+    /// A text, the empty one if there is none.
     pub(crate) fn put_text_or_empty(
         &mut self,
         name: &str,
@@ -107,7 +107,7 @@ impl Object {
     }
 }
 
-/// An object with this member alone. `OutOfMemory` where memory was refused.
+/// An object with this member alone. `OutOfMemory` if memory was refused.
 pub(crate) fn one_member(alloc: Global, name: &str, value: Value) -> Result<Value, OutOfMemory>
     ensures { IfOk result (λ made. view made ≡ object (member name.now (view value) no_members)) }
 {

@@ -14,7 +14,7 @@ pub struct PublicRow<'a> {
     pub genre: ListedText<'a>,
     /// The stream's media type.
     pub content_type: ListedText<'a>,
-    /// The title that plays, empty where there is none.
+    /// The title that plays, empty if there is none.
     pub title: ListedText<'a>,
     /// How many listen at the mount.
     pub listeners: u64,
@@ -44,7 +44,7 @@ pub struct MountRow<'a> {
     pub hidden: bool,
     /// The number of the session that feeds it.
     pub session: u64,
-    /// The mount that its listeners fall back to; `None` where there is none.
+    /// The mount that its listeners fall back to; `None` if there is none.
     pub fallback: Option<ListedText<'a>>,
 }
 
@@ -59,7 +59,7 @@ pub struct ListedListener<'a> {
     pub peer: Peer,
     /// How many whole seconds it has sat.
     pub seconds: u64,
-    /// The user of the pair that it sent; `None` where it sent none.
+    /// The user of the pair that it sent; `None` if it sent none.
     pub user: Option<ListedText<'a>>,
 }
 

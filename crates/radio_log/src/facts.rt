@@ -189,7 +189,7 @@ pub struct KeyPlace<'a> {
     pub table: QuotedText<'a>,
     /// The line of the file, counted from 1; 0 where none is known.
     pub line: u64,
-    /// The key of that table which may have been meant, empty where there is none.
+    /// The key of that table which may have been meant, empty if there is none.
     pub did_you_mean: QuotedText<'a>,
     /// The table that has a key of that name, empty where none has.
     pub belongs_to: QuotedText<'a>,
@@ -233,7 +233,7 @@ pub struct FaultNote<'a> {
 pub struct FaultyKey<'a> {
     /// The table, or `top`.
     pub table: QuotedText<'a>,
-    /// The mount of the table, or the one that its relay feeds; empty where there is none.
+    /// The mount of the table, or the one that its relay feeds; empty if there is none.
     pub mount: QuotedText<'a>,
     /// What is there, nothing of a password.
     pub value: QuotedText<'a>,

@@ -24,7 +24,7 @@ pub struct Note<'a> {
 
 /// Returns the line of the log for a note, with its LF.
 ///
-/// The only error is `OutOfMemory`, where memory was refused; nothing was written then.
+/// The only error is `OutOfMemory`, if memory was refused; nothing was written then.
 // rule: Line of the log; Last line
 #[tactic(auto, unfolding(crate::specs::Lines::line))]
 pub fn line(alloc: Global, note: &Note<'_>) -> Result<Vec<u8>, OutOfMemory>

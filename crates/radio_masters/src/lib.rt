@@ -36,5 +36,5 @@ pub use relay_end::RelayEnd;
 pub use relay_log::{PullEnd, RelayLog};
 pub use turns::{WaitingRelay, in_turn};
 
-/// What a call answers where memory was refused.
+/// What a call answers if memory was refused.
 pub type OutOfMemory = std::alloc::AllocError;

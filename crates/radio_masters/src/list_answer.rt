@@ -54,8 +54,8 @@ impl From<OutOfMemory> for MasterListFault {
 /// its body that name one, each once, in the order of their bytes. The body has the length of `Content-Length` (RFC
 /// 9112, section 6), or else ends where the master has closed.
 ///
-/// Errors, of which the first that applies comes: `Cut` where the head has not ended, `BadHead`, `Status`, `BadHead` for
-/// a `Transfer-Encoding`, `TooLong`, `Cut`; `OutOfMemory` where memory was refused.
+/// Errors, of which the first that applies comes: `Cut` if the head has not ended, `BadHead`, `Status`, `BadHead` for
+/// a `Transfer-Encoding`, `TooLong`, `Cut`; `OutOfMemory` if memory was refused.
 // rule: List of a slave; Failed list
 pub fn read_list_answer(
     alloc: Global,

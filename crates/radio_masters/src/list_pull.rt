@@ -42,7 +42,7 @@ impl<L: Line> Model for ListPull<L> {
 }
 
 impl<L: Line> ListPull<L> {
-    /// Asks the master of this slave over this line. Nothing was written. `OutOfMemory` where memory was refused; the line
+    /// Asks the master of this slave over this line. Nothing was written. `OutOfMemory` if memory was refused; the line
     /// is closed then.
     pub fn new(alloc: Global, slave: &SlaveSetting, line: L) -> Result<ListPull<L>, OutOfMemory>
         ensures { IfOk result (λ pull. pull ≡ record { outgoing = list_request slave.now; given = L.given line; taken = L.taken line; calls = L.calls line; came = [] }) }

@@ -59,7 +59,7 @@ impl<L: Line> Model for MountPull<L> {
 
 impl<L: Line> MountPull<L> {
     /// The pull of this relay over this line, which is connected to its master. Nothing was written.
-    /// `OutOfMemory` where memory was refused; the line is closed then.
+    /// `OutOfMemory` if memory was refused; the line is closed then.
     pub fn new(alloc: Global, relay: &RelaySetting, line: L) -> Result<MountPull<L>, OutOfMemory>
         ensures { IfOk result (λ pull. pull ≡ record {
           relay = begun relay.now.local_mount;
@@ -117,7 +117,7 @@ impl<L: Line> MountPull<L> {
         }
     }
 
-    /// The relay goes down, if it is up. `OutOfMemory` where memory was refused for that.
+    /// The relay goes down, if it is up. `OutOfMemory` if memory was refused for that.
     pub fn close<S: Server>(&self, server: &mut S) -> Result<(), OutOfMemory>
         ensures { OnOk result (GoesDown S.steps self.now.relay.number server.old server.new) }
     {

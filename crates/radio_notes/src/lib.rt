@@ -33,5 +33,5 @@ pub use notice::Notice;
 pub use told::Told;
 pub use visit::{Happening, Part, Visit};
 
-/// What a call answers where memory was refused.
+/// What a call answers if memory was refused.
 pub type OutOfMemory = std::alloc::AllocError;

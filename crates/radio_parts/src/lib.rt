@@ -18,5 +18,5 @@ pub use sessions::{NewSession, Session};
 pub use stream::Stream;
 pub use timeouts::{HasSatOut, lies_back};
 
-/// What a call answers where memory was refused. Nothing has changed then, unless it is said.
+/// What a call answers if memory was refused. Nothing has changed then, unless it is said.
 pub type OutOfMemory = std::alloc::AllocError;

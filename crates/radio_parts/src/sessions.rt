@@ -54,7 +54,7 @@ impl Model for Session {
 
 impl Session {
     /// The session that begins on the mount at this moment, of the source of that number.
-    /// `OutOfMemory` where memory was refused.
+    /// `OutOfMemory` if memory was refused.
     pub fn new(
         alloc: Global,
         mount: MountName,

@@ -56,7 +56,7 @@ impl Stream {
     }
 
     /// Appends a block, and forgets the first blocks where those behind them have `limit` bytes.
-    /// `OutOfMemory` where memory was refused, and where the stream would have 2^64 bytes; the
+    /// `OutOfMemory` if memory was refused, and where the stream would have 2^64 bytes; the
     /// stream is unchanged then.
     // rule: Kept stream
     pub fn push(&mut self, block: Block, limit: u64) -> Result<(), OutOfMemory>

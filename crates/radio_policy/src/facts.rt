@@ -6,13 +6,13 @@ use crate::Rule;
 pub enum Action {
     /// A connection arrives.
     Arrive(ArriveFacts),
-    /// A source wants to feed the mount of a path; `None` where the path names no mount.
+    /// A source wants to feed the mount of a path; `None` if the path names no mount.
     Source(Option<SourceFacts>),
     /// A source delivers a block.
     Push(PushFacts),
     /// A listener wants to hear the mount of a path; `None` if the path names no mount.
     Listen(Option<ListenFacts>),
-    /// A client gives the command of a path; `None` where the path names no command.
+    /// A client gives the command of a path; `None` if the path names no command.
     Command(Option<CommandFacts>),
     /// A relay has been answered by its master, and wants to feed the mount of a path; `None` where
     /// the path names no mount.

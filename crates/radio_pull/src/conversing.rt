@@ -33,7 +33,7 @@ pub fn take<S: Server>(
     }
 }
 
-/// The answer has this fault: the pull is shut. `OutOfMemory` where it is want of memory, or more of
+/// The answer has this fault: the pull is shut. `OutOfMemory` if it is want of memory, or more of
 /// it was wanted.
 fn give_up<S: Server>(
     server: &mut S,

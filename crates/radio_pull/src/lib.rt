@@ -15,5 +15,5 @@ pub use conversing::{ask, close, take};
 pub use laws::items_are_of_their_relay;
 pub use relay_pull::RelayPull;
 
-/// What a call answers where memory was refused.
+/// What a call answers if memory was refused.
 pub type OutOfMemory = std::alloc::AllocError;

@@ -86,8 +86,8 @@ impl RelayPull {
         }
     }
 
-    /// What an item asks for; `None` where the relay is not up, and the item does not bring it up.
-    /// `OutOfMemory` where memory was refused.
+    /// What an item asks for; `None` if the relay is not up, and the item does not bring it up.
+    /// `OutOfMemory` if memory was refused.
     pub(crate) fn event_for(&self, item: PullItem) -> Result<Option<Event>, OutOfMemory>
         ensures { IfOk result (λ event. event ≡ event_for self.now.mount self.now.number item) }
     {
@@ -97,7 +97,7 @@ impl RelayPull {
         }
     }
 
-    /// What an item asks for, of the relay of this number. `OutOfMemory` where memory was refused.
+    /// What an item asks for, of the relay of this number. `OutOfMemory` if memory was refused.
     fn event_of(&self, id: u64, item: PullItem) -> Result<Event, OutOfMemory>
         ensures { IfOk result (λ event. event ≡ event_of self.now.mount id item) }
     {
@@ -108,7 +108,7 @@ impl RelayPull {
         }
     }
 
-    /// What an item asks for that may bring the relay up. `OutOfMemory` where memory was refused.
+    /// What an item asks for that may bring the relay up. `OutOfMemory` if memory was refused.
     fn coming_up(&self, item: PullItem) -> Result<Option<Event>, OutOfMemory>
         ensures { IfOk result (λ event. event ≡ event_for self.now.mount None item) }
     {
@@ -118,7 +118,7 @@ impl RelayPull {
         }
     }
 
-    /// The relay comes up, and its stream shows this. `OutOfMemory` where memory was refused.
+    /// The relay comes up, and its stream shows this. `OutOfMemory` if memory was refused.
     fn comes_up(&self, shown: Shown) -> Result<Event, OutOfMemory>
         ensures { IfOk result (λ event. event ≡ Event.RelayUp self.now.mount shown) }
     {

@@ -207,7 +207,7 @@ impl Keeper {
         Ok(())
     }
 
-    /// Returns the next relay that begins now; `None` where there is none, or memory is refused for it.
+    /// Returns the next relay that begins now; `None` if there is none, or memory is refused for it.
     pub(crate) fn next_start(&mut self) -> Option<Arc<RunningRelay>>
         ensures chosen { self.new.chosen.items ≡ take (length self.old.chosen.items - 1) self.old.chosen.items }
         ensures wished { self.new.wished ≡ self.old.wished }

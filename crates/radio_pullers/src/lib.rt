@@ -20,5 +20,5 @@ mod waits;
 
 pub use relays::{has_relays, keep_relays};
 
-/// What a call answers where memory was refused.
+/// What a call answers if memory was refused.
 pub type OutOfMemory = std::alloc::AllocError;

@@ -41,7 +41,7 @@ fn interval_of(text: &[u8]) -> Result<Option<usize>, PullFault>
     }
 }
 
-/// What the head shows of the stream, cleaned. `OutOfMemory` where memory was refused.
+/// What the head shows of the stream, cleaned. `OutOfMemory` if memory was refused.
 pub fn shown_by(alloc: Global, head: &ResponseHead) -> Result<Shown, OutOfMemory>
     ensures { IfOk result (λ shown. shown ≡ shown_by head.now) }
 {
@@ -69,7 +69,7 @@ fn about_by(alloc: Global, head: &ResponseHead) -> Result<About, OutOfMemory>
     About::clean(alloc, description, url, bitrate, b"")
 }
 
-/// The value of a header, or the other where there is no such header; an empty value is one.
+/// The value of a header, or the other if there is no such header; an empty value is one.
 fn value_or<'b>(other: &'static [u8], name: &str, head: &ResponseHead<'b>) -> &'b [u8]
     ensures { result.now ≡ value_or other.now name.now head.now }
 {

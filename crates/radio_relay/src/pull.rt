@@ -94,7 +94,7 @@ impl Pull {
     /// - `BadHead`: the head has a `Transfer-Encoding`.
     /// - `BadMetaint`: the head has an `icy-metaint` that is not a number from 1 to 16777216.
     ///
-    /// `OutOfMemory` comes where memory was refused, and what the piece brings is lost. After any of these the pull
+    /// `OutOfMemory` comes if memory was refused, and what the piece brings is lost. After any of these the pull
     /// keeps nothing, and each further feed answers `Failed`, also of an empty piece.
     // rule: Bad pull; Pulled stream
     pub fn feed(&mut self, bytes: &[u8]) -> Result<Vec<PullItem>, PullFault>

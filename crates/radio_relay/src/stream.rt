@@ -29,7 +29,7 @@ impl PulledStream {
         }
     }
 
-    /// Adds what the next bytes bring. `OutOfMemory` where memory was refused; the stream and the items are of no use
+    /// Adds what the next bytes bring. `OutOfMemory` if memory was refused; the stream and the items are of no use
     /// then.
     pub(crate) fn read(&mut self, bytes: &[u8], items: &mut PulledItems) -> Result<(), OutOfMemory>
         ensures items { OnOk result (items.new ≡ with_parts items.old (stream_parts self.old bytes.now)) }

@@ -11,7 +11,7 @@ use std::collections::BTreeSet;
 
 /// The mounts in a master's list of streams: the lines that name one, each name once, in the order of their bytes.
 ///
-/// A line ends with LF or CR LF; the last one may lack it. Other lines are passed over. `OutOfMemory` where memory was
+/// A line ends with LF or CR LF; the last one may lack it. Other lines are passed over. `OutOfMemory` if memory was
 /// refused.
 // rule: List of a slave
 pub fn read_stream_list(alloc: Global, text: &[u8]) -> Result<BTreeSet<MountName>, OutOfMemory>

@@ -139,7 +139,7 @@ fn mount_in(alloc: Global, section: Section, table: Option<&Table>) -> Result<St
     }
 }
 
-/// The table of a place; `None` where the document has none there.
+/// The table of a place; `None` if the document has none there.
 fn table_of(document: &Table, place: TablePlace) -> Option<&Table> {
     if place.section == Section::Top {
         return Some(document);

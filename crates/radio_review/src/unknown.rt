@@ -140,7 +140,7 @@ pub(crate) fn place_word(section: Section) -> &'static str {
     }
 }
 
-/// The mount of a table `[[mount]]`, or the one that a relay feeds; empty where there is none.
+/// The mount of a table `[[mount]]`, or the one that a relay feeds; empty if there is none.
 pub(crate) fn mount_of(
     alloc: Global,
     section: Section,
@@ -157,7 +157,7 @@ pub(crate) fn mount_of(
     String::from_str(alloc, name)
 }
 
-/// The text at a key; empty where there is none.
+/// The text at a key; empty if there is none.
 pub(crate) fn text_at<'a>(table: &'a Table, key: &str) -> &'a str {
     let Some(value) = table.get(key) else {
         return "";

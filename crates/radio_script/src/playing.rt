@@ -24,8 +24,8 @@ struct Buffers {
 /// Plays a script: reads it line by line, and writes its transcript. A line is answered before
 /// anything behind it is read.
 ///
-/// `Ok` has read to the reader's end. It is refused with `Read` or `Write` where that device
-/// failed, with `Line` or `TooMuch` where the script has that fault, with `OutOfMemory`, and for
+/// `Ok` has read to the reader's end. It is refused with `Read` or `Write` if that device
+/// failed, with `Line` or `TooMuch` if the script has that fault, with `OutOfMemory`, and for
 /// nothing else.
 // rule: Line of a script; Longest script
 pub fn play_with<P: Performer, R: CountedRead, W: CountedWrite>(

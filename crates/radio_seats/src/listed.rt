@@ -20,7 +20,7 @@ pub struct LentListener<'a> {
 
 impl Seats {
     /// Who sits at the mount, in the order of their numbers. The time grows as the number of
-    /// listeners. `OutOfMemory` where memory was refused.
+    /// listeners. `OutOfMemory` if memory was refused.
     pub fn guests_at(
         &self,
         alloc: Global,

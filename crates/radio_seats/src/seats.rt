@@ -66,7 +66,7 @@ impl Seats {
     }
 
     /// The mount is prepared from now on: listeners can be seated there. Of a prepared mount it
-    /// changes nothing. `OutOfMemory` where memory was refused; nothing has changed then.
+    /// changes nothing. `OutOfMemory` if memory was refused; nothing has changed then.
     pub fn prepare(&mut self, mount: &MountName) -> Result<(), OutOfMemory>
         ensures prepared { OnOk result ((other : _) → is_prepared self.new.prepared other ≡ (is_prepared self.old.prepared other || bytes_eq mount.now other)) }
         ensures seats { self.new.seats ≡ self.old.seats }
@@ -122,7 +122,7 @@ impl Seats {
     }
 
     /// The client is a listener from now on, and has this seat; of one who was a listener before,
-    /// it is all that stays. `OutOfMemory` where memory was refused; nothing has changed then.
+    /// it is all that stays. `OutOfMemory` if memory was refused; nothing has changed then.
     pub fn add(&mut self, id: u64, seat: Seat) -> Result<(), OutOfMemory>
         requires { is_prepared self.old.prepared seat.mount ≡ true }
         ensures ok { OnOk result (self.new ≡ record self.old { seats = with_seat self.old.seats id seat }) }

@@ -34,7 +34,7 @@ impl Model for KeptName {
 }
 
 impl KeptName {
-    /// A copy of the name, kept so. `OutOfMemory` where memory was refused.
+    /// A copy of the name, kept so. `OutOfMemory` if memory was refused.
     pub fn new(alloc: Global, name: MountName) -> Result<KeptName, OutOfMemory>
         ensures { IfOk result (λ kept. kept ≡ name) }
     {

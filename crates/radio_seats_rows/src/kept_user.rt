@@ -27,7 +27,7 @@ impl Model for KeptUser {
 }
 
 impl KeptUser {
-    /// A copy of the user, kept so. `OutOfMemory` where memory was refused.
+    /// A copy of the user, kept so. `OutOfMemory` if memory was refused.
     pub(crate) fn new(alloc: Global, user: &[u8]) -> Result<KeptUser, OutOfMemory>
         ensures { IfOk result (λ kept. kept ≡ user.now) }
     {

@@ -34,5 +34,5 @@ pub use rows::Rows;
 pub use seat::{Guest, Listener, Seat, Seating};
 pub use users::UserAt;
 
-/// What a call answers where memory was refused. Nothing has changed then.
+/// What a call answers if memory was refused. Nothing has changed then.
 pub type OutOfMemory = std::alloc::AllocError;

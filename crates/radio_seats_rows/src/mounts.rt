@@ -166,7 +166,7 @@ impl Mounts {
         }
     }
 
-    /// The mount, which was not prepared, is prepared from now on. `OutOfMemory` where memory was
+    /// The mount, which was not prepared, is prepared from now on. `OutOfMemory` if memory was
     /// refused, and where the numbers are spent; nothing has changed then.
     fn prepare_new(&mut self, name: &MountName) -> Result<(), OutOfMemory>
         requires { is_prepared self.old.names name.now ≡ false }

@@ -114,7 +114,7 @@ impl Rows {
     }
 
     /// The listener of this number sits at the mount of that number; of a row that it had, nothing
-    /// is left. `OutOfMemory` where memory was refused; nothing has changed then.
+    /// is left. `OutOfMemory` if memory was refused; nothing has changed then.
     pub fn insert(&mut self, id: u64, number: u64, seat: Seat) -> Result<(), OutOfMemory>
         ensures ok { OnOk result (self.new ≡ placed (λ (a b : RowOf). nat_cmp a.id b.id) (seated_row id number seat) self.old) }
         ensures err { OnErr result (self.new ≡ self.old) }
@@ -164,7 +164,7 @@ fn user_of(row: Option<&ListenerRow>) -> Option<&KeptUser>
     }
 }
 
-/// The same user, if there is one. `OutOfMemory` where memory was refused.
+/// The same user, if there is one. `OutOfMemory` if memory was refused.
 fn copied(user: Option<&KeptUser>) -> Result<Option<KeptUser>, OutOfMemory>
     ensures { IfOk result (λ copy. copy ≡ option_copied user.entry) }
 {
@@ -174,7 +174,7 @@ fn copied(user: Option<&KeptUser>) -> Result<Option<KeptUser>, OutOfMemory>
     }
 }
 
-/// The user that was sent, if one was. `OutOfMemory` where memory was refused.
+/// The user that was sent, if one was. `OutOfMemory` if memory was refused.
 fn kept(alloc: Global, pair: Option<&Pair>) -> Result<Option<KeptUser>, OutOfMemory>
     ensures { IfOk result (λ user. user ≡ user_sent (option_copied pair.entry)) }
 {
@@ -184,7 +184,7 @@ fn kept(alloc: Global, pair: Option<&Pair>) -> Result<Option<KeptUser>, OutOfMem
     }
 }
 
-/// The listener's row, where the mount of its seat has this number. `OutOfMemory` where memory was
+/// The listener's row, where the mount of its seat has this number. `OutOfMemory` if memory was
 /// refused.
 fn numbered(alloc: Global, id: u64, number: u64, seat: Seat) -> Result<ListenerRow, OutOfMemory>
     ensures { IfOk result (λ row. row ≡ seated_row id number seat) }

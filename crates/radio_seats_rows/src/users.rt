@@ -78,7 +78,7 @@ impl UserIndex {
         }
     }
 
-    /// The listener is kept under this user from now on, if it is one. `OutOfMemory` where memory
+    /// The listener is kept under this user from now on, if it is one. `OutOfMemory` if memory
     /// was refused; nothing has changed then.
     pub(crate) fn add(
         &mut self,
@@ -96,7 +96,7 @@ impl UserIndex {
         self.keep(alloc, user.as_bytes(), id)
     }
 
-    /// The listener is kept under this user from now on. `OutOfMemory` where memory was refused;
+    /// The listener is kept under this user from now on. `OutOfMemory` if memory was refused;
     /// nothing has changed then.
     fn keep(&mut self, alloc: Global, user: &[u8], id: u64) -> Result<(), OutOfMemory>
         ensures ok { OnOk result ((other k : _) → is_kept self.new.seats other k
@@ -164,7 +164,7 @@ impl UserIndex {
     }
 }
 
-/// This number alone. `OutOfMemory` where memory was refused.
+/// This number alone. `OutOfMemory` if memory was refused.
 fn alone(alloc: Global, id: u64) -> Result<BTreeSet<u64>, OutOfMemory>
     ensures { IfOk result (λ ids. (k : _) → contains nat_cmp ids k ≡ (id == k)) }
 {

@@ -82,7 +82,7 @@ impl<S: Server + Drop> Server for Watched<S> {
 
     ghost refuses = { λ watched event. S.refuses watched.server event };
 
-    /// Applies an event, and notes what it may bring. `OutOfMemory` where memory was refused; nothing has changed then.
+    /// Applies an event, and notes what it may bring. `OutOfMemory` if memory was refused; nothing has changed then.
     fn apply(&mut self, event: Event) -> Result<Reply, OutOfMemory>
         ensures ok { IfOk result (λ reply. WatchedSteps S.steps self.old event reply self.new) }
         ensures err { OnErr result (self.new ≡ self.old) }

@@ -92,7 +92,7 @@ impl<S: Server + Drop> Worker<S> {
     /// Adds a connection from this peer to the others. If the server denies it, the next turns write
     /// the denial and close it.
     ///
-    /// `OutOfMemory` where memory was refused: the line is closed without a byte, the other
+    /// `OutOfMemory` if memory was refused: the line is closed without a byte, the other
     /// connections are as they were, and the server has let nobody in.
     // rule: Newcomers
     pub fn admit<L: Line>(

@@ -7,7 +7,7 @@ use radio_values::{AllowedOrigin, Text};
 /// The table `[web]`: what is meant for browsers and the scripts of web sites. If it is absent, nothing of it is
 /// on.
 pub struct WebSettings {
-    /// Whose pages may read streams and what everybody may read; `None` where nothing is said of it.
+    /// Whose pages may read streams and what everybody may read; `None` if nothing is said of it.
     pub allow_origin: Option<AllowedOrigin>,
     /// Whether `/status-json.xsl` answers what Icecast answers there.
     pub icecast_status: bool,
@@ -40,7 +40,7 @@ pub enum WebPath {
 }
 
 impl WebSettings {
-    /// What a path names in the web site; `None` where it names nothing there, or that is not on.
+    /// What a path names in the web site; `None` if it names nothing there, or that is not on.
     // rule: Web table
     #[tactic(auto, unfolding(crate::specs::Web::web_path))]
     pub fn path(&self, path: &[u8]) -> Option<WebPath>

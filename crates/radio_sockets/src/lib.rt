@@ -26,5 +26,5 @@ pub use listening_socket::{Accepted, ListeningSocket};
 pub use slots::{open_desks, slots_of};
 pub use socket_turns::SocketTurns;
 
-/// What a call answers where memory was refused.
+/// What a call answers if memory was refused.
 pub type OutOfMemory = std::alloc::AllocError;

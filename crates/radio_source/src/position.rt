@@ -136,7 +136,7 @@ impl Position {
 
     /// Goes past some bytes, and gathers the data among them.
     ///
-    /// `OutOfMemory` where memory was refused; the position and what was gathered are then of no use.
+    /// `OutOfMemory` if memory was refused; the position and what was gathered are then of no use.
     pub fn pass(&mut self, bytes: &[u8], gathering: &mut Gathering) -> Result<(), OutOfMemory>
         ensures place { OnOk result (self.new ≡ after self.old bytes.now) }
         ensures found { OnOk result (gathering.new ≡ gathering.old ++ data_of self.old bytes.now) }

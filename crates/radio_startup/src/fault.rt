@@ -39,7 +39,7 @@ pub enum FileFault {
 }
 
 impl FileFault {
-    /// The status with which the program ends: 3, and 1 where memory was refused.
+    /// The status with which the program ends: 3, and 1 if memory was refused.
     // rule: Fault of a call
     pub fn status(&self) -> u8
         ensures { result ≡ file_status self.now }
@@ -51,7 +51,7 @@ impl FileFault {
         }
     }
 
-    /// The path of the file that is at fault; `settings` is that of the settings. It is empty where memory was refused.
+    /// The path of the file that is at fault; `settings` is that of the settings. It is empty if memory was refused.
     pub fn file<'a>(&'a self, settings: &'a str) -> &'a str
         ensures { result.now ≡ file_in self.now settings.now }
     {
@@ -100,7 +100,7 @@ impl FileFault {
         }
     }
 
-    /// The reason that the system, or the reader of TOML, gives; empty where none is known. `None` where memory is refused.
+    /// The reason that the system, or the reader of TOML, gives; empty where none is known. `None` if memory is refused.
     pub fn reason(&self, alloc: Global) -> Option<String>
         ensures { IfSome result (λ reason. IsReasonOfFile self.now (string_bytes reason)) }
     {

@@ -33,5 +33,5 @@ pub use reading::{ReadsFiles, SystemFiles};
 pub use unknown::words_of_unknown;
 pub use warnings::warnings_of;
 
-/// What a call answers where memory was refused.
+/// What a call answers if memory was refused.
 pub type OutOfMemory = std::alloc::AllocError;

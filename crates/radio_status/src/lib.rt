@@ -13,5 +13,5 @@ mod pages;
 pub use listings::shown;
 pub use pages::page;
 
-/// What a call answers where memory was refused.
+/// What a call answers if memory was refused.
 pub type OutOfMemory = std::alloc::AllocError;

@@ -31,7 +31,7 @@ use std::alloc::Global;
 const SECOND: u64 = 1000;
 
 /// What is shown of the station, where these listen. The time grows as the number of live mounts, or of listeners where these are
-/// listed. `OutOfMemory` where memory was refused.
+/// listed. `OutOfMemory` if memory was refused.
 pub fn shown(
     alloc: Global,
     house: &House<'_>,
@@ -49,7 +49,7 @@ pub fn shown(
     }
 }
 
-/// What the server does as a whole. `OutOfMemory` where memory was refused.
+/// What the server does as a whole. `OutOfMemory` if memory was refused.
 fn stats_shown(
     alloc: Global,
     house: &House<'_>,
@@ -62,7 +62,7 @@ fn stats_shown(
     json(stats(alloc, clients, rows.as_slice())?)
 }
 
-/// All live mounts. `OutOfMemory` where memory was refused.
+/// All live mounts. `OutOfMemory` if memory was refused.
 fn mounts_shown(
     alloc: Global,
     house: &House<'_>,
@@ -74,7 +74,7 @@ fn mounts_shown(
     json(list_mounts(alloc, rows.as_slice())?)
 }
 
-/// The mounts that a relay may pull. `OutOfMemory` where memory was refused.
+/// The mounts that a relay may pull. `OutOfMemory` if memory was refused.
 fn streams_shown(
     alloc: Global,
     house: &House<'_>,
@@ -86,7 +86,7 @@ fn streams_shown(
     streams(stream_list(alloc, rows.as_slice())?)
 }
 
-/// What everybody may see. `OutOfMemory` where memory was refused.
+/// What everybody may see. `OutOfMemory` if memory was refused.
 fn status_shown(
     alloc: Global,
     house: &House<'_>,
@@ -108,7 +108,7 @@ fn status_bytes(alloc: Global, house: &House<'_>, seats: &Listeners) -> Result<B
     Ok(Bytes::from_vec(status(alloc, rows.as_slice())?)?)
 }
 
-/// The live mounts, in the order of their names. `OutOfMemory` where memory was refused.
+/// The live mounts, in the order of their names. `OutOfMemory` if memory was refused.
 pub(crate) fn mount_rows<'a>(
     alloc: Global,
     house: &House<'a>,
@@ -183,7 +183,7 @@ fn about_row(about: &About) -> AboutRow<'_>
     }
 }
 
-/// The listeners of the mount. `OutOfMemory` where memory was refused.
+/// The listeners of the mount. `OutOfMemory` if memory was refused.
 fn listeners_shown(
     alloc: Global,
     house: &House<'_>,
@@ -197,7 +197,7 @@ fn listeners_shown(
     list_clients(alloc, &ListedText::of(mount.as_bytes()), rows.as_slice())
 }
 
-/// The listeners as rows, each with how long it has listened. `OutOfMemory` where memory was refused.
+/// The listeners as rows, each with how long it has listened. `OutOfMemory` if memory was refused.
 fn listener_rows<'a>(
     alloc: Global,
     now: u64,

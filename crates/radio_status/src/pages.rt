@@ -16,7 +16,7 @@ use radio_listing::{ListedServer, ListedText, base_url, icecast_status};
 use radio_settings_values::WebPath;
 use std::alloc::Global;
 
-/// What is shown at the path on this visit, where these listen. `OutOfMemory` where memory was refused.
+/// What is shown at the path on this visit, where these listen. `OutOfMemory` if memory was refused.
 pub fn page(
     alloc: Global,
     house: &House<'_>,
@@ -36,7 +36,7 @@ pub fn page(
     }
 }
 
-/// What Icecast answers at its status on this visit. `OutOfMemory` where memory was refused.
+/// What Icecast answers at its status on this visit. `OutOfMemory` if memory was refused.
 fn icecast_shown(
     alloc: Global,
     house: &House<'_>,
@@ -50,7 +50,7 @@ fn icecast_shown(
     Ok(Bytes::from_vec(status_at(alloc, house, seats, base.as_slice(), start)?)?)
 }
 
-/// What is written before a mount's name in its URL. `OutOfMemory` where memory was refused.
+/// What is written before a mount's name in its URL. `OutOfMemory` if memory was refused.
 fn url_for(alloc: Global, house: &House<'_>, host: &[u8]) -> Result<Vec<u8>, OutOfMemory>
     ensures { IfOk result (λ url. url.items ≡ url_for house.now.settings host.now) }
 {

@@ -22,7 +22,7 @@ pub trait TryChange<R: Row> {
     // The row after the change.
     ghost gives: { Self → R → R };
 
-    /// Changes the row. `OutOfMemory` where memory was refused; the row is unchanged then.
+    /// Changes the row. `OutOfMemory` if memory was refused; the row is unchanged then.
     fn try_apply(&self, row: &mut R) -> Result<(), OutOfMemory>
         ensures ok { OnOk result (row.new ≡ gives self.now row.old) }
         ensures err { OnErr result (row.new ≡ row.old) };

@@ -18,5 +18,5 @@ pub use laws::a_placed_row_is_found;
 pub use row::Row;
 pub use table::Table;
 
-/// What a call answers where memory was refused. Nothing has changed then.
+/// What a call answers if memory was refused. Nothing has changed then.
 pub type OutOfMemory = std::alloc::AllocError;

@@ -20,6 +20,6 @@ pub trait Row: Drop {
     fn key(&self) -> Self::Key
         ensures { result ≡ key self.now };
 
-    // A row has a key exactly where its own is equal to it.
+    // A row has a key exactly if its own is equal to it.
     ghost has_key_is: { (k : Self.Key) (row : Self) → has_key k row ≡ is_eq (Self.Key.cmp k (key row)) };
 }

@@ -95,7 +95,7 @@ impl<R: Row> Table<R> {
         change.apply(row);
     }
 
-    /// Changes the row of this key, if there is one. `OutOfMemory` where the change was refused
+    /// Changes the row of this key, if there is one. `OutOfMemory` if the change was refused
     /// memory; nothing has changed then.
     pub fn try_change<C: TryChange<R>>(
         &mut self,
@@ -122,7 +122,7 @@ impl<R: Row> Table<R> {
         swap.swap(row);
     }
 
-    /// Deals with the row of this key in its place, and answers; `None` where there is none, and
+    /// Deals with the row of this key in its place, and answers; `None` if there is none, and
     /// nothing has changed then. The row is looked up once.
     pub fn visit<V: RowVisit<R>>(
         &mut self,
@@ -149,7 +149,7 @@ impl<R: Row> Table<R> {
     }
 
     /// Puts a row into its place among the others. A row of an equal key gives way to it.
-    /// `OutOfMemory` where memory was refused; nothing has changed then.
+    /// `OutOfMemory` if memory was refused; nothing has changed then.
     pub fn insert(&mut self, row: R) -> Result<(), OutOfMemory>
         ensures ok { OnOk result (self.new ≡ placed (λ a b. R.Key.cmp (R.key a) (R.key b)) row self.old) }
         ensures err { OnErr result (self.new ≡ self.old) }
@@ -159,7 +159,7 @@ impl<R: Row> Table<R> {
         Ok(())
     }
 
-    /// Puts a row behind all others. `OutOfMemory` where memory was refused; nothing has changed
+    /// Puts a row behind all others. `OutOfMemory` if memory was refused; nothing has changed
     /// then.
     pub fn push(&mut self, row: R) -> Result<(), OutOfMemory>
         // its key is above theirs

@@ -6,7 +6,7 @@ ghost use Rattle.std.specs.Prelude.{◌≡◌, ◌↔◌, ◌<◌, ℕ, List, �
 ghost use Rattle.std.specs.List.{Contains};
 ghost use Rattle.radio_texts.specs.Cuts.{cut, fields_at, fields_by};
 
-/// A text is cut where it has the byte for the first time, and is not cut exactly where it has it nowhere.
+/// A text is cut where it has the byte for the first time, and is not cut exactly if it has it nowhere.
 pub fn cuts()
     ensures first { (at : ℕ) (text front back : List ℕ)
         → (cut at text ≡ Some (front, back)) ↔ ((text ≡ front ++ at ∷ back) × (¬ Contains front at)) }

@@ -22,5 +22,5 @@ pub use pulls::{end_of, is_last_pull, pull_end};
 pub use tries::{Tries, free_places};
 pub use wishes::{Wishes, wishes_of};
 
-/// What a call answers where memory was refused.
+/// What a call answers if memory was refused.
 pub type OutOfMemory = std::alloc::AllocError;

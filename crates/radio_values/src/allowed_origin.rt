@@ -39,9 +39,9 @@ impl Model for AllowedOrigin {
 }
 
 impl AllowedOrigin {
-    /// What a text allows; `None` where it is not of that form. An `Err` means that memory ran out.
+    /// What a text allows; `None` if it is not of that form. An `Err` means that memory ran out.
     pub fn read(alloc: Global, text: &str) -> Result<Option<AllowedOrigin>, OutOfMemory>
-        // There is one exactly where the text is of that form, and it is that text.
+        // There is one exactly if the text is of that form, and it is that text.
         ensures { IfOk result (λ read. MatchOption read (is_allowed_origin text.now ≡ false)
             (λ origin. (is_allowed_origin text.now ≡ true) × (origin ≡ text.now))) }
     {

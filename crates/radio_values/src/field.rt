@@ -83,9 +83,9 @@ impl Clone for Field {
 pub struct Shown {
     /// The content type, as in `Content-Type`.
     pub content_type: Field,
-    /// The stream's name, as in `icy-name`; empty where there is none.
+    /// The stream's name, as in `icy-name`; empty if there is none.
     pub name: Field,
-    /// The genre, as in `icy-genre`; empty where there is none.
+    /// The genre, as in `icy-genre`; empty if there is none.
     pub genre: Field,
     /// What else it says of itself.
     pub about: About,

@@ -48,11 +48,11 @@ impl Model for MountName {
 }
 
 impl MountName {
-    /// The name of these bytes; `None` where they name no mount.
+    /// The name of these bytes; `None` if they name no mount.
     // rule: Name of a mount
     #[tactic(auto, unfolding(crate::specs::MountName::is_mount_name))]
     pub fn read(bytes: &[u8]) -> Option<MountName>
-        // There is one exactly where the bytes name a mount, and it has these bytes.
+        // There is one exactly if the bytes name a mount, and it has these bytes.
         ensures { MatchOption result (is_mount_name bytes.now ≡ false) (λ name. (is_mount_name bytes.now ≡ true) × (name ≡ bytes.now)) }
     {
         if bytes.len() > MAX_MOUNT_NAME || !is_valid(bytes) {

@@ -81,7 +81,7 @@ const ALL_ROUNDS: &[Rounds] = &[
 
 /// Whom it calls.
 pub trait Callee {
-    /// The number that the reply to an event gives, 0 where it gives none; `None` where memory was
+    /// The number that the reply to an event gives, 0 where it gives none; `None` if memory was
     /// refused.
     fn call(&mut self, event: Event) -> Option<u64>;
 }
@@ -104,7 +104,7 @@ pub fn serve<C: Callee>(alloc: Global, callee: &mut C, path: &str) -> bool {
     }
 }
 
-/// Four arrive; `None` where memory was refused.
+/// Four arrive; `None` if memory was refused.
 fn arriving<'a, C: Callee>(callee: &mut C, path: &'a str) -> Option<Four<'a>> {
     let source = callee.call(arrival())?;
     let listener = callee.call(arrival())?;

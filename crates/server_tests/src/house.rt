@@ -13,7 +13,7 @@ use std::alloc::Global;
 use std::cell::Cell;
 use std::sync::Wait;
 
-/// The source's mount has this title from now on. Whether it has: it has not where memory is refused.
+/// The source's mount has this title from now on. Whether it has: it has not if memory is refused.
 fn sets_title<H: Origin, R: Wait>(
     rt: &R,
     alloc: Global,

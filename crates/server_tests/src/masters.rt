@@ -29,7 +29,7 @@ const ANSWER: Manners = Manners {
     ..SILENT
 };
 
-/// A relay over a line of these manners. None where memory is refused.
+/// A relay over a line of these manners. None if memory is refused.
 fn pull_of(alloc: Global, manners: Manners) -> Option<MountPull<MemoryLine>> {
     let settings = settings(alloc, RELAYED).ok()?;
     let pull = pull_by(alloc, &settings, manners);
@@ -43,7 +43,7 @@ fn pull_by(alloc: Global, settings: &Settings, manners: Manners) -> Option<Mount
     MountPull::new(alloc, relay, MemoryLine::new(alloc, manners)).ok()
 }
 
-/// A server, as the relay asks it. None where memory is refused.
+/// A server, as the relay asks it. None if memory is refused.
 fn server_of(alloc: Global) -> Option<RelayServer<Core>> {
     let settings = settings(alloc, RELAYED).ok()?;
     let server = server_by(alloc, &settings);
@@ -76,7 +76,7 @@ fn last_of(
     last
 }
 
-/// Whether the last of so many turns of such a relay comes to that. It need not where memory is refused.
+/// Whether the last of so many turns of such a relay comes to that. It need not if memory is refused.
 fn comes_to(alloc: Global, row: &Row) -> bool {
     match pull_of(alloc, row.manners) {
         Some(mut pull) => {
@@ -180,7 +180,7 @@ fn pulls_over_a_line(rt: HostRuntime) {
     }
 }
 
-/// Whether a listener hears what a relay has pulled in. It need not where memory is refused.
+/// Whether a listener hears what a relay has pulled in. It need not if memory is refused.
 fn is_heard(alloc: Global) -> bool {
     match pulled(alloc) {
         Some(core) => hears(Station::new(alloc, core)),
@@ -188,7 +188,7 @@ fn is_heard(alloc: Global) -> bool {
     }
 }
 
-/// A server to which a relay has pulled in all of the answer. None where memory is refused.
+/// A server to which a relay has pulled in all of the answer. None if memory is refused.
 fn pulled(alloc: Global) -> Option<Core> {
     let mut pull = pull_of(alloc, ANSWER)?;
     let core = pulled_by(alloc, &mut pull);
@@ -273,7 +273,7 @@ const LISTS: &[(&[u8], bool, Result<&[u8], MasterListFault>)] = &[
     (b"none\r\n\r\n", true, Err(MasterListFault::BadHead)),
 ];
 
-/// Whether these names are those, each followed by a space. They need not be where memory is refused.
+/// Whether these names are those, each followed by a space. They need not be if memory is refused.
 fn are_named(alloc: Global, names: &BTreeSet<MountName>, wanted: &[u8]) -> bool {
     let mut told = Vec::new(alloc);
     for name in names {
@@ -284,7 +284,7 @@ fn are_named(alloc: Global, names: &BTreeSet<MountName>, wanted: &[u8]) -> bool 
     told.as_slice() == wanted
 }
 
-/// Whether an answer is read so. It need not be where memory is refused.
+/// Whether an answer is read so. It need not be if memory is refused.
 fn is_read(
     alloc: Global,
     answer: &[u8],
@@ -314,7 +314,7 @@ const LISTED: Manners = Manners {
     ..SILENT
 };
 
-/// Whether the slave has this list with its fifth turn. It need not where memory is refused.
+/// Whether the slave has this list with its fifth turn. It need not if memory is refused.
 fn is_listed(alloc: Global) -> bool {
     match settings(alloc, RELAYED) {
         Ok(settings) => {

@@ -131,7 +131,7 @@ impl Titled {
         }
     }
 
-    /// There is no title where memory is refused for it.
+    /// There is no title if memory is refused for it.
     fn set_title(&mut self) {
         if let Ok(event) = title_event(self.alloc, 1, b"Night") {
             drop(self.core.step(event));
@@ -191,7 +191,7 @@ impl<S: Server + Drop> Station<S> {
         self.worker.into_server()
     }
 
-    /// A connection comes with this line. Whether it was taken in: it is not where memory is refused.
+    /// A connection comes with this line. Whether it was taken in: it is not if memory is refused.
     pub fn comes(&mut self, manners: Manners, ms: u64) -> bool {
         let line = MemoryLine::new(self.alloc, manners);
         let peer = Peer::of_v4(0x0a00_0001);

@@ -16,7 +16,7 @@ const REQUESTS: &[(&[u8], Parts<'static>)] = &[
     (b"OPTIONS * HTTP/1.1\r\n\r\n", (22, b"OPTIONS", b"*", None)),
 ];
 
-/// The parts of the request that these bytes are; `None` where they are none.
+/// The parts of the request that these bytes are; `None` if they are none.
 fn parts_of(bytes: &[u8]) -> Option<Parts<'_>> {
     match read_request(bytes) {
         Ok(Progress::Whole(head, length)) => {

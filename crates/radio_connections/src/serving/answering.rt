@@ -73,7 +73,7 @@ pub(crate) fn answer_all<S: Server, L: Line>(
 /// Appends a reply to what is pending, and returns what becomes of the connection by that.
 fn tell(outgoing: &mut Outgoing, session: &mut Session, reply: Reply, account: &Account) -> Fate
     ensures told { IsToldAs result reply session.old outgoing.old session.new outgoing.new }
-    // it is not closed by that, and cut off only where the session fails
+    // it is not closed by that, and cut off only if the session fails
     ensures closed { result ≡ Closed → ⊥ }
     ensures cut { result ≡ Cut → session.new.has_failed ≡ true }
 {

@@ -32,7 +32,7 @@ struct AdmittedGuest {
 }
 
 impl Control {
-    /// A client wants to hear a mount. `OutOfMemory` where memory was refused.
+    /// A client wants to hear a mount. `OutOfMemory` if memory was refused.
     pub(super) fn listen(&self, asked: ListenRequest) -> Result<Outcome, OutOfMemory>
         ensures { IfOk result (λ o. o ≡ asks_to_hear self.now asked) }
     {
@@ -121,7 +121,7 @@ impl Control {
         }
     }
 
-    /// The listener sits down at the mount and waits for a session. `OutOfMemory` where memory was refused.
+    /// The listener sits down at the mount and waits for a session. `OutOfMemory` if memory was refused.
     fn await_session(
         &self,
         asked: ListenRequest,
@@ -144,7 +144,7 @@ impl Control {
         }
     }
 
-    /// A listener is welcome in the session, or where it is awaited. `OutOfMemory` where memory was refused.
+    /// A listener is welcome in the session, or where it is awaited. `OutOfMemory` if memory was refused.
     fn welcome(
         &self,
         asked: ListenRequest,
@@ -173,7 +173,7 @@ impl Control {
     }
 }
 
-/// The seat of a new listener in the session. `OutOfMemory` where memory was refused.
+/// The seat of a new listener in the session. `OutOfMemory` if memory was refused.
 fn first_seat(
     alloc: Global,
     house: &House<'_>,

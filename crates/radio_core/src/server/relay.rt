@@ -17,7 +17,7 @@ use radio_policy::{Action, Rule, Verdict, judge};
 use radio_values::{MountName, Shown};
 
 impl Control {
-    /// A relay wants to feed the mount of this name. `OutOfMemory` where memory was refused.
+    /// A relay wants to feed the mount of this name. `OutOfMemory` if memory was refused.
     pub(super) fn relay_up(&self, mount: &[u8], shown: &Shown) -> Result<Outcome, OutOfMemory>
         ensures { IfOk result (λ o. o ≡ comes_up self.now mount.now shown.now) }
     {

@@ -6,7 +6,7 @@ ghost use Rattle.radio_events.specs.Replies.{HoldsNoText};
 use crate::OutOfMemory;
 use radio_events::Reply;
 
-/// A reply three times. `OutOfMemory` where memory was refused.
+/// A reply three times. `OutOfMemory` if memory was refused.
 pub(super) fn thrice(reply: Reply) -> Result<[Reply; 3], OutOfMemory>
     ensures value { IfOk result (λ replies. replies ≡ reply ∷ reply ∷ reply ∷ []) }
     ensures frees { HoldsNoText reply → IsOk result }
@@ -20,7 +20,7 @@ pub(super) fn thrice(reply: Reply) -> Result<[Reply; 3], OutOfMemory>
     }
 }
 
-/// Two equal replies. `OutOfMemory` where memory was refused.
+/// Two equal replies. `OutOfMemory` if memory was refused.
 fn again_twice(reply: &Reply) -> Result<(Reply, Reply), OutOfMemory>
     ensures value { IfOk result (λ replies. (replies.0 ≡ reply.now) × (replies.1 ≡ reply.now)) }
     ensures frees { HoldsNoText reply.now → IsOk result }

@@ -16,7 +16,7 @@ use radio_policy::{Action, Rule, Verdict, judge};
 use radio_values::{MountName, Shown};
 
 impl Control {
-    /// A client wants to feed a mount. `OutOfMemory` where memory was refused.
+    /// A client wants to feed a mount. `OutOfMemory` if memory was refused.
     pub(super) fn source(&self, asked: SourceRequest) -> Result<Outcome, OutOfMemory>
         ensures { IfOk result (λ o. o ≡ asks_to_feed self.now asked) }
     {

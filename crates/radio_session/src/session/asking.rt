@@ -22,7 +22,7 @@ const ICECAST_STATUS: &[u8] = b"/status-json.xsl";
 /// What the paths of commands begin with.
 const COMMANDS: &[u8] = b"/admin/";
 
-/// The event of a client who asks to feed the mount of its head's path. `OutOfMemory` where memory
+/// The event of a client who asks to feed the mount of its head's path. `OutOfMemory` if memory
 /// was refused.
 pub(crate) fn asks_to_feed(alloc: Global, id: u64, head: &Head) -> Result<Event, OutOfMemory>
     ensures { IfOk result (λ event. event ≡ asks_to_feed id head.now) }
@@ -115,7 +115,7 @@ fn host_for<'b>(path: &[u8], head: &Head<'b>) -> &'b [u8]
     }
 }
 
-/// The event of a client who gives the command of this path. `OutOfMemory` where memory was refused.
+/// The event of a client who gives the command of this path. `OutOfMemory` if memory was refused.
 fn gives_command(
     alloc: Global,
     web: WebAnswers,
@@ -155,7 +155,7 @@ fn path_in(alloc: Global, head: &Head) -> Result<Bytes, OutOfMemory>
     Bytes::copy_from_slice(alloc, path.as_slice())
 }
 
-/// The query behind it; where there is none, an empty one.
+/// The query behind it; if there is none, an empty one.
 fn query_in<'b>(head: &Head<'b>) -> &'b [u8]
     ensures { result.now ≡ query_in head.now }
 {
@@ -166,7 +166,7 @@ fn query_in<'b>(head: &Head<'b>) -> &'b [u8]
 }
 
 /// The user and the password that a head sends, if its `Authorization` has them (RFC 7617).
-/// `OutOfMemory` where memory was refused.
+/// `OutOfMemory` if memory was refused.
 fn pair_of(alloc: Global, head: &Head) -> Result<Option<Pair>, OutOfMemory>
     ensures { IfOk result (λ pair. pair ≡ pair_of head.now) }
 {
@@ -212,7 +212,7 @@ fn wants_metadata(head: &Head) -> bool
     is_word(head.value("Icy-MetaData"), b"1")
 }
 
-/// The value of a header, or the other where there is no such header; an empty value is one.
+/// The value of a header, or the other if there is no such header; an empty value is one.
 fn value_or<'b>(other: &'static [u8], name: &str, head: &Head<'b>) -> &'b [u8]
     ensures { result.now ≡ value_or other.now name.now head.now }
 {

@@ -11,7 +11,7 @@ use radio_events::{Asked, Command, Listing, OpenedBy};
 use radio_values::{MountName, Title};
 use std::alloc::{AllocError, Global};
 
-/// What a decoded path, and the query behind it, ask for. `OutOfMemory` where memory was
+/// What a decoded path, and the query behind it, ask for. `OutOfMemory` if memory was
 /// refused.
 pub(super) fn asked_in(alloc: Global, path: &[u8], query: &[u8]) -> Result<Asked, OutOfMemory>
     ensures { IfOk result (λ asked. asked ≡ asked_in path.now query.now) }
@@ -24,7 +24,7 @@ pub(super) fn asked_in(alloc: Global, path: &[u8], query: &[u8]) -> Result<Asked
     }
 }
 
-/// What a command that was read asks for. `OutOfMemory` where memory was refused.
+/// What a command that was read asks for. `OutOfMemory` if memory was refused.
 fn asked_with(alloc: Global, command: &Read) -> Result<Asked, OutOfMemory>
     ensures { IfOk result (λ asked. asked ≡ asked_with command.now) }
 {

@@ -39,7 +39,7 @@ impl Model for KeptBody {
 }
 
 impl KeptBody {
-    /// It is kept from now on. `OutOfMemory` where memory was refused.
+    /// It is kept from now on. `OutOfMemory` if memory was refused.
     pub(super) fn new(alloc: Global, body: Body) -> Result<KeptBody, OutOfMemory>
         ensures { IfOk result (λ kept. kept ≡ body) }
     {
@@ -49,7 +49,7 @@ impl KeptBody {
     }
 
     /// Feeds it what comes next, and answers its data in blocks, and how it closes the connection,
-    /// if it does. `OutOfMemory` where memory was refused.
+    /// if it does. `OutOfMemory` if memory was refused.
     pub(super) fn read(
         &mut self,
         alloc: Global,
@@ -65,7 +65,7 @@ impl KeptBody {
 }
 
 /// Feeds a body what comes next, and answers its data in blocks, and how it closes the connection,
-/// if it does. `OutOfMemory` where memory was refused.
+/// if it does. `OutOfMemory` if memory was refused.
 fn read(
     alloc: Global,
     body: &mut Body,
@@ -121,7 +121,7 @@ fn faulty(fault: BodyFault) -> Result<LastWord, OutOfMemory>
     }
 }
 
-/// Appends an event for each block of a source's data. `OutOfMemory` where memory was refused; some
+/// Appends an event for each block of a source's data. `OutOfMemory` if memory was refused; some
 /// of the events may have been appended then.
 pub(super) fn push_blocks(
     id: u64,

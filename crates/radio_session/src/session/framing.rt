@@ -46,7 +46,7 @@ fn is_put(head: &Head) -> bool
     head.method() == b"PUT".as_slice()
 }
 
-/// How the data come behind the head of a source; `None` where its headers do not say it as they
+/// How the data come behind the head of a source; `None` if its headers do not say it as they
 /// should.
 pub(super) fn framing_of(head: &Head) -> Option<Framing>
     ensures { result ≡ framing_of head.now }

@@ -35,7 +35,7 @@ pub(super) fn text_of(title: &Option<Title>) -> Option<&[u8]>
 }
 
 /// Appends data that were drawn while their mount had this title, with the metadata that are due
-/// between them. `OutOfMemory` where memory was refused: nothing was appended then.
+/// between them. `OutOfMemory` if memory was refused: nothing was appended then.
 pub(super) fn tell_draw(
     weaver: &mut Option<Weaver>,
     pieces: &Pieces,
