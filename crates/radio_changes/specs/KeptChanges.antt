@@ -10,7 +10,7 @@ use Rattle.radio_house.specs.World.{World}
 abbrev pub kept_taken_in : World → List ℕ → List ℕ → World
 kept_taken_in w mount block = laggards_ended (record w { house = kept_received w.house mount block }) mount
 
--- only where a block is received does a change forget anything
+-- only if a block is received does a change forget anything
 -- rule: Kept stream
 abbrev pub kept_changed : World → Change → World
 kept_changed w (Receive mount block) = kept_taken_in w mount block

@@ -34,7 +34,7 @@ pub record IsUnwritten (c c' : Connection) : Type 0 where
   pub has_taken : c'.status.has_taken ≡ c.status.has_taken
   pub finished : c'.status.is_finished ≡ c.status.is_finished
 
--- its line was not called; it is not closed, and cut off only where memory was refused
+-- its line was not called; it is not closed, and cut off only if memory was refused
 pub record IsSpared (c c' : Connection) : Type 0 where
   pub calls : c'.calls ≡ c.calls
   pub given : c'.given ≡ c.given

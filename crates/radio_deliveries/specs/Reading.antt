@@ -30,12 +30,12 @@ ReadsLine old new (Err OutOfMemory) line =
     (part : List ℕ) × Consumes old new part × (has_feed part ≡ false)
 ReadsLine old new (Err fault) line = ⊥
 
--- the reader's failures once more only where the fault is the reader's
+-- the reader's failures once more only if the fault is the reader's
 abbrev pub reader_failures : {A : Type 0} → Result A PlayFault → ℕ → ℕ
 reader_failures (Err Read) n = bumped n
 reader_failures result n = n
 
--- the writer's failures once more only where the fault is the writer's
+-- the writer's failures once more only if the fault is the writer's
 abbrev pub writer_failures : {A : Type 0} → Result A PlayFault → ℕ → ℕ
 writer_failures (Err Write) n = bumped n
 writer_failures result n = n

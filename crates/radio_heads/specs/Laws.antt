@@ -57,7 +57,7 @@ ResponsesAreFound =
 abbrev pub read_back : List ℕ × List ℕ → List ℕ × List ℕ
 read_back header = (header.0, trim_ows header.1)
 
--- a header that stands only where its value is not empty
+-- a header that stands only if its value is not empty
 abbrev pub shown_header : List ℕ → List ℕ → List (List ℕ × List ℕ)
 shown_header name [] = []
 shown_header name (b ∷ value) = (name, b ∷ value) ∷ []

@@ -45,7 +45,7 @@ flag_or key table default = unwrap_or (option_and_then as_bool (value_at key tab
 unfoldable pub table_at : Key → Members → Option Members
 table_at key document = option_and_then as_table (value_at key document)
 
--- the table of a name; the empty one, where there is none
+-- the table of a name; the empty one, if there is none
 unfoldable pub table_or_empty : Key → Members → Members
 table_or_empty key document = unwrap_or (table_at key document) no_members
 
@@ -58,6 +58,6 @@ tables_of (item d ds) = option_and_then (λ table. option_map (λ tables. table 
 unfoldable pub list_at : Key → Members → Option (List Members)
 list_at key document = option_and_then tables_of (option_and_then as_array (value_at key document))
 
--- the tables of a list; none, where there is no list
+-- the tables of a list; none, if there is no list
 unfoldable pub tables_at : Key → Members → List Members
 tables_at key document = unwrap_or (list_at key document) []

@@ -17,7 +17,7 @@ pub record IsFedOnDemand (settings : Settings) (mount : List ℕ) : Type 0 where
   pub its_mount : relay.local_mount ≡ mount
   pub on_demand : relay.on_demand ≡ true
 
--- a mount without a session waits for one only where a relay feeds it on demand, and does wait where all do that feed it
+-- a mount without a session waits for one only if a relay feeds it on demand, and does wait where all do that feed it
 -- rule: Waiting mount
 pub record WaitsOnDemand (settings : Settings) (mount : List ℕ) : Type 0 where
   pub only : is_on_demand settings mount ≡ true → IsFedOnDemand settings mount

@@ -7,7 +7,7 @@ use Rattle.radio_tables.specs.Lists.{update_first}
 use Rattle.radio_parts.specs.Sessions.{Session, is_of, longer}
 use Rattle.radio_parts.specs.Stream.{WholeStream, end_of}
 
--- where the first of these blocks starts; where there is none, the end, where the next one will
+-- where the first of these blocks starts; if there is none, the end, where the next one will
 abbrev pub first_start : ℕ → List ℕ → ℕ
 first_start end [] = end
 first_start end (start ∷ starts) = start

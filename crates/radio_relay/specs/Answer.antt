@@ -10,7 +10,7 @@ use Rattle.radio_texts.specs.Numbers.{number_of}
 use Rattle.radio_relay.specs.declared.fault.PullFault.{PullFault}
 use Rattle.radio_relay.specs.declared.fault.PullFault.TheVariants.{Status, BadHead, BadMetaint}
 
--- the value of a header, or the other where there is no such header; an empty value is one
+-- the value of a header, or the other if there is no such header; an empty value is one
 abbrev pub value_or : List ℕ → List ℕ → ResponseParts → List ℕ
 value_or other name head = unwrap_or (value_of name head.headers) other
 

@@ -2,7 +2,7 @@
 use Rattle.std.specs.Prelude.{ℕ, ◌+◌, ◌≡◌, ◌⊎◌, List, [], ◌∷◌, ◌++◌, Option, None, Some}
 use Rattle.radio_deliveries.specs.declared.delivery.Delivery.{Delivery}
 
--- What performers do: from one performer, a delivery comes to a text, or to None where its label
+-- What performers do: from one performer, a delivery comes to a text, or to None if its label
 -- is at fault, and to the next performer.
 abbrev pub Conduct : Type 0 → Type 1
 Conduct P = P → Delivery → Option (List ℕ) → P → Type 0

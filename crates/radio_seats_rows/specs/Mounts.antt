@@ -19,7 +19,7 @@ abbrev pub name_of : Option Mount → List ℕ
 name_of None = []
 name_of (Some mount) = mount.name
 
--- the name of the mount of this number; the empty one, which names no mount, where there is none
+-- the name of the mount of this number; the empty one, which names no mount, if there is none
 abbrev pub name_in : List Mount → ℕ → List ℕ
 name_in mounts number = name_of (find (is_numbered number) mounts)
 

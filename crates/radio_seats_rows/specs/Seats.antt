@@ -174,6 +174,6 @@ others_of seats (Some own) = without_listener seats own
 abbrev pub sits_at : List Listener → ℕ → List ℕ → Bool
 sits_at seats id mount = option_map_or (λ seat. bytes_eq seat.mount mount) (seat_of seats id) false
 
--- the least number past the last one, or of all where there is no last one
+-- the least number past the last one, or of all if there is no last one
 abbrev pub next_number : List Listener → Option ℕ → Option ℕ
 next_number seats last = option_map (λ listener. listener.id) (find (λ listener. is_past nat_cmp last listener.id) seats)

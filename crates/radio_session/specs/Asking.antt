@@ -28,7 +28,7 @@ use Rattle.radio_events.specs.declared.event.PageVisit.{PageVisit}
 abbrev pub pair_of : RequestParts → Option Credentials
 pair_of request = option_and_then basic_pair (value_of (codes "Authorization") request.headers)
 
--- the value of a header, or the other where there is no such header; an empty value is one
+-- the value of a header, or the other if there is no such header; an empty value is one
 abbrev pub value_or : List ℕ → List ℕ → RequestParts → List ℕ
 value_or other name request = unwrap_or (value_of name request.headers) other
 
@@ -63,7 +63,7 @@ wants_metadata request = is_word (codes "1") (value_of (codes "Icy-MetaData") re
 abbrev pub path_in : RequestParts → List ℕ
 path_in request = percent_decode request.path
 
--- the query behind it; where there is none, an empty one
+-- the query behind it; if there is none, an empty one
 abbrev pub query_in : RequestParts → List ℕ
 query_in request = unwrap_or request.query []
 

@@ -24,7 +24,7 @@ abbrev pub settings_status : SettingsFault → ℕ
 settings_status NoMemoryForSettings = 1
 settings_status fault = 3
 
--- 3 for what a file is, 1 where memory was refused
+-- 3 for what a file is, 1 if memory was refused
 -- rule: Fault of a call
 abbrev pub file_status : FileFault → ℕ
 file_status (CannotRead path error) = 3
@@ -33,7 +33,7 @@ file_status (NotToml misreading) = 3
 file_status (Settings fault at) = settings_status fault
 file_status OutOfMemory = 1
 
--- the path of the file that is at fault, that of the settings among them; empty where memory was refused
+-- the path of the file that is at fault, that of the settings among them; empty if memory was refused
 abbrev pub file_in : FileFault → List ℕ → List ℕ
 file_in (CannotRead path error) settings = string_bytes path
 file_in (Line path line) settings = string_bytes path
