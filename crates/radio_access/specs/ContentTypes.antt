@@ -14,7 +14,7 @@ refused_types =
     codes "audio/webm" ∷ codes "video/webm" ∷
     codes "audio/x-matroska" ∷ codes "video/x-matroska" ∷ codes "video/x-matroska-3d" ∷ []
 
--- the type and the subtype: what stands before the first `;`, without blanks at its ends
+-- the type and the subtype: what is before the first `;`, without blanks at its ends
 abbrev pub media_type : List ℕ → List ℕ
 media_type text = without_blanks (option_map_or (λ parts. parts.0) (cut 59 text) text)
 

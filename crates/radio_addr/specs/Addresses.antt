@@ -23,7 +23,7 @@ quad_of text =
 abbrev pub number_of_groups : List ℕ → ℕ
 number_of_groups groups = fold (λ n group. n * 65536 + group) 0 groups
 
--- the groups of the last field: one, or two where a dotted quad may stand
+-- the groups of the last field: one, or two where a dotted quad may be
 unfoldable pub last_groups : Bool → List ℕ → Option (List ℕ)
 last_groups with_quad field =
     option_or (option_map (λ group. group ∷ []) (group_of field))
@@ -45,7 +45,7 @@ groups_of with_quad (b ∷ text) = groups_in with_quad (fields_at 58 (b ∷ text
 abbrev pub whole_address : List ℕ → Option ℕ
 whole_address groups = if length groups == 8 then Some (number_of_groups groups) else None
 
--- the address where `::` stands for at least one group between these
+-- the address if `::` replaces at least one group between these
 abbrev pub shortened_address : List ℕ → List ℕ → Option ℕ
 shortened_address front back =
     if nat_lt (length front + length back) 8

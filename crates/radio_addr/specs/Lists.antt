@@ -26,7 +26,7 @@ width_of (V6 n) = 128
 abbrev pub range_from : Address → ℕ → AddressRange
 range_from address bits = record { address = address; bits = bits }
 
--- an address alone stands for itself: all its bits count
+-- an address alone is a range of one: all its bits count
 abbrev pub whole_range : Address → AddressRange
 whole_range address = range_from address (width_of address)
 
@@ -90,7 +90,7 @@ is_in range peer = agrees range.bits range.address peer
 abbrev pub is_listed : List AddressRange → Address → Bool
 is_listed ranges peer = list_any (λ range. is_in range peer) ranges
 
--- what a fault of a list tells
+-- what a fault of a list says
 abbrev pub Explains : Result (List AddressRange) ℕ → ListFault → Type 0
 Explains list (LineFault line) = list ≡ Err line
 Explains list OutOfMemory = Unit {0}

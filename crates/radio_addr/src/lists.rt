@@ -91,7 +91,7 @@ impl AddressList {
     }
 }
 
-/// Adds what a line lists; so many lines stand before it.
+/// Adds what a line lists; so many lines come before it.
 fn add_line(ranges: &mut Vec<AddressRange>, line: &[u8], passed: usize) -> Result<(), ListFault>
     requires { passed + length line.now < 2 ^ 64 }
     ensures ok { OnOk result (AddsLine ranges.old.items passed line.now ranges.new.items) }

@@ -8,7 +8,7 @@ use Rattle.form_urlencoded.specs.Form.{decode, raw_pairs}
 use Rattle.radio_values.specs.MountName.{is_mount_name}
 use Rattle.radio_texts.specs.Numbers.{number_of}
 
--- the text that an encoded name or value stands for: `+` is a space, escapes are decoded, what is no UTF-8 is U+FFFD
+-- the text of an encoded name or value: `+` is a space, escapes are decoded, what is no UTF-8 is U+FFFD
 unfoldable pub text_of : List ℕ → List ℕ
 text_of bytes = utf8_lossy (decode bytes)
 
@@ -69,7 +69,7 @@ title_in query =
     else None)
     (argument (codes "mode") query)
 
--- the name of a user, as it stands in a file of users: 1 to 255 bytes, of which none is a colon or a line end, and the first is no `#`
+-- the name of a user, as a file of users has it: 1 to 255 bytes, of which none is a colon or a line end, and the first is no `#`
 abbrev pub is_user_name : List ℕ → Bool
 is_user_name text =
     nat_lt 0 (length text) && nat_lt (length text) 256 && not (slice_index text 0 == 35)

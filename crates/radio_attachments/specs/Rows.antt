@@ -24,7 +24,7 @@ comes_before one other = nat_lt (lot_of one) (lot_of other) || (lot_of one == lo
 abbrev pub IsBefore : Attachment → Attachment → Type 0
 IsBefore one other = comes_before one.id other.id ≡ true
 
--- each stands before all that come later
+-- each is before all that come later
 abbrev pub AreInOrder : List Attachment → Type 0
 AreInOrder [] = Unit {0}
 AreInOrder (row ∷ rows) = Each (IsBefore row) rows × AreInOrder rows
@@ -41,7 +41,7 @@ pub record Forked : Type 0 where
   pub less : List Attachment
   pub more : List Attachment
 
--- what becomes of the attachment that was found: its place is visited, and another stands there
+-- what becomes of the attachment that was found: its place is visited, and another takes its place
 abbrev pub FoundIsVisited : {V A : Type 0} → (V → ℕ → A → V → ℕ → Type 0) → ℕ → V → List Attachment → Option A → V → List Attachment → Option Attachment → Type 0
 FoundIsVisited Visits id visitor rows answer visitor' rows' None = (answer ≡ None) × (visitor' ≡ visitor) × (rows' ≡ rows)
 FoundIsVisited {A = A} Visits id visitor rows answer visitor' rows' (Some row) =

@@ -62,11 +62,11 @@ abbrev pub laggards_ended : World → List ℕ → World
 laggards_ended w mount =
     record w { seats = with_ended w.seats (lags_behind mount (live_end w.house mount) w.house.settings.limits.queue_size) Lagged }
 
--- what stands at the mount, with all listeners lent to it
+-- what is at the mount, with all listeners lent to it
 abbrev pub part_at : World → List ℕ → Part
 part_at w mount = record { mount = mount; session = session_of w.house.live mount; listeners = w.seats }
 
--- the state with this in the place of what stands at its mount
+-- the state with this in the place of what is at its mount
 abbrev pub with_part : World → Part → World
 with_part w p = record { house = record w.house { live = with_its_session w.house.live p }; seats = p.listeners }
 

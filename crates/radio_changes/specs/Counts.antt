@@ -34,15 +34,16 @@ counts_home w mount = (if (options_for w.house.settings mount).listeners.fallbac
 abbrev pub counts_out : World → List ℕ → Carried
 counts_out w mount = record { moved = 0; ended = how_many (is_shut_out w.house.lists mount) w.seats }
 
--- how many a command moves, or finishes since the users of their mount have changed; what else it brings is told to nobody and not counted
+-- how many a command moves, or finishes since the users of their mount have changed; what else it brings is not counted, and no reply
+-- names it
 abbrev pub counts_by : World → Command → Carried
 counts_by w (MoveClients mount destination) = counts_along w (To mount destination)
 counts_by w (AddUser mount user password) = counts_out (user_added w mount user password) mount
 counts_by w (DeleteUser mount user) = counts_out (user_deleted w mount user) mount
 counts_by w command = nobody
 
--- how many the move shifts and finishes that the change is, or brings; the moves of a clock, of which there may be several, are told to nobody and not
--- counted
+-- how many the move shifts and finishes that the change is, or brings. The moves of a clock, of which there may be several, are not counted, and no
+-- reply names them
 abbrev pub counted : World → Change → Carried
 counted w (Begin id mount shown) = counts_home (session_begun w id mount shown) mount
 counted w (Raise id mount shown) = counts_home (session_raised w id mount shown) mount

@@ -50,8 +50,8 @@ pub fn seats_are_their_listeners()
 // rule: Client states; Relay ended before
 pub fn clients_stand_by_their_events()
     // after any events, a client's standing changes only for one of these causes. It arrives, is denied what it asks
-    // for, comes to the end of its data, or leaves. It begins to feed or to listen, or gives a command, as the policy
-    // allows. Or it is finished by a rule that holds then
+    // for, leaves, or its data end. It begins to feed or to listen, or gives a command, as the policy allows. Or it
+    // is finished by a rule that holds then
     ensures steps { (settings : Settings) (lists : Lists) (events : List Event) (event : Event) → ClientsStep (run_after settings lists events) event }
     // it keeps the address from which it came, and the moment
     ensures arrivals { (settings : Settings) (lists : Lists) (events : List Event) (event : Event) → ArrivalsStay (run_after settings lists events) event }

@@ -22,12 +22,12 @@ pub record IsBasicPair (value : List ℕ) (pair : Credentials) : Type 0 where
   pub is_bytes : IsBytes (pair.user ++ colon ∷ pair.password)
   pub no_colon : ¬ Contains pair.user colon
 
--- what stands after the spaces at the front
+-- what follows the spaces at the front
 abbrev pub without_spaces : List ℕ → List ℕ
 without_spaces [] = []
 without_spaces (b ∷ text) = if b == space then without_spaces text else b ∷ text
 
--- what stands after the scheme and its spaces
+-- what follows the scheme and its spaces
 unfoldable pub basic_text : List ℕ → Option (List ℕ)
 basic_text value =
     if bytes_eq (map to_ascii_lowercase (take 5 value)) (codes "basic") && slice_index value 5 == space

@@ -17,7 +17,7 @@ ended_lines [] = []
 ended_lines (last ∷ []) = last ∷ []
 ended_lines (line ∷ next ∷ lines) = without_return line ∷ ended_lines (next ∷ lines)
 
--- the lines of a text: what stands between its line feeds
+-- the lines of a text: what is between its line feeds
 abbrev pub lines_of : List ℕ → List (List ℕ)
 lines_of text = ended_lines (fields_at 10 text)
 

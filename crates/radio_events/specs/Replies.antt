@@ -1,4 +1,5 @@
--- Replies that are copied without memory, those of which a source is told nothing, and those that end its connection by a rule.
+-- Replies that are copied without memory, those of which nothing is written to a source, and those that end its connection by a
+-- rule.
 use Rattle.radio_events.specs.declared.reply.Reply.{Reply}
 use Rattle.radio_events.specs.declared.reply.Reply.TheVariants.{Seated, Drawn, Noted, Text, Deny, Finished, Stray}
 use Rattle.radio_events.specs.Texts.{IsShort}
@@ -10,7 +11,7 @@ HoldsNoText (Drawn pieces title) = ⊥
 HoldsNoText (Text text) = IsShort text
 HoldsNoText reply = Unit {0}
 
--- nothing is told of it and the source goes on, or it ends by a rule
+-- nothing is written of it and the source goes on, or it ends by a rule
 abbrev pub IsQuiet : Reply → Type 0
 IsQuiet Noted = Unit {0}
 IsQuiet Stray = Unit {0}

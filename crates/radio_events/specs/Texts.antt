@@ -8,12 +8,12 @@ use Rattle.radio_events.specs.declared.text.ReplyText.TheVariants.{Done, Moved, 
 abbrev pub done_line : List ℕ
 done_line = codes "done\n"
 
--- a line that tells how many listeners went to another mount
+-- a line that says how many listeners went to another mount
 -- rule: Move clients
 abbrev pub moved_line : ℕ → List ℕ
 moved_line count = codes "moved: " ++ decimal count ++ codes "\n"
 
--- a line that tells how many listeners have finished
+-- a line that says how many listeners have finished
 abbrev pub ended_line : ℕ → List ℕ
 ended_line count = codes "ended: " ++ decimal count ++ codes "\n"
 

@@ -1,4 +1,4 @@
--- What a connection's events come to from a state of the server.
+-- The result of a connection's events from a state of the server.
 use Rattle.std.specs.Prelude.{◌≡◌, ℕ, if◌then◌else◌, List, [], ◌∷◌}
 use Rattle.radio_events.specs.declared.event.Event.{Event}
 use Rattle.radio_events.specs.declared.event.Event.TheVariants.{Leave}
@@ -23,14 +23,14 @@ abbrev pub then_exchanged : World → ℕ → Event → Said → State → World
 then_exchanged w id event told Running others = record { world = others.world; exchange = prefixed told.bytes others.exchange }
 then_exchanged w id event told (Shut ending) others = record { world = left_after w id event; exchange = ended_with told ending }
 
--- what the client's events come to from this state
+-- the result of the client's events from this state
 abbrev pub exchanged : World → ℕ → Says → List Event → WorldExchange
 exchanged w id says [] = record { world = w; exchange = nothing_exchanged says }
 exchanged w id says (event ∷ events) =
     let told = said says (reply_to w event) in
     then_exchanged (world_after w event) id event told told.state (exchanged (world_after w event) id told.says events)
 
--- the core stands for the state after, and this was exchanged
+-- the core represents the state after, and this was exchanged
 pub record ExchangesAs (core' : World) (x : Exchange) (of : WorldExchange) : Type 0 where
   pub stands : Represents core' of.world
   pub same : x ≡ of.exchange

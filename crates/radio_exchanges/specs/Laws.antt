@@ -9,16 +9,16 @@ use Rattle.radio_session.specs.Exchanges.{Exchange, Exchanges}
 use Rattle.radio_session.specs.Told.{told}
 use Rattle.radio_exchanges.specs.Exchanges.{ExchangesAs, exchanged, replies_to}
 
--- What a connection's events come to over a core is what they come to from any state that it stands for.
+-- A connection's events have the same result over a core as from any state that it represents.
 abbrev pub CoresExchangeAsTheirStates : Type 0
 CoresExchangeAsTheirStates = (id : ℕ) (says : Says) (events : List Event) (core core' : World) (x : Exchange)
     → Exchanges core_steps id says events core x core' → (w : World) → Represents core w → ExchangesAs core' x (exchanged w id says events)
 
--- a core goes by the data of each of its sources
+-- a core's replies depend on the data of each of its sources
 abbrev pub CoresGoByData : Type 0
 CoresGoByData = (id : ℕ) → GoesByData core_steps id
 
--- What goes out for a connection's events is what is told of their replies.
+-- The bytes that are written for a connection's events are those of their replies.
 abbrev pub ExchangesTellReplies : Type 0
 ExchangesTellReplies = (w : World) (id : ℕ) (says : Says) (events : List Event) →
     (exchanged w id says events).exchange.bytes ≡ told says (replies_to w events)

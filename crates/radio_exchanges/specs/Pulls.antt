@@ -7,16 +7,17 @@ use Rattle.radio_events.specs.declared.state.State.{State}
 use Rattle.radio_pull.specs.Pulling.{Pulling, Standing}
 use Rattle.radio_pull.specs.Course.{AsksIf, GoesDown, Takes}
 
--- Whatever state the core stood for, the same comes about from that, and the core stands for the state after it.
+-- Whatever state the core represented, the same comes about from that, and the core represents the state after
+-- it.
 abbrev pub AsItsState : (core core' : World) → (World → World → Type 0) → Type 0
 AsItsState core core' Comes = (w : World) → Represents core w → (w' : World) × Represents core' w' × Comes w w'
 
--- the next bytes come to a pull over a core
+-- the next bytes arrive on a pull over a core
 abbrev pub CoresTakeAsTheirStates : Type 0
 CoresTakeAsTheirStates = (pulling pulling' : Pulling) (bytes : List ℕ) (state : State) (core core' : World)
     → Takes core_steps pulling bytes core pulling' state core' → AsItsState core core' (λ w w'. Takes Step pulling bytes w pulling' state w')
 
--- an event that a relay asks for comes to a core
+-- an event that a relay asks for is applied to a core
 abbrev pub CoresAskAsTheirStates : Type 0
 CoresAskAsTheirStates = (number : Option ℕ) (event : Option Event) (after : Standing) (core core' : World) → AsksIf core_steps number event core after core'
     → AsItsState core core' (λ w w'. AsksIf Step number event w after w')
@@ -26,7 +27,7 @@ abbrev pub CoresGoDownAsTheirStates : Type 0
 CoresGoDownAsTheirStates = (number : Option ℕ) (core core' : World) → GoesDown core_steps number core core'
     → AsItsState core core' (λ w w'. GoesDown Step number w w')
 
--- bytes that come to a pull come to one thing
+-- bytes that arrive on a pull have one result
 abbrev pub TakingIsOne : Type 0
 TakingIsOne = (pulling one other : Pulling) (bytes : List ℕ) (ends stops : State) (w w1 w2 : World) → Takes Step pulling bytes w one ends w1
     → Takes Step pulling bytes w other stops w2 → (one ≡ other) × (ends ≡ stops) × (w1 ≡ w2)

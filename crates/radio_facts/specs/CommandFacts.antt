@@ -102,7 +102,7 @@ facts_asked w (MissingArgument by) pair = Some (facts_for w by Argument pair)
 facts_asked w (AsksFor listing) pair = Some (facts_to_list w listing pair)
 facts_asked w (Asks command) pair = Some (facts_for w (opened_by command) (needs_of w command) pair)
 
--- the policy's rows for it, as things stand
+-- the policy's rows for it, in this state
 -- rule: Order for a command
 abbrev pub rows_to_command : World → CommandRequest → List Row
 rows_to_command w asked = command_rows (facts_asked w asked.asked asked.pair)

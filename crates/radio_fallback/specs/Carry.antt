@@ -44,7 +44,7 @@ abbrev pub turn_in : Sight → List Listener → Move → Option Seat → MoveEf
 turn_in sight others move None = Stays
 turn_in sight others move (Some seat) = (if concerns move seat.mount seat.home then turn_by sight others seat.pair move else Stays)
 
--- its turn, as things stand; its own seat does not count against it
+-- its turn in this state; its own seat does not count against it
 -- rule: Move clients
 abbrev pub turn_of : Sight → Move → List Listener → ℕ → MoveEffect
 turn_of sight move seats id = turn_in sight (without_listener seats id) move (seat_of seats id)

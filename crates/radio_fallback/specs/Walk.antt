@@ -96,7 +96,7 @@ landing_here sight others pair mount = landing_at mount (stop_of (found_at sight
 abbrev pub hands_on : Sight → List Listener → List ℕ → Bool
 hands_on sight others mount = not (sight.is_live mount) || is_full_for sight others mount && sight.hands_on_when_full mount
 
--- it hands on to its fallback, if it has one
+-- it goes on to its fallback, if it has one
 abbrev pub next_mount : Sight → List Listener → List ℕ → Option (List ℕ)
 next_mount sight others mount = (if hands_on sight others mount then sight.fallback mount else None)
 

@@ -17,7 +17,7 @@ sandbox_lines sandboxed =
 abbrev pub added_lines : Additions → List ℕ
 added_lines additions = cache_lines additions.forbids_caching ++ sandbox_lines additions.is_sandboxed
 
--- the lines stand behind the first line of a text
+-- the lines are behind the first line of a text
 abbrev pub behind_first_line : List ℕ → List ℕ → List ℕ
 behind_first_line lines [] = lines
 behind_first_line lines (byte ∷ text) = if byte == 10 then byte ∷ lines ++ text else byte ∷ behind_first_line lines text

@@ -19,7 +19,7 @@ line text = text ++ crlf_bytes
 abbrev pub header_line : List ℕ → List ℕ → List ℕ
 header_line name value = line (name ++ codes ": " ++ value)
 
--- a header that stands only if its value is not empty
+-- a header that is there only if its value is not empty
 abbrev pub shown_line : List ℕ → List ℕ → List ℕ
 shown_line name [] = []
 shown_line name (b ∷ value) = header_line name (b ∷ value)

@@ -15,12 +15,12 @@ pub record RequestParts : Type 0 where
 abbrev pub is_question_mark : ℕ → Bool
 is_question_mark b = b == 63
 
--- what stands before the first question mark of the target, or all of it
+-- what is before the first question mark of the target, or all of it
 -- rule: Percent decoding
 abbrev pub path_of : List ℕ → List ℕ
 path_of target = before_first is_question_mark target
 
--- what stands after the first question mark of the target, where it has one
+-- what is after the first question mark of the target, if it has one
 abbrev pub query_of : List ℕ → Option (List ℕ)
 query_of target = option_map (λ at. drop (at + 1) target) (position is_question_mark target)
 

@@ -1,4 +1,4 @@
--- The headers of a head, as names and values in the order in which they stand.
+-- The headers of a head, as names and values in their order.
 use Rattle.std.specs.Prelude.{ℕ, Bool, List, Option, codes, map, find, option_map, bytes_eq}
 use Rattle.std.specs.Char.{to_ascii_lowercase}
 

@@ -57,7 +57,7 @@ ResponsesAreFound =
 abbrev pub read_back : List ℕ × List ℕ → List ℕ × List ℕ
 read_back header = (header.0, trim_ows header.1)
 
--- a header that stands only if its value is not empty
+-- a header that is there only if its value is not empty
 abbrev pub shown_header : List ℕ → List ℕ → List (List ℕ × List ℕ)
 shown_header name [] = []
 shown_header name (b ∷ value) = (name, b ∷ value) ∷ []
@@ -152,7 +152,7 @@ ShortListenerIsReadBack =
     (w : Welcome) (more : List ℕ) → IsCleanWelcome w → IfSome w.interval (λ n. n < 2 ^ 32) → IsShortWelcome w
     → IsHead ShowsResponse (listener_text w ++ more) (listener_parts w) (length (listener_text w))
 
--- the head of an answer with a body is read back, and the body stands after it
+-- the head of an answer with a body is read back, and the body follows it
 abbrev pub IsReadBack : ℕ → List ℕ → List ℕ → Type 0
 IsReadBack status type body =
     (more : List ℕ) → length body < 2 ^ 64

@@ -10,7 +10,7 @@ is_text b = not (b == carriage_return) && not (b == line_feed)
 abbrev pub HasTextBefore : List ℕ → ℕ → Type 0
 HasTextBefore bytes place = (k : ℕ) × (k < place) × IsTrue (is_text (slice_index bytes k))
 
--- from start to end stands an empty line: LF, or CR LF
+-- from start to end there is an empty line: LF, or CR LF
 abbrev pub IsEmptyLine : List ℕ → ℕ → ℕ → Type 0
 IsEmptyLine bytes start end =
     ((slice_index bytes start ≡ line_feed) × (end ≡ start + 1))

@@ -15,7 +15,7 @@ atoms_of_item (Text text) = WholeText text.items ∷ []
 abbrev pub atoms_of : List Item → List Atom
 atoms_of items = flat_map atoms_of_item items
 
--- each item of sound has some, and no two stand side by side
+-- each item of sound has some, and no two are adjacent
 abbrev pub AreRuns : List Item → Type 0
 AreRuns [] = Unit {0}
 AreRuns (Text text ∷ items) = AreRuns items

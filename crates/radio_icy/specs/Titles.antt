@@ -3,13 +3,13 @@ use Rattle.std.specs.Prelude.{◌≡◌, ℕ, Bool, true, false, ◌&&◌, ◌||
 use Rattle.std.specs.List.{starts_with}
 use Rattle.std.specs.Option.{option_map}
 
--- a title ends where `';` stands, and after it the text's end or `StreamUrl=`
+-- a title ends at `';`, if the text's end or `StreamUrl=` follows
 unfoldable pub ends_title : List ℕ → Bool
 ends_title text =
     starts_with nat_eq text (codes "';")
     && (length (drop 2 text) == 0 || starts_with nat_eq (drop 2 text) (codes "StreamUrl="))
 
--- what stands before the first place where a title ends
+-- what is before the first place where a title ends
 abbrev pub before_title_end : List ℕ → Option (List ℕ)
 before_title_end [] = None
 before_title_end (b ∷ text) =
@@ -21,11 +21,11 @@ unfoldable pub title_of : List ℕ → Option (List ℕ)
 title_of text =
     if starts_with nat_eq text (codes "StreamTitle='") then before_title_end (drop 13 text) else None
 
--- `';StreamUrl=` stands nowhere in the title
+-- `';StreamUrl=` is nowhere in the title
 abbrev pub HasNoUrlInside : List ℕ → Type 0
 HasNoUrlInside title = (before after : List ℕ) → title ≡ before ++ (codes "';StreamUrl=" ++ after) → ⊥
 
--- The title stands in the text between `StreamTitle='` and a place where a title ends, and no title ends before it.
+-- The title is in the text between `StreamTitle='` and a place where a title ends, and no title ends before it.
 -- rule: Title of a block
 pub record IsTitleIn (text title : List ℕ) : Type 0 where
   pub rest : List ℕ

@@ -7,7 +7,7 @@ pub data Atom : Type 0 where
   SoundByte : ℕ → Atom
   WholeText : List ℕ → Atom
 
--- Where a reader of a woven stream stands. With no block begun, `left` bytes of sound come before the next length byte.
+-- The place of a reader in a woven stream. With no block begun, `left` bytes of sound come before the next length byte.
 -- With `held` bytes of a block's text and padding, `left` bytes more end it.
 pub record Unweaving : Type 0 where
   pub interval : ℕ

@@ -28,7 +28,7 @@ after_byte w title =
     then record w { place = w.place + 1 }
     else record w { place = 0; sent = sent_with (news_of title w.sent) w.sent }
 
--- what comes of a piece of sound while a stream has this title
+-- what is written for a piece of sound while a stream has this title
 -- rule: Metadata count
 abbrev pub woven : Weaving → Option (List ℕ) → List ℕ → List ℕ
 woven w title [] = []
@@ -45,7 +45,7 @@ pub record Call : Type 0 where
   pub sound : List ℕ
   pub title : Option (List ℕ)
 
--- what comes of a list of calls
+-- what is written for a list of calls
 abbrev pub woven_by_calls : Weaving → List Call → List ℕ
 woven_by_calls w [] = []
 woven_by_calls w (c ∷ calls) =

@@ -1,4 +1,4 @@
--- What comes of a try to accept a connection.
+-- The result of a try to accept a connection.
 use Rattle.std.specs.Prelude.{◌≡◌, ℕ, Bool, true, false, nat_lt, Option, None, Some, Result, Ok, Err, if◌then◌else◌}
 use Rattle.radio_intake.specs.declared.accepts.AcceptTry.TheVariants.{Accepted as IsAccepted, Failed as HasFailed, NoDescriptor as LacksDescriptor}
 use Rattle.radio_intake.specs.declared.entrance.AcceptFault.{AcceptFault}

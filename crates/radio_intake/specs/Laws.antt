@@ -20,7 +20,7 @@ failed_in_a_row ((ms, NoDescriptor) ∷ earlier) = failed_in_a_row earlier
 abbrev pub HundredFailuresEndIt : Type 0
 HundredFailuresEndIt = (tries : List (ℕ × AcceptTry)) → nat_lt (accepting_after tries).failed most_failed ≡ nat_lt (failed_in_a_row tries) 100
 
--- none is tried for a tenth of a second after one that came to nothing
+-- none is tried for a tenth of a second after one without a connection
 abbrev pub FailuresRest : Type 0
 FailuresRest = (earlier : List (ℕ × AcceptTry)) (ms : ℕ) → ms < 2 ^ 63
     → ((accepting_after ((ms, Failed) ∷ earlier)).not_before ≡ ms + 100) × ((accepting_after ((ms, NoDescriptor) ∷ earlier)).not_before ≡ ms + 100)

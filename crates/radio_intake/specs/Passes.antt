@@ -1,4 +1,4 @@
--- What a pass of an intake tells.
+-- What a pass of an intake says.
 use Rattle.std.specs.Prelude.{◌≡◌, ℕ, ◌+◌, ◌^◌, List, [], ◌∷◌, ◌++◌}
 use Rattle.atomic_table.specs.Seated.{TableId}
 
@@ -6,7 +6,7 @@ use Rattle.atomic_table.specs.Seated.{TableId}
 abbrev pub IntakeId : Type 0
 IntakeId = TableId
 
--- what a pass tells: of which intake it is, how many parts it has, and what was put and taken through it, in that order
+-- what a pass says: of which intake it is, how many parts it has, and what was put and taken through it, in that order
 pub record Told (L : Type 0) : Type 0 where
   pub intake : IntakeId
   pub parts : ℕ

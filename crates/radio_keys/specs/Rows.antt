@@ -16,7 +16,7 @@ pub data Kind : Type 0 where
   number : ℕ → ℕ → Kind
   flag : Kind
   mount_name : Kind
-  -- what may stand in `Access-Control-Allow-Origin`
+  -- the value of `Access-Control-Allow-Origin`
   origin : Kind
 
 -- whether a key must be there

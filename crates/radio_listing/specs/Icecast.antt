@@ -17,7 +17,7 @@ abbrev pub with_text : List ℕ → List ℕ → Members → Members
 with_text name [] ms = ms
 with_text name (b ∷ bytes) ms = put name (text (b ∷ bytes)) ms
 
--- the greatest bit rate that is told as a number
+-- the greatest bit rate that is written as a number
 abbrev pub max_bitrate : ℕ
 max_bitrate = 4294967295
 
@@ -43,7 +43,7 @@ with_about about ms =
     (with_text (codes "server_url") about.url
     (with_text (codes "server_description") about.description ms)))
 
--- what is told of each mount, at a server of this base URL
+-- what is said of each mount, at a server of this base URL
 abbrev pub mount_members : List ℕ → PublicRow → Members
 mount_members base row = members (
     (codes "genre", text row.genre)
@@ -64,7 +64,7 @@ one_or_list [] = list []
 one_or_list (value ∷ []) = value
 one_or_list (value ∷ next ∷ values) = list (value ∷ next ∷ values)
 
--- what is told of each server
+-- what is said of each server
 abbrev pub server_members : ListedServer → List MountRow → Members
 server_members server rows = members (
     (codes "server_id", text server.name)

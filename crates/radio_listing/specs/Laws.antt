@@ -33,7 +33,7 @@ mounts_named shown = option_map names_of (option_and_then as_array (get (codes "
 abbrev pub shown_names : List MountRow → Option (List (Option (List ℕ)))
 shown_names rows = Some (map (λ (row : PublicRow). Some (utf8_lossy row.mount)) (rows_shown rows))
 
--- the sources that an answer of Icecast tells: the one, or those of the list
+-- the sources of an answer of Icecast: the one, or those of the list
 abbrev pub sources_in : Data → Items
 sources_in source = unwrap_or (as_array source) (item source no_items)
 

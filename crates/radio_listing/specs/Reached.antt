@@ -14,11 +14,11 @@ host_in text = take 255 (filter is_host_byte text)
 abbrev pub has_colon : List ℕ → Bool
 has_colon address = list_any (λ b. b == 58) address
 
--- an address of IPv6, which has colons, stands in brackets
+-- an address of IPv6, which has colons, is put in brackets
 abbrev pub bracketed : List ℕ → List ℕ
 bracketed address = if has_colon address then codes "[" ++ address ++ codes "]" else address
 
--- the address and the port where the server was told to listen
+-- the address and the port of the settings
 abbrev pub own_host : List ℕ → ℕ → List ℕ
 own_host address port = bracketed (host_in address) ++ codes ":" ++ decimal port
 
@@ -27,7 +27,7 @@ abbrev pub host_or : List ℕ → List ℕ → List ℕ
 host_or [] own = own
 host_or (b ∷ host) own = b ∷ host
 
--- what stands before a mount's name in its URL
+-- what comes before a mount's name in its URL
 -- rule: Address of a stream
 unfoldable pub base_url : List ℕ → List ℕ → ℕ → List ℕ
 base_url host address port = codes "http://" ++ host_or (host_in host) (own_host address port)

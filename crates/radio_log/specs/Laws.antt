@@ -56,12 +56,12 @@ IsNote note = IsMoment note.moment × IsFact note.fact
 abbrev pub IsPrintable : ℕ → Type 0
 IsPrintable b = (32 ≤ b) × (b ≤ 126)
 
--- a word of a line as a field: cut at its first `=`, and what stands behind it decoded
+-- a word of a line as a field: cut at its first `=`, and what is behind it decoded
 abbrev pub read_word : List ℕ → Option Field
 read_word text = option_map (λ parts. (parts.0, percent_decode parts.1)) (cut 61 text)
 
--- how a line is read, whatever stands behind it: it ends at the first LF, its words are parted by single spaces, and each word behind
--- the second is a field
+-- how a line is read, whatever follows it: it ends at the first LF, its words are parted by single spaces, and each word behind the
+-- second is a field
 pub record IsReadBack (note : Note) : Type 0 where
   pub ends : (rest : List ℕ) → cut 10 (line note ++ rest) ≡ Some (body note, rest)
   pub words : fields_at 32 (body note) ≡ moment_text note.moment ∷ kind_of note.fact ∷ map word (fields_of note.fact)

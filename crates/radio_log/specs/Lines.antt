@@ -20,7 +20,7 @@ Field = List ℕ × List ℕ
 unfoldable pub word : Field → List ℕ
 word field = field.0 ++ codes "=" ++ shown field.1
 
--- the first word that a fact is told in
+-- the first word of a fact
 abbrev pub kind_of : Fact → List ℕ
 kind_of (Started version address) = codes "started"
 kind_of (Ended why) = codes "ended"
@@ -49,7 +49,7 @@ outcome_fields c =
     (codes "status", decimal c.status) ∷ (codes "why", c.why) ∷ (codes "user", c.user)
     ∷ (codes "seconds", decimal c.seconds) ∷ (codes "bytes", decimal c.bytes) ∷ (codes "agent", c.agent) ∷ []
 
--- where a key of the settings stands, and what may have been meant
+-- where a key of the settings is, and what may have been meant
 abbrev pub place_fields : KeyPlace → List Field
 place_fields k =
     (codes "table", k.table) ∷ (codes "line", decimal k.line) ∷ (codes "did-you-mean", k.did_you_mean)
@@ -103,7 +103,7 @@ spaced text = codes " " ++ text
 abbrev pub fields_text : List Field → List ℕ
 fields_text fields = flat_map (λ (field : Field). spaced (word field)) fields
 
--- what is told of a fact: its word and its fields
+-- what is written of a fact: its word and its fields
 abbrev pub told : Fact → List ℕ
 told fact = spaced (kind_of fact) ++ fields_text (fields_of fact)
 

@@ -1,9 +1,9 @@
--- How the bytes of a value stand in a line.
+-- How the bytes of a value are written in a line.
 use Rattle.std.specs.Prelude.{ℕ, Bool, ◌&&◌, nat_le, ◌==◌, not, List, [], ◌∷◌, if◌then◌else◌}
 use Rattle.std.specs.List.{flat_map}
 use Rattle.percent_encoding.specs.Percent.{percent_encode_byte}
 
--- a byte that stands for itself: a letter, a digit or a sign of ASCII, but for `%`
+-- a byte that is written as it is: a letter, a digit or a sign of ASCII, but for `%`
 abbrev pub is_plain : ℕ → Bool
 is_plain b = nat_le 33 b && nat_le b 126 && not (b == 37)
 

@@ -45,7 +45,7 @@ pub struct MountPull<L: Line> {
     relay: RelayPull,
     asking: Asking,
     line: L,
-    /// What has come of the answer, as far as a head may reach.
+    /// The answer so far, as far as a head may reach.
     front: Vec<u8>,
 }
 

@@ -46,7 +46,7 @@ grant_of grants id = option_map (λ (grant : Grant). grant.place) (find (is_of_c
 abbrev pub without_grant : ℕ → List Grant → List Grant
 without_grant id grants = filter (λ grant. not (is_of_client id grant)) grants
 
--- a client has the grant that stands at this place
+-- a client has the grant of this place
 abbrev pub granted : ℕ → ℕ → Grant
 granted id place = record { id = id; place = place }
 
@@ -98,7 +98,7 @@ abbrev pub played_all : ℕ → List ℕ → ByList → List MountItem → ByLis
 played_all queue mount s [] = s
 played_all queue mount s (item ∷ items) = played_all queue mount (played queue mount s item) items
 
--- An item may stand here: a client that is attached has no grant yet, one that is detached has this, and an own entry is of a client that has it, with
+-- An item may be here: a client that is attached has no grant yet, one that is detached has this, and an own entry is of a client that has it, with
 -- the part's own reply.
 abbrev pub May : List ℕ → ByList → MountItem → Type 0
 May mount s (Attach id attached) = grant_of s.grants id ≡ None
@@ -107,7 +107,7 @@ May mount s (Own grant moment entry) = ((id : ℕ) × (client_in entry.event ≡
     × (part_answers (part_of mount s.session s.attachments) entry.event ≡ Replied entry.reply)
 May mount s (Titled title) = Unit {0}
 
--- each item may stand where it does
+-- each item may be where it is
 abbrev pub Replays : ℕ → List ℕ → ByList → List MountItem → Type 0
 Replays queue mount s [] = Unit {0}
 Replays queue mount s (item ∷ items) = May mount s item × Replays queue mount (played queue mount s item) items

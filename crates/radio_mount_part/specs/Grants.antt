@@ -8,7 +8,7 @@ use Rattle.radio_mount_part.specs.declared.item.Attaching.{Attaching}
 use Rattle.radio_mount_part.specs.declared.item.MountItem.{MountItem}
 use Rattle.radio_mount_part.specs.declared.item.MountItem.TheVariants.{Attach, Detach, Own}
 
--- the client has had the grant since its Attach, which stands before this place, and up to there it is not over
+-- the client has had the grant since its Attach, which is before this place, and up to there it is not over
 pub record HasGrant (items : List MountItem) (before grant id : ℕ) : Type 0 where
   pub place : ℕ
   pub attached : Attaching

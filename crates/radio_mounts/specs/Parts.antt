@@ -41,7 +41,8 @@ IsDelivered limit block moment part answer part' =
 abbrev pub attached_in : List MountPart → List MountAttachments
 attached_in parts = map attached_to parts
 
--- what goes by mounts: the sessions of those that are live, in the order of their names, and who is attached to each
+-- what is kept by mount: the sessions of those that are live, in the order of their names, and who is attached to
+-- each
 pub record ByMount : Type 0 where
   pub live : List Session
   pub attached : List MountAttachments

@@ -3,7 +3,7 @@ use Rattle.std.specs.Prelude.{ℕ, List, [], ◌∷◌, ◌+◌, ◌-◌, ◌==�
 use Rattle.radio_outlet.specs.declared.batch.LinePlace.{LinePlace}
 use Rattle.radio_outlet.specs.declared.batch.LinePlace.TheVariants.{LineStart, WithinLine, TornLine}
 
--- where the last byte that was written stands, and the bytes that are left
+-- where the last byte that was written is, and the bytes that are left
 pub record InHand : Type 0 where
   pub place : LinePlace
   pub rest : List ℕ
@@ -36,7 +36,7 @@ written count b = if count == 0 then b else some_written count b.place b.rest
 abbrev pub is_line_end : ℕ → Bool
 is_line_end byte = byte == 10
 
--- what stands behind the first line end
+-- what is behind the first line end
 abbrev pub behind_line : List ℕ → List ℕ
 behind_line bytes = behind bytes (position is_line_end bytes) where
   behind : List ℕ → Option ℕ → List ℕ

@@ -24,8 +24,8 @@ end_in session = option_map_or (λ session. end_of session.stream) session 0
 abbrev pub ends_in : List Session → List ℕ → ℕ
 ends_in live mount = end_in (session_of live mount)
 
--- a block has come at this moment: it stands at the end of the stream, and those who sit there have lost their seats who are further behind then than a
--- queue is long
+-- a block has come at this moment: it is at the end of the stream. Those who sit there and are further behind then than a queue is long have lost their
+-- seats
 -- rule: Reach of a block; Lagged
 abbrev pub part_received : ℕ → ℕ → List ℕ → Part → Part
 part_received queue moment block p = let session = option_map (longer block moment) p.session in

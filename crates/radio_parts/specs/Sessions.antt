@@ -32,7 +32,7 @@ session_of live mount = find (is_of mount) live
 abbrev pub opened : List ℕ → ℕ → Shown → ℕ → Session
 opened mount number shown moment = record { mount = mount; number = number; stream = no_data; title = None; shown = shown; last_block = moment }
 
--- sessions stand in the order of their mounts' bytes
+-- sessions are in the order of their mounts' bytes
 abbrev pub by_mount : Session → Session → Ordering
 by_mount a b = slice_cmp nat_cmp a.mount b.mount
 

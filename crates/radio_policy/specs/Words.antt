@@ -9,7 +9,7 @@ use Rattle.radio_policy.specs.declared.rule.Rule.TheVariants.{Lagged, TimeOver, 
 use Rattle.radio_policy.specs.declared.rule.Status.{Status}
 use Rattle.radio_policy.specs.declared.rule.Status.TheVariants.{BadRequest, Unauthorized, Forbidden, NotFound}
 
--- the name by which a rule is told
+-- the name of a rule, as answers and transcripts have it
 -- rule: Answer to a denial
 abbrev pub word_of : Rule → List ℕ
 word_of AddressDenied = codes "address-denied"
@@ -45,7 +45,7 @@ word_of SourceSilent = codes "source-silent"
 word_of Killed = codes "killed"
 word_of SourceKilled = codes "source-killed"
 
--- the status of the answer that tells a denial by the rule; a rule by which nothing is denied in an answer has none
+-- the status of the answer to a denial by the rule; a rule by which nothing is denied in an answer has none
 -- rule: Answer to a denial
 abbrev pub status_of : Rule → Option Status
 status_of AddressDenied = None

@@ -1,4 +1,4 @@
--- What a look at a stream comes to whose header is awaited.
+-- The result of a look at a stream whose header is awaited.
 use Rattle.std.specs.Prelude.{◌≡◌, ℕ, List, take, Option, IfSome}
 use Rattle.std.specs.Io.KnownBytes.{Consumes, Keeps}
 use Rattle.radio_proxy.specs.Headers.{header_of}

@@ -1,4 +1,4 @@
--- The pull of a relay: how it stands, and the events that it asks for.
+-- The pull of a relay: its state, and the events that it asks for.
 use Rattle.std.specs.Prelude.{ℕ, List, [], Option, None, Some}
 use Rattle.radio_events.specs.declared.event.Event.{Event}
 use Rattle.radio_events.specs.declared.event.Event.TheVariants.{Push, Title, RelayUp}

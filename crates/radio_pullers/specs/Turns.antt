@@ -13,7 +13,7 @@ module _ {S : Type 0} (steps : Steps S) where
   HasTurned began pull from end pull' to =
       (turn : PullTurn) × (ms : ℕ) × IsTurn steps pull from turn pull' to × EndsBy turn pull' (is_late began ms) end
 
-  -- nothing was asked: the system tells nothing of sockets, or the relay is to stop
+  -- nothing was asked: the system reports nothing of sockets, or the relay is to stop
   abbrev pub HasRested : PullOver → S → Option RelayEnd → PullOver → S → Type 0
   HasRested pull from end pull' to = (pull' ≡ pull) × (to ≡ from) × ((end ≡ Some Left) ⊎ (end ≡ Some NotWished))
 

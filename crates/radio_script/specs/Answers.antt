@@ -11,7 +11,7 @@ use Rattle.radio_script.specs.Plays.{Plays}
 
 -- The line of this number is answered by the performer old.
 module _ {P : Type 0} (performs : Conduct P) (old : P) (number : ℕ) where
-  -- The line is a delivery, which comes to this text.
+  -- The line is a delivery, which yields this text.
   pub record IsAnswered (line text : List ℕ) (new : P) : Type 0 where
     pub delivery : Delivery
     pub means : meaning_of number line ≡ Ok delivery

@@ -8,13 +8,13 @@ use Rattle.radio_script.specs.Runs.{Conduct}
 use Rattle.radio_script.specs.Transcripts.{IsTranscript}
 use Rattle.radio_script.specs.Plays.{IsLines}
 
--- from each performer, each delivery comes to one thing
+-- from each performer, each delivery has one result
 abbrev pub IsDetermined : {P : Type 0} → Conduct P → Type 0
 IsDetermined {P} performs =
     (old : P) (delivery : Delivery) (said told : Option (List ℕ)) (new next : P)
     → performs old delivery said new → performs old delivery told next → (said ≡ told) × (new ≡ next)
 
--- from each performer, the lines of a script come to one text, one fault and one performer
+-- from each performer, the lines of a script yield one text, one fault and one performer
 abbrev pub HasOneTranscript : {P : Type 0} → Conduct P → Type 0
 HasOneTranscript {P} performs =
     (old : P) (number : ℕ) (lines : List (List ℕ)) (text other : List ℕ)
@@ -23,7 +23,7 @@ HasOneTranscript {P} performs =
     → IsTranscript performs old number lines other failure next
     → (text ≡ other) × (fault ≡ failure) × (new ≡ next)
 
--- what whole lines come to is a front of what they come to with more behind them
+-- the transcript of whole lines is a front of that with more lines behind them
 abbrev pub GoesOnAsItBegan : {P : Type 0} → Conduct P → Type 0
 GoesOnAsItBegan {P} performs =
     (old : P) (number : ℕ) (lines rest text whole : List ℕ)

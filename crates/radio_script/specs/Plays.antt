@@ -31,7 +31,7 @@ IsLines [] = ⊤
 IsLines (b ∷ []) = b ≡ 10
 IsLines (b ∷ c ∷ bytes) = IsLines (c ∷ bytes)
 
--- a line feed stands at the end alone, if there is one
+-- a line feed is at the end alone, if there is one
 abbrev pub IsOneLine : List ℕ → Type 0
 IsOneLine [] = ⊤
 IsOneLine (b ∷ bytes) = OnTrue (b == 10) (bytes ≡ []) × IsOneLine bytes
@@ -51,8 +51,8 @@ module _ {P : Type 0} (performs : Conduct P) (old : P) (number : ℕ) where
     pub whole : IsLines lines
     pub played : IsPlayed lines None written most_calls new
 
-  -- All that the whole lines come to was written, and a front of what the line behind them comes
-  -- to, in at most one call for each byte. Nothing behind that line was read.
+  -- The whole transcript of the whole lines was written, and a front of that of the line behind
+  -- them, in at most one call for each byte. Nothing behind that line was read.
   pub record IsCutOff (script left written : List ℕ) (most_calls : ℕ) (new : P) : Type 0 where
     pub lines : List ℕ
     pub line : List ℕ

@@ -2,8 +2,8 @@
 use Rattle.std.specs.Prelude.{ℕ, ◌+◌, ◌≡◌, ◌⊎◌, List, [], ◌∷◌, ◌++◌, Option, None, Some}
 use Rattle.radio_deliveries.specs.declared.delivery.Delivery.{Delivery}
 
--- What performers do: from one performer, a delivery comes to a text, or to None if its label
--- is at fault, and to the next performer.
+-- What performers do: from one performer, a delivery yields a text, or None if its label is at
+-- fault, and the next performer.
 abbrev pub Conduct : Type 0 → Type 1
 Conduct P = P → Delivery → Option (List ℕ) → P → Type 0
 
@@ -15,7 +15,7 @@ module _ {P : Type 0} (performs : Conduct P) (old : P) where
     pub nothing : text ≡ []
     pub here : stop ≡ Some number
 
-  -- It comes to the first of the text, and the others to the rest of it.
+  -- It yields the first of the text, and the others the rest of it.
   pub record GoesOn (delivery : Delivery) (text : List ℕ) (Others : P → List ℕ → Type 0) : Type 0 where
     pub first : List ℕ
     pub rest : List ℕ
@@ -24,7 +24,7 @@ module _ {P : Type 0} (performs : Conduct P) (old : P) where
     pub parts : text ≡ first ++ rest
     pub others : Others between rest
 
--- From the performer old to new, the deliveries come to the text, each in its turn; the first has
+-- From the performer old to new, the deliveries yield the text, each in its turn; the first has
 -- this number. The run stops at the number of the first whose label is at fault, if there is one.
 abbrev pub Runs : {P : Type 0} → Conduct P → P → ℕ → List Delivery → List ℕ → Option ℕ → P → Type 0
 Runs performs old number [] text stop new = (text ≡ []) × (stop ≡ None) × (new ≡ old)

@@ -12,7 +12,7 @@ first_fault None fault = fault
 
 -- From the performer old, the lines of a script, the first of which has this number.
 module _ {P : Type 0} (performs : Conduct P) (old : P) (number : ℕ) (lines : List (List ℕ)) where
-  -- They come to the text, up to the first line that is at fault, and to the performer new.
+  -- They yield the text, up to the first line that is at fault, and the performer new.
   pub record IsTranscript (text : List ℕ) (fault : Option PlayFault) (new : P) : Type 0 where
     pub stop : Option ℕ
     pub run : Runs performs old number (deliveries_from number lines) text stop new

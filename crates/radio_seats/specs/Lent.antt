@@ -13,7 +13,7 @@ use Rattle.radio_seats_rows.specs.Guests.{seat_of_guest}
 abbrev pub lent_seat : LentSeat → Seat
 lent_seat seat = seat_of_guest seat.place seat.mount.now seat.session seat.guest.now
 
--- how one stands who is this listener
+-- the standing of this listener
 abbrev pub standing_by : Seating → ListenerStanding
 standing_by (Sits seat) = HasSeat
 standing_by (Finished rule mount) = HasLost rule

@@ -35,11 +35,11 @@ seat_in (Some listener) = seat_held listener.seating
 abbrev pub seat_of : List Listener → ℕ → Option Seat
 seat_of seats id = seat_in (listener_of seats id)
 
--- listeners stand in the order of their numbers
+-- listeners are in the order of their numbers
 abbrev pub by_listener : Listener → Listener → Ordering
 by_listener a b = nat_cmp a.id b.id
 
--- the listeners stand in rising order of their numbers, so that no number comes twice
+-- the listeners are in rising order of their numbers, so that no number comes twice
 abbrev pub AreByNumber : List Listener → Type 0
 AreByNumber seats = IsStrictlySortedBy nat_cmp (map (λ listener. listener.id) seats)
 

@@ -17,7 +17,7 @@ use Rattle.radio_seats_rows.specs.Sent.{user_sent, is_user}
 abbrev pub UserTree : Type 0
 UserTree = BTreeMap (Vec ℕ) (BTreeSet ℕ)
 
--- where a user stands among those of the tree, which are in the order of their bytes
+-- the place of a user among those of the tree, which are in the order of their bytes
 abbrev pub by_bytes : List ℕ → Vec ℕ → Ordering
 by_bytes user key = slice_cmp nat_cmp user key.items
 

@@ -100,11 +100,11 @@ abbrev pub settings_or_fault : Members → Option SettingsFault → Result Setti
 settings_or_fault document None = Ok (settings_of document)
 settings_or_fault document (Some fault) = Err fault
 
--- what a document comes to: its first fault, or what it sets
+-- the reading of a document: its first fault, or what it sets
 abbrev pub document_reading : Members → Result Settings SettingsFault
 document_reading document = settings_or_fault document (first_fault (document_faults document))
 
--- what a text comes to
+-- the reading of a text
 -- rule: Reading settings; Keys take effect
 unfoldable pub reading_of : List ℕ → Result Settings SettingsFault
 reading_of text = option_map_or document_reading (parse_document text) (Err NotToml)

@@ -39,7 +39,7 @@ pub record AreSettingsOf (text : List ℕ) (settings : Settings) : Type 0 where
   pub is_well : AreAllWell (document_faults document)
   pub is_set : settings ≡ settings_of document
 
--- the name stands among those before it, and no name before it does
+-- the name is among those before it, and no name before it is
 -- rule: Repeated names
 pub record IsFirstRepeat (names : List (List ℕ)) (name : List ℕ) : Type 0 where
   pub before : List (List ℕ)
@@ -48,6 +48,6 @@ pub record IsFirstRepeat (names : List (List ℕ)) (name : List ℕ) : Type 0 wh
   pub is_repeat : is_among before name ≡ true
   pub none_before : first_repeat before ≡ None
 
--- no name stands among those before it
+-- no name is among those before it
 abbrev pub AreApart : List (List ℕ) → Type 0
 AreApart names = (before after : List (List ℕ)) (name : List ℕ) → names ≡ before ++ name ∷ after → is_among before name ≡ false

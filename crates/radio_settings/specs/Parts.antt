@@ -76,11 +76,11 @@ abbrev pub listed_in : AccessSettings → LimitSettings → Members → NamedStr
 listed_in access limits document =
     listed (mounts_of access limits document) (relays_of document) (option_map slave_of (table_at Slave document))
 
--- a name that stands twice among them
+-- a repeated name among them
 unfoldable pub apart_fault : List MountSetting → List RelaySetting → Option SettingsFault
 apart_fault mounts relays = first_fault (repeat_fault (mount_names mounts) ∷ repeat_fault (local_mounts relays) ∷ [])
 
--- the tables of streams, and then the names that stand twice
+-- the tables of streams, and then the repeated names
 unfoldable pub named_fault : AccessSettings → LimitSettings → Members → Option SettingsFault
 named_fault access limits document =
     first_fault (lists_fault document ∷ apart_fault (mounts_of access limits document) (relays_of document) ∷ [])

@@ -1,4 +1,4 @@
--- Where names stand in a list, found by name.
+-- The places of names in a list, found by name.
 use Rattle.std.specs.Prelude.{◌≡◌, ℕ, List, Option}
 use Rattle.std.specs.BTreeMap.{BTreeMap, get}
 use Rattle.std.specs.Cmp.Lexicographic.{slice_cmp}

@@ -1,4 +1,4 @@
--- What a try to accept a connection at the bound socket may come to.
+-- The results of a try to accept a connection at the bound socket.
 use Rattle.std.specs.Prelude.{◌≡◌, Bool, true, false}
 use Rattle.radio_intake.specs.declared.entrance.AcceptResult.{AcceptResult}
 use Rattle.radio_intake.specs.declared.entrance.AcceptResult.TheVariants.{One, Nothing, Failed, NoDescriptor}
@@ -13,6 +13,7 @@ MayWait true (One newcomer) now = now ≡ true
 MayWait true Failed now = now ≡ true
 MayWait true NoDescriptor now = now ≡ true
 
--- the system is asked only if a connection may wait, and is asked no more once it has told that none does
+-- the system is asked only if a connection may wait, and is asked no more once it has reported that none
+-- does
 abbrev pub IsEntered : ListeningSocket → AcceptResult AcceptedSocket → ListeningSocket → Type 0
 IsEntered before accepted now = MayWait before.is_asked accepted now.is_asked

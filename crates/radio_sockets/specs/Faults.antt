@@ -1,4 +1,4 @@
--- The lines by which a server's faults are told.
+-- The lines of a server's faults.
 use Rattle.std.specs.Prelude.{ℕ, List, codes}
 use Rattle.radio_sockets.specs.declared.fault.ServeFault.{ServeFault}
 use Rattle.radio_sockets.specs.declared.fault.ServeFault.TheVariants.{Accept, OutOfMemory}

@@ -1,4 +1,4 @@
--- What the system tells a server that accepts connections.
+-- What the system reports to a server that accepts connections.
 use Rattle.std.specs.Prelude.{ℤ, Bool, false, ◌-◌, ◌^◌, ◌==◌, Option, None, Some}
 use Rattle.mio.specs.declared.token.Token.{Token}
 use Rattle.radio_sockets.specs.Steps.{lacks_descriptors}

@@ -20,7 +20,7 @@ called_of waiting passed were = record { count = if puts_off waiting passed were
 abbrev pub weight_of : ℕ → ℕ → ℕ
 weight_of connections sources = min (2 ^ 64 - 1) (connections + min (2 ^ 64 - 1) (sources * 4))
 
--- whether the log is told the moment by the clock, which it was told at another moment last, or never
+-- whether the log gets the moment by the clock, which it last got at another moment, or never
 abbrev pub is_time_to_tell : ℕ → ℕ → Bool
 is_time_to_tell told clock = (told == 0) || nat_le 100 (clock - told)
 
@@ -52,7 +52,7 @@ is_alone served has_acceptor = nat_lt 10000 served && not has_acceptor
 abbrev pub has_to_do : Bool → ℕ → ℕ → Bool → Bool
 has_to_do news left newcomers over = (news && (left == 0)) || nat_lt 0 newcomers || over
 
--- whether the worker's log is told the moment at this one, and when it was told last then
+-- whether the worker's log gets the moment at this one, and when it last got it then
 abbrev pub told_at : ℕ → ℕ → ℕ
 told_at told clock = if is_time_to_tell told clock then clock else told
 

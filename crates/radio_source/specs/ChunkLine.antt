@@ -24,7 +24,7 @@ padding_in size [] = Unfinished
 padding_in size (b ∷ rest) =
     if is_ows b then padding_in size rest else if b == semicolon then extension_in size rest else end_in size (b ∷ rest)
 
--- more digits, after so many that come to this size, and what follows them
+-- more digits, after so many of this size, and what follows them
 abbrev pub digits_in : ℕ → ℕ → List ℕ → LineReading
 digits_in count size [] = Unfinished
 digits_in count size (b ∷ rest) =

@@ -30,7 +30,7 @@ answer_with [] false (Some fault) = Refuses fault
 answer_with [] true (Some fault) = Brings [] true
 answer_with (block ∷ blocks) is_complete (Some fault) = Brings (block ∷ blocks) is_complete
 
--- the body's end came, and was not told before
+-- the body's end came, and did not come before
 abbrev pub ends_in : Feeding → List ℕ → Bool
 ends_in body piece = has_ended (after body.place piece) && not body.is_end_told
 

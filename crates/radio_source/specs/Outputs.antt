@@ -37,7 +37,7 @@ abbrev pub outputs_of_feeds : Feeding → List (List ℕ) → List Output
 outputs_of_feeds body [] = []
 outputs_of_feeds body (piece ∷ pieces) = outputs_of (answer_to body piece) ++ outputs_of_feeds (after_feed body piece) pieces
 
--- what some bytes come to, from a place: their data, then the end, if it has come, then the fault, if there is one
+-- what some bytes mean, from a place: their data, then the end, if it has come, then the fault, if there is one
 -- rule: Feed
 abbrev pub outputs_of_bytes : Place → List ℕ → List Output
 outputs_of_bytes place bytes =

@@ -110,7 +110,7 @@ has_ended AtEnd = true
 has_ended PastTheEnd = true
 has_ended Broken = false
 
--- the fault that stands among the bytes so far, if any
+-- the fault among the bytes so far, if any
 -- rule: Place of a fault
 abbrev pub fault_at : Place → Option BodyFault
 fault_at InPlain = None

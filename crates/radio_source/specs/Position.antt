@@ -1,4 +1,4 @@
--- A position in a body: what it stands for, and runs of data ahead of it.
+-- A position in a body: what it represents, and runs of data ahead of it.
 use Rattle.std.specs.Prelude.{ℕ, ◌-◌, List, min}
 use Rattle.radio_source.specs.declared.position.Stage.{Stage}
 use Rattle.radio_source.specs.declared.position.Stage.TheVariants.{Plain, Sized, Line, Chunk, LineFeed, Trailer, TrailerAfterReturn, TrailerRest, End}

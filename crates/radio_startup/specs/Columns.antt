@@ -5,15 +5,15 @@ use Rattle.std.specs.Prelude.{ℕ, Bool, ◌&&◌, ◌==◌, ◌+◌, nat_le, mi
 abbrev pub goes_on_character : ℕ → Bool
 goes_on_character byte = nat_le 128 byte && nat_le byte 191
 
--- the column behind a byte that stands at this one; columns count characters from 1, and a program counts to its largest number
+-- the column after a byte at this one; columns count characters from 1, and a program counts to its largest number
 abbrev pub column_after : ℕ → ℕ → ℕ
 column_after column byte = if byte == 10 then 1 else if goes_on_character byte then column else min (column + 1) 18446744073709551615
 
--- the line behind a byte that stands in this one; lines are counted from 1
+-- the line after a byte of this one; lines are counted from 1
 abbrev pub line_after : ℕ → ℕ → ℕ
 line_after line byte = if byte == 10 then min (line + 1) 18446744073709551615 else line
 
--- the line and the column of what stands behind these bytes
+-- the line and the column after these bytes
 abbrev pub line_behind : List ℕ → ℕ
 line_behind bytes = fold line_after 1 bytes
 

@@ -23,13 +23,13 @@ IsReasonOfFile (CannotRead path error) reason = Unit {0}
 IsReasonOfFile (NotToml misreading) reason = reason ≡ string_bytes misreading.reason
 IsReasonOfFile fault reason = reason ≡ []
 
--- what stands in front of the word that may have been meant, that word, and what stands behind it
+-- what is in front of the word that may have been meant, that word, and what is behind it
 abbrev pub hint_of : Meant → List ℕ × List ℕ × List ℕ
 hint_of (At section) = (codes ": it belongs to ", section_word section, [])
 hint_of (Key key) = (codes ": did you mean ", word key, codes "?")
 hint_of Nothing = ([], [], [])
 
--- a line of the log tells the fact, at the second that it names; of a moment beyond the year 9999 its last second
+-- a line of the log has the fact, at the second that it names; of a moment beyond the year 9999 its last second
 abbrev pub TellsFact : Fact → Dated → Type 0
 TellsFact fact dated =
     (moment : Moment) × IsSecond (min dated.seconds 253402300799) moment × (dated.line.items ≡ line (record { moment = moment; fact = fact }))

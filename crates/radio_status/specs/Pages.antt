@@ -17,7 +17,7 @@ use Rattle.radio_house.specs.World.{World}
 abbrev pub url_for : Settings → List ℕ → List ℕ
 url_for settings host = unwrap_or settings.web.public_url (base_url host settings.listen.address settings.listen.port)
 
--- the server, as it tells of itself on this visit
+-- the server, as it describes itself on this visit
 abbrev pub server_as : Settings → PageVisit → ListedServer
 server_as settings visit = record {
   name = codes "radiod";

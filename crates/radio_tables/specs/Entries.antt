@@ -6,7 +6,7 @@ use Rattle.std.specs.List.Sorted.{IsStrictlySortedBy}
 use Rattle.std.specs.Map.{keys_of}
 use Rattle.radio_tables.specs.Lists.{Each}
 
--- each row stands under a key equal to its own
+-- each row is under a key equal to its own
 abbrev pub AreOwn : {K X : Type 0} → (K → K → Ordering) → (X → K) → List (K × X) → Type 0
 AreOwn compare key entries = Each (λ e. compare (key e.1) e.0 ≡ Equal) entries
 

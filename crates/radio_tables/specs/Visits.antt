@@ -2,7 +2,7 @@
 use Rattle.std.specs.Prelude.{◌≡◌, Bool, List, Option, None, Some, find}
 use Rattle.radio_tables.specs.Lists.{update_first}
 
--- the element that was found is dealt with, and another stands in its place; where none was found, nothing happens
+-- the element that was found is visited, and another takes its place; if none was found, nothing happens
 abbrev pub FoundIsVisited : {V G X A : Type 0} → (V → G → X → A → V → X → Type 0) → (X → Bool) → V → G → List X → Option A → V → List X → Option X → Type 0
 FoundIsVisited Visits p visitor given xs answer visitor' xs' None = (answer ≡ None) × (visitor' ≡ visitor) × (xs' ≡ xs)
 FoundIsVisited {X = X} {A = A} Visits p visitor given xs answer visitor' xs' (Some x) =

@@ -7,12 +7,12 @@ use Rattle.std.specs.List.{starts_with}
 abbrev pub onto_front : ℕ → Option (List ℕ × List ℕ) → Option (List ℕ × List ℕ)
 onto_front b o = option_map (λ parts. (b ∷ parts.0, parts.1)) o
 
--- what stands before and after the first byte c, if there is one
+-- what is before and after the first byte c, if there is one
 abbrev pub cut : ℕ → List ℕ → Option (List ℕ × List ℕ)
 cut c [] = None
 cut c (b ∷ text) = if b == c then Some ([], text) else onto_front b (cut c text)
 
--- what stands before and after the first two bytes c that stand side by side, if there are such
+-- what is before and after the first two adjacent bytes c, if there are such
 abbrev pub cut_at_two : ℕ → List ℕ → Option (List ℕ × List ℕ)
 cut_at_two c [] = None
 cut_at_two c (b ∷ text) =

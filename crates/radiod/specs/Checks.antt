@@ -1,4 +1,4 @@
--- What a check of settings comes to.
+-- The result of a check of settings.
 use Rattle.std.specs.Prelude.{ℕ, Bool, ◌&&◌, nat_lt, if◌then◌else◌, List, [], codes, Result, Ok, Err}
 use Rattle.radiod.specs.declared.fault.Fault.{Fault}
 use Rattle.radiod.specs.declared.fault.Fault.TheVariants.{Warnings}
