@@ -10,7 +10,7 @@ use Rattle.radio_notes.specs.declared.visit.Visit.{Visit}
 use Rattle.radio_notes.specs.Counts.{capped}
 use Rattle.radio_notes.specs.Ends.{code_of_end}
 use Rattle.radio_notes.specs.Visits.{after, first_of, first_end, is_shown, status_told}
-use Rattle.radio_notes.specs.Laws.{first_end_of, first_status_of, handed_in, fed_in, shows, last_part_of}
+use Rattle.radio_notes.specs.Laws.{first_end_of, first_status_of, handed_in, fed_in, shows_station, last_part_of}
 
 pub since : (v : Visit) (hs : List Happening) → (fold after v hs).since_ms ≡ v.since_ms
 since v [] = refl
@@ -97,16 +97,16 @@ or-none : (a : Bool) → a ≡ a || false
 or-none true = refl
 or-none false = refl
 
-polls : (v : Visit) (hs : List Happening) → (fold after v hs).is_poll ≡ (v.is_poll || list_any shows hs)
+polls : (v : Visit) (hs : List Happening) → (fold after v hs).is_poll ≡ (v.is_poll || list_any shows_station hs)
 polls v [] = or-none v.is_poll
 polls v (Replied told ∷ hs) =
-    polls (after v (Replied told)) hs ∙ or-moved (is_shown told) v.is_poll (list_any shows hs)
+    polls (after v (Replied told)) hs ∙ or-moved (is_shown told) v.is_poll (list_any shows_station hs)
 polls v (Handed count ∷ hs) = polls (after v (Handed count)) hs
 polls v (Fed count ∷ hs) = polls (after v (Fed count)) hs
 polls v (Ended end ∷ hs) = polls (after v (Ended end)) hs
 
-pub poll_of : (v : Visit) (hs : List Happening) → v.is_poll ≡ false → (fold after v hs).is_poll ≡ list_any shows hs
-poll_of v hs none = polls v hs ∙ ap (λ (b : Bool). b || list_any shows hs) none
+pub poll_of : (v : Visit) (hs : List Happening) → v.is_poll ≡ false → (fold after v hs).is_poll ≡ list_any shows_station hs
+poll_of v hs none = polls v hs ∙ ap (λ (b : Bool). b || list_any shows_station hs) none
 
 pub part_of : (v : Visit) (hs : List Happening) → (fold after v hs).part ≡ last_part_of v.part hs
 part_of v [] = refl

@@ -9,5 +9,5 @@ pub record Kept : Type 0 where
   pub agent : List ℕ
 
 -- what is kept if no request is known
-abbrev pub nothing_kept : Kept
-nothing_kept = record { method = []; path = []; user = []; agent = [] }
+abbrev pub no_request_kept : Kept
+no_request_kept = record { method = []; path = []; user = []; agent = [] }

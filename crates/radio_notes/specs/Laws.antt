@@ -22,17 +22,17 @@ first_end_of (Fed count ∷ later) = first_end_of later
 first_end_of (Ended end ∷ later) = Some end
 
 -- the status that a happening has, if it has one
-abbrev pub status_in : Happening → ℕ
-status_in (Replied told) = status_told told
-status_in (Handed count) = 0
-status_in (Fed count) = 0
-status_in (Ended end) = code_of_end end
+abbrev pub status_of_happening : Happening → ℕ
+status_of_happening (Replied told) = status_told told
+status_of_happening (Handed count) = 0
+status_of_happening (Fed count) = 0
+status_of_happening (Ended end) = code_of_end end
 
 -- the status that comes first
 -- rule: Line of a client
 abbrev pub first_status_of : List Happening → ℕ
 first_status_of [] = 0
-first_status_of (happening ∷ later) = first_of (status_in happening) (first_status_of later)
+first_status_of (happening ∷ later) = first_of (status_of_happening happening) (first_status_of later)
 
 -- how many bytes the line takes by it
 abbrev pub handed_in : Happening → ℕ
@@ -45,9 +45,9 @@ fed_in (Fed count) = count
 fed_in happening = 0
 
 -- something of the station is shown by it
-abbrev pub shows : Happening → Bool
-shows (Replied told) = is_shown told
-shows happening = false
+abbrev pub shows_station : Happening → Bool
+shows_station (Replied told) = is_shown told
+shows_station happening = false
 
 -- the part of the reply that gave one last
 abbrev pub last_part_of : Part → List Happening → Part

@@ -14,12 +14,12 @@ use Rattle.radio_texts.specs.Cuts.{fields_at}
 use Rattle.radio_notes.specs.declared.heard.Heard.{Heard}
 use Rattle.radio_notes.specs.declared.heard.Heard.TheVariants.{Part, Request, Nothing}
 use Rattle.radio_notes.specs.Agents.{agent_among}
-use Rattle.radio_notes.specs.Kept.{Kept, nothing_kept}
+use Rattle.radio_notes.specs.Kept.{Kept, no_request_kept}
 
 -- what is kept of a request, if one was read
-abbrev pub kept_of : Heard → Kept
-kept_of (Request request) = request
-kept_of heard = nothing_kept
+abbrev pub request_kept : Heard → Kept
+request_kept (Request request) = request
+request_kept heard = no_request_kept
 
 -- at most 255 bytes are kept of a text
 abbrev pub front_of : List ℕ → List ℕ

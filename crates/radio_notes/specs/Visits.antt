@@ -14,7 +14,7 @@ use Rattle.radio_notes.specs.declared.visit.Happening.{Happening}
 use Rattle.radio_notes.specs.declared.visit.Happening.TheVariants.{Replied, Handed, Fed, Ended}
 use Rattle.radio_notes.specs.Counts.{capped}
 use Rattle.radio_notes.specs.Ends.{code_of, code_of_end, end_word}
-use Rattle.radio_notes.specs.Requests.{kept_of}
+use Rattle.radio_notes.specs.Requests.{request_kept}
 
 -- the first status counts; 0 is none
 abbrev pub first_of : ℕ → ℕ → ℕ
@@ -73,32 +73,32 @@ seconds_between since ms = (ms - since) / 1000
 
 -- the mount of a client's line: where a listener was last, if that was noted, else the path that was asked for
 -- rule: Last mount
-abbrev pub mount_named : Part → List ℕ → List ℕ → List ℕ
-mount_named Neither asked last = []
-mount_named Listener asked [] = asked
-mount_named Listener asked (b ∷ last) = b ∷ last
-mount_named Source asked last = asked
+abbrev pub mount_of_visit : Part → List ℕ → List ℕ → List ℕ
+mount_of_visit Neither asked last = []
+mount_of_visit Listener asked [] = asked
+mount_of_visit Listener asked (b ∷ last) = b ∷ last
+mount_of_visit Source asked last = asked
 
 -- what the log says of a client who is gone
 -- rule: Line of a client
 abbrev pub client_ended : Peer → ℕ → Visit → Heard → List ℕ → ClientEnded
 client_ended peer ms visit heard last = record {
   peer = peer;
-  method = (kept_of heard).method;
-  path = (kept_of heard).path;
-  mount = mount_named visit.part (kept_of heard).path last;
+  method = (request_kept heard).method;
+  path = (request_kept heard).path;
+  mount = mount_of_visit visit.part (request_kept heard).path last;
   status = visit.status;
   why = end_word visit.end;
-  user = (kept_of heard).user;
+  user = (request_kept heard).user;
   seconds = seconds_between visit.since_ms ms;
   bytes = visit.handed;
-  agent = (kept_of heard).agent;
+  agent = (request_kept heard).agent;
 }
 
 -- what the log says of a source that is gone
 abbrev pub source_gone : Peer → ℕ → Visit → Heard → SourceGone
 source_gone peer ms visit heard = record {
-  mount = (kept_of heard).path;
+  mount = (request_kept heard).path;
   peer = peer;
   why = end_word visit.end;
   seconds = seconds_between visit.since_ms ms;

@@ -1,7 +1,7 @@
 //! What is read from a connection, as far as the log says it.
 
 ghost use Rattle.std.specs.Prelude.{◌≡◌};
-ghost use Rattle.radio_notes.specs.Requests.{kept_of};
+ghost use Rattle.radio_notes.specs.Requests.{request_kept};
 
 use crate::request::Request;
 
@@ -19,7 +19,7 @@ pub enum Heard {
 impl Heard {
     /// The method that it asks by, empty if none is known.
     pub(crate) fn method(&self) -> &[u8]
-        ensures { result.now ≡ (kept_of self.now).method }
+        ensures { result.now ≡ (request_kept self.now).method }
     {
         match self {
             Heard::Request(request) => request.method(),
@@ -29,7 +29,7 @@ impl Heard {
 
     /// The path that it asks for, up to a `?`, empty if none is known.
     pub(crate) fn path(&self) -> &[u8]
-        ensures { result.now ≡ (kept_of self.now).path }
+        ensures { result.now ≡ (request_kept self.now).path }
     {
         match self {
             Heard::Request(request) => request.path(),
@@ -39,7 +39,7 @@ impl Heard {
 
     /// The user that it names, empty if it names none.
     pub(crate) fn user(&self) -> &[u8]
-        ensures { result.now ≡ (kept_of self.now).user }
+        ensures { result.now ≡ (request_kept self.now).user }
     {
         match self {
             Heard::Request(request) => request.user(),
@@ -49,7 +49,7 @@ impl Heard {
 
     /// What it says of itself, empty if it says nothing.
     pub(crate) fn agent(&self) -> &[u8]
-        ensures { result.now ≡ (kept_of self.now).agent }
+        ensures { result.now ≡ (request_kept self.now).agent }
     {
         match self {
             Heard::Request(request) => request.agent(),

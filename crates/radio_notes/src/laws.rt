@@ -5,7 +5,7 @@ ghost use Rattle.std.specs.List.{list_any};
 ghost use Rattle.radio_notes.specs.declared.visit.Happening.{Happening as HappeningOf};
 ghost use Rattle.radio_notes.specs.declared.visit.Part.TheVariants.{Neither};
 ghost use Rattle.radio_notes.specs.Counts.{capped};
-ghost use Rattle.radio_notes.specs.Laws.{fed_in, first_end_of, first_status_of, handed_in, last_part_of, shows, visit_of};
+ghost use Rattle.radio_notes.specs.Laws.{fed_in, first_end_of, first_status_of, handed_in, last_part_of, shows_station, visit_of};
 
 /// The record of a connection has the end and the status that came first. It has all bytes that its line took and that
 /// came of its stream, and the part that was given last, whatever has happened in between.
@@ -19,6 +19,6 @@ pub fn visits_have_what_happened()
     // all bytes count
     ensures handed { (ms : ℕ) (happenings : List HappeningOf) → (visit_of ms happenings).handed ≡ capped (sum_by handed_in happenings) }
     ensures fed { (ms : ℕ) (happenings : List HappeningOf) → (visit_of ms happenings).fed ≡ capped (sum_by fed_in happenings) }
-    ensures poll { (ms : ℕ) (happenings : List HappeningOf) → (visit_of ms happenings).is_poll ≡ list_any shows happenings }
+    ensures poll { (ms : ℕ) (happenings : List HappeningOf) → (visit_of ms happenings).is_poll ≡ list_any shows_station happenings }
     ensures part { (ms : ℕ) (happenings : List HappeningOf) → (visit_of ms happenings).part ≡ last_part_of Neither happenings }
 {}

@@ -3,8 +3,8 @@
 ghost use Rattle.std.specs.Prelude.{◌≡◌, ◌≢◌, ◌⊎◌, []};
 ghost use Rattle.radio_log.specs.declared.facts.Fact.TheVariants.{MountGone};
 ghost use Rattle.radio_notes.specs.Ends.{code_of_end, mount_word};
-ghost use Rattle.radio_notes.specs.Requests.{kept_of};
-ghost use Rattle.radio_notes.specs.Visits.{after, begun, client_ended, first_of, first_end, is_shown, mount_named, part_given, replied, seconds_between, source_gone, status_told};
+ghost use Rattle.radio_notes.specs.Requests.{request_kept};
+ghost use Rattle.radio_notes.specs.Visits.{after, begun, client_ended, first_of, first_end, is_shown, mount_of_visit, part_given, replied, seconds_between, source_gone, status_told};
 
 use crate::Told;
 use crate::ends::{End, code_of, end_word, mount_word};
@@ -125,7 +125,7 @@ impl Visit {
     /// The mount of its line: the one where the client was last, if that was noted, else the one that it asked for. Empty if
     /// it was let in to none.
     fn mount<'a>(self, asked: &'a [u8], last: &'a [u8]) -> &'a [u8]
-        ensures { result.now ≡ mount_named self.part asked.now last.now }
+        ensures { result.now ≡ mount_of_visit self.part asked.now last.now }
     {
         match self.part {
             Part::Neither => b"",
@@ -177,7 +177,7 @@ impl Visit {
     /// What the log says of the mount of its source, which is live no more.
     // rule: Lines of changes
     pub(crate) fn mount_gone<'a>(self, heard: &'a Heard) -> Fact<'a>
-        ensures { result ≡ MountGone (kept_of heard.now).path (mount_word self.end) }
+        ensures { result ≡ MountGone (request_kept heard.now).path (mount_word self.end) }
     {
         Fact::MountGone {
             mount: QuotedText::of(heard.path()),

@@ -18,8 +18,8 @@ const TURN_AFTER_MS: u64 = 500;
 /// After how long the log gets the moment again.
 const TELL_AFTER_MS: u64 = 100;
 
-/// How many connections more a source counts as, when the worker that has the fewest is chosen. The others wait for
-/// what it has pushed, so its worker is to have less to do.
+/// How many extra connections a source counts for, when the worker that has the fewest is chosen. The others wait
+/// for what it has pushed, so its worker is to have less to do.
 const SOURCE_WEIGHT: usize = 4;
 
 /// For how long a worker waits for the acceptor to begin.
