@@ -40,7 +40,7 @@ impl Entrance<u64> for Short {
     }
 }
 
-/// What comes of a try in each millisecond from the first on, up to the last or a fault; and when
+/// The result of a try in each millisecond from the first on, up to the last or a fault; and when
 /// the fault came.
 fn tries<E: Entrance<u64>>(
     entrance: &mut E,

@@ -18,7 +18,7 @@ use std::alloc::Global;
 /// listener by a command, and the fourth is shown the status. Last the listener and the source leave.
 pub const CALLS: usize = 100;
 
-/// How many of them are draws, each of which is handed data and told a title.
+/// How many of them are draws, each of which gets data and a title.
 pub const DRAWS: usize = 44;
 
 /// What is delivered each time, and drawn.
@@ -206,7 +206,7 @@ pub fn title_event(alloc: Global, id: u64, title: &[u8]) -> Result<Event, OutOfM
     })
 }
 
-/// This client would be a source, and tells of its stream: `audio/aac`, the name `Night`.
+/// This client would be a source, and describes its stream: `audio/aac`, the name `Night`.
 pub fn source_event(alloc: Global, id: u64, path: &str) -> Result<Event, OutOfMemory> {
     let request = SourceRequest {
         id,
@@ -248,7 +248,7 @@ pub fn command_event(alloc: Global, id: u64, asked: Asked) -> Result<Event, OutO
     Ok(Event::Command(Boxed::new(alloc, request)?))
 }
 
-/// This client delivers these data. Of no data there is no block: a stray event stands in its place.
+/// This client delivers these data. Of no data there is no block: a stray event takes its place.
 pub fn push_event(alloc: Global, id: u64, data: &[u8]) -> Result<Event, OutOfMemory> {
     match Block::new(Bytes::copy_from_slice(alloc, data)?) {
         Some(block) => Ok(Event::Push { id, block }),

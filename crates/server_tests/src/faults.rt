@@ -166,7 +166,7 @@ const CLOSES: Manners = Manners {
     ..LISTENER
 };
 
-/// It hears what there is, and has left a turn later.
+/// It gets what there is, and has left a turn later.
 const LEFT: &[Step] = &[
     Step::Comes(SOURCE, 0),
     Step::Turns(1, 1, 2),
@@ -183,11 +183,11 @@ fn a_peer_who_closes_is_left(rt: HostRuntime) {
     assert!(rt; steps::are_played(rt.alloc(), "", LEFT));
 }
 
-/// What one is told beside whom there are clients enough.
+/// What a client reads if there are clients enough.
 const FULL_HOUSE: &[u8] =
     b"HTTP/1.0 403 Forbidden\r\nContent-Type: text/plain; charset=utf-8\r\nContent-Length: 25\r\nConnection: close\r\n\r\ndenied: too-many-clients\n";
 
-/// A house with one client, and another who comes: it is told so and closed, and the first stays.
+/// A house with one client, and another that comes: it reads that and is closed, and the first stays.
 const FULL: &[Step] = &[
     Step::Comes(SOURCE, 0),
     Step::Turns(1, 1, 2),
@@ -211,7 +211,7 @@ const ASKS_FOR_NO_MOUNT: Manners = Manners {
     ..SILENT
 };
 
-/// It is told something that names the rule and then that nothing more is written, and it is closed
+/// It reads something that names the rule and then that nothing more is written, and it is closed
 /// a second later.
 const DENIED: &[Step] = &[
     Step::Comes(ASKS_FOR_NO_MOUNT, 0),
@@ -234,13 +234,13 @@ fn comes<S: Server + Drop>(station: &mut Station<S>, manners: Manners, ms: u64) 
     station.count() == before.saturating_add(came as usize)
 }
 
-/// Whether the source was told what it was told, if it is there.
+/// Whether the source read the same, if it is there.
 fn source_was_told<S: Server + Drop>(station: &Station<S>) -> bool {
     station.is_of(&[]) || station.is_of(&[2]) || station.shows(0, Look::Took(SOURCE_ANSWER))
 }
 
 /// A source and a listener over a server that is refused memory at one call: no more than one of them
-/// is gone, and the source was told what it was told.
+/// is gone, and the source read the same.
 pub fn is_refused<S: Server + Drop>(station: &mut Station<S>) -> bool {
     let source = comes(station, SOURCE, 0);
     let was_in = station.is_of(&[1]);

@@ -60,7 +60,7 @@ const HEARS_NIGHT: &[Step] = &[
     Step::Shows(1, Look::Took(NIGHT)),
 ];
 
-/// A worker whose pass is added, and whether the title was heard that the other caller set.
+/// A worker whose pass is added, and whether the title came that the other caller set.
 fn is_heard<H: Origin, R: Wait>(
     rt: &R,
     alloc: Global,
@@ -77,7 +77,7 @@ fn is_heard<H: Origin, R: Wait>(
     adds_pass(station, passes) && is_heard
 }
 
-/// The same beside a pass of another caller, who sets the title; it is added too.
+/// The same with a pass of another caller, who sets the title; it is added too.
 pub fn is_title_heard<H: Origin, R: Wait>(
     rt: &R,
     alloc: Global,

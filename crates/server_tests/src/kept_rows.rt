@@ -23,13 +23,13 @@ use std::time::Clock;
 pub enum Row {
     /// These steps.
     Steps(&'static [Step]),
-    /// One whose line fails so at that call, beside others.
+    /// One whose line fails so at that call, among others.
     Failing(&'static Beside, Failure, u64),
     /// A source and a listener, and the worker is refused memory at that call.
     Refused(u64),
 }
 
-/// A row, and whose leaving stands in the history then, in this order.
+/// A row, and whose leaving is in the history then, in this order.
 #[derive(Clone, Copy)]
 pub struct KeptRow {
     pub row: Row,
@@ -176,7 +176,7 @@ fn who_fails_has_left_the_house(rt: HostRuntime) {
     assert!(rt; have_left_at_each_call(&rt, BEHIND_A_SOURCE, Failure::Fault, &[1, 2]));
 }
 
-/// It stays while it stalls, and has left where it has stalled, lags, or closes while it is owed.
+/// It stays while it stalls, and has left where it has stalled, lags, or closes while something is pending.
 // rule: Lingering
 #[test]
 fn who_is_slow_has_left_the_house(rt: HostRuntime) {

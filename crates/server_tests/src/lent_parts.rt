@@ -1,4 +1,4 @@
-//! A mount's part that stands apart, as under a lock of its own: it does what it can by itself, and is
+//! A mount's part that is kept apart, as under a lock of its own: it does what it can by itself, and is
 //! lent to the control for all else. The replies are those of a core, and the part keeps a list of what happens to it.
 
 use crate::calls::{CALLS, Callee, number_given, serve, step_copy};
@@ -16,7 +16,7 @@ use std::alloc::{AllocGlobal, Global};
 /// As many bytes of a stream are kept as the settings say.
 const QUEUE: u64 = 524_288;
 
-/// The control and a mount's part, beside a core that is called alike.
+/// The control and a mount's part, and a core that is called alike.
 #[derive(Drop)]
 struct Apart<'a> {
     alloc: Global,

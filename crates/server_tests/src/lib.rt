@@ -1,7 +1,7 @@
 //! Tests of the server, of book and hall and of a worker's turn as their callers see them: what no clause says. Each
 //! call succeeds with ample memory, and the definitions mean what the rules say, on rows that were worked out by hand.
 //! What a script can show is a case of `tests/run`, and what clients do to a running station is in `tests/live/serve`.
-//! They stand in one crate, since what a crate of tests costs to link is the same for a few tests as for many.
+//! They are in one crate, since what a crate of tests costs to link is the same for a few tests as for many.
 //!
 //! Of the server:
 //! - `events`: events and replies of the core, in tables.
@@ -9,9 +9,9 @@
 //! - `listeners`: who sits where and has heard how far, through the calls of `radio_attached`.
 //! - `mounts`: sessions in the parts of the mounts, through the calls of `radio_mounts`.
 //! - `own_steps`: draws, blocks and titles by a mount's part alone.
-//! - `mount_books`: two mounts' parts that stand apart, each with its book, and settled.
+//! - `mount_books`: two mounts' parts that are kept apart, each with its book, and settled.
 //! - `locked`: the same under a lock for each mount.
-//! - `lent_parts`: a part that stands apart, and is lent to the control, beside a core.
+//! - `lent_parts`: a part that is kept apart, and is lent to the control, compared with a core.
 //!
 //! Of the book and the hall:
 //! - `calls`: events, and the calls of a caller who feeds a mount and listens to it.
@@ -22,14 +22,14 @@
 //! - `scattered`: calls as dice have them, at mounts that fall back in a ring.
 //! - `workers`: workers in threads of their own, who take lines from an intake.
 //! - `merged`: lists of two mounts and of the control, made by hand, and merged.
-//! - `unkept`: the same calls over a hall that stores nothing, beside a core.
+//! - `unkept`: the same calls over a hall that stores nothing, compared with a core.
 //!
 //! Of a worker's turn:
 //! - `memory_line`: a line that gives what a table says, and takes as much as it says.
 //! - `stations`: a worker over a core, and connections over such lines.
 //! - `steps`: what happens at a station and is seen there, as tables.
 //! - `rows`: sources and listeners who are served, turn after turn.
-//! - `house`: the same over a hall, beside another caller.
+//! - `house`: the same over a hall, with another caller.
 //! - `kept_rows`: failing and slow connections over a hall, and who has left in its history.
 //! - `slow`: lines that take little or nothing.
 //! - `moments`: from when patience and lingering count, to the millisecond.

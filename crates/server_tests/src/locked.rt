@@ -21,7 +21,7 @@ use std::marker::Brand;
 use std::sync::Wait;
 use std::sync::ledger::Blank;
 
-/// A caller of a hall, beside a core that is called alike.
+/// A caller of a hall, and a core that is called alike.
 #[derive(Drop)]
 struct Locked<'a, R: Wait, H: Origin> {
     rt: &'a R,

@@ -62,7 +62,7 @@ fn asked_by(alloc: Global, relay: &RelaySetting) -> Option<RelayServer<Core>> {
     RelayServer::new(alloc, core, relay).ok()
 }
 
-/// What comes of the last of so many turns.
+/// The result of the last of so many turns.
 fn last_of(
     pull: &mut MountPull<MemoryLine>,
     server: &mut RelayServer<Core>,
@@ -76,7 +76,7 @@ fn last_of(
     last
 }
 
-/// Whether the last of so many turns of such a relay comes to that. It need not if memory is refused.
+/// Whether the last of so many turns of such a relay has that result. It need not if memory is refused.
 fn comes_to(alloc: Global, row: &Row) -> bool {
     match pull_of(alloc, row.manners) {
         Some(mut pull) => {

@@ -41,11 +41,11 @@ pub enum Look {
     Took(&'static [u8]),
     /// It has taken the front of that.
     TookFront(&'static [u8]),
-    /// It was told that nothing more is written, behind these bytes.
+    /// It was closed for writing, behind these bytes.
     FinishedBehind(&'static [u8]),
-    /// It was not told so.
+    /// It was not.
     Open,
-    /// It was told that nothing is wanted of what comes.
+    /// It knows that nothing is wanted of what comes.
     PassedOver,
 }
 

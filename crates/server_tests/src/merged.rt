@@ -157,7 +157,7 @@ fn begin(alloc: Global, maker: &mut Maker) -> Made {
     maker.own(1, 0, draw(3), 0)
 }
 
-/// The listener is moved to `/b`, draws there, and is finished by a long block; a clock is told, and it leaves.
+/// The listener is moved to `/b`, draws there, and is finished by a long block; the clock goes on, and it leaves.
 fn go_on(alloc: Global, maker: &mut Maker) -> Made {
     maker.control(0, command_event(alloc, 4, moving())?, &[(0, 1), (1, 1)])?;
     maker.own(0, 0, push_event(alloc, 1, b"efgh")?, 0)?;

@@ -81,7 +81,7 @@ const DENIED: Manners = Manners {
     ..SILENT
 };
 
-/// It is told in the second turn that nothing more is written. It lingers for a second from then on.
+/// It is closed for writing in the second turn. It lingers for a second from then on.
 const LINGERS: &[Step] = &[
     Step::Comes(DENIED, 0),
     Step::Turns(1, 1, 1),
@@ -139,7 +139,7 @@ fn one_is_asked_for_after_half_a_second(rt: HostRuntime) {
     assert!(rt; are_played(rt.alloc(), "[limits]\nheader-timeout = 3\n", ASKED_FOR));
 }
 
-/// A client who says nothing hears within half a second by which rule it was finished.
+/// A client that says nothing reads within half a second by which rule it was finished.
 const FINISHED: &[Step] = &[
     Step::Comes(SILENT, 0),
     Step::Quiet(0, 500, 7),

@@ -1,4 +1,4 @@
-//! Two mounts whose parts stand apart, each in a book of its own, as under locks of their own, and the book of the control,
+//! Two mounts whose parts are kept apart, each in a book of its own, as under locks of their own, and the book of the control,
 //! which is lent both for each event that is not one mount's. The replies are those of a core, and all passes settle.
 
 ghost use Rattle.radio_access.specs.Lists.{no_lists};
@@ -70,7 +70,7 @@ impl Play {
     }
 }
 
-/// The books, beside a core that is called alike.
+/// The books, and a core that is called alike.
 #[derive(Drop)]
 struct Books<'a, H: Origin> {
     control: &'a mut Book<Kept, H>,

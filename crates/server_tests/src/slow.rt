@@ -69,7 +69,7 @@ fn a_stalled_line_is_closed_then(rt: HostRuntime) {
     assert!(rt; are_played(rt.alloc(), "", CLOSED));
 }
 
-/// A queue of ten bytes, beside which one who is three blocks of four behind lags.
+/// A queue of ten bytes, at which a listener that is three blocks of four behind lags.
 pub const SHORT_QUEUE: &str = "[limits]\nqueue-size = 10\n";
 
 /// Sources whose last blocks come when their listeners have heard the first.
@@ -185,11 +185,11 @@ const CLOSED_WHILE_OWED: Manners = Manners {
     ..BYTE_BY_BYTE
 };
 
-/// All that it is owed but the last byte: 71 bytes.
+/// All that is pending but the last byte: 71 bytes.
 const ALL_BUT_ONE: &[u8] =
     b"HTTP/1.0 200 OK\r\nContent-Type: audio/mpeg\r\nConnection: close\r\n\r\nabcdefg";
 
-/// It is there up to the last byte that it is owed, and has left when that is taken.
+/// It is there up to the last pending byte, and has left when that is taken.
 pub const CLOSES_WHILE_OWED: &[Step] = &[
     Step::Comes(SOURCE, 0),
     Step::Turns(1, 1, 2),
@@ -220,7 +220,7 @@ fn a_silent_source_stays(rt: HostRuntime) {
     assert!(rt; are_played(rt.alloc(), "", SILENT_SOURCE));
 }
 
-/// It hears of its end within a second, and is closed a second later.
+/// It reads of its end within a second, and is closed a second later.
 const ENDED_SOURCE: &[Step] = &[
     Step::Comes(SOURCE, 0),
     Step::Turns(1, 1, 2),

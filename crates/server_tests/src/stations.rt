@@ -16,7 +16,7 @@ use std::marker::Model;
 /// How many seconds a line may take nothing.
 pub const PATIENCE_S: u32 = 10;
 
-/// What is done to a core beside what connections ask of it.
+/// What is done to a core in addition to what connections ask of it.
 #[derive(Clone, Copy)]
 pub struct Meddling {
     /// Whether the first client's mount has the title `Night` as soon as it feeds it.

@@ -98,7 +98,7 @@ fn count(history: &[Entry], wanted: Wanted) -> usize {
     count
 }
 
-/// Whether a client is shown a listing in which the last title stands.
+/// Whether a client is shown a listing that has the last title.
 fn is_status(reply: &Reply) -> bool {
     match reply {
         Reply::Text(ReplyText::Public { bytes, .. }) => has_night(bytes.as_slice()),
@@ -110,7 +110,7 @@ fn has_night(text: &[u8]) -> bool {
     text.windows(NIGHT.len()).any(|part| part == NIGHT)
 }
 
-/// Whether a listener is handed data and told a title.
+/// Whether a listener gets data and a title.
 fn is_drawn(reply: &Reply) -> bool {
     match reply {
         Reply::Drawn { pieces, title } => title.is_some() && !pieces.slices().is_empty(),

@@ -19,7 +19,7 @@ use std::marker::Brand;
 use std::sync::Wait;
 use std::sync::ledger::Blank;
 
-/// A hall that stores nothing, beside a core that is called alike.
+/// A hall that stores nothing, and a core that is called alike.
 #[derive(Drop)]
 struct Beside<'a, R: Wait, H: Origin> {
     rt: &'a R,

@@ -51,7 +51,7 @@ const DENIALS: &[(Call, &str)] = &[
     (Call::RelayUp("/c", "audio/aac"), "deny mount-in-use"),
 ];
 
-/// A relay whose session a command has ended is told so until it goes down.
+/// The replies to a relay whose session a command has ended say so until it goes down.
 const KILLED: &[(Call, &str)] = &[
     (UP, "arrived 1"),
     (Call::Arrive, "arrived 2"),
@@ -70,7 +70,7 @@ const KILLED: &[(Call, &str)] = &[
     (Call::Push(3, "xy"), "noted"),
 ];
 
-/// One that has sent nothing in the time for it is finished, and is told so.
+/// One that has sent nothing in the time for it is finished, and the reply says so.
 const SILENT: &[(Call, &str)] = &[
     (UP, "arrived 1"),
     (Call::Clock(9_999), "noted"),

@@ -105,7 +105,7 @@ const DENIALS: &[(Call, &str)] = &[
     (Call::Draw(2, 9), "drawn abcd"),
 ];
 
-/// A command is given once, by a client who has asked for nothing; who is finished by it is told so.
+/// A command is given once, by a client who has asked for nothing; the reply to a client that it finished says so.
 const COMMANDS: &[(Call, &str)] = &[
     (Call::KillClient(1, "/a", 2), "stray"),
     (Call::KillClient(2, "/a", 2), "stray"),

@@ -19,7 +19,7 @@ const STATION: &str =
 #[derive(Clone, Copy)]
 pub enum Call {
     Arrive,
-    /// A source that tells of its stream: `audio/aac`, the name `Night`.
+    /// A source that describes its stream: `audio/aac`, the name `Night`.
     Source(u64, &'static str),
     Push(u64, &'static str),
     SourceEnd(u64),
@@ -32,7 +32,7 @@ pub enum Call {
     /// The admin asks what the server does as a whole.
     Stats(u64),
     Leave(u64),
-    /// A relay whose master tells of its stream: this content type, the name `Night`.
+    /// A relay whose master describes its stream: this content type, the name `Night`.
     RelayUp(&'static str, &'static str),
     RelayDown(u64),
     Clock(u64),
