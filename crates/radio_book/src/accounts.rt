@@ -1,7 +1,7 @@
 //! The control, its list, and what is owed.
 
 ghost use Rattle.std.specs.Prelude.{◌≡◌, ◌+◌, ◌-◌, ◌≤◌, ◌<◌, ◌^◌, ◌∷◌, [], ◌++◌, length, true, false, IsOk, IsSome, IfOk, IfSome, OnOk, OnErr, vec_len, vec_capacity};
-ghost use Rattle.radio_events.specs.Events.{TakesNoMemory};
+ghost use Rattle.radio_events.specs.Events.{EventTakesNoMemory};
 ghost use Rattle.radio_chronicle.specs.Stamps.{stamp};
 ghost use Rattle.radio_book.specs.ControlLists.{AreWantedThere, IsToldBy};
 ghost use Rattle.radio_book.specs.MountBooks.{lines_for, AreNoted, IsControlAsBefore, IsControlStep, IsRefused};
@@ -138,7 +138,7 @@ impl<C: Chronicle, H: Origin> Accounts<C, H> {
         ensures step { IfOk result (λ receipt. IsControlStep lent.old self.old.control event receipt.reply lent.new self.new.control) }
         ensures lines { self.new.lines.items ≡ self.old.lines.items }
         ensures err { OnErr result (IsRefused lent.old self.old.control lent.new self.new.control) }
-        ensures frees { TakesNoMemory event → IsOk result }
+        ensures frees { EventTakesNoMemory event → IsOk result }
     {
         match event.again() {
             Ok(told) => match step_over(&mut self.control, lent, self.limits_time, event) {
@@ -170,7 +170,7 @@ impl<C: Chronicle, H: Origin> Accounts<C, H> {
         ensures receipts { IfOk result (λ receipt. holdings.new.receipts.items ≡ holdings.old.receipts.items ++ receipt ∷ []) }
         ensures err { OnErr result (IsRefused lent.old self.old.control lent.new self.new.control) }
         ensures err_lines { OnErr result ((self.new.lines.items ≡ self.old.lines.items) × (holdings.new.receipts.items ≡ holdings.old.receipts.items)) }
-        ensures frees { TakesNoMemory event → room_for holdings.old.present.items event ≡ 0 → length lent.old ≤ 1 → IsOk result }
+        ensures frees { EventTakesNoMemory event → room_for holdings.old.present.items event ≡ 0 → length lent.old ≤ 1 → IsOk result }
     {
         match self.prepare(holdings, lent.len(), &event) {
             Ok(copies) => self.note_in_room(holdings, lent, event, copies),
@@ -197,7 +197,7 @@ impl<C: Chronicle, H: Origin> Accounts<C, H> {
             (vec_len holdings.new.receipts + vec_len holdings.new.present + room_for holdings.new.present.items event.now
             ≤ vec_capacity holdings.new.receipts) }
         ensures present { OnOk result (is_arrival event.now ≡ true → vec_len holdings.new.present < vec_capacity holdings.new.present) }
-        ensures frees { TakesNoMemory event.now → room_for holdings.old.present.items event.now ≡ 0 → lent ≤ 1 → IsOk result }
+        ensures frees { EventTakesNoMemory event.now → room_for holdings.old.present.items event.now ≡ 0 → lent ≤ 1 → IsOk result }
         ensures same { (self.new.control ≡ self.old.control) × (self.new.lines.items ≡ self.old.lines.items) }
         ensures held { (holdings.new.receipts.items ≡ holdings.old.receipts.items) × (holdings.new.present.items ≡ holdings.old.present.items) }
     {
@@ -256,7 +256,7 @@ impl<C: Chronicle, H: Origin> Accounts<C, H> {
         ensures receipts { IfOk result (λ receipt. holdings.new.receipts.items ≡ holdings.old.receipts.items ++ receipt ∷ []) }
         ensures err { OnErr result (IsControlAsBefore lent.old self.old.control lent.new self.new.control) }
         ensures err_lines { OnErr result ((self.new.lines.items ≡ self.old.lines.items) × (holdings.new.receipts.items ≡ holdings.old.receipts.items)) }
-        ensures frees { TakesNoMemory event → IsOk result }
+        ensures frees { EventTakesNoMemory event → IsOk result }
     {
         match step3_over(&mut self.control, lent, self.limits_time, event) {
             Ok(replies) => {

@@ -2,7 +2,7 @@
 
 ghost use Rattle.std.specs.Prelude.{◌≡◌, ◌≤◌, ◌^◌, ◌∷◌, [], ◌++◌, length, map, true, false, Some, IsOk, IfOk, IfSome, OnErr};
 ghost use Rattle.radio_house.specs.World.{opening, standing_of};
-ghost use Rattle.radio_events.specs.Events.{TakesNoMemory};
+ghost use Rattle.radio_events.specs.Events.{EventTakesNoMemory};
 ghost use Rattle.radio_chronicle.specs.Stamps.{stamp};
 ghost use Rattle.radio_seats_rows.specs.Seats.{last_mount_of};
 ghost use Rattle.radio_book.specs.ControlLists.{mount_fed, AreWantedThere, IsControlReply, IsToldBy, WasThere};
@@ -112,7 +112,7 @@ impl<C: Chronicle, H: Origin> Book<C, H> {
         // the end of who was let in by the receipts of this pass, and has not gone by them, is never refused if it is lent one part
         ensures leave { (one : Newcomer) → leaver_of event ≡ Some one → is_here one pass.old ≡ true → length lent.old ≤ 1 → IsOk result }
         // if nothing is stored, the end of a session and of a connection, and the clock, are never refused
-        ensures frees { C.KEEPS ≡ false → TakesNoMemory event → IsOk result }
+        ensures frees { C.KEEPS ≡ false → EventTakesNoMemory event → IsOk result }
     {
         if C::KEEPS {
             self.accounts.note(&mut pass.holdings, lent, event)

@@ -1,7 +1,7 @@
 //! Copies of an event.
 
 ghost use Rattle.std.specs.Prelude.{◌≡◌, IsOk, IfOk};
-ghost use Rattle.radio_events.specs.Events.{TakesNoMemory};
+ghost use Rattle.radio_events.specs.Events.{EventTakesNoMemory};
 
 use crate::OutOfMemory;
 use radio_events::Event;
@@ -17,7 +17,7 @@ pub(crate) struct Copies {
 /// An event three times. `OutOfMemory` where memory was refused.
 pub(crate) fn thrice(event: &Event) -> Result<Copies, OutOfMemory>
     ensures value { IfOk result (λ copies. (copies.noted ≡ event.now) × (copies.held ≡ event.now) × (copies.told ≡ event.now)) }
-    ensures frees { TakesNoMemory event.now → IsOk result }
+    ensures frees { EventTakesNoMemory event.now → IsOk result }
 {
     let noted = event.again()?;
     match twice(event) {
@@ -32,7 +32,7 @@ pub(crate) fn thrice(event: &Event) -> Result<Copies, OutOfMemory>
 /// An event twice. `OutOfMemory` where memory was refused.
 pub(crate) fn twice(event: &Event) -> Result<(Event, Event), OutOfMemory>
     ensures value { IfOk result (λ copies. (copies.0 ≡ event.now) × (copies.1 ≡ event.now)) }
-    ensures frees { TakesNoMemory event.now → IsOk result }
+    ensures frees { EventTakesNoMemory event.now → IsOk result }
 {
     let first = event.again()?;
     match event.again() {

@@ -3,7 +3,7 @@
 ghost use Rattle.std.specs.Prelude.{◌≡◌, ◌+◌, ◌≤◌, ◌∷◌, [], ◌++◌, List, length, true, false, IsOk, IfOk, OnErr};
 ghost use Rattle.radio_chronicle.specs.declared.line.ControlLine.{ControlLine as LineOf};
 ghost use Rattle.radio_core.specs.ControlSteps.{three_of};
-ghost use Rattle.radio_events.specs.Events.{TakesNoMemory};
+ghost use Rattle.radio_events.specs.Events.{EventTakesNoMemory};
 ghost use Rattle.radio_events.specs.declared.reply.Reply.{Reply as ReplyOf};
 ghost use Rattle.radio_book.specs.MountBooks.{AreBack, AreCuts, AreLent, IsControlAsBefore, IsControlStep};
 
@@ -75,7 +75,7 @@ pub(crate) fn step_over<C: Chronicle>(
 ) -> Result<Reply, OutOfMemory>
     ensures step { IfOk result (λ reply. IsControlStep lent.old control.old event reply lent.new control.new) }
     ensures err { OnErr result (IsControlAsBefore lent.old control.old lent.new control.new) }
-    ensures frees { TakesNoMemory event → IsOk result }
+    ensures frees { EventTakesNoMemory event → IsOk result }
 {
     let is_reached = reaches_parts(control, lent, limits_time, &event);
     lend_each(control, lent, is_reached);
@@ -95,7 +95,7 @@ pub(crate) fn step3_over<C: Chronicle>(
     ensures step { IfOk result (λ replies. (reply : ReplyOf) × (replies ≡ three_of reply)
         × IsControlStep lent.old control.old event reply lent.new control.new) }
     ensures err { OnErr result (IsControlAsBefore lent.old control.old lent.new control.new) }
-    ensures frees { TakesNoMemory event → IsOk result }
+    ensures frees { EventTakesNoMemory event → IsOk result }
 {
     let is_reached = reaches_parts(control, lent, limits_time, &event);
     lend_each(control, lent, is_reached);

@@ -136,10 +136,10 @@ done w (AddUser mount user password) = outsiders_ended (user_added w mount user 
 done w (DeleteUser mount user) = outsiders_ended (user_deleted w mount user) mount
 
 -- all but the setting of a fallback and of a user takes no memory
-abbrev pub TakesNoRoom : Command → Type 0
-TakesNoRoom (SetFallback mount fallback) = ⊥
-TakesNoRoom (AddUser mount user password) = ⊥
-TakesNoRoom command = Unit {0}
+abbrev pub CommandTakesNoMemory : Command → Type 0
+CommandTakesNoMemory (SetFallback mount fallback) = ⊥
+CommandTakesNoMemory (AddUser mount user password) = ⊥
+CommandTakesNoMemory command = Unit {0}
 
 -- the client has had its answer
 abbrev pub answered : World → ℕ → World
@@ -162,13 +162,13 @@ changed w (Tick ms) = ticked w ms
 changed w (Obey id command) = done (answered w id) command
 
 -- these changes are never refused for want of memory
-abbrev pub NeedsNoMemory : Change → Type 0
-NeedsNoMemory Nothing = Unit {0}
-NeedsNoMemory (Answer id) = Unit {0}
-NeedsNoMemory (SetTitle mount title) = Unit {0}
-NeedsNoMemory (Advance id place) = Unit {0}
-NeedsNoMemory (End id mount) = Unit {0}
-NeedsNoMemory (EndAndLeave id mount) = Unit {0}
-NeedsNoMemory (Forget id) = Unit {0}
-NeedsNoMemory (Tick ms) = Unit {0}
-NeedsNoMemory _ = ⊥
+abbrev pub ChangeTakesNoMemory : Change → Type 0
+ChangeTakesNoMemory Nothing = Unit {0}
+ChangeTakesNoMemory (Answer id) = Unit {0}
+ChangeTakesNoMemory (SetTitle mount title) = Unit {0}
+ChangeTakesNoMemory (Advance id place) = Unit {0}
+ChangeTakesNoMemory (End id mount) = Unit {0}
+ChangeTakesNoMemory (EndAndLeave id mount) = Unit {0}
+ChangeTakesNoMemory (Forget id) = Unit {0}
+ChangeTakesNoMemory (Tick ms) = Unit {0}
+ChangeTakesNoMemory _ = ⊥

@@ -1,7 +1,7 @@
 ghost use Rattle.std.specs.Prelude.{◌≡◌, true, IsOk, IfOk, OnOk, OnErr};
 ghost use Rattle.radio_seats_rows.specs.Seats.{sits_at, with_ended, with_session_at};
 ghost use Rattle.radio_parts.specs.Timeouts.{lags_behind};
-ghost use Rattle.radio_changes.specs.Changes.{answered, changed, carried_along, called_home, session_ended, client_gone, NeedsNoMemory};
+ghost use Rattle.radio_changes.specs.Changes.{answered, changed, carried_along, called_home, session_ended, client_gone, ChangeTakesNoMemory};
 ghost use Rattle.radio_changes.specs.Counts.{nobody, counted, counts_along, counts_home, counts_ended};
 ghost use Rattle.radio_changes.specs.KeptChanges.{kept_changed, kept_taken_in};
 
@@ -26,7 +26,7 @@ impl ServerState {
         ensures ok { OnOk result (self.new ≡ kept_changed self.old change) }
         ensures counts { IfOk result (λ counts. counts ≡ counted self.old change) }
         ensures err { OnErr result (self.new ≡ self.old) }
-        ensures frees { NeedsNoMemory change → IsOk result }
+        ensures frees { ChangeTakesNoMemory change → IsOk result }
     {
         match change {
             Change::Nothing => Ok(NOBODY),

@@ -1,7 +1,7 @@
 //! What commands do.
 
 ghost use Rattle.std.specs.Prelude.{◌≡◌, IfOk, OnOk, OnErr};
-ghost use Rattle.radio_changes.specs.Changes.{changed, done, session_killed, TakesNoRoom};
+ghost use Rattle.radio_changes.specs.Changes.{changed, done, session_killed, CommandTakesNoMemory};
 ghost use Rattle.radio_changes.specs.Counts.{counted, counts_by};
 ghost use Rattle.radio_parts.specs.Sessions.{session_of};
 ghost use Rattle.radio_changes.specs.declared.change.Change.{Change};
@@ -66,8 +66,8 @@ impl ServerState {
 
     /// A command is done that takes no memory; how many it has moved or finished.
     fn do_in_place(&mut self, command: Command) -> Carried
-        ensures state { TakesNoRoom command → self.new ≡ done self.old command }
-        ensures counts { TakesNoRoom command → result ≡ counts_by self.old command }
+        ensures state { CommandTakesNoMemory command → self.new ≡ done self.old command }
+        ensures counts { CommandTakesNoMemory command → result ≡ counts_by self.old command }
     {
         match command {
             Command::MoveClients { mount, destination } => {

@@ -2,7 +2,7 @@
 
 ghost use Rattle.std.specs.Prelude.{◌≡◌, true, Err, IsOk, IfOk, OnOk, OnErr};
 ghost use Rattle.radio_seats_rows.specs.Seats.{sits_at};
-ghost use Rattle.radio_changes.specs.Changes.{ticked, NeedsNoMemory};
+ghost use Rattle.radio_changes.specs.Changes.{ticked, ChangeTakesNoMemory};
 ghost use Rattle.radio_changes.specs.Counts.{counted};
 ghost use Rattle.radio_changes.specs.Due.{at_moment, due_by};
 ghost use Rattle.radio_house.specs.Due.{first_due};
@@ -88,7 +88,7 @@ impl TimedState {
         ensures ok { OnOk result (self.new ≡ kept_changed self.old change) }
         ensures counts { IfOk result (λ counts. counts ≡ counted self.old change) }
         ensures err { OnErr result (self.new ≡ self.old) }
-        ensures frees { NeedsNoMemory change → IsOk result }
+        ensures frees { ChangeTakesNoMemory change → IsOk result }
     {
         match change {
             Change::Tick { ms } => {
@@ -145,7 +145,7 @@ impl TimedState {
         ensures ok { OnOk result (self.new ≡ kept_changed self.old change) }
         ensures counts { IfOk result (λ counts. counts ≡ counted self.old change) }
         ensures err { OnErr result (self.new ≡ self.old) }
-        ensures frees { NeedsNoMemory change → IsOk result }
+        ensures frees { ChangeTakesNoMemory change → IsOk result }
     {
         self.due_from = self.due_from.min(self.state.due_by(&change));
         self.state.commit(change)

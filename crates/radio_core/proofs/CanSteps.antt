@@ -3,7 +3,7 @@ use Rattle.std.proofs.Common.{◌≡◌, ℕ, Option, Some, None, refl}
 use Rattle.radio_events.specs.declared.event.Event.{Event}
 use Rattle.radio_events.specs.declared.event.Event.TheVariants.{Arrive, Source, Push, SourceEnd, Title, Listen, Draw, Command, Leave}
 use Rattle.radio_events.specs.declared.event.Event.TheVariants.{RelayUp, RelayDown, Clock}
-use Rattle.radio_events.specs.Events.{TakesNoMemory}
+use Rattle.radio_events.specs.Events.{EventTakesNoMemory}
 use Rattle.radio_house.specs.World.{World}
 use Rattle.radio_mount_part.specs.Steps.{IsKept}
 use Rattle.radio_parts.specs.Sessions.{Session, session_of}
@@ -36,7 +36,7 @@ stands_can w stands (RelayUp mount shown) = tt
 stands_can w stands (RelayDown id) = tt
 stands_can w stands (Clock ms) = tt
 
-pub small_can : (w : World) (event : Event) → TakesNoMemory event → CanStep w event
+pub small_can : (w : World) (event : Event) → EventTakesNoMemory event → CanStep w event
 small_can w (Arrive peer) small = tt
 small_can w (Source asked) small = tt
 small_can w (Push id block) small = tt

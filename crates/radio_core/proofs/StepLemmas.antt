@@ -20,9 +20,9 @@ use Rattle.radio_changes.specs.KeptChanges.{kept_changed}
 use Rattle.radio_changes.specs.Counts.{counted}
 use Rattle.radio_core.specs.Planned.{with_counts, uncounted, planned}
 use Rattle.radio_parts.specs.Sessions.{Session, session_of}
-use Rattle.radio_changes.specs.Changes.{NeedsNoMemory}
+use Rattle.radio_changes.specs.Changes.{ChangeTakesNoMemory}
 use Rattle.radio_core.specs.Step.{outcome, reply_to, world_after, Step, Represents, StandsForSome}
-use Rattle.radio_events.specs.Events.{TakesNoMemory}
+use Rattle.radio_events.specs.Events.{EventTakesNoMemory}
 use Rattle.radio_parts.specs.Stream.{end_of}
 use Rattle.radio_house.specs.World.{World, opening, standing_of, has_relay}
 use Rattle.radio_settings_values.specs.declared.settings.Settings.{Settings}
@@ -38,7 +38,7 @@ use Rattle.radio_facts.specs.Wanted.{wanted}
 
 -- its reply has no text, and its change needs no memory
 abbrev pub IsSmall : Outcome → Type 0
-IsSmall o = HoldsNoText o.reply × NeedsNoMemory o.change
+IsSmall o = HoldsNoText o.reply × ChangeTakesNoMemory o.change
 
 unless_by : (relayed : Bool) (o : Outcome) → IsSmall o → IsSmall (unless_relayed relayed o)
 unless_by true o small = (tt, tt)
@@ -76,7 +76,7 @@ clock_by : (ms : ℕ) (b : Bool) → IsSmall (says Noted (if b then Nothing else
 clock_by ms true = (tt, tt)
 clock_by ms false = (tt, tt)
 
-pub small_outcome : (w : World) (event : Event) → TakesNoMemory event → IsSmall (planned w event)
+pub small_outcome : (w : World) (event : Event) → EventTakesNoMemory event → IsSmall (planned w event)
 unfolding planned outcome
 small_outcome w (SourceEnd id) small = end_by id (has_relay w id) (standing_of w id)
 small_outcome w (Leave id) small = unless_by (has_relay w id) (leaves_from id (standing_of w id)) (leave_by id (standing_of w id))
@@ -186,11 +186,11 @@ module _ (now later : World) (event : Event) (o : Outcome) (is_planned : o ≡ p
       (told_reply, s.0, s.1, told, s.2)
   steps_done (Err refused) ok told w stands = tt
 
-  pub small_reply : TakesNoMemory event → HoldsNoText o.reply
+  pub small_reply : EventTakesNoMemory event → HoldsNoText o.reply
   small_reply small = subst (λ (x : Outcome). HoldsNoText x.reply) (sym is_planned) (small_outcome now event small).0
 
-  pub small_change : TakesNoMemory event → NeedsNoMemory o.change
-  small_change small = subst (λ (x : Outcome). NeedsNoMemory x.change) (sym is_planned) (small_outcome now event small).1
+  pub small_change : EventTakesNoMemory event → ChangeTakesNoMemory o.change
+  small_change small = subst (λ (x : Outcome). ChangeTakesNoMemory x.change) (sym is_planned) (small_outcome now event small).1
 
 -- what is told of a plan is the reply
 pub told_by_plan : (w : World) (event : Event) → with_counts (planned w event).reply (counted w (planned w event).change) ≡ reply_to w event

@@ -8,7 +8,7 @@ ghost use Rattle.radio_seats_rows.specs.Seats.{last_mount_of};
 ghost use Rattle.radio_facts.specs.Wanted.{wanted};
 ghost use Rattle.radio_house.specs.World.{World, opening};
 ghost use Rattle.radio_core.specs.Step.{Step, Represents, StandsForSome};
-ghost use Rattle.radio_events.specs.Events.{TakesNoMemory};
+ghost use Rattle.radio_events.specs.Events.{EventTakesNoMemory};
 
 use crate::OutOfMemory;
 pub use control::Control;
@@ -120,7 +120,7 @@ impl Core {
         // after it
         ensures step { (w : World) → Represents self.old w → IfOk result (λ reply. (w' : World) × Step w event reply w' × Represents self.new w') }
         // the end of a session, of a connection and of a relay, and the clock, are never refused
-        ensures frees { TakesNoMemory event → IsOk result }
+        ensures frees { EventTakesNoMemory event → IsOk result }
         ensures err { OnErr result (self.new ≡ self.old) }
     {
         self.control.step(event)
@@ -135,7 +135,7 @@ impl Core {
             → IfOk result (λ replies. (reply : ReplyOf) × (w' : World) × Step w event reply w' × (replies ≡ reply ∷ reply ∷ reply ∷ [])
             × Represents self.new w') }
         // the end of a session, of a connection and of a relay, and the clock, are never refused
-        ensures frees { TakesNoMemory event → IsOk result }
+        ensures frees { EventTakesNoMemory event → IsOk result }
         ensures err { OnErr result (self.new ≡ self.old) }
     {
         self.control.step3(event)
@@ -143,12 +143,12 @@ impl Core {
 }
 
 impl Server for Core {
-    ghost use Rattle.radio_events.specs.Events.{TakesNoMemory};
+    ghost use Rattle.radio_events.specs.Events.{EventTakesNoMemory};
     ghost use Rattle.radio_core.specs.Step.{core_steps};
 
     ghost steps = { core_steps };
 
-    ghost refuses = { λ core event. TakesNoMemory event → ⊥ };
+    ghost refuses = { λ core event. EventTakesNoMemory event → ⊥ };
 
     fn apply(&mut self, event: Event) -> Result<Reply, OutOfMemory> {
         self.stands();

@@ -23,12 +23,12 @@ client_in (Clock ms) = None
 
 -- the end of a session, of a connection and of a relay, and the clock, are never refused for want of memory
 -- rule: Leaving; Refused memory; Relay goes down
-abbrev pub TakesNoMemory : Event → Type 0
-TakesNoMemory (SourceEnd id) = Unit {0}
-TakesNoMemory (Leave id) = Unit {0}
-TakesNoMemory (RelayDown id) = Unit {0}
-TakesNoMemory (Clock ms) = Unit {0}
-TakesNoMemory _ = ⊥
+abbrev pub EventTakesNoMemory : Event → Type 0
+EventTakesNoMemory (SourceEnd id) = Unit {0}
+EventTakesNoMemory (Leave id) = Unit {0}
+EventTakesNoMemory (RelayDown id) = Unit {0}
+EventTakesNoMemory (Clock ms) = Unit {0}
+EventTakesNoMemory _ = ⊥
 
 -- this event, with this reply
 abbrev pub entry : Event → Reply → Entry

@@ -1,7 +1,7 @@
 //! Equal copies of events, for whoever keeps a record of them.
 
 ghost use Rattle.std.specs.Prelude.{◌≡◌, IsOk, IfOk};
-ghost use Rattle.radio_events.specs.Events.{TakesNoMemory};
+ghost use Rattle.radio_events.specs.Events.{EventTakesNoMemory};
 
 use crate::{
     Asked, Boxed, Command, CommandRequest, Event, ListenRequest, OutOfMemory, PageVisit,
@@ -17,7 +17,7 @@ impl Event {
     pub fn again(&self) -> Result<Event, OutOfMemory>
         ensures value { IfOk result (λ event. event ≡ self.now) }
         // of the end of a session, a connection and a relay, and of the clock, it is never refused
-        ensures frees { TakesNoMemory self.now → IsOk result }
+        ensures frees { EventTakesNoMemory self.now → IsOk result }
     {
         match self {
             Event::Arrive { peer } => Ok(Event::Arrive { peer: *peer }),

@@ -3,7 +3,7 @@ use Rattle.std.specs.Prelude.{◌≡◌, ℕ, Bool, true, false, List, [], ◌�
 use Rattle.radio_events.specs.declared.event.Event.{Event}
 use Rattle.radio_events.specs.declared.event.Event.TheVariants.{Leave}
 use Rattle.radio_events.specs.declared.reply.Reply.{Reply}
-use Rattle.radio_events.specs.Events.{TakesNoMemory}
+use Rattle.radio_events.specs.Events.{EventTakesNoMemory}
 use Rattle.radio_house.specs.World.{World}
 use Rattle.radio_book.specs.declared.newcomer.Newcomer.TheVariants.{Client}
 use Rattle.radio_book.specs.Newcomers.{is_here}
@@ -31,7 +31,7 @@ pub record IsCalled (keeps : Bool) (opening : World) (before : List ReceiptOf) (
 -- rule: Refused memory
 pub record MayBeRefused (keeps : Bool) (before : List ReceiptOf) (event : Event) : Type 0 where
   pub other : keeps ≡ true → IsNotItsEnd before event
-  pub takes : keeps ≡ false → TakesNoMemory event → ⊥
+  pub takes : keeps ≡ false → EventTakesNoMemory event → ⊥
 
 -- If entries are stored, the pass gains the receipts of what was applied, in its order.
 abbrev pub PassesGainWhatWasApplied : Type 0

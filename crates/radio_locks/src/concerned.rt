@@ -1,7 +1,7 @@
 //! Whose parts an event of the control is lent.
 
 ghost use Rattle.std.specs.Prelude.{◌≡◌, None};
-ghost use Rattle.radio_events.specs.Events.{TakesNoMemory};
+ghost use Rattle.radio_events.specs.Events.{EventTakesNoMemory};
 
 use crate::list_numbers::ListNumbers;
 use radio_events::Event;
@@ -22,7 +22,7 @@ pub(crate) enum Concerned {
 
 /// Returns the client of a block, a title or a draw.
 pub(crate) fn own_client(event: &Event) -> Option<u64>
-    ensures { TakesNoMemory event.now → result ≡ None }
+    ensures { EventTakesNoMemory event.now → result ≡ None }
 {
     match event {
         Event::Push { id, .. } | Event::Title { id, .. } | Event::Draw { id, .. } => Some(*id),
@@ -57,7 +57,7 @@ pub(crate) fn leaver(event: &Event) -> Option<u64> {
 
 /// Returns the mount that the event names, if a session or a listener may begin there.
 pub(crate) fn mount_in(event: &Event) -> Option<MountName>
-    ensures { TakesNoMemory event.now → result ≡ None }
+    ensures { EventTakesNoMemory event.now → result ≡ None }
 {
     match event {
         Event::Source(asked) => MountName::read(asked.mount.as_slice()),

@@ -8,7 +8,7 @@ ghost use Rattle.radio_book.specs.Receipts.{has_fed};
 ghost use Rattle.radio_book.specs.declared.newcomer.Newcomer.{Newcomer};
 ghost use Rattle.radio_book.specs.declared.newcomer.Newcomer.TheVariants.{Client};
 ghost use Rattle.radio_chronicle.specs.Stamps.{stamp};
-ghost use Rattle.radio_events.specs.Events.{TakesNoMemory};
+ghost use Rattle.radio_events.specs.Events.{EventTakesNoMemory};
 ghost use Rattle.radio_events.specs.declared.event.Event.TheVariants.{Leave};
 ghost use Rattle.radio_house.specs.World.{opening};
 ghost use Rattle.radio_locks.specs.Replies.{IsReplied, IsTried};
@@ -112,7 +112,7 @@ impl<C: Chronicle, H: Origin> Hall<C, H> {
         // the end of a client that was let in by the receipts of this pass, has not left by them and has never fed by them is never refused
         ensures leave { C.KEEPS ≡ true → (id : ℕ) → event ≡ Leave id → is_here (Client id) pass.old ≡ true → has_fed id pass.old ≡ false → IsOk result }
         // if nothing is stored, the end of a session, of a connection and of a relay, and the clock, are never refused
-        ensures frees { C.KEEPS ≡ false → TakesNoMemory event → IsOk result }
+        ensures frees { C.KEEPS ≡ false → EventTakesNoMemory event → IsOk result }
     {
         match own_client(&event) {
             Some(id) => self.apply_own(rt, pass, id, event),
@@ -217,7 +217,7 @@ impl<C: Chronicle, H: Origin> Hall<C, H> {
         ensures unkept { C.KEEPS ≡ false → (pass.new ≡ pass.old) × IfOk result (λ receipt. receipt.stamp ≡ stamp 0 0) }
         ensures err { OnErr result (pass.new ≡ pass.old) }
         ensures leave { C.KEEPS ≡ true → (id : ℕ) → event ≡ Leave id → is_here (Client id) pass.old ≡ true → has_fed id pass.old ≡ false → IsOk result }
-        ensures frees { C.KEEPS ≡ false → TakesNoMemory event → IsOk result }
+        ensures frees { C.KEEPS ≡ false → EventTakesNoMemory event → IsOk result }
     {
         let concerned = locked.concerned(pass, &event);
         let LockedControl {
@@ -362,7 +362,7 @@ fn apply_lent<C: Chronicle, H: Origin>(
     ensures unkept { C.KEEPS ≡ false → (pass.new ≡ pass.old) × IfOk result (λ receipt. receipt.stamp ≡ stamp 0 0) }
     ensures err { OnErr result (pass.new ≡ pass.old) }
     ensures leave { IsOk added → (one : Newcomer) → leaver_of event ≡ Some one → is_here one pass.old ≡ true → vec_len lent.old ≤ 1 → IsOk result }
-    ensures frees { IsOk added → C.KEEPS ≡ false → TakesNoMemory event → IsOk result }
+    ensures frees { IsOk added → C.KEEPS ≡ false → EventTakesNoMemory event → IsOk result }
 {
     if let Err(refused) = added {
         drop(event);

@@ -1,7 +1,7 @@
 //! Whether events, and whether replies, are equal.
 
 ghost use Rattle.std.specs.Prelude.{◌≡◌, ◌↔◌, IsTrue};
-ghost use Rattle.radio_events.specs.Events.{TakesNoMemory};
+ghost use Rattle.radio_events.specs.Events.{EventTakesNoMemory};
 
 mod commands;
 mod data;
@@ -121,7 +121,7 @@ fn is_relay(event: &Event, name: &[u8], wanted: &Shown) -> bool
 
 /// Whether both are one end of a source, of a connection or of a relay, or one moment.
 fn is_same_end_or_clock(a: &Event, b: &Event) -> bool
-    ensures { IsTrue result ↔ TakesNoMemory a.now × (a.now ≡ b.now) }
+    ensures { IsTrue result ↔ EventTakesNoMemory a.now × (a.now ≡ b.now) }
 {
     match (a, b) {
         (Event::SourceEnd { id: a }, Event::SourceEnd { id: b }) => *a == *b,

@@ -5,7 +5,7 @@ ghost use Rattle.std.specs.Option.{option_copied};
 ghost use Rattle.radio_seats_rows.specs.Seats.{last_mount_of, sits_at};
 ghost use Rattle.radio_facts.specs.Wanted.{wanted};
 ghost use Rattle.radio_house.specs.World.{opening, standing_of, has_relay};
-ghost use Rattle.radio_changes.specs.Changes.{NeedsNoMemory};
+ghost use Rattle.radio_changes.specs.Changes.{ChangeTakesNoMemory};
 ghost use Rattle.radio_changes.specs.Counts.{counted};
 ghost use Rattle.radio_changes.specs.KeptChanges.{kept_changed};
 ghost use Rattle.radio_core.specs.Common.{common_after, common_of};
@@ -15,7 +15,7 @@ ghost use Rattle.radio_core.specs.CanStep.{CanDraw, CanStep};
 ghost use Rattle.radio_core.specs.ControlSteps.{control_after, control_reply, three_of};
 ghost use Rattle.radio_events.specs.declared.event.Event.{Event as EventOf};
 ghost use Rattle.radio_events.specs.declared.reply.Reply.{Reply as ReplyOf};
-ghost use Rattle.radio_events.specs.Events.{TakesNoMemory};
+ghost use Rattle.radio_events.specs.Events.{EventTakesNoMemory};
 
 use super::draw::Drawing;
 use super::replies::thrice;
@@ -109,7 +109,7 @@ impl Control {
     pub(super) fn outcome(&self, event: Event) -> Result<Outcome, OutOfMemory>
         ensures value { CanStep self.now event → IfOk result (λ o. o ≡ planned self.now event) }
         ensures drawn { (id room : ℕ) → event ≡ EventOf.Draw id room → IfOk result (λ o. IsMove id o.change) }
-        ensures frees { TakesNoMemory event → IsOk result }
+        ensures frees { EventTakesNoMemory event → IsOk result }
     {
         match event {
             Event::Arrive { peer } => Ok(self.arrive(peer)),
@@ -146,7 +146,7 @@ impl Control {
         // what all mounts have in common changes by the event and its reply alone, whatever was lent
         ensures common { IfOk result (λ reply. common_of self.new ≡ common_after (common_of self.old) event reply) }
         ensures err { OnErr result (self.new ≡ self.old) }
-        ensures frees { TakesNoMemory event → IsOk result }
+        ensures frees { EventTakesNoMemory event → IsOk result }
     {
         match event {
             Event::Draw { id, room } => self.step_drawing(id, room),
@@ -173,7 +173,7 @@ impl Control {
         ensures told { CanStep self.old event → IfOk result (λ replies. replies ≡ three_of (control_reply self.old event)) }
         ensures common { IfOk result (λ replies. (reply : ReplyOf) × (replies ≡ three_of reply) × (common_of self.new ≡ common_after (common_of self.old) event reply)) }
         ensures err { OnErr result (self.new ≡ self.old) }
-        ensures frees { TakesNoMemory event → IsOk result }
+        ensures frees { EventTakesNoMemory event → IsOk result }
     {
         let Outcome { reply, change } = self.outcome(event)?;
         match thrice(reply) {
@@ -219,7 +219,7 @@ impl Control {
         ensures told { CanStep self.old event → IfOk result (λ reply. reply ≡ with_counts (planned self.old event).reply (counted self.old (planned self.old event).change)) }
         ensures common { IfOk result (λ reply. common_of self.new ≡ common_after (common_of self.old) event reply) }
         ensures err { OnErr result (self.new ≡ self.old) }
-        ensures frees { TakesNoMemory event → IsOk result }
+        ensures frees { EventTakesNoMemory event → IsOk result }
     {
         let Outcome { reply, change } = self.outcome(event)?;
         self.commit_for(change, reply)
@@ -231,7 +231,7 @@ impl Control {
         ensures ok { OnOk result (self.new ≡ kept_changed self.old change) }
         ensures told { IfOk result (λ told. told ≡ with_counts reply (counted self.old change)) }
         ensures err { OnErr result (self.new ≡ self.old) }
-        ensures frees { NeedsNoMemory change → IsOk result }
+        ensures frees { ChangeTakesNoMemory change → IsOk result }
     {
         match self.state.commit(change) {
             Ok(counts) => Ok(with_counts(reply, counts)),
@@ -252,7 +252,7 @@ impl Control {
         ensures ok { OnOk result (self.new ≡ kept_changed self.old change) }
         ensures told { IfOk result (λ told. told ≡ map (λ (reply : ReplyOf). with_counts reply (counted self.old change)) replies) }
         ensures err { OnErr result (self.new ≡ self.old) }
-        ensures frees { NeedsNoMemory change → IsOk result }
+        ensures frees { ChangeTakesNoMemory change → IsOk result }
     {
         match self.state.commit(change) {
             Ok(counts) => Ok(all_with_counts(replies, counts)),

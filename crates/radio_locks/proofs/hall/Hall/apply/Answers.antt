@@ -1,10 +1,10 @@
 use Rattle.std.proofs.Common.{◌∙◌, sym, subst}
-use Rattle.radio_events.specs.Events.{TakesNoMemory}
+use Rattle.radio_events.specs.Events.{EventTakesNoMemory}
 use Rattle.radio_locks.proofs.hall.Hall.apply.Goals as goal
 
 pub returns-in-Some-clause-leave : goal.returns-in-Some-clause-leave
 returns-in-Some-clause-leave g c keeps id leaves here fed =
-    let none = c.own_client.ensures (subst TakesNoMemory (sym leaves) tt) in
+    let none = c.own_client.ensures (subst EventTakesNoMemory (sym leaves) tt) in
     let both = sym none ∙ c.in-Some.is in cc
 
 pub returns-in-Some-clause-frees : goal.returns-in-Some-clause-frees
