@@ -19,7 +19,7 @@ use Rattle.radio_mount_part.specs.declared.step.PartAnswer.TheVariants.{Replied,
 use Rattle.std.specs.declared.alloc.AllocError.{AllocError}
 use Rattle.radio_chronicle.specs.Stamps.{stamp}
 use Rattle.radio_chronicle.specs.declared.stamp.Stamp.{Stamp}
-use Rattle.radio_book.specs.MountBooks.{once_in, own_in, with_part, BookOfMount, CanOwn, IsDone, IsInList, IsNowhere, IsOf}
+use Rattle.radio_book.specs.MountBooks.{once_in, own_in, reply_in, with_part, BookOfMount, CanOwn, IsDone, IsInList, IsNowhere, IsOf, IsReplyHere}
 use Rattle.radio_book.specs.OwnSteps.{answered_here, drawer_in, once, part_here, set_back_in, CanDrawHere}
 use Rattle.radio_book.specs.declared.mount_book.Own.{Own}
 use Rattle.radio_book.specs.declared.own_steps.Twice.{Twice}
@@ -134,6 +134,29 @@ done_here now book later place event told answered result is comes same answer b
     subst (λ (b : BookOfMount). IfOk result (λ own. IsDone b event own (with_part later book))) is
     (subst (λ (r : Result Own AllocError). IfOk r (λ own. IsDone book event own (with_part later book))) (sym comes)
     (done_so book (with_part later book) place event told answered same (answer can_it) after))
+
+-- the answer of the part that is here, as its book's reply
+reply_so : (before after : BookOfMount) (event : Event) (answered : Result PartAnswer AllocError)
+    → IfOk answered (λ answer. answer ≡ answered_here before.part event)
+    → OnOk answered (after ≡ record before { part = part_here before.queue before.moment before.part event })
+    → IfOk (reply_in answered) (λ reply. IsReplyHere before event reply after)
+reply_so before after event (Ok (Replied reply)) answer becomes = record { replied = sym answer; becomes = becomes }
+reply_so before after event (Ok (Elsewhere other)) answer becomes =
+    becomes ∙ ap (λ (part : Option MountPart). record before { part = part }) (others_change_nothing_here before.queue before.moment before.part event other (sym answer))
+reply_so before after event (Err refused) answer becomes = tt
+
+-- the same of a book that is seen as this one, whose part becomes that
+pub reply_here : (now book : BookOfMount) (later : Option MountPart) (event : Event) (answered : Result PartAnswer AllocError)
+    (result : Result (Option Reply) AllocError) → book ≡ now → result ≡ reply_in answered
+    → (CanDrawHere book.part event → IfOk answered (λ answer. answer ≡ answered_here book.part event))
+    → (CanDrawHere book.part event → OnOk answered (later ≡ part_here book.queue book.moment book.part event))
+    → CanOwn now event → IfOk result (λ reply. IsReplyHere now event reply (with_part later book))
+reply_here now book later event answered result is comes answer becomes can =
+    let can_it : CanOwn book event = subst (λ (b : BookOfMount). CanOwn b event) (sym is) can in
+    let after = on_ok_map answered (ap (λ (part : Option MountPart). with_part part book)) (becomes can_it) in
+    subst (λ (b : BookOfMount). IfOk result (λ reply. IsReplyHere b event reply (with_part later book))) is
+    (subst (λ (r : Result (Option Reply) AllocError). IfOk r (λ reply. IsReplyHere book event reply (with_part later book))) (sym comes)
+    (reply_so book (with_part later book) event answered (answer can_it) after))
 
 pub once_answers : (answer : PartAnswer) (stepped : Result Twice AllocError) → IfOk stepped (λ twice. once twice ≡ answer) → IfOk (once_in stepped) (λ a. a ≡ answer)
 once_answers answer (Ok twice) is = is

@@ -142,6 +142,18 @@ abbrev pub once_in : Result Twice AllocError → Result PartAnswer AllocError
 once_in (Ok twice) = Ok (once twice)
 once_in (Err refused) = Err refused
 
+-- the part has replied so, or it does not know the client, and nothing has changed
+-- rule: Legal history
+abbrev pub IsReplyHere : BookOfMount → Event → Option Reply → BookOfMount → Type 0
+IsReplyHere before event (Some reply) after = IsOwnStep before event reply after
+IsReplyHere before event None after = after ≡ before
+
+-- the reply of a part's answer, if it knows the client
+abbrev pub reply_in : Result PartAnswer AllocError → Result (Option Reply) AllocError
+reply_in (Ok (Replied reply)) = Ok (Some reply)
+reply_in (Ok (GivenBack event)) = Ok None
+reply_in (Err refused) = Err refused
+
 -- the receipts, with that of the event
 abbrev pub noted_own : Own → List ReceiptOf → List ReceiptOf
 noted_own (DoneHere receipt) receipts = receipts ++ receipt ∷ []

@@ -1,8 +1,9 @@
 //! The book of a mount: its part, and what that does by itself.
 
 ghost use Rattle.std.specs.Prelude.{◌≡◌, ◌+◌, ◌≤◌, ◌<◌, true, false, None, IfOk, IsTrue, OnErr, vec_len, vec_capacity};
-ghost use Rattle.radio_book.specs.MountBooks.{noted_own, once_in, own_in, CanOwn, IsBack, IsCut, IsDone, IsInList, IsLent, IsNowhere, IsOf};
+ghost use Rattle.radio_book.specs.MountBooks.{noted_own, once_in, own_in, reply_in, CanOwn, IsBack, IsCut, IsDone, IsInList, IsLent, IsNowhere, IsOf, IsReplyHere};
 ghost use Rattle.radio_chronicle.specs.Stamps.{stamp};
+ghost use Rattle.radio_events.specs.declared.event.Event.TheVariants.{Draw};
 ghost use Rattle.radio_book.specs.OwnSteps.{is_own, IsAlike};
 
 use crate::copies::twice;
@@ -13,7 +14,7 @@ use crate::stand_ins::{drop_old, last_block, last_block_of, take_out};
 use crate::{Chronicle, Origin, OutOfMemory, Pass, Receipt, Stamp};
 use radio_chronicle::ControlLine;
 use radio_core::{Control, ListedPart, PartAnswer};
-use radio_events::Event;
+use radio_events::{Event, Reply};
 use radio_parts::{LAST_MOMENT, due_at};
 use radio_values::MountName;
 use std::alloc::Global;
@@ -147,6 +148,20 @@ impl<C: Chronicle> MountBook<C> {
         } else {
             self.answer(event)
         }
+    }
+
+    /// Draws for this client, which has room for so many bytes, if nothing is stored, as [`MountBook::apply`], but without a receipt.
+    /// Returns the reply; `None` if the client is not attached to the mount, or the control has the part. `OutOfMemory` if memory
+    /// was refused; nothing has changed then.
+    // rule: Legal history
+    pub fn draw(&mut self, id: u64, room: u32) -> Result<Option<Reply>, OutOfMemory>
+        requires { C.KEEPS ≡ false }
+        ensures done { CanOwn self.old (Draw id room) → IfOk result (λ reply. IsReplyHere self.old (Draw id room) reply self.new) }
+        ensures err { OnErr result (self.new ≡ self.old) }
+    {
+        let event = Event::Draw { id, room };
+        let answered = step_here(self.alloc, &mut self.part, self.moment, self.queue, event);
+        reply_in(answered)
     }
 
     /// Puts the part, if it is here and the event reaches it, in the place of that which the control has. It takes no memory.
@@ -327,6 +342,20 @@ fn own_of(answered: Result<PartAnswer, OutOfMemory>, told: Event) -> Result<Own,
             drop(told);
             Err(refused)
         }
+    }
+}
+
+/// Returns the reply of a part's answer; `None` if it does not know the client.
+fn reply_in(answered: Result<PartAnswer, OutOfMemory>) -> Result<Option<Reply>, OutOfMemory>
+    ensures { result ≡ reply_in answered }
+{
+    match answered {
+        Ok(PartAnswer::Replied(reply)) => Ok(Some(reply)),
+        Ok(PartAnswer::Elsewhere(event)) => {
+            drop(event);
+            Ok(None)
+        }
+        Err(refused) => Err(refused),
     }
 }
 

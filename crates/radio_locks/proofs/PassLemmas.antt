@@ -1,11 +1,14 @@
 -- What callers are told, and what passes gain.
-use Rattle.std.proofs.Common.{◌≡◌, Bool, true, List, [], ◌∷◌, ◌++◌, refl, ap, sym, subst, ◌∙◌, append_assoc, append-nil}
+use Rattle.std.proofs.Common.{◌≡◌, ℕ, Bool, true, false, List, [], ◌∷◌, ◌++◌, Result, Ok, Err, IfOk, OnErr, refl, ap, sym, subst, ◌∙◌, append_assoc, append-nil}
+use Rattle.std.specs.declared.alloc.AllocError.{AllocError}
 use Rattle.radio_events.specs.declared.event.Event.{Event}
+use Rattle.radio_events.specs.declared.event.Event.TheVariants.{Draw}
 use Rattle.radio_events.specs.declared.reply.Reply.{Reply}
+use Rattle.radio_events.specs.Events.{EventTakesNoMemory}
 use Rattle.radio_house.specs.World.{World}
 use Rattle.radio_events.specs.declared.entry.Entry.{Entry}
 use Rattle.radio_book.specs.Receipts.{ReceiptOf, receipt_of}
-use Rattle.radio_locks.specs.Callers.{IsCalled, PassesGainWhatWasApplied}
+use Rattle.radio_locks.specs.Callers.{IsCalled, MayBeRefused, PassesGainWhatWasApplied}
 use Rattle.radio_locks.specs.Replies.{IsReplied}
 
 pub gained : PassesGainWhatWasApplied
@@ -26,3 +29,18 @@ pub called : (keeps : Bool) (opening : World) (before now : List ReceiptOf) (eve
 called keeps opening before now event receipt reply legal same told pass =
     subst (λ (x : Reply). IsCalled keeps opening before event x now) (sym told)
     (record { legal = legal; gains = λ k. (receipt.stamp, pass k ∙ ap (λ (e : Event). before ++ receipt_of receipt.stamp e receipt.reply ∷ []) same) })
+
+-- by a draw of which nothing is stored
+pub drawn : (keeps : Bool) (opening : World) (before now : List ReceiptOf) (event draw : Event) (result : Result Reply AllocError) → keeps ≡ false → event ≡ draw
+    → IfOk result (λ reply. ∥ IsReplied opening draw reply ∥₁) → IfOk result (λ reply. IsCalled keeps opening before event reply now)
+drawn keeps opening before now event draw (Ok reply) unkept is legal = record {
+  legal = subst (λ (e : Event). ∥ IsReplied opening e reply ∥₁) (sym is) legal;
+  gains = λ kept. let both : true ≡ false = sym kept ∙ unkept in cc;
+}
+drawn keeps opening before now event draw (Err refused) unkept is legal = tt
+
+pub draw_refused : (keeps : Bool) (before : List ReceiptOf) (event : Event) (id room : ℕ) (result : Result Reply AllocError) → keeps ≡ false
+    → event ≡ Draw id room → OnErr result (MayBeRefused keeps before event)
+draw_refused keeps before event id room (Ok reply) unkept is = tt
+draw_refused keeps before event id room (Err refused) unkept is =
+    record { other = λ kept. let both : true ≡ false = sym kept ∙ unkept in cc; takes = λ same small. subst EventTakesNoMemory is small }

@@ -1,15 +1,16 @@
 -- Whose reply a receipt has.
-use Rattle.std.proofs.Common.{Result, Ok, Err, IfOk}
+use Rattle.std.proofs.Common.{Option, None, Some, Result, Ok, Err, IfOk}
 use Rattle.std.proofs.Math.Logic.{∥∥₁_map}
 use Rattle.std.specs.declared.alloc.AllocError.{AllocError}
 use Rattle.radio_book.specs.ControlLists.{IsControlReply}
-use Rattle.radio_book.specs.MountBooks.{BookOfMount, CanOwn, IsDone, IsOf}
+use Rattle.radio_book.specs.MountBooks.{BookOfMount, CanOwn, IsDone, IsOf, IsReplyHere}
 use Rattle.radio_book.specs.Receipts.{ReceiptOf}
 use Rattle.radio_book.specs.declared.mount_book.Own.{Own}
 use Rattle.radio_book.specs.declared.mount_book.Own.TheVariants.{Made, Elsewhere}
 use Rattle.radio_events.specs.declared.event.Event.{Event}
+use Rattle.radio_events.specs.declared.reply.Reply.{Reply}
 use Rattle.radio_house.specs.World.{World}
-use Rattle.radio_locks.specs.Replies.{IsReplied, IsTried}
+use Rattle.radio_locks.specs.Replies.{IsReplied, IsRepliedIf, IsTried}
 use Rattle.radio_locks.specs.Replies.IsReplied.{ByMount, ByControl}
 
 pub tried_by : (opening : World) (before after : BookOfMount) (event : Event) (result : Result Own AllocError) → IfOk result (λ own. IsOf event own)
@@ -17,6 +18,12 @@ pub tried_by : (opening : World) (before after : BookOfMount) (event : Event) (r
 tried_by opening before after event (Ok (Made receipt)) is done = ∣ ByMount before after done ∣₁
 tried_by opening before after event (Ok (Elsewhere same)) is done = ∣ is ∣₁
 tried_by opening before after event (Err refused) is done = tt
+
+pub drawn_by : (opening : World) (before after : BookOfMount) (event : Event) (result : Result (Option Reply) AllocError)
+    → (CanOwn before event → IfOk result (λ reply. IsReplyHere before event reply after)) → IfOk result (λ reply. ∥ IsRepliedIf opening event reply ∥₁)
+drawn_by opening before after event (Ok (Some reply)) done = ∣ ByMount before after done ∣₁
+drawn_by opening before after event (Ok None) done = ∣ tt ∣₁
+drawn_by opening before after event (Err refused) done = tt
 
 pub replied_by : (opening : World) (event : Event) (result : Result ReceiptOf AllocError)
     → IfOk result (λ receipt. ∥ IsControlReply opening event receipt.reply ∥₁) → IfOk result (λ receipt. ∥ IsReplied opening event receipt.reply ∥₁)

@@ -1,5 +1,5 @@
 -- Whose reply a receipt has.
-use Rattle.std.specs.Prelude.{◌≡◌}
+use Rattle.std.specs.Prelude.{◌≡◌, Option, None, Some}
 use Rattle.radio_book.specs.ControlLists.{IsControlReply}
 use Rattle.radio_book.specs.MountBooks.{BookOfMount, CanOwn, IsOwnStep}
 use Rattle.radio_book.specs.declared.mount_book.Own.{Own}
@@ -18,3 +18,8 @@ pub data IsReplied (opening : World) (event : Event) (reply : Reply) : Type 0 wh
 abbrev pub IsTried : World → Event → Own → Type 0
 IsTried opening event (Made receipt) = IsReplied opening event receipt.reply
 IsTried opening event (Elsewhere same) = same ≡ event
+
+-- the reply is such a one, if there is one
+abbrev pub IsRepliedIf : World → Event → Option Reply → Type 0
+IsRepliedIf opening event (Some reply) = IsReplied opening event reply
+IsRepliedIf opening event None = Unit {0}

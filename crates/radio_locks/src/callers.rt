@@ -26,8 +26,11 @@ impl<C: Chronicle, H: Origin> SharedServer for Hall<C, H> {
         pass: &mut Pass<C, H>,
         event: Event,
     ) -> Result<Reply, OutOfMemory> {
-        let receipt = Hall::apply(self, rt, pass, event)?;
-        Ok(receipt.into_reply())
+        match event {
+            // nothing notes it, so it needs no receipt
+            Event::Draw { id, room } if !C::KEEPS => self.draw(rt, pass, id, room),
+            event => self.reply(rt, pass, event),
+        }
     }
 
     // rule: Last mount

@@ -149,7 +149,7 @@ impl<C: Chronicle, H: Origin> Hall<C, H> {
 
     /// The same while nobody else has the control: at the mount where the control knows the client, which the pass remembers, or by
     /// the control.
-    fn find<R: Wait>(
+    pub(crate) fn find<R: Wait>(
         &self,
         rt: &R,
         pass: &mut Pass<C, H>,
@@ -163,6 +163,10 @@ impl<C: Chronicle, H: Origin> Hall<C, H> {
         ensures err { OnErr result (pass.new ≡ pass.old) }
     {
         let mut locked = self.enter(rt);
+        // a worker draws for a silent source too, and the pass keeps where its blocks go
+        if matches!(event, Event::Draw { .. }) && locked.feeds(id) {
+            return self.apply_by(rt, &mut locked, pass, event);
+        }
         let Some(list) = locked.list_of(id) else {
             pass.forget(id);
             return self.apply_by(rt, &mut locked, pass, event);

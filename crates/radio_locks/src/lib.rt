@@ -10,6 +10,7 @@
 
 mod callers;
 mod concerned;
+mod drawing;
 mod hall;
 mod laws;
 mod list_numbers;

@@ -36,8 +36,8 @@ impl<C: Chronicle, H: Origin> LockedControl<C, H> {
     {
         match event {
             Event::Arrive { .. } => Concerned::Nobody,
-            Event::Push { id, .. } | Event::Title { id, .. } | Event::Draw { id, .. } =>
-                self.concerned_by(*id),
+            Event::Push { id, .. } | Event::Title { id, .. } => self.concerned_by(*id),
+            Event::Draw { id, .. } => self.concerned_by_draw(*id),
             Event::Leave { id } => self.concerned_by_end(pass, *id),
             Event::SourceEnd { id } | Event::RelayDown { id } => self.reached_by_end(*id),
             Event::Source(asked) => self.reached_by_start(asked.mount.as_slice(), Some(asked.id)),
@@ -58,11 +58,26 @@ impl<C: Chronicle, H: Origin> LockedControl<C, H> {
         }
     }
 
+    /// The mount of a client that draws; none of one that feeds a mount, which is given nothing whatever has happened there.
+    fn concerned_by_draw(&self, id: u64) -> Concerned
+        ensures { IsOneAtMost result }
+    {
+        if self.feeds(id) {
+            return Concerned::Nobody;
+        }
+        self.concerned_by(id)
+    }
+
+    /// Returns whether the client or relay feeds a mount.
+    pub(crate) fn feeds(&self, id: u64) -> bool {
+        self.control.fed_mount(id).is_some()
+    }
+
     /// What the end of its session reaches, if one ends with the client.
     fn concerned_by_end(&self, pass: &Pass<C, H>, id: u64) -> Concerned
         ensures { C.KEEPS ≡ true → has_fed id pass.now ≡ false → IsOneAtMost result }
     {
-        if self.control.fed_mount(id).is_some() && (!C::KEEPS || pass.has_fed(id)) {
+        if self.feeds(id) && (!C::KEEPS || pass.has_fed(id)) {
             return self.reached_by_end(id);
         }
         self.concerned_by(id)

@@ -1,0 +1,71 @@
+//! Replies without receipts.
+
+ghost use Rattle.std.specs.Prelude.{◌≡◌, false, IfOk, OnErr};
+ghost use Rattle.radio_events.specs.declared.event.Event.TheVariants.{Draw};
+ghost use Rattle.radio_locks.specs.Callers.{IsCalled, MayBeRefused};
+ghost use Rattle.radio_locks.specs.Replies.{IsReplied, IsRepliedIf};
+
+use crate::{Hall, OutOfMemory};
+use radio_book::{Chronicle, Origin, Pass};
+use radio_events::{Event, Reply};
+use std::sync::Wait;
+
+impl<C: Chronicle, H: Origin> Hall<C, H> {
+    /// Applies one event, as [`Hall::apply`], and returns its reply.
+    pub(crate) fn reply<R: Wait>(
+        &self,
+        rt: &R,
+        pass: &mut Pass<C, H>,
+        event: Event,
+    ) -> Result<Reply, OutOfMemory>
+        ensures ok { IfOk result (λ reply. IsCalled C.KEEPS H.opening pass.old event reply pass.new) }
+        ensures err { OnErr result (pass.new ≡ pass.old) }
+        ensures refused { OnErr result (MayBeRefused C.KEEPS pass.old event) }
+    {
+        let receipt = self.apply(rt, pass, event)?;
+        Ok(receipt.into_reply())
+    }
+
+    /// Draws for this client, which has room for so many bytes, as [`Hall::apply`], if nothing is stored: first where it was attached
+    /// last. `OutOfMemory` if memory was refused.
+    pub(crate) fn draw<R: Wait>(
+        &self,
+        rt: &R,
+        pass: &mut Pass<C, H>,
+        id: u64,
+        room: u32,
+    ) -> Result<Reply, OutOfMemory>
+        requires { C.KEEPS ≡ false }
+        ensures legal { IfOk result (λ reply. ∥ IsReplied H.opening (Draw id room) reply ∥₁) }
+        ensures pass { pass.new ≡ pass.old }
+    {
+        if let Some(list) = pass.list_of(id) {
+            if let Some(reply) = self.draw_at(rt, list, id, room)? {
+                return Ok(reply);
+            }
+        }
+        let receipt = self.find(rt, pass, id, Event::Draw { id, room })?;
+        Ok(receipt.into_reply())
+    }
+
+    /// Tries the draw at the mount of this list.
+    fn draw_at<R: Wait>(
+        &self,
+        rt: &R,
+        list: u64,
+        id: u64,
+        room: u32,
+    ) -> Result<Option<Reply>, OutOfMemory>
+        requires { C.KEEPS ≡ false }
+        ensures { IfOk result (λ reply. ∥ IsRepliedIf H.opening (Draw id room) reply ∥₁) }
+    {
+        let Some(lock) = self.lock_of(list) else {
+            return Ok(None);
+        };
+        let mut guard = lock.lock(rt);
+        match &mut *guard {
+            Some(book) => book.draw(id, room),
+            None => Ok(None),
+        }
+    }
+}
