@@ -50,21 +50,8 @@ pub struct MountBook<C: Chronicle> {
 
 impl<C: Chronicle> Drop for MountBook<C> {
     fn drop(self) {
-        let MountBook {
-            alloc: _,
-            mount: _,
-            list: _,
-            part,
-            moment: _,
-            queue: _,
-            items: _,
-            last_block: _,
-            stand_in,
-            known_block: _,
-            of: _,
-        } = self;
+        let (_, part) = self.into_part();
         drop(part);
-        drop(stand_in);
     }
 }
 
