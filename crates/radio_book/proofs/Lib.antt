@@ -4,3 +4,4 @@ pub mod Threads
 pub mod OwnLemmas
 pub mod MountBookLemmas
 mod ToldLemmas
+mod ClockLemmas

@@ -4,3 +4,4 @@ pub mod Totals
 pub mod OwnSteps
 pub mod MountBooks
 pub mod ControlLists
+pub mod Clocks

@@ -10,9 +10,7 @@ ghost use Rattle.radio_book.specs.Newcomers.{is_arrival, room_for};
 use crate::copies::{Copies, thrice};
 use crate::debt::Debt;
 use crate::holdings::Holdings;
-use crate::lending::{
-    apart, has_time_limit, lend_each, note_cuts, step_over, step3_over, take_back_each,
-};
+use crate::lending::{apart, lend_each, note_cuts, step_over, step3_over, take_back_each};
 use crate::receipt::NOWHERE;
 use crate::{Chronicle, Entry, MountBook, Origin, OutOfMemory, Receipt, Stamp};
 use radio_chronicle::{ControlLine, Notes};
@@ -32,8 +30,6 @@ pub(crate) struct Accounts<C: Chronicle, H: Origin> {
     debt: Debt<H>,
     spare: Share<H>,
     passes_left: u64,
-    /// Whether a mount limits how long its listeners hear.
-    limits_time: bool,
     of: PhantomData<C>,
     ghost keeps: { lines.keeps ≡ C.KEEPS },
     ghost room: { debt.owed + debt.owed ≤ lines.room },
@@ -57,14 +53,12 @@ impl<C: Chronicle, H: Origin> Accounts<C, H> {
         ensures control { result.control ≡ control }
         ensures lines { result.lines.items ≡ [] }
     {
-        let limits_time = has_time_limit(control.settings());
         Accounts {
             control,
             lines: Notes::new(alloc, C::KEEPS),
             debt,
             spare,
             passes_left,
-            limits_time,
             of: PhantomData,
         }
     }
@@ -141,7 +135,7 @@ impl<C: Chronicle, H: Origin> Accounts<C, H> {
         ensures frees { EventTakesNoMemory event → IsOk result }
     {
         match event.again() {
-            Ok(told) => match step_over(&mut self.control, lent, self.limits_time, event) {
+            Ok(told) => match step_over(&mut self.control, lent, event) {
                 Ok(reply) => Ok(Receipt::new(NOWHERE, told, reply)),
                 Err(refused) => {
                     drop(told);
@@ -258,7 +252,7 @@ impl<C: Chronicle, H: Origin> Accounts<C, H> {
         ensures err_lines { OnErr result ((self.new.lines.items ≡ self.old.lines.items) × (holdings.new.receipts.items ≡ holdings.old.receipts.items)) }
         ensures frees { EventTakesNoMemory event → IsOk result }
     {
-        match step3_over(&mut self.control, lent, self.limits_time, event) {
+        match step3_over(&mut self.control, lent, event) {
             Ok(replies) => {
                 let Copies { noted, held, told } = copies;
                 let (first, second, third) = apart(replies);

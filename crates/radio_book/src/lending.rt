@@ -1,45 +1,55 @@
 //! Mounts' parts that are lent to the control, one after another.
 
-ghost use Rattle.std.specs.Prelude.{◌≡◌, ◌+◌, ◌≤◌, ◌∷◌, [], ◌++◌, List, length, true, false, IsOk, IfOk, OnErr};
+ghost use Rattle.std.specs.Prelude.{◌≡◌, ◌+◌, ◌≤◌, ◌∷◌, [], ◌++◌, List, length, true, false, is_some, IsOk, IfOk, OnErr, All};
 ghost use Rattle.radio_chronicle.specs.declared.line.ControlLine.{ControlLine as LineOf};
 ghost use Rattle.radio_core.specs.ControlSteps.{three_of};
 ghost use Rattle.radio_events.specs.Events.{EventTakesNoMemory};
 ghost use Rattle.radio_events.specs.declared.reply.Reply.{Reply as ReplyOf};
+ghost use Rattle.radio_parts.specs.Due.{last_moment, seat_due};
+ghost use Rattle.radio_seats_rows.specs.declared.seat.Seat.{Seat as SeatOf};
+ghost use Rattle.radio_book.specs.Clocks.{IsNotDue, LeavesParts};
 ghost use Rattle.radio_book.specs.MountBooks.{AreBack, AreCuts, AreLent, IsControlAsBefore, IsControlStep};
 
 use crate::{Chronicle, MountBook, OutOfMemory};
 use radio_chronicle::{ControlLine, Notes};
 use radio_core::Control;
 use radio_events::{Event, Reply};
-use radio_settings_values::Settings;
+use radio_settings_values::{MountOptions, Settings};
 
 /// Returns whether the event can reach what is in these parts. A clock can't if no mount limits how long its listeners hear, and no
-/// session is due, as far as the control knows.
-fn reaches_parts<C: Chronicle>(
-    control: &Control,
-    lent: &[MountBook<C>],
-    limits_time: bool,
-    event: &Event,
-) -> bool {
+/// session is due, by the parts and as far as the control knows.
+// rule: The clock
+fn reaches_parts<C: Chronicle>(control: &Control, lent: &[MountBook<C>], event: &Event) -> bool
+    // nothing is due in the parts then
+    ensures { result ≡ false → LeavesParts control.now.house.settings lent.now event.now }
+{
     let Event::Clock { ms } = event else {
         return true;
     };
-    let timeout = control.settings().limits.source_timeout.get();
-    limits_time || lent.iter().any(|book| book.may_be_due(timeout, *ms))
+    let settings = control.settings();
+    has_time_limit(settings) || is_any_due(lent, settings.limits.source_timeout.get(), *ms)
 }
 
 /// Returns whether a mount limits how long its listeners hear.
-pub(crate) fn has_time_limit(settings: &Settings) -> bool {
-    for mount in settings.mounts.as_slice() {
-        if mount.options.listeners.max_listener_duration.is_some() {
-            return true;
-        }
-    }
-    settings
-        .other_mounts
-        .listeners
-        .max_listener_duration
-        .is_some()
+fn has_time_limit(settings: &Settings) -> bool
+    ensures { result ≡ false → (seat : SeatOf) → seat_due settings.now seat ≡ last_moment }
+{
+    let mounts = settings.mounts.as_slice();
+    limits_time(&settings.other_mounts) || mounts.iter().any(|mount| limits_time(&mount.options))
+}
+
+/// Returns whether these options limit how long listeners hear.
+fn limits_time(options: &MountOptions) -> bool
+    ensures { result ≡ is_some options.now.listeners.max_listener_duration }
+{
+    options.listeners.max_listener_duration.is_some()
+}
+
+/// Returns whether a session of these parts may be due at this moment, in milliseconds. Sources have so many seconds.
+fn is_any_due<C: Chronicle>(lent: &[MountBook<C>], timeout: u32, ms: u64) -> bool
+    ensures { result ≡ false → All (IsNotDue timeout ms) lent.now }
+{
+    lent.iter().any(|book| book.may_be_due(timeout, ms))
 }
 
 /// Puts each part, if it is with its book and the event reaches it, in the place of that which the control has.
@@ -64,20 +74,18 @@ pub(crate) fn take_back_each<C: Chronicle>(control: &mut Control, lent: &mut [Mo
     }
 }
 
-/// The control's step over the parts that are lent; whether a mount limits how long its listeners hear is given. `OutOfMemory` if
-/// memory was refused; the parts were lent and taken back then.
+/// The control's step over the parts that are lent. `OutOfMemory` if memory was refused; the parts were lent and taken back then.
 // rule: Legal history
 pub(crate) fn step_over<C: Chronicle>(
     control: &mut Control,
     lent: &mut [MountBook<C>],
-    limits_time: bool,
     event: Event,
 ) -> Result<Reply, OutOfMemory>
     ensures step { IfOk result (λ reply. IsControlStep lent.old control.old event reply lent.new control.new) }
     ensures err { OnErr result (IsControlAsBefore lent.old control.old lent.new control.new) }
     ensures frees { EventTakesNoMemory event → IsOk result }
 {
-    let is_reached = reaches_parts(control, lent, limits_time, &event);
+    let is_reached = reaches_parts(control, lent, &event);
     lend_each(control, lent, is_reached);
     let stepped = control.step(event);
     take_back_each(control, lent);
@@ -89,7 +97,6 @@ pub(crate) fn step_over<C: Chronicle>(
 pub(crate) fn step3_over<C: Chronicle>(
     control: &mut Control,
     lent: &mut [MountBook<C>],
-    limits_time: bool,
     event: Event,
 ) -> Result<[Reply; 3], OutOfMemory>
     ensures step { IfOk result (λ replies. (reply : ReplyOf) × (replies ≡ three_of reply)
@@ -97,7 +104,7 @@ pub(crate) fn step3_over<C: Chronicle>(
     ensures err { OnErr result (IsControlAsBefore lent.old control.old lent.new control.new) }
     ensures frees { EventTakesNoMemory event → IsOk result }
 {
-    let is_reached = reaches_parts(control, lent, limits_time, &event);
+    let is_reached = reaches_parts(control, lent, &event);
     lend_each(control, lent, is_reached);
     let stepped = control.step3(event);
     take_back_each(control, lent);

@@ -1,6 +1,7 @@
 //! The book of a mount: its part, and what that does by itself.
 
 ghost use Rattle.std.specs.Prelude.{◌≡◌, ◌+◌, ◌≤◌, ◌<◌, true, false, None, IfOk, IsTrue, OnErr, vec_len, vec_capacity};
+ghost use Rattle.radio_book.specs.Clocks.{IsNotDue};
 ghost use Rattle.radio_book.specs.MountBooks.{noted_own, once_in, own_in, reply_in, CanOwn, IsBack, IsCut, IsDone, IsInList, IsLent, IsNowhere, IsOf, IsReplyHere};
 ghost use Rattle.radio_chronicle.specs.Stamps.{stamp};
 ghost use Rattle.radio_events.specs.declared.event.Event.TheVariants.{Draw};
@@ -185,10 +186,15 @@ impl<C: Chronicle> MountBook<C> {
         self.known_block = known.min(last_block_of(&self.part));
     }
 
-    /// Returns whether the session may be due at this moment, in milliseconds, as the control knows it while the part is here. Sources
-    /// have so many seconds.
-    pub(crate) fn may_be_due(&self, timeout: u32, ms: u64) -> bool {
-        self.part.is_some() && due_at(timeout, self.known_block) <= ms
+    /// Returns whether the session may be due at this moment, in milliseconds, by the part that is here, or as the control knows it.
+    /// Sources have so many seconds.
+    pub(crate) fn may_be_due(&self, timeout: u32, ms: u64) -> bool
+        ensures { result ≡ false → IsNotDue timeout ms self.now }
+    {
+        let Some(part) = &self.part else {
+            return false;
+        };
+        due_at(timeout, self.known_block.min(last_block(part))) <= ms
     }
 
     /// Returns how many items its list has, or had when the part was lent.

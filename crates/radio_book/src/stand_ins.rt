@@ -1,6 +1,7 @@
 //! What the control has in the place of a part that stands apart.
 
 ghost use Rattle.std.specs.Prelude.{◌≡◌, IsTrue, MatchOption};
+ghost use Rattle.radio_book.specs.Clocks.{last_block_in};
 ghost use Rattle.radio_core.specs.Lending.{IsTakenOut, StandsIn};
 
 use radio_core::{Control, ListedPart};
@@ -82,7 +83,9 @@ pub(crate) fn last_block_of(part: &Option<ListedPart>) -> u64 {
 }
 
 /// Returns when the last block of the part's session had come, in milliseconds; the last moment if it is not live.
-pub(crate) fn last_block(part: &ListedPart) -> u64 {
+pub(crate) fn last_block(part: &ListedPart) -> u64
+    ensures { result ≡ last_block_in part.now }
+{
     match part.session() {
         Some(session) => session.last_block,
         None => LAST_MOMENT,
