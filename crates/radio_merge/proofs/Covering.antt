@@ -31,7 +31,7 @@ none_yet zero m n e = absurd (cc)
 none_yet (suc k) zero n e = sym (some_same 0 n e)
 none_yet (suc k) (suc m) n e = none_yet k m n e
 
-line_at : (before lines : List ControlLine) (line : ControlLine) → slice_get (before ++ line ∷ lines) (length before) ≡ Some line
+pub line_at : (before lines : List ControlLine) (line : ControlLine) → slice_get (before ++ line ∷ lines) (length before) ≡ Some line
 line_at [] lines line = refl
 line_at (x ∷ before) lines line = line_at before lines line
 

@@ -1,3 +1,3 @@
-mod Covering
+pub mod Covering
 mod Steppings
 pub mod Wholes

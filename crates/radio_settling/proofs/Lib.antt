@@ -1,2 +1,5 @@
 mod Settled
 mod Twins
+mod Placed
+mod Once
+mod Weaving

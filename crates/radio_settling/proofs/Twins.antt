@@ -69,7 +69,7 @@ climb (x ∷ y ∷ ys) next =
     ((first, above_all x y ys first rest.0), rest)
 
 -- how often a place is there
-abbrev one_at : Stamp → Stamp → ℕ
+abbrev pub one_at : Stamp → Stamp → ℕ
 one_at at x = cond (is_same_place at x) 1 0
 
 and_false : (b : Bool) → (b && false) ≡ false
