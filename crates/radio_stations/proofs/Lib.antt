@@ -7,3 +7,4 @@ mod TurnLemmas
 mod WorkLemmas
 mod RoundLemmas
 mod StationLemmas
+mod SettledLemmas

@@ -20,7 +20,8 @@ use Rattle.radio_connections.specs.Course.{LetsNobodyIn}
 use Rattle.radio_connections.specs.Serving.{IsHanded}
 use Rattle.radio_headline.specs.Course.{log_on}
 use Rattle.radio_headline.specs.Served.{HasCourse, HasHappened, HasLabelOrMoment, NothingWas, ServedCoursesHearSlices, WasLetGo, WasServed, WasTurnedAway}
-use Rattle.radio_stations.specs.Stations.{IsHandedTo, IsWoven, StationsAddUp, StationsHearSlices, both_rolls, course_of, either_has, given_by, nothing_left, takes_one, takes_other}
+use Rattle.radio_settling.specs.Woven.{IsWoven, nothing_left, takes_one, takes_other}
+use Rattle.radio_stations.specs.Stations.{IsHandedTo, StationsAddUp, StationsHearSlices, both_rolls, course_of, either_has, given_by}
 use Rattle.radio_stations.specs.Turns.{IsServedThrough, IsOnlyAnswered}
 use Rattle.radio_stations.specs.Work.{IsOfItsConnection, IsServedBy, IsUnder, Made, UnderLabel, closed, entries_in, entries_on, entry_on, gone, happening, here, unknown}
 

@@ -3,3 +3,4 @@ pub mod Turns
 pub mod Work
 pub mod Rounds
 pub mod Stations
+pub mod Settled

@@ -1,10 +1,11 @@
 -- A history, and the connections that it is of.
-use Rattle.std.specs.Prelude.{◌≡◌, ◌⊎◌, ℕ, List, [], ◌∷◌, map}
+use Rattle.std.specs.Prelude.{◌≡◌, ◌⊎◌, ℕ, List, [], map}
 use Rattle.radio_settings_values.specs.declared.settings.Settings.{Settings}
 use Rattle.radio_access.specs.Lists.{Lists}
 use Rattle.radio_answers.specs.declared.web_answers.WebAnswers.{WebAnswers}
 use Rattle.radio_house.specs.World.{opening}
 use Rattle.radio_chronicle.specs.History.{IsRun}
+use Rattle.radio_settling.specs.Woven.{IsWoven}
 use Rattle.radio_connections.specs.Serving.{IsHanded}
 use Rattle.radio_headline.specs.Course.{Happening}
 use Rattle.radio_headline.specs.Listeners.{CourseHearsSlices}
@@ -40,12 +41,6 @@ pub record StationHearsSlices (web : WebAnswers) (settings : Settings) (lists : 
 abbrev pub StationsHearSlices : Type 0
 StationsHearSlices = (web : WebAnswers) (settings : Settings) (lists : Lists) (made : List Made) (roll : Roll)
     → IsRun (opening settings lists) (entries_in made) → IsOfConnections web made roll → StationHearsSlices web settings lists made roll
-
--- what two workers made is woven into one list, which keeps the order of each
-pub data IsWoven : List Made → List Made → List Made → Type 0 where
-  nothing_left : IsWoven [] [] []
-  takes_one : (one other made : List Made) (m : Made) → IsWoven one other made → IsWoven (m ∷ one) other (m ∷ made)
-  takes_other : (one other made : List Made) (m : Made) → IsWoven one other made → IsWoven one (m ∷ other) (m ∷ made)
 
 -- what the one has under a label, or else the other
 abbrev pub either_has : UnderLabel → UnderLabel → UnderLabel

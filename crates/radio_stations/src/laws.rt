@@ -1,6 +1,7 @@
 //! Laws on connections over all their turns, and on workers' passes. Each is a function that does nothing, and its contract is the law.
 
 ghost use Rattle.radio_stations.specs.Rounds.{AdmissionsAreWork, TurnsAreWork};
+ghost use Rattle.radio_stations.specs.Settled.{SettledStationsHearSlices};
 ghost use Rattle.radio_stations.specs.Stations.{StationsAddUp, StationsHearSlices};
 ghost use Rattle.radio_answers.specs.declared.web_answers.WebAnswers.{WebAnswers};
 ghost use Rattle.radio_stations.specs.Turns.{ConnectionsMeanTheirBytes, StrangersAreOnlyAnswered};
@@ -11,6 +12,7 @@ use radio_headline::listeners_hear_slices;
 use radio_heads::settled;
 use radio_locks::passes_gain_what_was_applied;
 use radio_session::cuts_do_not_matter;
+use radio_settling::settled_histories_are_woven;
 
 /// After each turn since a client was let in, the events applied for its connection are those that the bytes of its line mean, in their
 /// order, as if the bytes had come in one piece. The client's draws lie among them, and its leaving comes last. The bytes that the line
@@ -43,10 +45,16 @@ pub fn passes_are_of_their_work()
 
 /// In a history that is a run from the opening state, whose entries under each label are those of the connection there, each listener is
 /// given slices of what the lines of its sources' connections brought. Each line takes what the replies say, or a front of it. What two
-/// workers made is such a list however it is woven, if each has labels of its own.
+/// workers made is such a list however it is woven, if each has labels of its own. If `settle` ends well with the passes of workers, its
+/// history is such a history, of the connections of all of them.
 pub fn stations_hear_slices()
     ensures slices { StationsHearSlices }
     ensures woven { StationsAddUp }
+    ensures settled { SettledStationsHearSlices }
 {
     listeners_hear_slices();
+    passes_are_of_their_work();
+    settled_histories_are_woven();
+    cuts_do_not_matter();
+    settled();
 }
