@@ -1,9 +1,6 @@
 -- A list without its first element that passes.
-use Rattle.std.proofs.Common.{◌≡◌, ◌<◌, ◌≤◌, ◌+◌, ℕ, zero, suc, Bool, true, false, not, List, [], ◌∷◌, ◌++◌, length, take, drop, get_or, filter, refl, ap, arith, length-append, if◌then◌else◌}
-use Rattle.std.specs.List.{remove, position, position_or_len}
-use Rattle.std.proofs.lemmas.Grind.{common_steps}
-use Rattle.std.proofs.lemmas.List.Elements.{filter-append}
-use Rattle.std.proofs.lemmas.List.Quantifiers.{position-Some}
+use Rattle.std.proofs.Common.{◌≡◌, ◌<◌, ◌+◌, ℕ, zero, suc, Bool, true, false, not, List, [], ◌∷◌, length, get_or, filter, refl, ap, arith}
+use Rattle.std.specs.List.{remove, position_or_len}
 
 module _ {X : Type 0} (p : X → Bool) where
   -- without one that passes there is one fewer

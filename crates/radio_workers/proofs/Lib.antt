@@ -1,4 +1,5 @@
 mod Cuts
+pub mod Doings
 mod Lingering
 pub mod Partings
 pub mod Takings

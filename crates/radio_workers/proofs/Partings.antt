@@ -1,5 +1,5 @@
 -- How many connections a worker has once one was moved.
-use Rattle.std.proofs.Common.{◌≡◌, ◌+◌, ◌<◌, ◌≤◌, ℕ, Bool, true, false, List, [], ◌∷◌, ◌++◌, length, take, drop, ap, arith, length-append, length-drop, length-take-le}
+use Rattle.std.proofs.Common.{◌≡◌, ◌+◌, ◌<◌, Bool, true, false, List, [], ◌∷◌, length, take, drop, ap, arith, length-append, length-drop, length-take-le}
 use Rattle.std.proofs.lemmas.Option.{slice_get_within}
 use Rattle.radio_connections.specs.Connections.{Connection}
 use Rattle.radio_serving.specs.Sources.{Feeding}

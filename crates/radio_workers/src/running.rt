@@ -2,6 +2,7 @@
 
 ghost use Rattle.std.specs.Prelude.{◌≡◌, ◌<◌, ℕ, length, All, slice_index_or};
 ghost use Rattle.radio_workers.specs.Hands.{HasTakenMore};
+ghost use Rattle.radio_workers.specs.Working.{IsWorkOf};
 
 use crate::shift::work;
 use crate::{TurnSource, WorkerSlot, Workplace};
@@ -34,6 +35,9 @@ where
     requires own { All (λ slot. slot.hand.intake ≡ place.now.intake.now) slots.old }
     // each pass of the intake has its parts, and tells behind what it told what was taken at its slot
     ensures hands { (i : ℕ) (d : _) → i < length slots.old → HasTakenMore (slice_index_or slots.old i d).hand (slice_index_or slots.new i d).hand }
+    // each pass of the server is back, and what was done through it is a worker's work
+    ensures work { (i : ℕ) (d : _) → i < length slots.old
+        → IsWorkOf S.steps S.refuses place.now.web (slice_index_or slots.old i d).pass (slice_index_or slots.new i d).pass }
 {
     let count = slots.len();
     if count == 0 {
@@ -45,7 +49,8 @@ where
         count,
         &|_, slot|
             requires { slot.now.hand.intake ≡ place.now.intake.now }
-            ensures { HasTakenMore slot.entry.now.hand slot.exit.now.hand }
+            ensures { HasTakenMore slot.entry.now.hand slot.exit.now.hand
+                × IsWorkOf S.steps S.refuses place.entry.now.web slot.entry.now.pass slot.exit.now.pass }
         { work::<R, S, T, L, P, G>(rt, alloc, place, slot) },
     );
 }

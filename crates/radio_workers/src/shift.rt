@@ -9,6 +9,7 @@ ghost use Rattle.radio_serving.specs.Workers.{WorkerOf};
 ghost use Rattle.radio_workers.specs.Hands.{HasTakenMore};
 ghost use Rattle.radio_workers.specs.Leaving.{LeavesAll};
 ghost use Rattle.radio_workers.specs.Shifts.{HasParted, first_source, has_listeners, without_oldest};
+ghost use Rattle.radio_workers.specs.Working.{WorkerHasDone, HasWorkedAtSlot, IsWorkOf, shift_of};
 
 use crate::leaving::leave_all;
 use crate::{Seen, TurnSource, TurnStart, WorkerSlot, Workplace};
@@ -41,6 +42,7 @@ pub(crate) fn work<R: Wait, S: SharedServer, T: Drop, L: Line, P: TurnSource<T, 
 )
     requires own { slot.old.hand.intake ≡ place.now.intake.now }
     ensures taken { HasTakenMore slot.old.hand slot.new.hand }
+    ensures worked { IsWorkOf S.steps S.refuses place.now.web slot.old.pass slot.new.pass }
 {
     if let Some(pass) = slot.pass.take() {
         let pass = work_with(
@@ -73,6 +75,7 @@ fn work_with<R: Wait, S: SharedServer, T: Drop, L: Line, P: TurnSource<T, L>, G:
 ) -> S::Pass
     requires own { hand.old.intake ≡ place.now.intake.now }
     ensures taken { HasTakenMore hand.old hand.new }
+    ensures worked { HasWorkedAtSlot S.steps S.refuses place.now.web pass result }
 {
     let caller = Caller::new(rt, place.server, pass);
     serve(rt, alloc, place, turn_source, hand, caller).into_pass()
@@ -97,6 +100,7 @@ where
     G: Gate,
     requires own { hand.old.intake ≡ place.now.intake.now }
     ensures taken { HasTakenMore hand.old hand.new }
+    ensures worked { HasWorkedAtSlot S.steps S.refuses place.now.web server result }
 {
     let mut shift: Shift<S, L> = Shift::new(alloc, server, place.web, place.patience_s);
     if !place.log_polls {
@@ -123,7 +127,7 @@ impl<S: Server + Drop, L: Line> Shift<S, L> {
     }
 
     /// Turn after turn, as long as the turn source goes on.
-    #[tactic(auto, using(crate::proofs::Takings::taken_none, crate::proofs::Takings::taken_one, crate::proofs::Takings::taken_then))]
+    #[tactic(auto, using(crate::proofs::Takings::taken_none, crate::proofs::Takings::taken_one, crate::proofs::Takings::taken_then, crate::proofs::Doings::done_none, crate::proofs::Doings::done_then))]
     fn make_turns<R: Wait, A, T: Drop, P: TurnSource<T, L>, G: Gate>(
         &mut self,
         rt: &R,
@@ -133,6 +137,8 @@ impl<S: Server + Drop, L: Line> Shift<S, L> {
     )
         requires own { hand.old.intake ≡ place.now.intake.now }
         ensures taken { HasTakenMore hand.old hand.new }
+        ensures does { WorkerHasDone S.steps S.refuses (shift_of self.old.worker self.old.sources.items self.old.conns.items)
+            (shift_of self.new.worker self.new.sources.items self.new.conns.items) }
     {
         'turns: for _ in 0..place.turns {
             if !self.goes_on(rt, place, turn_source, hand) {
@@ -142,7 +148,7 @@ impl<S: Server + Drop, L: Line> Shift<S, L> {
     }
 
     /// The next turn, unless the turn source tells it to stop. Whether it does not.
-    #[tactic(auto, using(crate::proofs::Takings::taken_none))]
+    #[tactic(auto, using(crate::proofs::Takings::taken_none, crate::proofs::Doings::done_none))]
     fn goes_on<R: Wait, A, T: Drop, P: TurnSource<T, L>, G: Gate>(
         &mut self,
         rt: &R,
@@ -152,6 +158,8 @@ impl<S: Server + Drop, L: Line> Shift<S, L> {
     ) -> bool
         requires own { hand.old.intake ≡ place.now.intake.now }
         ensures taken { HasTakenMore hand.old hand.new }
+        ensures does { WorkerHasDone S.steps S.refuses (shift_of self.old.worker self.old.sources.items self.old.conns.items)
+            (shift_of self.new.worker self.new.sources.items self.new.conns.items) }
     {
         match turn_source.next(self.worker.log()) {
             Some(call) => {
@@ -173,13 +181,15 @@ impl<S: Server + Drop, L: Line> Shift<S, L> {
     )
         requires own { hand.old.intake ≡ place.now.intake.now }
         ensures taken { HasTakenMore hand.old hand.new }
+        ensures does { WorkerHasDone S.steps S.refuses (shift_of self.old.worker self.old.sources.items self.old.conns.items)
+            (shift_of self.new.worker self.new.sources.items self.new.conns.items) }
     {
         self.take_in(rt, place.intake, turn_source, hand, call);
         self.make_turn(place.gate, turn_source, call);
     }
 
     /// Takes in of those who wait as many as it is called to.
-    #[tactic(auto, using(crate::proofs::Takings::taken_none, crate::proofs::Takings::taken_one, crate::proofs::Takings::taken_then))]
+    #[tactic(auto, using(crate::proofs::Takings::taken_none, crate::proofs::Takings::taken_one, crate::proofs::Takings::taken_then, crate::proofs::Doings::done_none, crate::proofs::Doings::done_then))]
     fn take_in<R: Wait, T: Drop, P: TurnSource<T, L>>(
         &mut self,
         rt: &R,
@@ -190,6 +200,8 @@ impl<S: Server + Drop, L: Line> Shift<S, L> {
     )
         requires own { hand.old.intake ≡ intake.now }
         ensures taken { HasTakenMore hand.old hand.new }
+        ensures does { WorkerHasDone S.steps S.refuses (shift_of self.old.worker self.old.sources.items self.old.conns.items)
+            (shift_of self.new.worker self.new.sources.items self.new.conns.items) }
     {
         'newcomers: for _ in 0..call.newcomers {
             let Some(newcomer) = intake.take(rt, hand) else {
@@ -203,6 +215,8 @@ impl<S: Server + Drop, L: Line> Shift<S, L> {
     fn admit<T, P: TurnSource<T, L>>(&mut self, turn_source: &mut P, newcomer: T, ms: u64)
         ensures sources { self.new.sources.items ≡ self.old.sources.items }
         ensures others { (self.new.conns.items ≡ self.old.conns.items) ⊎ ((conn : Connection) × (self.new.conns.items ≡ self.old.conns.items ++ conn ∷ [])) }
+        ensures does { WorkerHasDone S.steps S.refuses (shift_of self.old.worker self.old.sources.items self.old.conns.items)
+            (shift_of self.new.worker self.new.sources.items self.new.conns.items) }
     {
         if let Some((line, peer)) = turn_source.open(newcomer) {
             let _ = self.worker.admit(&mut self.conns, line, peer, ms);
@@ -215,7 +229,10 @@ impl<S: Server + Drop, L: Line> Shift<S, L> {
         gate: &G,
         turn_source: &mut P,
         call: TurnStart,
-    ) {
+    )
+        ensures does { WorkerHasDone S.steps S.refuses (shift_of self.old.worker self.old.sources.items self.old.conns.items)
+            (shift_of self.new.worker self.new.sources.items self.new.conns.items) }
+    {
         let before = self.count();
         self.serve_all(gate, turn_source, call.turn);
         let found = self.worker.server().take_found(Take::All);
@@ -233,11 +250,13 @@ impl<S: Server + Drop, L: Line> Shift<S, L> {
         turn: Turn,
     )
         // the others are told of news if the turn was, or the turn source says so
-        ensures { (news : Bool) × (between : WorkerOf (WatchedOf _))
+        ensures turns { (news : Bool) × (between : WorkerOf (WatchedOf _))
             × IsTurn (WatchedSteps S.steps) (λ watched event. S.refuses watched.server event) turn
             self.old.worker self.old.sources.items between self.new.sources.items
             × IsTurn (WatchedSteps S.steps) (λ watched event. S.refuses watched.server event) (record turn { news = news })
             between self.old.conns.items self.new.worker self.new.conns.items }
+        ensures does { WorkerHasDone S.steps S.refuses (shift_of self.old.worker self.old.sources.items self.old.conns.items)
+            (shift_of self.new.worker self.new.sources.items self.new.conns.items) }
     {
         self.worker.serve_turn(&mut self.sources, gate, turn);
         let brings = self.worker.server().take_found(Take::News).has_news;
@@ -282,6 +301,8 @@ impl<S: Server + Drop, L: Line> Shift<S, L> {
     fn part_sources(&mut self, found: Found)
         ensures all { length self.new.sources.items + length self.new.conns.items ≡ length self.old.sources.items + length self.old.conns.items }
         ensures worker { self.new.worker ≡ self.old.worker }
+        ensures does { WorkerHasDone S.steps S.refuses (shift_of self.old.worker self.old.sources.items self.old.conns.items)
+            (shift_of self.new.worker self.new.sources.items self.new.conns.items) }
     {
         if !found.has_started {
             return;
@@ -310,7 +331,10 @@ impl<S: Server + Drop, L: Line> Shift<S, L> {
     }
 
     /// Closes the oldest of those who linger, if they are too many.
-    fn close_oldest<T, P: TurnSource<T, L>>(&mut self, turn_source: &mut P) {
+    fn close_oldest<T, P: TurnSource<T, L>>(&mut self, turn_source: &mut P)
+        ensures does { WorkerHasDone S.steps S.refuses (shift_of self.old.worker self.old.sources.items self.old.conns.items)
+            (shift_of self.new.worker self.new.sources.items self.new.conns.items) }
+    {
         let count = self.count_lingering();
         'oldest: for _ in turn_source.most_lingering(count)..count {
             self.close_first_lingering();
@@ -328,7 +352,8 @@ impl<S: Server + Drop, L: Line> Shift<S, L> {
     /// Closes the first of those that linger, a source's only if no other does.
     // rule: Most that linger
     fn close_first_lingering(&mut self)
-        ensures { (self.new.sources.items, self.new.conns.items) ≡ without_oldest self.old.sources.items self.old.conns.items }
+        ensures oldest { (self.new.sources.items, self.new.conns.items) ≡ without_oldest self.old.sources.items self.old.conns.items }
+        ensures worker { self.new.worker ≡ self.old.worker }
     {
         if count_lingering(self.conns.as_slice()) > 0 {
             close_first_lingering(&mut self.conns);

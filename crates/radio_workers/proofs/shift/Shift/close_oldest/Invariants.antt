@@ -1,0 +1,7 @@
+use Rattle.radio_workers.specs.Working.{WorkerHasDone, shift_of}
+use Rattle.radio_workers.proofs.shift.Shift.close_oldest.Given as goal
+
+abbrev pub invariant-oldest : goal.invariant-oldest
+invariant-oldest g l =
+    WorkerHasDone g.S.Server.steps g.S.Server.refuses (shift_of l.initial.self.worker l.initial.self.sources.items l.initial.self.conns.items)
+    (shift_of l.self.worker l.self.sources.items l.self.conns.items)
