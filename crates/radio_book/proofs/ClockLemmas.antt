@@ -4,10 +4,10 @@ use Rattle.std.specs.Prelude.{if◌then◌else◌, find, is_some}
 use Rattle.std.specs.List.{list_any}
 use Rattle.std.specs.Option.{option_map_or}
 use Rattle.std.specs.Str.{bytes_eq}
-use Rattle.radio_changes.specs.Lent.{part_due}
-use Rattle.radio_mount_part.specs.declared.part.MountPart.{MountPart}
-use Rattle.radio_parts.specs.Due.{last_moment, due_at, seat_due, session_due}
-use Rattle.radio_parts.specs.Sessions.{Session}
+use Rattle.radio_parts_changes.specs.Lent.{part_due}
+use Rattle.radio_parts_mount.specs.declared.part.MountPart.{MountPart}
+use Rattle.radio_parts_mount.specs.Due.{last_moment, due_at, seat_due, session_due}
+use Rattle.radio_parts_mount.specs.Sessions.{Session}
 use Rattle.radio_seats_rows.specs.declared.seat.Seat.{Seat}
 use Rattle.radio_settings_values.specs.Options.{options_for}
 use Rattle.radio_settings_values.specs.declared.settings.MountOptions.{MountOptions}

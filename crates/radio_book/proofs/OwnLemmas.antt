@@ -11,11 +11,11 @@ use Rattle.radio_events.specs.declared.event.Event.TheVariants.{Arrive, Source, 
 use Rattle.radio_events.specs.declared.reply.Reply.{Reply}
 use Rattle.radio_events.specs.declared.reply.Reply.TheVariants.{Deny, Noted}
 use Rattle.radio_policy.specs.declared.rule.Rule.TheVariants.{NumbersSpent}
-use Rattle.radio_parts.proofs.PartLemmas.{none_changes}
-use Rattle.radio_mount_part.specs.Steps.{heard_on, is_fed_by, is_spent_with, part_after, part_answers}
-use Rattle.radio_mount_part.specs.declared.part.MountPart.{MountPart}
-use Rattle.radio_mount_part.specs.declared.step.PartAnswer.{PartAnswer}
-use Rattle.radio_mount_part.specs.declared.step.PartAnswer.TheVariants.{Replied, Elsewhere}
+use Rattle.radio_parts_mount.proofs.PartLemmas.{none_changes}
+use Rattle.radio_parts_mount.specs.Steps.{heard_on, is_fed_by, is_spent_with, part_after, part_answers}
+use Rattle.radio_parts_mount.specs.declared.part.MountPart.{MountPart}
+use Rattle.radio_parts_mount.specs.declared.step.PartAnswer.{PartAnswer}
+use Rattle.radio_parts_mount.specs.declared.step.PartAnswer.TheVariants.{Replied, Elsewhere}
 use Rattle.std.specs.declared.alloc.AllocError.{AllocError}
 use Rattle.radio_chronicle.specs.Stamps.{stamp}
 use Rattle.radio_chronicle.specs.declared.stamp.Stamp.{Stamp}

@@ -4,26 +4,26 @@ use Rattle.std.specs.Prelude.{MatchOption}
 use Rattle.std.proofs.Math.Logic.{∥∥₁_map}
 use Rattle.std.proofs.lemmas.List.{append-nil}
 use Rattle.std.specs.declared.alloc.AllocError.{AllocError}
-use Rattle.radio_changes.specs.Lent.{IsLentTo}
+use Rattle.radio_parts_changes.specs.Lent.{IsLentTo}
 use Rattle.radio_chronicle.specs.declared.line.ControlLine.{ControlLine}
 use Rattle.radio_chronicle.specs.declared.line.ControlLine.TheVariants.{Cut, Made}
-use Rattle.radio_core.specs.Common.{Common, common_after, common_by, common_of}
+use Rattle.radio_parts.specs.Common.{Common, common_after, common_by, common_of}
 use Rattle.radio_events.specs.Events.{entry}
 use Rattle.radio_events.specs.declared.entry.Entry.{Entry}
 use Rattle.radio_events.specs.declared.event.Event.{Event}
 use Rattle.radio_events.specs.declared.reply.Reply.{Reply}
-use Rattle.radio_house.specs.House.{House}
-use Rattle.radio_house.specs.World.{World}
+use Rattle.radio_parts_station.specs.StationState.{StationState}
+use Rattle.radio_parts_station.specs.World.{World}
 use Rattle.radio_seats_rows.specs.Seats.{last_mount_of}
-use Rattle.radio_mount_part.specs.declared.part.MountPart.{MountPart}
-use Rattle.radio_core.specs.Lending.{IsTakenOut}
-use Rattle.radio_facts.specs.Wanted.{wanted}
+use Rattle.radio_parts_mount.specs.declared.part.MountPart.{MountPart}
+use Rattle.radio_parts.specs.Lending.{IsTakenOut}
+use Rattle.radio_parts_facts.specs.Wanted.{wanted}
 use Rattle.radio_book.specs.ControlLists.{entries_in, AreWantedThere, IsControlLent, IsControlReply, IsToldBy, WasThere}
 use Rattle.radio_book.specs.MountBooks.{AreBack, AreCuts, AreLent, BookOfMount, IsBack, IsControlAsBefore, IsControlStep, IsLent, IsRefused}
 use Rattle.radio_book.specs.Receipts.{ReceiptOf}
 
 exchanged_common : (part there : MountPart) (before after : World) → IsLentTo part there before after → common_of after ≡ common_of before
-exchanged_common part there before after is = ap (λ (house : House). common_of (record after { house = house })) is.house
+exchanged_common part there before after is = ap (λ (station : StationState). common_of (record after { station = station })) is.station
 
 lent_common : (book lent : BookOfMount) (before after : World) → IsLent book lent before after → common_of after ≡ common_of before
 lent_common book lent before after (inl is) = ap common_of is.1

@@ -6,10 +6,10 @@ use Rattle.radio_access.specs.Lists.{Lists}
 use Rattle.radio_events.specs.declared.event.Event.{Event}
 use Rattle.radio_events.specs.declared.reply.Reply.{Reply}
 use Rattle.radio_events.specs.declared.reply.Reply.TheVariants.{Arrived}
-use Rattle.radio_house.specs.World.{World, opening}
+use Rattle.radio_parts_station.specs.World.{World, opening}
 use Rattle.radio_core.specs.Others.{AsClient, AsRelay, HasCome, RepliesFit}
 use Rattle.radio_core.specs.Run.{world_after_all, run_after}
-use Rattle.radio_core.specs.Step.{reply_to, world_after}
+use Rattle.radio_parts.specs.Step.{reply_to, world_after}
 use Rattle.radio_core.specs.Totals.{arrivals, departures, relays_up, relays_down, seatings, listeners_leaving, clients_there, relays_there, seats_there, seats_lost}
 use Rattle.radio_core.specs.Totals.{numbers_given, AddsUp as StepAddsUp}
 use Rattle.radio_events.specs.declared.entry.Entry.{Entry}
@@ -36,7 +36,7 @@ both_given w event fits = both_of w event (reply_to w event) (λ id is. (fits.ar
 
 -- what a history adds from any state on, of those that come
 record Adds (w : World) (history : List Entry) : Type 0 where
-  numbers : w.house.last_id + (clients_come history + relays_come history) ≡ (world_of w history).house.last_id
+  numbers : w.station.last_id + (clients_come history + relays_come history) ≡ (world_of w history).station.last_id
   clients : clients_there w + clients_come history ≡ clients_there (world_of w history) + clients_left history
   relays : relays_there w + relays_come history ≡ relays_there (world_of w history) + relays_gone history
   seats : seats_there w + seats_lost w + seats_made history
@@ -50,7 +50,7 @@ adds_first w e history is step together rest =
     let later = world_after w e.event in
     let event = e.event in
     let of : (P : Reply → Type 0) → P (reply_to w event) → P e.reply = λ P p. subst P (sym is) p in
-    let step_numbers : later.house.last_id ≡ w.house.last_id + numbers_given e.reply = of (λ r. later.house.last_id ≡ w.house.last_id + numbers_given r) step.numbers in
+    let step_numbers : later.station.last_id ≡ w.station.last_id + numbers_given e.reply = of (λ r. later.station.last_id ≡ w.station.last_id + numbers_given r) step.numbers in
     let both : numbers_given e.reply ≡ arrivals e.reply event + relays_up e.reply event = of (λ r. numbers_given r ≡ arrivals r event + relays_up r event) together in
     let step_clients : clients_there later + departures e.reply event ≡ clients_there w + arrivals e.reply event =
     of (λ r. clients_there later + departures r event ≡ clients_there w + arrivals r event) step.clients in

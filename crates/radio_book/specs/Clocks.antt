@@ -1,12 +1,12 @@
 -- A clock that can end nothing in mounts' parts.
 use Rattle.std.specs.Prelude.{◌≡◌, ℕ, ◌<◌, List, Some, All}
 use Rattle.std.specs.Option.{option_map_or}
-use Rattle.radio_changes.specs.Lent.{part_due}
+use Rattle.radio_parts_changes.specs.Lent.{part_due}
 use Rattle.radio_events.specs.declared.event.Event.{Event}
 use Rattle.radio_events.specs.declared.event.Event.TheVariants.{Clock}
-use Rattle.radio_mount_part.specs.declared.part.MountPart.{MountPart}
-use Rattle.radio_parts.specs.Due.{last_moment, seat_due}
-use Rattle.radio_parts.specs.Sessions.{Session}
+use Rattle.radio_parts_mount.specs.declared.part.MountPart.{MountPart}
+use Rattle.radio_parts_mount.specs.Due.{last_moment, seat_due}
+use Rattle.radio_parts_mount.specs.Sessions.{Session}
 use Rattle.radio_seats_rows.specs.declared.seat.Seat.{Seat}
 use Rattle.radio_settings_values.specs.declared.settings.Settings.{Settings}
 use Rattle.radio_book.specs.MountBooks.{BookOfMount}

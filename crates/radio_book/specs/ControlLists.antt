@@ -2,16 +2,16 @@
 use Rattle.std.specs.Prelude.{◌≡◌, ℕ, Bool, true, List, [], ◌∷◌, Option, None, Some}
 use Rattle.radio_chronicle.specs.declared.line.ControlLine.{ControlLine}
 use Rattle.radio_chronicle.specs.declared.line.ControlLine.TheVariants.{Cut, Made}
-use Rattle.radio_core.specs.CanStep.{CanStep}
-use Rattle.radio_core.specs.Common.{common_by, common_of}
-use Rattle.radio_core.specs.ControlSteps.{control_reply}
+use Rattle.radio_parts.specs.CanStep.{CanStep}
+use Rattle.radio_parts.specs.Common.{common_by, common_of}
+use Rattle.radio_parts.specs.ControlSteps.{control_reply}
 use Rattle.radio_events.specs.declared.entry.Entry.{Entry}
 use Rattle.radio_events.specs.declared.event.Event.{Event}
 use Rattle.radio_events.specs.declared.reply.Reply.{Reply}
-use Rattle.radio_facts.specs.Wanted.{wanted}
-use Rattle.radio_house.specs.World.{World}
-use Rattle.radio_house.specs.declared.standing.Standing.{Standing}
-use Rattle.radio_house.specs.declared.standing.Standing.TheVariants.{Feeds}
+use Rattle.radio_parts_facts.specs.Wanted.{wanted}
+use Rattle.radio_parts_station.specs.World.{World}
+use Rattle.radio_parts_station.specs.declared.standing.Standing.{Standing}
+use Rattle.radio_parts_station.specs.declared.standing.Standing.TheVariants.{Feeds}
 use Rattle.radio_seats_rows.specs.Seats.{last_mount_of}
 use Rattle.radio_book.specs.MountBooks.{AreLent, BookOfMount}
 

@@ -1,21 +1,21 @@
 -- A mount's part that stands apart from the control, and is lent to it.
 use Rattle.std.specs.Prelude.{◌≡◌, ◌⊎◌, ℕ, ◌+◌, ◌-◌, List, [], ◌∷◌, ◌++◌, Option, None, Some, Result, Ok, Err}
 use Rattle.std.specs.declared.alloc.AllocError.{AllocError}
-use Rattle.radio_changes.specs.Lent.{IsLentTo}
+use Rattle.radio_parts_changes.specs.Lent.{IsLentTo}
 use Rattle.radio_chronicle.specs.Stamps.{stamp}
 use Rattle.radio_chronicle.specs.declared.line.ControlLine.{ControlLine}
 use Rattle.radio_chronicle.specs.declared.line.ControlLine.TheVariants.{Cut, Made}
 use Rattle.radio_chronicle.specs.declared.stamp.Stamp.{Stamp}
-use Rattle.radio_core.specs.CanStep.{CanStep}
-use Rattle.radio_core.specs.Common.{common_after, common_of}
-use Rattle.radio_core.specs.ControlSteps.{control_after, control_reply}
-use Rattle.radio_core.specs.Lending.{IsTakenOut}
+use Rattle.radio_parts.specs.CanStep.{CanStep}
+use Rattle.radio_parts.specs.Common.{common_after, common_of}
+use Rattle.radio_parts.specs.ControlSteps.{control_after, control_reply}
+use Rattle.radio_parts.specs.Lending.{IsTakenOut}
 use Rattle.radio_events.specs.declared.event.Event.{Event}
 use Rattle.radio_events.specs.declared.reply.Reply.{Reply}
-use Rattle.radio_house.specs.World.{World}
-use Rattle.radio_mount_part.specs.declared.part.MountPart.{MountPart}
-use Rattle.radio_mount_part.specs.declared.step.PartAnswer.{PartAnswer}
-use Rattle.radio_mount_part.specs.declared.step.PartAnswer.TheVariants.{Replied, Elsewhere as GivenBack}
+use Rattle.radio_parts_station.specs.World.{World}
+use Rattle.radio_parts_mount.specs.declared.part.MountPart.{MountPart}
+use Rattle.radio_parts_mount.specs.declared.step.PartAnswer.{PartAnswer}
+use Rattle.radio_parts_mount.specs.declared.step.PartAnswer.TheVariants.{Replied, Elsewhere as GivenBack}
 use Rattle.radio_book.specs.Receipts.{entry_of}
 use Rattle.radio_book.specs.OwnSteps.{answered_here, once, part_here, CanDrawHere}
 use Rattle.radio_book.specs.Receipts.{ReceiptOf, receipt_of}
@@ -64,8 +64,8 @@ AreLent books lent before after = ⊥
 
 -- the mount's part is taken out again; or the book has it, or the mount has none, or memory is refused. The book has the control's time.
 abbrev pub IsBack : BookOfMount → BookOfMount → World → World → Type 0
-IsBack lent back before after = ((back ≡ at_moment before.house.time lent) × (after ≡ before)) ⊎
-    ((part : MountPart) × (back ≡ with_part (Some part) (at_moment before.house.time lent)) × IsTakenOut lent.mount part before after)
+IsBack lent back before after = ((back ≡ at_moment before.station.time lent) × (after ≡ before)) ⊎
+    ((part : MountPart) × (back ≡ with_part (Some part) (at_moment before.station.time lent)) × IsTakenOut lent.mount part before after)
 
 abbrev pub AreBack : List BookOfMount → List BookOfMount → World → World → Type 0
 AreBack [] [] before after = after ≡ before

@@ -3,11 +3,11 @@ use Rattle.std.specs.Prelude.{◌≡◌, ℕ, Bool, true, false, Option, Some, N
 use Rattle.radio_attachments.specs.Rows.{is_attached}
 use Rattle.radio_events.specs.declared.event.Event.{Event}
 use Rattle.radio_events.specs.declared.event.Event.TheVariants.{Push, Title, Draw}
-use Rattle.radio_mount_part.specs.Attached.{advanced_there, on_part, place_in}
-use Rattle.radio_mount_part.specs.Steps.{part_after, part_answers, CanDraw}
-use Rattle.radio_mount_part.specs.declared.part.MountPart.{MountPart}
-use Rattle.radio_mount_part.specs.declared.step.PartAnswer.{PartAnswer}
-use Rattle.radio_mount_part.specs.declared.step.PartAnswer.TheVariants.{Replied, Elsewhere}
+use Rattle.radio_parts_mount.specs.Attached.{advanced_there, on_part, place_in}
+use Rattle.radio_parts_mount.specs.Steps.{part_after, part_answers, CanDraw}
+use Rattle.radio_parts_mount.specs.declared.part.MountPart.{MountPart}
+use Rattle.radio_parts_mount.specs.declared.step.PartAnswer.{PartAnswer}
+use Rattle.radio_parts_mount.specs.declared.step.PartAnswer.TheVariants.{Replied, Elsewhere}
 use Rattle.radio_book.specs.declared.own_steps.Drawer.{Drawer}
 use Rattle.radio_book.specs.declared.own_steps.Twice.{Twice}
 use Rattle.radio_book.specs.declared.own_steps.Twice.TheVariants.{Replied as RepliedTwice, Elsewhere as GivenBack}

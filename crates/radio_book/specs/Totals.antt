@@ -1,7 +1,7 @@
 -- What a history counts up to.
 use Rattle.std.specs.Prelude.{◌≡◌, ℕ, ◌+◌, List, [], ◌∷◌, sum_by}
-use Rattle.radio_house.specs.World.{World}
-use Rattle.radio_core.specs.Step.{world_after}
+use Rattle.radio_parts_station.specs.World.{World}
+use Rattle.radio_parts.specs.Step.{world_after}
 use Rattle.radio_core.specs.Totals.{arrivals, departures, relays_up, relays_down, seatings, listeners_leaving, clients_there, relays_there, seats_there, seats_lost}
 use Rattle.radio_events.specs.declared.entry.Entry.{Entry}
 use Rattle.radio_chronicle.specs.History.{world_of}
@@ -39,7 +39,7 @@ seats_ended opening history = seats_lost (world_of opening history) + listeners_
 -- rule: History adds up
 pub record AddsUp (opening : World) (history : List Entry) : Type 0 where
   -- numbers are given one after another, from 1 on, to clients and to relays
-  pub numbers : clients_come history + relays_come history ≡ (world_of opening history).house.last_id
+  pub numbers : clients_come history + relays_come history ≡ (world_of opening history).station.last_id
   -- the clients who have come are there, or have left
   pub clients : clients_come history ≡ clients_there (world_of opening history) + clients_left history
   -- the relays that have come up are there, or have gone down

@@ -1,7 +1,7 @@
 //! The book of all that is not one mount's.
 
 ghost use Rattle.std.specs.Prelude.{◌≡◌, ◌≤◌, ◌^◌, ◌∷◌, [], ◌++◌, length, map, true, false, Some, IsOk, IfOk, IfSome, OnErr};
-ghost use Rattle.radio_house.specs.World.{opening, standing_of};
+ghost use Rattle.radio_parts_station.specs.World.{opening, standing_of};
 ghost use Rattle.radio_events.specs.Events.{EventTakesNoMemory};
 ghost use Rattle.radio_chronicle.specs.Stamps.{stamp};
 ghost use Rattle.radio_seats_rows.specs.Seats.{last_mount_of};
@@ -17,8 +17,8 @@ use radio_access::Lists;
 use radio_chronicle::ControlLine;
 use radio_core::{Control, ListedPart};
 use radio_events::Event;
-use radio_house::Standing;
-use radio_mount_part::MountItem;
+use radio_parts_mount::MountItem;
+use radio_parts_station::Standing;
 use radio_settings_values::Settings;
 use radio_values::MountName;
 use std::alloc::{AllocError, Global};
@@ -44,7 +44,7 @@ impl<C: Chronicle, H: Origin> Drop for Book<C, H> {
 
 impl<C: Chronicle, H: Origin> Model for Book<C, H> {
     ghost use Rattle.std.specs.Coded.{codes};
-    ghost use Rattle.radio_core.specs.contracts.server.control.Control as the_control;
+    ghost use Rattle.radio_parts.specs.contracts.control.Control as the_control;
     ghost use Rattle.radio_book.specs.MountBooks.{ControlState};
 
     ghost Value = { ControlState };
@@ -138,7 +138,7 @@ impl<C: Chronicle, H: Origin> Book<C, H> {
 
     /// Returns the settings.
     pub fn settings(&self) -> &Settings
-        ensures { result.now ≡ self.now.control.house.settings }
+        ensures { result.now ≡ self.now.control.station.settings }
     {
         self.accounts.control.settings()
     }

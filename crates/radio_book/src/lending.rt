@@ -2,10 +2,10 @@
 
 ghost use Rattle.std.specs.Prelude.{◌≡◌, ◌+◌, ◌≤◌, ◌∷◌, [], ◌++◌, List, length, true, false, is_some, IsOk, IfOk, OnErr, All};
 ghost use Rattle.radio_chronicle.specs.declared.line.ControlLine.{ControlLine as LineOf};
-ghost use Rattle.radio_core.specs.ControlSteps.{three_of};
+ghost use Rattle.radio_parts.specs.ControlSteps.{three_of};
 ghost use Rattle.radio_events.specs.Events.{EventTakesNoMemory};
 ghost use Rattle.radio_events.specs.declared.reply.Reply.{Reply as ReplyOf};
-ghost use Rattle.radio_parts.specs.Due.{last_moment, seat_due};
+ghost use Rattle.radio_parts_mount.specs.Due.{last_moment, seat_due};
 ghost use Rattle.radio_seats_rows.specs.declared.seat.Seat.{Seat as SeatOf};
 ghost use Rattle.radio_book.specs.Clocks.{IsNotDue, LeavesParts};
 ghost use Rattle.radio_book.specs.MountBooks.{AreBack, AreCuts, AreLent, IsControlAsBefore, IsControlStep};
@@ -21,7 +21,7 @@ use radio_settings_values::{MountOptions, Settings};
 // rule: The clock
 fn reaches_parts<C: Chronicle>(control: &Control, lent: &[MountBook<C>], event: &Event) -> bool
     // nothing is due in the parts then
-    ensures { result ≡ false → LeavesParts control.now.house.settings lent.now event.now }
+    ensures { result ≡ false → LeavesParts control.now.station.settings lent.now event.now }
 {
     let Event::Clock { ms } = event else {
         return true;

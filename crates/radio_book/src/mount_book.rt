@@ -16,7 +16,7 @@ use crate::{Chronicle, Origin, OutOfMemory, Pass, Receipt, Stamp};
 use radio_chronicle::ControlLine;
 use radio_core::{Control, ListedPart, PartAnswer};
 use radio_events::{Event, Reply};
-use radio_parts::{LAST_MOMENT, due_at};
+use radio_parts_mount::{LAST_MOMENT, due_at};
 use radio_values::MountName;
 use std::alloc::Global;
 use std::marker::{Model, PhantomData};

@@ -3,8 +3,8 @@
 ghost use Rattle.std.specs.Prelude.{◌≡◌, find, IfOk, IsOk, OnOk, OnErr};
 ghost use Rattle.radio_attachments.specs.Rows.{is_attached};
 ghost use Rattle.radio_events.specs.Replies.{HoldsNoText};
-ghost use Rattle.radio_mount_part.specs.Attached.{place_in};
-ghost use Rattle.radio_mount_part.specs.Steps.{part_after, part_answers, CanDraw};
+ghost use Rattle.radio_parts_mount.specs.Attached.{place_in};
+ghost use Rattle.radio_parts_mount.specs.Steps.{part_after, part_answers, CanDraw};
 ghost use Rattle.radio_book.specs.declared.own_steps.Twice.TheVariants.{Replied as RepliedTwice};
 ghost use Rattle.radio_book.specs.OwnSteps.{answered_here, drawer_at, drawer_in, is_own, once, part_here, set_back_in, CanDrawHere, IsAlike};
 

@@ -9,7 +9,7 @@ use std::alloc::Global;
 use std::collections::BTreeMap;
 use std::marker::{Model, PhantomData};
 
-/// What a caller of a house has: the receipts of its calls, in their order, if the house stores entries; and the right
+/// What a caller of a server has: the receipts of its calls, in their order, if the server stores entries; and the right
 /// to end each client and each relay that it has let in.
 pub struct Pass<C: Chronicle, H: Origin> {
     pub(crate) holdings: Holdings<H>,

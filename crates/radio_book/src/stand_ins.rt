@@ -2,10 +2,10 @@
 
 ghost use Rattle.std.specs.Prelude.{◌≡◌, IsTrue, MatchOption};
 ghost use Rattle.radio_book.specs.Clocks.{last_block_in};
-ghost use Rattle.radio_core.specs.Lending.{IsTakenOut, StandsIn};
+ghost use Rattle.radio_parts.specs.Lending.{IsTakenOut, StandsIn};
 
 use radio_core::{Control, ListedPart};
-use radio_parts::LAST_MOMENT;
+use radio_parts_mount::LAST_MOMENT;
 use radio_values::MountName;
 
 /// Takes the mount's part out of the control, and leaves this in its place, if it is one without data; else one is made. Returns

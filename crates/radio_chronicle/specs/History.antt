@@ -1,8 +1,8 @@
 -- Histories: events with their replies, in the order in which they happened.
 use Rattle.std.specs.Prelude.{◌≡◌, List, [], ◌∷◌, map}
-use Rattle.radio_house.specs.World.{World}
+use Rattle.radio_parts_station.specs.World.{World}
 use Rattle.radio_core.specs.Run.{world_after_all}
-use Rattle.radio_core.specs.Step.{reply_to, world_after}
+use Rattle.radio_parts.specs.Step.{reply_to, world_after}
 use Rattle.radio_events.specs.declared.entry.Entry.{Entry}
 
 -- the state after a history's events, from this state

@@ -6,15 +6,15 @@
 #![tactic(auto)]
 
 mod chronicle;
-mod house;
 mod line;
 mod notes;
+mod origin;
 mod stamp;
 
 pub use chronicle::{Chronicle, Kept, Unkept};
-pub use house::Origin;
 pub use line::ControlLine;
 pub use notes::Notes;
+pub use origin::Origin;
 pub use radio_events::Entry;
 pub use stamp::Stamp;
 

@@ -9,9 +9,9 @@ use Rattle.radio_policy.specs.Verdicts.{verdict_in}
 use Rattle.radio_events.specs.declared.command.Asked.{Asked}
 use Rattle.radio_events.specs.declared.command.Command.{Command}
 use Rattle.radio_events.specs.declared.event.Event.{Event}
-use Rattle.radio_core.specs.Allowed.{IsCommanded}
-use Rattle.radio_facts.specs.CommandFacts.{facts_asked, needs_of, opened_by, opener_in, opens}
-use Rattle.radio_house.specs.World.{World}
+use Rattle.radio_parts.specs.Allowed.{IsCommanded}
+use Rattle.radio_parts_facts.specs.CommandFacts.{facts_asked, needs_of, opened_by, opener_in, opens}
+use Rattle.radio_parts_station.specs.World.{World}
 
 -- a pair that opens it was sent, and the rows behind allow it
 pub past_sent : (rule : Rule) (sent : Bool) (rows : List Row) → verdict_in (row rule (not sent) ∷ rows) ≡ Allow → (sent ≡ true) × (verdict_in rows ≡ Allow)
@@ -51,13 +51,13 @@ may_delete true false e = cc
 may_delete false is_listed e = cc
 
 module _ (w : World) (event : Event) {command : Command} (c : IsCommanded w event command) where
-  opened_past : (opens w.house.settings (opened_by command) c.asked.pair ≡ true) × (verdict_in (needs_rows (needs_of w command)) ≡ Allow)
+  opened_past : (opens w.station.settings (opened_by command) c.asked.pair ≡ true) × (verdict_in (needs_rows (needs_of w command)) ≡ Allow)
   opened_past =
-      past_sent (password_rule (opener_in (opened_by command))) (opens w.house.settings (opened_by command) c.asked.pair) (needs_rows (needs_of w command))
+      past_sent (password_rule (opener_in (opened_by command))) (opens w.station.settings (opened_by command) c.asked.pair) (needs_rows (needs_of w command))
       (ap (λ (a : Asked). verdict_in (command_rows (facts_asked w a c.asked.pair))) (sym c.is_asked) ∙ c.allowed)
 
   -- the pair that was sent opens the command
-  pub is_opened : opens w.house.settings (opened_by command) c.asked.pair ≡ true
+  pub is_opened : opens w.station.settings (opened_by command) c.asked.pair ≡ true
   is_opened = opened_past.0
 
   -- what it needs is there

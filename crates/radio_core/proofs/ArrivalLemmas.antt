@@ -8,28 +8,28 @@ use Rattle.radio_tables.proofs.KeyLaws.{by_number}
 use Rattle.radio_events.specs.declared.command.Command.{Command}
 use Rattle.radio_events.specs.declared.command.Command.TheVariants.{MoveClients, KillClient, KillSource, SetTitle, SetFallback, AddUser, DeleteUser}
 use Rattle.radio_events.specs.declared.event.Event.{Event}
-use Rattle.radio_house.specs.declared.clients.ClientState.{ClientState}
-use Rattle.radio_house.specs.declared.clients.ClientState.TheVariants.{Undecided as IsNew, Feeds as IsSource, Listens, Answered as HasHisAnswer}
-use Rattle.radio_core.specs.declared.outcome.Outcome.{Outcome}
-use Rattle.radio_changes.specs.declared.change.Change.TheVariants.{Admit, Obey}
-use Rattle.radio_house.specs.declared.standing.Standing.TheVariants.{Unknown}
-use Rattle.radio_house.specs.House.{House}
-use Rattle.radio_house.specs.Streams.{shown_for}
-use Rattle.radio_changes.specs.Changes.{answered, session_killed, changed, before_silence, session_silenced, silent_in, ticked, session_begun, session_raised}
+use Rattle.radio_parts_station.specs.declared.clients.ClientState.{ClientState}
+use Rattle.radio_parts_station.specs.declared.clients.ClientState.TheVariants.{Undecided as IsNew, Feeds as IsSource, Listens, Answered as HasHisAnswer}
+use Rattle.radio_parts.specs.declared.outcome.Outcome.{Outcome}
+use Rattle.radio_parts_changes.specs.declared.change.Change.TheVariants.{Admit, Obey}
+use Rattle.radio_parts_station.specs.declared.standing.Standing.TheVariants.{Unknown}
+use Rattle.radio_parts_station.specs.StationState.{StationState}
+use Rattle.radio_parts_station.specs.Streams.{shown_for}
+use Rattle.radio_parts_changes.specs.Changes.{answered, session_killed, changed, before_silence, session_silenced, silent_in, ticked, session_begun, session_raised}
 use Rattle.radio_core.specs.ClientSteps.{ArrivalsStay}
-use Rattle.radio_house.specs.Clients.{Client, client_of, with_state, in_state, without_client}
-use Rattle.radio_parts.specs.Sessions.{Session, session_of}
+use Rattle.radio_parts_station.specs.Clients.{Client, client_of, with_state, in_state, without_client}
+use Rattle.radio_parts_mount.specs.Sessions.{Session, session_of}
 use Rattle.radio_core.specs.Sound.{IsSound}
-use Rattle.radio_core.specs.Step.{outcome, world_after}
-use Rattle.radio_house.specs.Timeouts.{timed_out}
-use Rattle.radio_core.specs.Ways.{Way, Misplaced, IsFinished, IsDenied, IsRefused, IsAdmitted, Begins, ComesUp, Receives, SetsTitle, TakesSeat, HandsOut, Ends}
-use Rattle.radio_core.specs.Ways.{EndsAndLeaves, Leaves, GoesDown, Obeys, Shows, HasPassed, Ticks}
-use Rattle.radio_house.specs.World.{World, standing_of}
-use Rattle.radio_core.proofs.CalledHome.{house_called}
-use Rattle.radio_house.proofs.Lookups.{does, still_none, beside_state, is_no_client, beside_forgotten, beside_new}
+use Rattle.radio_parts.specs.Step.{outcome, world_after}
+use Rattle.radio_parts_station.specs.Timeouts.{timed_out}
+use Rattle.radio_parts.specs.Ways.{Way, Misplaced, IsFinished, IsDenied, IsRefused, IsAdmitted, Begins, ComesUp, Receives, SetsTitle, TakesSeat, HandsOut, Ends}
+use Rattle.radio_parts.specs.Ways.{EndsAndLeaves, Leaves, GoesDown, Obeys, Shows, HasPassed, Ticks}
+use Rattle.radio_parts_station.specs.World.{World, standing_of}
+use Rattle.radio_parts.proofs.CalledStation.{station_called}
+use Rattle.radio_parts_station.proofs.Lookups.{does, still_none, beside_state, is_no_client, beside_forgotten, beside_new}
 use Rattle.radio_core.proofs.TickLemmas.{clients_after}
 use Rattle.radio_core.proofs.Standings.{no_client_there}
-use Rattle.radio_core.proofs.Ways.{way_of}
+use Rattle.radio_parts.proofs.Ways.{way_of}
 
 -- it was there before, from the same address and from the same moment on
 record WasThere (xs : List Client) (id : ℕ) (later : Client) : Type 0 where
@@ -91,43 +91,43 @@ keeps_timed seconds ms xs id later e = by_found (client_of xs id) refl (sym (cli
         arrived = ap (λ (x : Client). x.arrived) (sym one);
       }
 
-keeps_silenced : (sessions : List Session) (w : World) → Keeps w.house.clients (fold session_silenced w sessions).house.clients
-keeps_silenced [] w = same_clients w.house.clients
+keeps_silenced : (sessions : List Session) (w : World) → Keeps w.station.clients (fold session_silenced w sessions).station.clients
+keeps_silenced [] w = same_clients w.station.clients
 keeps_silenced (session ∷ sessions) w =
     let next = session_silenced w session in
-    keeps_then w.house.clients next.house.clients (fold session_silenced next sessions).house.clients (keeps_state w.house.clients session.number _)
+    keeps_then w.station.clients next.station.clients (fold session_silenced next sessions).station.clients (keeps_state w.station.clients session.number _)
     (keeps_silenced sessions next)
 
-keeps_ticked : (w : World) (ms : ℕ) → Keeps w.house.clients (ticked w ms).house.clients
+keeps_ticked : (w : World) (ms : ℕ) → Keeps w.station.clients (ticked w ms).station.clients
 keeps_ticked w ms =
     let later = before_silence w ms in
-    keeps_then w.house.clients later.house.clients (ticked w ms).house.clients
-    (keeps_timed w.house.settings.limits.header_timeout ms w.house.clients) (keeps_silenced (silent_in later) later)
+    keeps_then w.station.clients later.station.clients (ticked w ms).station.clients
+    (keeps_timed w.station.settings.limits.header_timeout ms w.station.clients) (keeps_silenced (silent_in later) later)
 
-keeps_killed : (w : World) (found : Option Session) → Keeps w.house.clients (session_killed w found).house.clients
-keeps_killed w None = same_clients w.house.clients
-keeps_killed w (Some session) = keeps_state w.house.clients session.number _
+keeps_killed : (w : World) (found : Option Session) → Keeps w.station.clients (session_killed w found).station.clients
+keeps_killed w None = same_clients w.station.clients
+keeps_killed w (Some session) = keeps_state w.station.clients session.number _
 
-keeps_obeyed : (w : World) (him : ℕ) (command : Command) → Keeps w.house.clients (changed w (Obey him command)).house.clients
+keeps_obeyed : (w : World) (him : ℕ) (command : Command) → Keeps w.station.clients (changed w (Obey him command)).station.clients
 keeps_obeyed w him command =
     let heard = answered w him in
-    keeps_then w.house.clients heard.house.clients (changed w (Obey him command)).house.clients (keeps_state w.house.clients him HasHisAnswer)
+    keeps_then w.station.clients heard.station.clients (changed w (Obey him command)).station.clients (keeps_state w.station.clients him HasHisAnswer)
     (by_command command) where
-      by_command : (command : Command) → Keeps (answered w him).house.clients (changed w (Obey him command)).house.clients
-      by_command (MoveClients mount destination) = same_clients (answered w him).house.clients
-      by_command (KillClient mount listener) = same_clients (answered w him).house.clients
-      by_command (KillSource mount) = keeps_killed (answered w him) (session_of w.house.live mount)
-      by_command (SetTitle mount text) = same_clients (answered w him).house.clients
-      by_command (SetFallback mount fallback) = same_clients (answered w him).house.clients
-      by_command (AddUser mount user password) = same_clients (answered w him).house.clients
-      by_command (DeleteUser mount user) = same_clients (answered w him).house.clients
+      by_command : (command : Command) → Keeps (answered w him).station.clients (changed w (Obey him command)).station.clients
+      by_command (MoveClients mount destination) = same_clients (answered w him).station.clients
+      by_command (KillClient mount listener) = same_clients (answered w him).station.clients
+      by_command (KillSource mount) = keeps_killed (answered w him) (session_of w.station.live mount)
+      by_command (SetTitle mount text) = same_clients (answered w him).station.clients
+      by_command (SetFallback mount fallback) = same_clients (answered w him).station.clients
+      by_command (AddUser mount user password) = same_clients (answered w him).station.clients
+      by_command (DeleteUser mount user) = same_clients (answered w him).station.clients
 
 module _ (w : World) (s : IsSound w) where
   abbrev Stay : World → Type 0
-  Stay now = (id : ℕ) (client later : Client) → client_of w.house.clients id ≡ Some client → client_of now.house.clients id ≡ Some later
+  Stay now = (id : ℕ) (client later : Client) → client_of w.station.clients id ≡ Some client → client_of now.station.clients id ≡ Some later
       → (later.peer ≡ client.peer) × (later.arrived ≡ client.arrived)
 
-  stays_so : (now : World) → Keeps w.house.clients now.house.clients → Stay now
+  stays_so : (now : World) → Keeps w.station.clients now.station.clients → Stay now
   stays_so now keeps id client later before after =
       let was = keeps id later after in
       let both : Some was.client ≡ Some client = sym was.there ∙ before in
@@ -135,48 +135,48 @@ module _ (w : World) (s : IsSound w) where
       (was.peer ∙ ap (λ (x : Client). x.peer) one, was.arrived ∙ ap (λ (x : Client). x.arrived) one)
 
   -- a number that is given to a new client was nobody's
-  not_new : (id : ℕ) (client : Client) → client_of w.house.clients id ≡ Some client → (w.house.last_id + 1 == id) ≡ true → ⊥
-  not_new id client there e = by_number (w.house.last_id + 1) id (λ same. taken same) (λ apart. cc) where
-    taken : w.house.last_id + 1 ≡ id → ⊥
+  not_new : (id : ℕ) (client : Client) → client_of w.station.clients id ≡ Some client → (w.station.last_id + 1 == id) ≡ true → ⊥
+  not_new id client there e = by_number (w.station.last_id + 1) id (λ same. taken same) (λ apart. cc) where
+    taken : w.station.last_id + 1 ≡ id → ⊥
     taken same =
         let unknown : standing_of w id ≡ Unknown = s.numbered id (omega (arith, same)) in
-        let none : client_of w.house.clients id ≡ None = no_client_there w id unknown in
+        let none : client_of w.station.clients id ≡ None = no_client_there w id unknown in
         cc
 
-  stays_admitted : (peer : Peer) → Stay (changed w (Admit (w.house.last_id + 1) peer))
+  stays_admitted : (peer : Peer) → Stay (changed w (Admit (w.station.last_id + 1) peer))
   stays_admitted peer id client later before after =
-      by_number (w.house.last_id + 1) id
+      by_number (w.station.last_id + 1) id
       (λ same. absurd (not_new id client before (grind (arith, nat_tests))))
       (λ apart.
-      let new : Client = record { id = w.house.last_id + 1; peer = peer; arrived = w.house.time; state = IsNew } in
-      let both : Some client ≡ Some later = sym before ∙ sym (beside_new w.house.clients new id apart) ∙ after in
+      let new : Client = record { id = w.station.last_id + 1; peer = peer; arrived = w.station.time; state = IsNew } in
+      let both : Some client ≡ Some later = sym before ∙ sym (beside_new w.station.clients new id apart) ∙ after in
       let one : client ≡ later = cc in
       (ap (λ (x : Client). x.peer) (sym one), ap (λ (x : Client). x.arrived) (sym one)))
 
   stay_by : (event : Event) (o : Outcome) → Way w event o → Stay (changed w o.change)
   stay_by event o (IsAdmitted peer allowed) = stays_admitted peer
-  stay_by event o (Misplaced _) = stays_so w (same_clients w.house.clients)
-  stay_by event o (IsFinished _ him by its known) = stays_so w (same_clients w.house.clients)
-  stay_by event o (IsDenied _ by v nobody) = stays_so w (same_clients w.house.clients)
-  stay_by event o (IsRefused _ him by v its undecided) = stays_so (changed w o.change) (keeps_state w.house.clients him HasHisAnswer)
+  stay_by event o (Misplaced _) = stays_so w (same_clients w.station.clients)
+  stay_by event o (IsFinished _ him by its known) = stays_so w (same_clients w.station.clients)
+  stay_by event o (IsDenied _ by v nobody) = stays_so w (same_clients w.station.clients)
+  stay_by event o (IsRefused _ him by v its undecided) = stays_so (changed w o.change) (keeps_state w.station.clients him HasHisAnswer)
   stay_by event o (Begins asked undecided none allowed) =
-      let up = session_begun w asked.id asked.mount (shown_for w.house asked.mount asked.shown) in
-      stays_so (changed w o.change) (subst (λ (h : House). Keeps w.house.clients h.clients) (sym (house_called up asked.mount))
-      (keeps_state w.house.clients asked.id (IsSource asked.mount)))
+      let up = session_begun w asked.id asked.mount (shown_for w.station asked.mount asked.shown) in
+      stays_so (changed w o.change) (subst (λ (h : StationState). Keeps w.station.clients h.clients) (sym (station_called up asked.mount))
+      (keeps_state w.station.clients asked.id (IsSource asked.mount)))
   stay_by event o (ComesUp mount shown none allowed) =
-      let up = session_raised w (w.house.last_id + 1) mount (shown_for w.house mount shown) in
-      stays_so (changed w o.change) (subst (λ (h : House). Keeps w.house.clients h.clients) (sym (house_called up mount)) (same_clients w.house.clients))
-  stay_by event o (Receives him mount block feeding) = stays_so (changed w o.change) (same_clients w.house.clients)
-  stay_by event o (SetsTitle him mount text feeding) = stays_so (changed w o.change) (same_clients w.house.clients)
-  stay_by event o (TakesSeat asked peer session undecided lands live allowed) = stays_so (changed w o.change) (keeps_state w.house.clients asked.id Listens)
-  stay_by event o (HandsOut him room seat session sits has live) = stays_so (changed w o.change) (same_clients w.house.clients)
-  stay_by event o (Ends him mount feeding no_relay) = stays_so (changed w o.change) (keeps_state w.house.clients him HasHisAnswer)
-  stay_by event o (EndsAndLeaves _ him mount closes feeding) = stays_so (changed w o.change) (keeps_forgotten w.house.clients him)
-  stay_by event o (Leaves him no_relay other) = stays_so (changed w o.change) (keeps_forgotten w.house.clients him)
-  stay_by event o (GoesDown him rule relay told) = stays_so (changed w o.change) (keeps_forgotten w.house.clients him)
-  stay_by event o (Shows _ asker peer text its undecided what) = stays_so (changed w o.change) (keeps_state w.house.clients asker HasHisAnswer)
+      let up = session_raised w (w.station.last_id + 1) mount (shown_for w.station mount shown) in
+      stays_so (changed w o.change) (subst (λ (h : StationState). Keeps w.station.clients h.clients) (sym (station_called up mount)) (same_clients w.station.clients))
+  stay_by event o (Receives him mount block feeding) = stays_so (changed w o.change) (same_clients w.station.clients)
+  stay_by event o (SetsTitle him mount text feeding) = stays_so (changed w o.change) (same_clients w.station.clients)
+  stay_by event o (TakesSeat asked peer session undecided lands live allowed) = stays_so (changed w o.change) (keeps_state w.station.clients asked.id Listens)
+  stay_by event o (HandsOut him room seat session sits has live) = stays_so (changed w o.change) (same_clients w.station.clients)
+  stay_by event o (Ends him mount feeding no_relay) = stays_so (changed w o.change) (keeps_state w.station.clients him HasHisAnswer)
+  stay_by event o (EndsAndLeaves _ him mount closes feeding) = stays_so (changed w o.change) (keeps_forgotten w.station.clients him)
+  stay_by event o (Leaves him no_relay other) = stays_so (changed w o.change) (keeps_forgotten w.station.clients him)
+  stay_by event o (GoesDown him rule relay told) = stays_so (changed w o.change) (keeps_forgotten w.station.clients him)
+  stay_by event o (Shows _ asker peer text its undecided what) = stays_so (changed w o.change) (keeps_state w.station.clients asker HasHisAnswer)
   stay_by event o (Obeys _ command c) = stays_so (changed w o.change) (keeps_obeyed w c.asked.id command)
-  stay_by event o (HasPassed ms e) = stays_so w (same_clients w.house.clients)
+  stay_by event o (HasPassed ms e) = stays_so w (same_clients w.station.clients)
   stay_by event o (Ticks ms e) = stays_so (ticked w ms) (keeps_ticked w ms)
 
   pub arrivals_stay : (event : Event) → ArrivalsStay w event

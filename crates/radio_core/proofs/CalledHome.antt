@@ -14,22 +14,22 @@ use Rattle.radio_fallback.specs.declared.moves.Move.TheVariants.{Up}
 use Rattle.radio_fallback.specs.declared.moves.MoveEffect.TheVariants.{GoesTo}
 use Rattle.radio_fallback.specs.Carry.{at_his_turn}
 use Rattle.radio_fallback.proofs.Faring.{comes_home, never_out}
-use Rattle.radio_changes.specs.declared.change.Change.TheVariants.{Begin, Raise}
-use Rattle.radio_house.specs.declared.standing.Standing.TheVariants.{Undecided, Feeds}
+use Rattle.radio_parts_changes.specs.declared.change.Change.TheVariants.{Begin, Raise}
+use Rattle.radio_parts_station.specs.declared.standing.Standing.TheVariants.{Undecided, Feeds}
 use Rattle.radio_addr.specs.declared.peer.Peer.{Peer}
 use Rattle.radio_values.specs.declared.field.Shown.{Shown}
-use Rattle.radio_changes.specs.Changes.{changed, carried_along, called_home, session_begun, session_raised}
-use Rattle.radio_house.specs.HouseChanges.{begun, raised}
-use Rattle.radio_house.specs.Facts.{sight_of}
+use Rattle.radio_parts_changes.specs.Changes.{changed, carried_along, called_home, session_begun, session_raised}
+use Rattle.radio_parts_station.specs.StationChanges.{begun, raised}
+use Rattle.radio_parts_station.specs.Facts.{sight_of}
 use Rattle.radio_core.specs.Moves.{his_turn, moved_into}
-use Rattle.radio_parts.specs.Sessions.{Session, session_of}
+use Rattle.radio_parts_mount.specs.Sessions.{Session, session_of}
 use Rattle.radio_core.specs.Sound.{IsSound}
-use Rattle.radio_house.specs.World.{World, standing_of}
+use Rattle.radio_parts_station.specs.World.{World, standing_of}
 use Rattle.radio_core.proofs.CarriedFates.{order_carried, carried_fate}
 use Rattle.radio_core.proofs.SoundSessions.{sound_begun, sound_raised}
 use Rattle.radio_core.proofs.Standings.{Turns, asks, turns_feeding, turns_raised, turns_given}
 use Rattle.radio_core.proofs.Fates.{Fate, GoesOn, IsEnded, HasStopped, IsMoved, Fates, Nobody, sound_fates}
-use Rattle.radio_house.specs.Waiting.{heard_at}
+use Rattle.radio_parts_station.specs.Waiting.{heard_at}
 
 abbrev Nothing : ℕ → Rule → Type 0
 Nothing id rule = ⊥
@@ -43,7 +43,7 @@ pub data IsCalled (M : ℕ → Session → Type 0) (w later : World) (id : ℕ) 
   Rests : standing_of later id ≡ standing_of w id → seat_of later.seats id ≡ seat_of w.seats id → IsCalled M w later id
   Comes : (old : Seat) (session : Session) → M id session → LeavesAnother later old session → seat_of w.seats id ≡ Some old
       → seat_of later.seats id ≡ Some (moved_into session old) → standing_of later id ≡ standing_of w id
-      → heard_at later.house session.mount ≡ Some session → lets_in w.house.lists session.mount old.pair ≡ true → IsCalled M w later id
+      → heard_at later.station session.mount ≡ Some session → lets_in w.station.lists session.mount old.pair ≡ true → IsCalled M w later id
 
 is_called_by : (M : ℕ → Session → Type 0) (w later : World) (id : ℕ) → Fate Nothing M Nobody LeavesAnother w later id → IsCalled M w later id
 is_called_by M w later id (GoesOn same seat feeds sits) = Rests same seat
@@ -63,25 +63,25 @@ home_by : (home mount to : List ℕ) (away : Bool) → mount ≡ to → (bytes_e
 home_by home mount to away same e = (bytes_eq-Decides home mount).0 (and_parts (bytes_eq home mount) away e).0 ∙ same
 
 module _ (w : World) (s : IsSound w) (mount : List ℕ) (M : ℕ → Session → Type 0)
-    (carries : (options_for w.house.settings mount).listeners.fallback_override ≡ true → (id : ℕ) (session : Session)
+    (carries : (options_for w.station.settings mount).listeners.fallback_override ≡ true → (id : ℕ) (session : Session)
     → his_turn w (Up mount) id ≡ GoesTo session.mount → M id session) where
-  module _ (calls : (options_for w.house.settings mount).listeners.fallback_override ≡ true) where
+  module _ (calls : (options_for w.station.settings mount).listeners.fallback_override ≡ true) where
     abbrev later : World
     later = carried_along w (Up mount)
 
     abbrev seats_then : ℕ → List Listener
-    seats_then id = at_his_turn (sight_of w.house) (Up mount) w.seats id
+    seats_then id = at_his_turn (sight_of w.station) (Up mount) w.seats id
 
     home_fate : (id : ℕ) → Fate Nothing M Nobody LeavesAnother w later id
     home_fate id =
-        carried_fate Nothing M Nobody LeavesAnother w s w.house refl refl refl (Up mount) later (λ m. refl) id refl refl
+        carried_fate Nothing M Nobody LeavesAnother w s w.station refl refl refl (Up mount) later (λ m. refl) id refl refl
         (λ turn same seats. GoesOn same seats (λ m feeds. refl) (λ seat has. refl))
         (λ seat session had concerned turn is_live.
-        let same : mount ≡ session.mount = comes_home (sight_of w.house) mount (seats_then id) id session.mount turn in (
+        let same : mount ≡ session.mount = comes_home (sight_of w.station) mount (seats_then id) id session.mount turn in (
           apart_by (bytes_eq seat.home mount) seat.mount mount session.mount same concerned,
           home_by seat.home mount session.mount (not (bytes_eq seat.mount mount)) same concerned,
         ))
-        (λ seat rule had turn. never_out (sight_of w.house) mount (seats_then id) id rule turn)
+        (λ seat rule had turn. never_out (sight_of w.station) mount (seats_then id) id rule turn)
         (λ session turn. carries calls id session turn)
 
     home_fates : Fates Nothing M Nobody LeavesAnother w later
@@ -102,19 +102,19 @@ module _ (w : World) (s : IsSound w) (mount : List ℕ) (M : ℕ → Session →
   abbrev called_if : Bool → World
   called_if b = (if b then carried_along w (Up mount) else w)
 
-  sound_if : (b : Bool) → (options_for w.house.settings mount).listeners.fallback_override ≡ b → IsSound (called_if b)
+  sound_if : (b : Bool) → (options_for w.station.settings mount).listeners.fallback_override ≡ b → IsSound (called_if b)
   sound_if true e = sound_home e
   sound_if false e = s
 
-  called_by : (id : ℕ) (b : Bool) → (options_for w.house.settings mount).listeners.fallback_override ≡ b → IsCalled M w (called_if b) id
+  called_by : (id : ℕ) (b : Bool) → (options_for w.station.settings mount).listeners.fallback_override ≡ b → IsCalled M w (called_if b) id
   called_by id true e = is_called_by M w (carried_along w (Up mount)) id (home_fate e id)
   called_by id false e = Rests refl refl
 
   pub sound_called : IsSound (called_home w mount)
-  sound_called = sound_if (options_for w.house.settings mount).listeners.fallback_override refl
+  sound_called = sound_if (options_for w.station.settings mount).listeners.fallback_override refl
 
   pub is_called : (id : ℕ) → IsCalled M w (called_home w mount) id
-  is_called id = called_by id (options_for w.house.settings mount).listeners.fallback_override refl
+  is_called id = called_by id (options_for w.station.settings mount).listeners.fallback_override refl
 
   pub stands_called : (id : ℕ) → standing_of (called_home w mount) id ≡ standing_of w id
   stands_called id = by_call (is_called id) where
@@ -122,16 +122,9 @@ module _ (w : World) (s : IsSound w) (mount : List ℕ) (M : ℕ → Session →
     by_call (Rests same seat) = same
     by_call (Comes old session carries left had has same live opens) = same
 
--- nothing but the listeners changes
-pub house_called : (w : World) (mount : List ℕ) → (called_home w mount).house ≡ w.house
-house_called w mount = by_test (options_for w.house.settings mount).listeners.fallback_override where
-  by_test : (b : Bool) → (if b then carried_along w (Up mount) else w).house ≡ w.house
-  by_test true = refl
-  by_test false = refl
-
 -- a session begins on a mount that was not live, and those come home whom it calls
 module _ (w : World) (s : IsSound w) (him : ℕ) (mount : List ℕ) (shown : Shown) (peer : Peer) (stood : standing_of w him ≡ Undecided peer)
-    (not_live : session_of w.house.live mount ≡ None) where
+    (not_live : session_of w.station.live mount ≡ None) where
   abbrev pub just_begun : World
   just_begun = session_begun w him mount shown
 
@@ -143,27 +136,27 @@ module _ (w : World) (s : IsSound w) (him : ℕ) (mount : List ℕ) (shown : Sho
 
   pub turns_up : Turns w (changed w (Begin him mount shown)) him (Feeds mount)
   turns_up =
-      let begins = turns_given w (begun w.house him mount shown) mount him him (Feeds mount) (turns_feeding w him mount shown (asks w him peer stood)) in
+      let begins = turns_given w (begun w.station him mount shown) mount him him (Feeds mount) (turns_feeding w him mount shown (asks w him peer stood)) in
       record {
         his = stands_called just_begun sound_just_begun mount (λ id session. Unit {0}) (λ calls id session turn. tt) him ∙ begins.his;
         others = λ id other. stands_called just_begun sound_just_begun mount (λ id session. Unit {0}) (λ calls id session turn. tt) id ∙ begins.others id other;
       }
 
 -- a relay comes up on a mount that was not live, and those come home whom it calls
-module _ (w : World) (s : IsSound w) (mount : List ℕ) (shown : Shown) (not_live : session_of w.house.live mount ≡ None) where
+module _ (w : World) (s : IsSound w) (mount : List ℕ) (shown : Shown) (not_live : session_of w.station.live mount ≡ None) where
   abbrev pub just_raised : World
-  just_raised = session_raised w (w.house.last_id + 1) mount shown
+  just_raised = session_raised w (w.station.last_id + 1) mount shown
 
   pub sound_just_raised : IsSound just_raised
   sound_just_raised = sound_raised w s mount shown not_live
 
-  pub sound_risen : IsSound (changed w (Raise (w.house.last_id + 1) mount shown))
+  pub sound_risen : IsSound (changed w (Raise (w.station.last_id + 1) mount shown))
   sound_risen = sound_called just_raised sound_just_raised mount (λ id session. Unit {0}) (λ calls id session turn. tt)
 
-  pub turns_risen : Turns w (changed w (Raise (w.house.last_id + 1) mount shown)) (w.house.last_id + 1) (Feeds mount)
+  pub turns_risen : Turns w (changed w (Raise (w.station.last_id + 1) mount shown)) (w.station.last_id + 1) (Feeds mount)
   turns_risen =
-      let him = w.house.last_id + 1 in
-      let rises = turns_given w (raised w.house him mount shown) mount him him (Feeds mount) (turns_raised w him mount shown (s.numbered him (omega arith))) in
+      let him = w.station.last_id + 1 in
+      let rises = turns_given w (raised w.station him mount shown) mount him him (Feeds mount) (turns_raised w him mount shown (s.numbered him (omega arith))) in
       record {
         his = stands_called just_raised sound_just_raised mount (λ id session. Unit {0}) (λ calls id session turn. tt) him ∙ rises.his;
         others = λ id other. stands_called just_raised sound_just_raised mount (λ id session. Unit {0}) (λ calls id session turn. tt) id ∙ rises.others id other;

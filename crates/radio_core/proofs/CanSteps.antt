@@ -3,22 +3,21 @@ use Rattle.std.proofs.Common.{◌≡◌, ℕ, Option, Some, None, refl}
 use Rattle.radio_events.specs.declared.event.Event.{Event}
 use Rattle.radio_events.specs.declared.event.Event.TheVariants.{Arrive, Source, Push, SourceEnd, Title, Listen, Draw, Command, Leave}
 use Rattle.radio_events.specs.declared.event.Event.TheVariants.{RelayUp, RelayDown, Clock}
-use Rattle.radio_events.specs.Events.{EventTakesNoMemory}
-use Rattle.radio_house.specs.World.{World}
-use Rattle.radio_mount_part.specs.Steps.{IsKept}
-use Rattle.radio_parts.specs.Sessions.{Session, session_of}
+use Rattle.radio_parts_station.specs.World.{World}
+use Rattle.radio_parts_mount.specs.Steps.{IsKept}
+use Rattle.radio_parts_mount.specs.Sessions.{Session, session_of}
 use Rattle.radio_seats_rows.specs.declared.seat.Seat.{Seat}
 use Rattle.radio_seats_rows.specs.Seats.{seat_of}
-use Rattle.radio_core.specs.CanStep.{CanDraw, CanStep}
-use Rattle.radio_core.specs.Step.{StandsForSome}
+use Rattle.radio_parts.specs.CanStep.{CanDraw, CanStep}
+use Rattle.radio_core.specs.Represents.{StandsForSome}
 use Rattle.radio_core.proofs.StepLemmas.{place_is_kept, seat_sits}
 
 can_draw : (w : World) → StandsForSome w → (id : ℕ) → CanDraw w id
 can_draw w stands id = record {
   sits = seat_sits w stands id;
-  kept = λ seat has. by_session seat has (session_of w.house.live seat.mount) refl;
+  kept = λ seat has. by_session seat has (session_of w.station.live seat.mount) refl;
 } where
-  by_session : (seat : Seat) → seat_of w.seats id ≡ Some seat → (found : Option Session) → session_of w.house.live seat.mount ≡ found → IsKept found seat.place
+  by_session : (seat : Seat) → seat_of w.seats id ≡ Some seat → (found : Option Session) → session_of w.station.live seat.mount ≡ found → IsKept found seat.place
   by_session seat has None e = tt
   by_session seat has (Some session) e = place_is_kept w stands id seat session has e
 
@@ -35,17 +34,3 @@ stands_can w stands (Leave id) = tt
 stands_can w stands (RelayUp mount shown) = tt
 stands_can w stands (RelayDown id) = tt
 stands_can w stands (Clock ms) = tt
-
-pub small_can : (w : World) (event : Event) → EventTakesNoMemory event → CanStep w event
-small_can w (Arrive peer) small = tt
-small_can w (Source asked) small = tt
-small_can w (Push id block) small = tt
-small_can w (SourceEnd id) small = tt
-small_can w (Title id text) small = tt
-small_can w (Listen asked) small = tt
-small_can w (Draw id room) small = absurd small
-small_can w (Command asked) small = tt
-small_can w (Leave id) small = tt
-small_can w (RelayUp mount shown) small = tt
-small_can w (RelayDown id) small = tt
-small_can w (Clock ms) small = tt

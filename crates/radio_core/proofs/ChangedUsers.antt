@@ -9,23 +9,23 @@ use Rattle.radio_access.specs.Lists.{Lists, lets_in}
 use Rattle.radio_seats_rows.specs.declared.seat.Seat.{Seat}
 use Rattle.radio_seats_rows.specs.Seats.{seat_of}
 use Rattle.radio_events.specs.declared.event.Event.{Event}
-use Rattle.radio_house.specs.Fallbacks.{Fallback}
-use Rattle.radio_house.specs.Outsiders.{is_shut_out}
-use Rattle.radio_house.specs.World.{World}
-use Rattle.radio_parts.specs.Sessions.{Session}
-use Rattle.radio_core.specs.Allowed.{ChangesUsers}
-use Rattle.radio_changes.specs.Changes.{outsiders_ended}
+use Rattle.radio_parts_station.specs.Fallbacks.{Fallback}
+use Rattle.radio_parts_station.specs.Outsiders.{is_shut_out}
+use Rattle.radio_parts_station.specs.World.{World}
+use Rattle.radio_parts_mount.specs.Sessions.{Session}
+use Rattle.radio_parts.specs.Allowed.{ChangesUsers}
+use Rattle.radio_parts_changes.specs.Changes.{outsiders_ended}
 use Rattle.radio_core.specs.Finishes.{Cause, IsNotAccepted}
 use Rattle.radio_core.specs.Sound.{IsSound}
 use Rattle.radio_core.proofs.Fates.{Fates, Nobody, seats_fates}
 
 -- the state with these lists
 abbrev pub with_lists : World → Lists → World
-with_lists w lists = record w { house = record w.house { lists = lists } }
+with_lists w lists = record w { station = record w.station { lists = lists } }
 
 -- what holds of every state of a run says nothing of them, nor of the fallbacks that are set
 pub sound_set : (w : World) → IsSound w → (lists : Lists) (fallbacks : List Fallback)
-    → IsSound (record w { house = record w.house { lists = lists; fallbacks = fallbacks } })
+    → IsSound (record w { station = record w.station { lists = lists; fallbacks = fallbacks } })
 sound_set w s lists fallbacks = record {
   numbered = s.numbered;
   from_one = s.from_one;
@@ -57,7 +57,7 @@ module _ (w base : World) (event : Event) (mount : List ℕ) (sound : IsSound ba
   pub users_fates : (M : ℕ → Session → Type 0) (L : World → Seat → Session → Type 0)
       → Fates (Cause w (outsiders_ended base mount) event) M Nobody L base (outsiders_ended base mount)
   users_fates M L =
-      seats_fates (Cause w (outsiders_ended base mount) event) M Nobody L base sound (is_shut_out base.house.lists mount) ListenerPassword
+      seats_fates (Cause w (outsiders_ended base mount) event) M Nobody L base sound (is_shut_out base.station.lists mount) ListenerPassword
       (λ id seat has out.
-      let there = shut_out_there base.house.lists mount seat out in
+      let there = shut_out_there base.station.lists mount seat out in
       IsNotAccepted seat (sym (same id) ∙ has) (subst (λ (m : List ℕ). ChangesUsers w event m) there.0 changes) there.1)

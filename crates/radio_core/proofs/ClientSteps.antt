@@ -7,28 +7,28 @@ use Rattle.radio_events.specs.declared.event.Event.{Event}
 use Rattle.radio_events.specs.declared.event.Event.TheVariants.{Arrive, Push, SourceEnd, Leave, RelayUp, RelayDown}
 use Rattle.radio_events.specs.declared.reply.Reply.TheVariants.{Arrived, Deny}
 use Rattle.radio_events.specs.Events.{client_in}
-use Rattle.radio_core.specs.declared.outcome.Outcome.{Outcome}
-use Rattle.radio_house.specs.declared.standing.Standing.{Standing}
-use Rattle.radio_house.specs.declared.standing.Standing.TheVariants.{Unknown, Undecided, Feeds, Finished as HasFinished}
-use Rattle.radio_changes.specs.Changes.{changed, taken_in}
+use Rattle.radio_parts.specs.declared.outcome.Outcome.{Outcome}
+use Rattle.radio_parts_station.specs.declared.standing.Standing.{Standing}
+use Rattle.radio_parts_station.specs.declared.standing.Standing.TheVariants.{Unknown, Undecided, Feeds, Finished as HasFinished}
+use Rattle.radio_parts_changes.specs.Changes.{changed, taken_in}
 use Rattle.radio_core.specs.ClientSteps.{ClientStep, Stays, Arrives, IsAnswered, IsObeyed, IsShown, BeginsToFeed, SitsDown, StopsFeeding, ClientsStep}
 use Rattle.radio_core.specs.ClientSteps.{Leaves as HeLeaves, ComesUp as ItComesUp, GoesDown as ItGoesDown, IsFinished as HeIsFinished}
 use Rattle.radio_core.specs.Finishes.{Cause, Finishes}
-use Rattle.radio_core.specs.Listen.{first_seat}
-use Rattle.radio_house.specs.Facts.{rows_to_raise}
+use Rattle.radio_parts.specs.Listen.{first_seat}
+use Rattle.radio_parts_station.specs.Facts.{rows_to_raise}
 use Rattle.radio_core.specs.Others.{StandsOn, HasCome, AsClient, AsRelay}
-use Rattle.radio_core.specs.Outcomes.{on_verdict}
-use Rattle.radio_core.specs.RelayUp.{raises}
-use Rattle.radio_changes.specs.declared.change.Change.TheVariants.{Nothing}
+use Rattle.radio_parts.specs.Outcomes.{on_verdict}
+use Rattle.radio_parts.specs.RelayUp.{raises}
+use Rattle.radio_parts_changes.specs.declared.change.Change.TheVariants.{Nothing}
 use Rattle.radio_policy.specs.declared.judgement.Verdict.{Verdict}
 use Rattle.radio_policy.specs.declared.judgement.Verdict.TheVariants.{Allow, Deny as Denied}
 use Rattle.radio_policy.specs.Verdicts.{verdict_in}
 use Rattle.radio_core.specs.Sound.{IsSound}
-use Rattle.radio_house.specs.Streams.{shown_for}
-use Rattle.radio_core.specs.Step.{outcome, reply_to, world_after}
-use Rattle.radio_core.specs.Ways.{Way, Misplaced, IsFinished, IsDenied, IsRefused, IsAdmitted, Begins, ComesUp, Receives, SetsTitle, TakesSeat, HandsOut, Ends}
-use Rattle.radio_core.specs.Ways.{EndsAndLeaves, Leaves, GoesDown, Obeys, Shows, HasPassed, Ticks}
-use Rattle.radio_house.specs.World.{World, standing_of, has_relay}
+use Rattle.radio_parts_station.specs.Streams.{shown_for}
+use Rattle.radio_parts.specs.Step.{outcome, reply_to, world_after}
+use Rattle.radio_parts.specs.Ways.{Way, Misplaced, IsFinished, IsDenied, IsRefused, IsAdmitted, Begins, ComesUp, Receives, SetsTitle, TakesSeat, HandsOut, Ends}
+use Rattle.radio_parts.specs.Ways.{EndsAndLeaves, Leaves, GoesDown, Obeys, Shows, HasPassed, Ticks}
+use Rattle.radio_parts_station.specs.World.{World, standing_of, has_relay}
 use Rattle.radio_seats_rows.proofs.SeatLaws.{listener_seated}
 use Rattle.radio_core.proofs.CalledHome.{turns_up}
 use Rattle.radio_core.proofs.ClosingLemmas.{closes_his, leaves_or_goes_down}
@@ -41,7 +41,7 @@ use Rattle.radio_core.proofs.ReplyLemmas.{replies_fit}
 use Rattle.radio_core.proofs.SoundEnds.{turns_ended, turns_ended_and_left}
 use Rattle.radio_core.proofs.SoundRuns.{grown_world, NoMove, lag_fates}
 use Rattle.radio_core.proofs.Standings.{asks, turns_answered, turns_sitting, turns_forgotten, stays_hearing}
-use Rattle.radio_core.proofs.Ways.{way_of}
+use Rattle.radio_parts.proofs.Ways.{way_of}
 
 turned : (w : World) (C : Rule → Type 0) (event : Event) (id : ℕ) {before a later b : Standing} → before ≡ a → later ≡ b → ClientStep w C event id before later
     → ClientStep w C event id a b
@@ -76,7 +76,7 @@ module _ (w : World) (s : IsSound w) (id : ℕ) (C : Rule → Type 0) where
   own_by event o (Begins asked undecided none allowed) his fin denies =
       let same : asked.id ≡ id = cc in
       turned w C event id (sym undecided.1 ∙ ap (standing_of w) same)
-      (sym (turns_up w s asked.id asked.mount (shown_for w.house asked.mount asked.shown) undecided.0 undecided.1 none).his
+      (sym (turns_up w s asked.id asked.mount (shown_for w.station asked.mount asked.shown) undecided.0 undecided.1 none).his
       ∙ ap (standing_of (changed w o.change)) same)
       (BeginsToFeed undecided.0 asked refl same allowed)
   own_by event o (ComesUp mount shown none allowed) his fin denies = cc
@@ -100,7 +100,7 @@ module _ (w : World) (s : IsSound w) (id : ℕ) (C : Rule → Type 0) where
   own_by event o (TakesSeat asked peer session undecided lands live allowed) his fin denies =
       let same : asked.id ≡ id = cc in
       turned w C event id (sym undecided ∙ ap (standing_of w) same)
-      (sym (turns_sitting w asked.id (first_seat w.house asked peer session) (asks w asked.id peer undecided)).his ∙ ap (standing_of (changed w o.change)) same)
+      (sym (turns_sitting w asked.id (first_seat w.station asked peer session) (asks w asked.id peer undecided)).his ∙ ap (standing_of (changed w o.change)) same)
       (SitsDown peer asked refl same allowed)
   own_by event o (HandsOut him room seat session sits has live) his fin denies =
       let listener = listener_seated w.seats him seat has in
@@ -148,16 +148,16 @@ allowed_by Allow raised id told = refl
 allowed_by (Denied rule) raised id told = cc
 
 raise_allowed : (w : World) (mount : List ℕ) (shown : Shown) (id : ℕ) → reply_to w (RelayUp mount shown) ≡ Arrived id
-    → verdict_in (rows_to_raise w.house mount shown) ≡ Allow
+    → verdict_in (rows_to_raise w.station mount shown) ≡ Allow
 unfolding reply_to outcome
-raise_allowed w mount shown id told = allowed_by (verdict_in (rows_to_raise w.house mount shown)) (raises w.house mount shown) id told
+raise_allowed w mount shown id told = allowed_by (verdict_in (rows_to_raise w.station mount shown)) (raises w.station mount shown) id told
 
 -- a client arrives, or a relay comes up
 module _ (w : World) (s : IsSound w) (id : ℕ) where
-  comes : (event : Event) → HasCome w id event → w.house.last_id < id → standing_of w id ≡ Unknown → reply_to w event ≡ Arrived id
+  comes : (event : Event) → HasCome w id event → w.station.last_id < id → standing_of w id ≡ Unknown → reply_to w event ≡ Arrived id
       → ClientStep w (Finishes w event id) event id (standing_of w id) (standing_of (world_after w event) id)
   comes event (AsClient peer stands) above unknown told = by_arrival (undecided_before w s (Arrive peer) id peer stands) where
-    by_arrival : (standing_of w id ≡ Undecided peer) ⊎ ((w.house.last_id < id) × (passes w.house.lists peer ≡ true))
+    by_arrival : (standing_of w id ≡ Undecided peer) ⊎ ((w.station.last_id < id) × (passes w.station.lists peer ≡ true))
         → ClientStep w (Finishes w (Arrive peer) id) (Arrive peer) id (standing_of w id) (standing_of (world_after w (Arrive peer)) id)
     by_arrival (inl was) = cc
     by_arrival (inr new) = turned w (Finishes w (Arrive peer) id) (Arrive peer) id (sym unknown) (sym stands) (Arrives peer refl new.1 new.0)

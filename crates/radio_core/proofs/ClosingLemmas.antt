@@ -3,8 +3,8 @@ use Rattle.std.proofs.Common.{◌≡◌, ◌⊎◌, inl, inr, ℕ, true, false, 
 use Rattle.radio_events.specs.declared.event.Event.{Event}
 use Rattle.radio_events.specs.declared.event.Event.TheVariants.{Leave, RelayDown}
 use Rattle.radio_events.specs.Events.{client_in}
-use Rattle.radio_core.specs.Closing.{Closes, OfClient, OfRelay}
-use Rattle.radio_house.specs.World.{World, has_relay}
+use Rattle.radio_parts.specs.Closing.{Closes, OfClient, OfRelay}
+use Rattle.radio_parts_station.specs.World.{World, has_relay}
 
 -- whose it is
 pub closes_his : (w : World) (id : ℕ) (event : Event) → Closes w id event → client_in event ≡ Some id

@@ -4,22 +4,22 @@ use Rattle.std.specs.Prelude.{nat_lt}
 use Rattle.std.specs.Option.{option_map}
 use Rattle.radio_tables.specs.Lists.{Each}
 use Rattle.radio_tables.proofs.FindLaws.{found_has}
-use Rattle.radio_house.specs.declared.standing.Standing.{Standing}
-use Rattle.radio_house.specs.declared.standing.Standing.TheVariants.{Unknown, Undecided, Feeds, Sits, Answered, Finished}
+use Rattle.radio_parts_station.specs.declared.standing.Standing.{Standing}
+use Rattle.radio_parts_station.specs.declared.standing.Standing.TheVariants.{Unknown, Undecided, Feeds, Sits, Answered, Finished}
 use Rattle.radio_core.specs.CoreReplies.{CoresGoByTheirStates}
-use Rattle.radio_house.specs.Facts.{largest_number}
-use Rattle.radio_parts.specs.Kept.{kept_session}
+use Rattle.radio_parts_station.specs.Facts.{largest_number}
+use Rattle.radio_parts_mount.specs.Kept.{kept_session}
 use Rattle.radio_core.specs.Kept.{kept_of}
-use Rattle.radio_parts.specs.Sessions.{Session, is_of, session_of, HasRisingStarts}
+use Rattle.radio_parts_mount.specs.Sessions.{Session, is_of, session_of, HasRisingStarts}
 use Rattle.radio_core.specs.SourceReplies.{to_data, to_data_from, to_session, to_end, unless_spent}
-use Rattle.radio_core.specs.Step.{Represents}
-use Rattle.radio_house.specs.World.{World, standing_of}
-use Rattle.radio_parts.proofs.KeptLists.{kept_found}
-use Rattle.radio_parts.proofs.KeptStreams.{kept_end}
+use Rattle.radio_core.specs.Represents.{Represents}
+use Rattle.radio_parts_station.specs.World.{World, standing_of}
+use Rattle.radio_parts_mount.proofs.KeptLists.{kept_found}
+use Rattle.radio_parts_mount.proofs.KeptStreams.{kept_end}
 
-module _ (w : World) (rise : Each HasRisingStarts w.house.live) (bytes : List ℕ) where
+module _ (w : World) (rise : Each HasRisingStarts w.station.live) (bytes : List ℕ) where
   abbrev queue : ℕ
-  queue = w.house.settings.limits.queue_size
+  queue = w.station.settings.limits.queue_size
 
   session_replies : (found : Option Session) → ((session : Session) → found ≡ Some session → HasRisingStarts session)
       → to_session (option_map (kept_session queue) found) bytes ≡ to_session found bytes
@@ -27,10 +27,10 @@ module _ (w : World) (rise : Each HasRisingStarts w.house.live) (bytes : List �
   session_replies (Some session) rises =
       ap (λ (end : ℕ). unless_spent (nat_lt largest_number (end + length bytes))) (kept_end queue session.stream (rises session refl))
 
-  standing_replies : (standing : Standing) → to_data_from standing (kept_of w).house bytes ≡ to_data_from standing w.house bytes
+  standing_replies : (standing : Standing) → to_data_from standing (kept_of w).station bytes ≡ to_data_from standing w.station bytes
   standing_replies (Feeds mount) =
-      ap (λ (found : Option Session). to_session found bytes) (kept_found queue w.house.live mount)
-      ∙ session_replies (session_of w.house.live mount) (λ session e. found_has (is_of mount) HasRisingStarts w.house.live session rise e)
+      ap (λ (found : Option Session). to_session found bytes) (kept_found queue w.station.live mount)
+      ∙ session_replies (session_of w.station.live mount) (λ session e. found_has (is_of mount) HasRisingStarts w.station.live session rise e)
   standing_replies Unknown = refl
   standing_replies (Undecided peer) = refl
   standing_replies Sits = refl

@@ -6,27 +6,27 @@ use Rattle.radio_events.specs.declared.event.Event.{Event}
 use Rattle.radio_events.specs.declared.event.Event.TheVariants.{Push, SourceEnd, Clock}
 use Rattle.radio_tables.proofs.KeyLaws.{by_number}
 use Rattle.radio_events.specs.declared.command.Command.{Command}
-use Rattle.radio_core.specs.Allowed.{IsCommanded}
-use Rattle.radio_changes.specs.declared.change.Change.TheVariants.{End, EndAndLeave, Obey}
-use Rattle.radio_core.specs.declared.outcome.Outcome.{Outcome}
+use Rattle.radio_parts.specs.Allowed.{IsCommanded}
+use Rattle.radio_parts_changes.specs.declared.change.Change.TheVariants.{End, EndAndLeave, Obey}
+use Rattle.radio_parts.specs.declared.outcome.Outcome.{Outcome}
 use Rattle.radio_events.specs.declared.reply.Reply.{Reply}
 use Rattle.radio_events.specs.declared.reply.Reply.TheVariants.{Arrived}
-use Rattle.radio_house.specs.declared.standing.Standing.{Standing}
-use Rattle.radio_house.specs.declared.standing.Standing.TheVariants.{Unknown, Undecided, Feeds, Sits, Answered, Finished}
+use Rattle.radio_parts_station.specs.declared.standing.Standing.{Standing}
+use Rattle.radio_parts_station.specs.declared.standing.Standing.TheVariants.{Unknown, Undecided, Feeds, Sits, Answered, Finished}
 use Rattle.radio_access.specs.Lists.{passes}
-use Rattle.radio_house.specs.World.{World, standing_of}
-use Rattle.radio_changes.specs.Changes.{changed, taken_in, ticked}
+use Rattle.radio_parts_station.specs.World.{World, standing_of}
+use Rattle.radio_parts_changes.specs.Changes.{changed, taken_in, ticked}
 use Rattle.radio_core.specs.Finishes.{Cause}
 use Rattle.radio_core.specs.Moves.{TakesTo}
-use Rattle.radio_core.specs.Listen.{first_seat}
+use Rattle.radio_parts.specs.Listen.{first_seat}
 use Rattle.radio_seats_rows.specs.declared.seat.Seat.{Seat}
 use Rattle.radio_seats_rows.specs.Seats.{seat_of}
-use Rattle.radio_parts.specs.Sessions.{Session}
+use Rattle.radio_parts_mount.specs.Sessions.{Session}
 use Rattle.radio_core.specs.Sound.{IsSound}
-use Rattle.radio_house.specs.Streams.{shown_for}
-use Rattle.radio_core.specs.Step.{outcome, reply_to, world_after}
-use Rattle.radio_core.specs.Ways.{Way, Misplaced, IsFinished, IsDenied, IsRefused, IsAdmitted, Begins, ComesUp, Receives, SetsTitle, TakesSeat, HandsOut, Ends}
-use Rattle.radio_core.specs.Ways.{EndsAndLeaves, Leaves, GoesDown, Obeys, Shows, HasPassed, Ticks}
+use Rattle.radio_parts_station.specs.Streams.{shown_for}
+use Rattle.radio_parts.specs.Step.{outcome, reply_to, world_after}
+use Rattle.radio_parts.specs.Ways.{Way, Misplaced, IsFinished, IsDenied, IsRefused, IsAdmitted, Begins, ComesUp, Receives, SetsTitle, TakesSeat, HandsOut, Ends}
+use Rattle.radio_parts.specs.Ways.{EndsAndLeaves, Leaves, GoesDown, Obeys, Shows, HasPassed, Ticks}
 use Rattle.radio_events.specs.Events.{client_in}
 use Rattle.radio_seats_rows.proofs.SeatLaws.{listener_seated}
 use Rattle.radio_core.proofs.CalledHome.{turns_up, turns_risen}
@@ -36,7 +36,7 @@ use Rattle.radio_core.proofs.SoundEnds.{ended_fates, ended_and_left_fates}
 use Rattle.radio_core.proofs.SoundRuns.{grown_world, NoMove, lag_fates}
 use Rattle.radio_core.proofs.TickLemmas.{ClockCarries, ticked_fates}
 use Rattle.radio_core.proofs.Obeyed.{LeavesFor, Takes, obeyed, is_answered, others_stood}
-use Rattle.radio_core.proofs.Ways.{way_of, may_arrive}
+use Rattle.radio_parts.proofs.Ways.{way_of, may_arrive}
 
 -- by its own event nobody finishes, or comes to have asked for nothing
 abbrev pub HasActed : Standing → Type 0
@@ -69,10 +69,10 @@ pub data Effect (w later : World) (event : Event) (reply : Reply) : Type 0 where
   -- everybody stands as before
   Same : ((id : ℕ) → standing_of later id ≡ standing_of w id) → Effect w later event reply
   -- a client has arrived
-  Joins : (peer : Peer) → passes w.house.lists peer ≡ true → reply ≡ Arrived (w.house.last_id + 1) → Turns w later (w.house.last_id + 1) (Undecided peer)
+  Joins : (peer : Peer) → passes w.station.lists peer ≡ true → reply ≡ Arrived (w.station.last_id + 1) → Turns w later (w.station.last_id + 1) (Undecided peer)
       → Effect w later event reply
   -- a relay has come up
-  Rises : (mount : List ℕ) → reply ≡ Arrived (w.house.last_id + 1) → Turns w later (w.house.last_id + 1) (Feeds mount) → Effect w later event reply
+  Rises : (mount : List ℕ) → reply ≡ Arrived (w.station.last_id + 1) → Turns w later (w.station.last_id + 1) (Feeds mount) → Effect w later event reply
   -- the event's client stands otherwise
   Acts : (him : ℕ) (now : Standing) → client_in event ≡ Some him → HasActed now → Turns w later him now → Effect w later event reply
   -- some are finished, one perhaps stops feeding, and the others stand as before
@@ -129,10 +129,10 @@ module _ (w : World) (s : IsSound w) where
   effect_by event o (IsFinished _ him by its known) = Same (λ id. refl)
   effect_by event o (IsDenied _ by v nobody) = Same (λ id. refl)
   effect_by event o (IsRefused _ him by v its undecided) = Acts him Answered its tt (turns_answered w him (asks w him undecided.0 undecided.1))
-  effect_by event o (IsAdmitted peer allowed) = Joins peer (may_arrive w peer allowed) refl (turns_admitted w (w.house.last_id + 1) peer)
+  effect_by event o (IsAdmitted peer allowed) = Joins peer (may_arrive w peer allowed) refl (turns_admitted w (w.station.last_id + 1) peer)
   effect_by event o (Begins asked undecided none allowed) = let at = undecided.1 in Acts asked.id (Feeds asked.mount) refl tt
-      (turns_up w s asked.id asked.mount (shown_for w.house asked.mount asked.shown) undecided.0 undecided.1 none)
-  effect_by event o (ComesUp mount shown none allowed) = Rises mount refl (turns_risen w s mount (shown_for w.house mount shown) none)
+      (turns_up w s asked.id asked.mount (shown_for w.station asked.mount asked.shown) undecided.0 undecided.1 none)
+  effect_by event o (ComesUp mount shown none allowed) = Rises mount refl (turns_risen w s mount (shown_for w.station mount shown) none)
   effect_by event o (Receives him mount block feeding) = Sweeps (λ id. lag_swept w s mount block him feeding id)
   effect_by event o (Shows _ asker peer text its undecided what) = Acts asker Answered its tt
       (turns_answered w asker (asks w asker peer undecided))
@@ -141,7 +141,7 @@ module _ (w : World) (s : IsSound w) where
   effect_by event o (Ticks ms e) = Sweeps (λ id. tick_swept ms id)
   effect_by event o (SetsTitle him mount text feeding) = Same (λ id. refl)
   effect_by event o (TakesSeat asked peer session undecided lands live allowed) =
-      Acts asked.id Sits refl tt (turns_sitting w asked.id (first_seat w.house asked peer session) (asks w asked.id peer undecided))
+      Acts asked.id Sits refl tt (turns_sitting w asked.id (first_seat w.station asked peer session) (asks w asked.id peer undecided))
   effect_by event o (HandsOut him room seat session sits has live) =
       let listener = listener_seated w.seats him seat has in
       Same (λ id. stays_hearing w him _ listener.0 listener.1 id)

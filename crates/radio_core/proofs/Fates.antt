@@ -7,21 +7,21 @@ use Rattle.radio_seats_rows.specs.declared.seat.Seat.{Seat}
 use Rattle.radio_seats_rows.specs.declared.seat.Seating.TheVariants.{Finished as HasLostIt}
 use Rattle.radio_seats_rows.proofs.EndLaws.{LosesSeat, same_or_loses}
 use Rattle.radio_seats_rows.specs.Seats.{listener_of, seat_of, seat_in, with_ended, AreByNumber}
-use Rattle.radio_house.specs.declared.clients.ClientState.{ClientState}
-use Rattle.radio_house.specs.declared.clients.ClientState.TheVariants.{Undecided as IsNew, Feeds as IsSource, Listens, Answered as HasHisAnswer, Ended}
-use Rattle.radio_house.specs.declared.standing.Standing.{Standing}
-use Rattle.radio_house.specs.declared.standing.Standing.TheVariants.{Unknown, Undecided, Feeds, Sits, Answered, Finished}
-use Rattle.radio_house.specs.Clients.{Client, client_of}
-use Rattle.radio_house.specs.Relays.{Relay, relay_of}
+use Rattle.radio_parts_station.specs.declared.clients.ClientState.{ClientState}
+use Rattle.radio_parts_station.specs.declared.clients.ClientState.TheVariants.{Undecided as IsNew, Feeds as IsSource, Listens, Answered as HasHisAnswer, Ended}
+use Rattle.radio_parts_station.specs.declared.standing.Standing.{Standing}
+use Rattle.radio_parts_station.specs.declared.standing.Standing.TheVariants.{Unknown, Undecided, Feeds, Sits, Answered, Finished}
+use Rattle.radio_parts_station.specs.Clients.{Client, client_of}
+use Rattle.radio_parts_station.specs.Relays.{Relay, relay_of}
 use Rattle.radio_core.specs.Moves.{moved_into}
-use Rattle.radio_parts.specs.Sessions.{Session, session_of, AreApart}
+use Rattle.radio_parts_mount.specs.Sessions.{Session, session_of, AreApart}
 use Rattle.radio_core.specs.Sound.{IsSeatedIn, IsSound}
-use Rattle.radio_house.specs.Timeouts.{asks_too_late}
-use Rattle.radio_house.specs.World.{World, standing_of, standing_in, standing_by}
-use Rattle.radio_parts.proofs.NumberOrder.{order_ended}
+use Rattle.radio_parts_station.specs.Timeouts.{asks_too_late}
+use Rattle.radio_parts_station.specs.World.{World, standing_of, standing_in, standing_by}
+use Rattle.radio_parts_mount.proofs.NumberOrder.{order_ended}
 use Rattle.radio_core.proofs.Standings.{no_relay_sits}
-use Rattle.radio_house.specs.Waiting.{heard_at}
-use Rattle.radio_core.proofs.HeardLemmas.{heard_same}
+use Rattle.radio_parts_station.specs.Waiting.{heard_at}
+use Rattle.radio_parts.proofs.HeardLemmas.{heard_same}
 
 -- there is something that can end for it
 abbrev pub IsActive : Standing → Type 0
@@ -40,31 +40,31 @@ IsDone standing = ⊥
 pub data Fate (C : ℕ → Rule → Type 0) (M : ℕ → Session → Type 0) (S : ℕ → Type 0) (L : World → Seat → Session → Type 0) (w later : World) (id : ℕ) : Type 0 where
   -- a client goes on as it was, in the same session
   GoesOn : standing_of later id ≡ standing_of w id → seat_of later.seats id ≡ seat_of w.seats id
-      → ((mount : List ℕ) → standing_of w id ≡ Feeds mount → session_of later.house.live mount ≡ session_of w.house.live mount)
-      → ((seat : Seat) → seat_of w.seats id ≡ Some seat → session_of later.house.live seat.mount ≡ session_of w.house.live seat.mount)
+      → ((mount : List ℕ) → standing_of w id ≡ Feeds mount → session_of later.station.live mount ≡ session_of w.station.live mount)
+      → ((seat : Seat) → seat_of w.seats id ≡ Some seat → session_of later.station.live seat.mount ≡ session_of w.station.live seat.mount)
       → Fate C M S L w later id
   -- it is ended by a rule
   IsEnded : (rule : Rule) → C id rule → IsActive (standing_of w id) → standing_of later id ≡ Finished rule → seat_of later.seats id ≡ None
-      → ((mount : List ℕ) → standing_of w id ≡ Feeds mount → session_of later.house.live mount ≡ None) → Fate C M S L w later id
+      → ((mount : List ℕ) → standing_of w id ≡ Feeds mount → session_of later.station.live mount ≡ None) → Fate C M S L w later id
   -- a source stops feeding
   HasStopped : (mount : List ℕ) → S id → standing_of w id ≡ Feeds mount → IsDone (standing_of later id) → seat_of later.seats id ≡ None
-      → session_of later.house.live mount ≡ None → Fate C M S L w later id
+      → session_of later.station.live mount ≡ None → Fate C M S L w later id
   -- a listener goes on in another session, from the end of its stream
   IsMoved : (old : Seat) (session : Session) → M id session → L later old session → seat_of w.seats id ≡ Some old
       → seat_of later.seats id ≡ Some (moved_into session old) → standing_of later id ≡ standing_of w id
-      → heard_at later.house session.mount ≡ Some session → lets_in w.house.lists session.mount old.pair ≡ true → Fate C M S L w later id
+      → heard_at later.station session.mount ≡ Some session → lets_in w.station.lists session.mount old.pair ≡ true → Fate C M S L w later id
 
 pub record Fates (C : ℕ → Rule → Type 0) (M : ℕ → Session → Type 0) (S : ℕ → Type 0) (L : World → Seat → Session → Type 0) (w later : World) : Type 0 where
-  pub last : later.house.last_id ≡ w.house.last_id
-  pub lists : later.house.lists ≡ w.house.lists
-  pub settings : later.house.settings ≡ w.house.settings
+  pub last : later.station.last_id ≡ w.station.last_id
+  pub lists : later.station.lists ≡ w.station.lists
+  pub settings : later.station.settings ≡ w.station.settings
   -- sessions end, and stay as they are until then
-  pub live : (mount : List ℕ) (session : Session) → session_of later.house.live mount ≡ Some session → session_of w.house.live mount ≡ Some session
-  pub apart : AreApart later.house.live
+  pub live : (mount : List ℕ) (session : Session) → session_of later.station.live mount ≡ Some session → session_of w.station.live mount ≡ Some session
+  pub apart : AreApart later.station.live
   pub by_number : AreByNumber later.seats
   -- who asks too late was there so before
-  pub late : (id : ℕ) (client : Client) (seconds ms : ℕ) → client_of later.house.clients id ≡ Some client → asks_too_late seconds ms client ≡ true
-      → client_of w.house.clients id ≡ Some client
+  pub late : (id : ℕ) (client : Client) (seconds ms : ℕ) → client_of later.station.clients id ≡ Some client → asks_too_late seconds ms client ≡ true
+      → client_of w.station.clients id ≡ Some client
   pub fate : (id : ℕ) → Fate C M S L w later id
 
 -- what holds of every state of a run holds still
@@ -87,9 +87,9 @@ module _ (C : ℕ → Rule → Type 0) (M : ℕ → Session → Type 0) (S : ℕ
   not_done (Finished rule) mount e done = done
 
   pub feeds_on : (id : ℕ) (mount : List ℕ) → standing_of later id ≡ Feeds mount
-      → (standing_of w id ≡ Feeds mount) × (session_of later.house.live mount ≡ session_of w.house.live mount)
+      → (standing_of w id ≡ Feeds mount) × (session_of later.station.live mount ≡ session_of w.station.live mount)
   feeds_on id mount e = by_fate (f.fate id) where
-    by_fate : Fate C M S L w later id → (standing_of w id ≡ Feeds mount) × (session_of later.house.live mount ≡ session_of w.house.live mount)
+    by_fate : Fate C M S L w later id → (standing_of w id ≡ Feeds mount) × (session_of later.station.live mount ≡ session_of w.station.live mount)
     by_fate (GoesOn same seat feeds sits) = (sym same ∙ e, feeds mount (sym same ∙ e))
     by_fate (IsEnded rule cause active ended none over) = cc
     by_fate (HasStopped other why feeding done none over) = absurd (not_done (standing_of later id) mount e done)
@@ -118,7 +118,7 @@ module _ (C : ℕ → Rule → Type 0) (M : ℕ → Session → Type 0) (S : ℕ
       by_fate (HasStopped other why feeding done none over) = cc
       by_fate (IsMoved old session why left had has same live opens) = same ∙ unknown
 
-    fed : (mount : List ℕ) (session : Session) → session_of later.house.live mount ≡ Some session → standing_of later session.number ≡ Feeds mount
+    fed : (mount : List ℕ) (session : Session) → session_of later.station.live mount ≡ Some session → standing_of later session.number ≡ Feeds mount
     fed mount session e = by_fate (f.fate session.number) where
       before : standing_of w session.number ≡ Feeds mount
       before = s.fed mount session (f.live mount session e)
@@ -126,11 +126,11 @@ module _ (C : ℕ → Rule → Type 0) (M : ℕ → Session → Type 0) (S : ℕ
       by_fate : Fate C M S L w later session.number → standing_of later session.number ≡ Feeds mount
       by_fate (GoesOn same seat feeds sits) = same ∙ before
       by_fate (IsEnded rule cause active ended none over) =
-          let gone : session_of later.house.live mount ≡ None = over mount before in cc
+          let gone : session_of later.station.live mount ≡ None = over mount before in cc
       by_fate (HasStopped other why feeding done none over) =
           let both : Feeds other ≡ Feeds mount = sym feeding ∙ before in
           let one : other ≡ mount = cc in
-          let gone : session_of later.house.live mount ≡ None = ap (session_of later.house.live) (sym one) ∙ over in
+          let gone : session_of later.station.live mount ≡ None = ap (session_of later.station.live) (sym one) ∙ over in
           cc
       by_fate (IsMoved old his why left had has same live opens) = same ∙ before
 
@@ -146,7 +146,7 @@ module _ (C : ℕ → Rule → Type 0) (M : ℕ → Session → Type 0) (S : ℕ
         let old = s.seated id seat had in
         record {
           session = old.session;
-          is_heard = heard_same later.house w.house seat.mount f.settings (sits seat had) ∙ old.is_heard;
+          is_heard = heard_same later.station w.station seat.mount f.settings (sits seat had) ∙ old.is_heard;
           his_session = old.his_session;
           within = old.within;
         }
@@ -173,7 +173,7 @@ fates_none C M S L w s = record {
 
 -- whoever is moved sat in a session, and it is over
 abbrev pub HasEnded : World → Seat → Session → Type 0
-HasEnded later old session = (session_of later.house.live old.mount ≡ None) × ((old.session == 0) ≡ false)
+HasEnded later old session = (session_of later.station.live old.mount ≡ None) × ((old.session == 0) ≡ false)
 
 -- no source stops by its own doing
 abbrev pub Nobody : ℕ → Type 0
@@ -182,11 +182,11 @@ Nobody id = ⊥
 -- one thing after another, where nobody stops by its own doing, and the reasons are of the whole
 module _ (C : ℕ → Rule → Type 0) (M : ℕ → Session → Type 0) (w between later : World) (f : Fates C M Nobody HasEnded w between)
     (g : Fates C M Nobody HasEnded between later) where
-  still_none : (mount : List ℕ) → session_of between.house.live mount ≡ None → session_of later.house.live mount ≡ None
-  still_none mount none = by_found (session_of later.house.live mount) refl where
-    by_found : (found : Option Session) → session_of later.house.live mount ≡ found → session_of later.house.live mount ≡ None
+  still_none : (mount : List ℕ) → session_of between.station.live mount ≡ None → session_of later.station.live mount ≡ None
+  still_none mount none = by_found (session_of later.station.live mount) refl where
+    by_found : (found : Option Session) → session_of later.station.live mount ≡ found → session_of later.station.live mount ≡ None
     by_found None e = e
-    by_found (Some session) e = let before : session_of between.house.live mount ≡ Some session = g.live mount session e in cc
+    by_found (Some session) e = let before : session_of between.station.live mount ≡ Some session = g.live mount session e in cc
 
   finished_rests : (now : Standing) (rule : Rule) → now ≡ Finished rule → IsActive now → ⊥
   finished_rests (Finished by) rule e active = active
@@ -218,7 +218,7 @@ module _ (C : ℕ → Rule → Type 0) (M : ℕ → Session → Type 0) (w betwe
   fate_then id (IsEnded rule cause active ended none over) (IsMoved old session carries left had has same live opens) = cc
   fate_then id (IsMoved old session carries left had has same live opens) (GoesOn same' seats feeds sits) =
       IsMoved old session carries (still_none old.mount left.0, left.1) had (seats ∙ has) (same' ∙ same)
-      (heard_same later.house between.house session.mount g.settings (sits (moved_into session old) has) ∙ live) opens
+      (heard_same later.station between.station session.mount g.settings (sits (moved_into session old) has) ∙ live) opens
   fate_then id (IsMoved old session carries left had has same live opens) (IsEnded rule cause active ended none over) =
       IsEnded rule cause (subst (λ (x : Standing). IsActive x) same active) ended none (λ mount e. over mount (same ∙ e))
   fate_then id (IsMoved old session carries left had has same live opens) (IsMoved old' session' carries' left' had' has' same' live' opens') =
@@ -227,7 +227,7 @@ module _ (C : ℕ → Rule → Type 0) (M : ℕ → Session → Type 0) (w betwe
       IsMoved old session' carries' (still_none old.mount left.0, left.1) had
       (has' ∙ ap (λ (x : Seat). Some (moved_into session' x)) (sym one)) (same' ∙ same) live'
       (ap (λ (lists : Lists). lets_in lists session'.mount old.pair) (sym f.lists)
-      ∙ ap (λ (x : Seat). lets_in between.house.lists session'.mount x.pair) one ∙ opens')
+      ∙ ap (λ (x : Seat). lets_in between.station.lists session'.mount x.pair) one ∙ opens')
 
   pub fates_then : Fates C M Nobody HasEnded w later
   fates_then = record {
@@ -270,12 +270,12 @@ module _ (C : ℕ → Rule → Type 0) (M : ℕ → Session → Type 0) (S : ℕ
     by_loss : (listener_of (with_ended w.seats p rule) id ≡ listener_of w.seats id)
         ⊎ LosesSeat p rule (listener_of w.seats id) (listener_of (with_ended w.seats p rule) id)
         → Fate C M S L w (record w { seats = with_ended w.seats p rule }) id
-    by_loss (inl same) = GoesOn (ap (λ l. standing_in (relay_of w.house.relays id) l (client_of w.house.clients id)) same) (ap seat_in same) (λ mount e. refl) (λ seat e. refl)
+    by_loss (inl same) = GoesOn (ap (λ l. standing_in (relay_of w.station.relays id) l (client_of w.station.clients id)) same) (ap seat_in same) (λ mount e. refl) (λ seat e. refl)
     by_loss (inr loses) =
         let sat : standing_of w id ≡ Sits = s.sitting id loses.seat loses.had_a_seat in
         IsEnded rule (causes id loses.seat loses.had_a_seat loses.holds) (active_sitter (standing_of w id) sat)
-        (ap (λ l. standing_in (relay_of w.house.relays id) l (client_of w.house.clients id)) loses.finished
-        ∙ lost_in (relay_of w.house.relays id) (listener_of w.seats id) loses.id rule loses.seat.mount (client_of w.house.clients id) sat)
+        (ap (λ l. standing_in (relay_of w.station.relays id) l (client_of w.station.clients id)) loses.finished
+        ∙ lost_in (relay_of w.station.relays id) (listener_of w.seats id) loses.id rule loses.seat.mount (client_of w.station.clients id) sat)
         (ap seat_in loses.finished) (λ mount e. cc)
 
   pub seats_fates : Fates C M S L w (record w { seats = with_ended w.seats p rule })

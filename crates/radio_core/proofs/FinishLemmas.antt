@@ -4,22 +4,22 @@ use Rattle.radio_policy.specs.declared.rule.Rule.{Rule}
 use Rattle.radio_addr.specs.declared.peer.Peer.{Peer}
 use Rattle.radio_access.specs.Lists.{passes}
 use Rattle.radio_tables.proofs.KeyLaws.{by_number}
-use Rattle.radio_house.specs.Clients.{Client}
-use Rattle.radio_house.specs.Relays.{Relay, relay_of}
-use Rattle.radio_house.specs.declared.clients.ClientState.TheVariants.{Undecided as IsNew}
+use Rattle.radio_parts_station.specs.Clients.{Client}
+use Rattle.radio_parts_station.specs.Relays.{Relay, relay_of}
+use Rattle.radio_parts_station.specs.declared.clients.ClientState.TheVariants.{Undecided as IsNew}
 use Rattle.radio_seats_rows.specs.declared.seat.Listener.{Listener}
 use Rattle.radio_seats_rows.specs.declared.seat.Seat.{Seat}
 use Rattle.radio_events.specs.declared.event.Event.{Event}
-use Rattle.radio_core.specs.declared.outcome.Outcome.{Outcome}
+use Rattle.radio_parts.specs.declared.outcome.Outcome.{Outcome}
 use Rattle.radio_events.specs.declared.reply.Reply.TheVariants.{Arrived, Finished}
-use Rattle.radio_house.specs.declared.standing.Standing.{Standing}
-use Rattle.radio_house.specs.declared.standing.Standing.TheVariants.{Unknown, Undecided, Feeds, Sits, Answered, Finished as HasFinished}
-use Rattle.radio_house.specs.World.{World, standing_of, standing_in}
+use Rattle.radio_parts_station.specs.declared.standing.Standing.{Standing}
+use Rattle.radio_parts_station.specs.declared.standing.Standing.TheVariants.{Unknown, Undecided, Feeds, Sits, Answered, Finished as HasFinished}
+use Rattle.radio_parts_station.specs.World.{World, standing_of, standing_in}
 use Rattle.radio_core.specs.Finishes.{Cause, SessionIsOver, IsFarBehind, HasSatOut, HasAskedNothing, HasSentNothing, IsKilled, HisSessionIsKilled, Finishes, IsNotAccepted}
 use Rattle.radio_core.specs.Others.{StandsOn, OthersStandOn}
 use Rattle.radio_seats_rows.specs.Seats.{listener_of, seat_of}
 use Rattle.radio_core.specs.Sound.{IsSound}
-use Rattle.radio_core.specs.Step.{outcome, reply_to, world_after}
+use Rattle.radio_parts.specs.Step.{outcome, reply_to, world_after}
 use Rattle.radio_events.specs.Events.{client_in}
 use Rattle.radio_core.proofs.NamedRules.{RuleNamed, DeniesIt, RefusesHim, TellsHisRule, NamesNoRule, rule_in, rule_named}
 use Rattle.radio_core.proofs.Effects.{Effect, Same, Joins, Rises, Acts, Sweeps, IsSwept, GoesOnAs, IsOut, HasDone, HasActed, effect_of}
@@ -39,8 +39,8 @@ known_before w s event id rule finishes unknown = by_cause finishes.cause where
   by_cause (IsFarBehind him block seat e feeds has behind) = no_seat seat has
   by_cause (HasSatOut ms seat e has out) = no_seat seat has
   by_cause (HasAskedNothing ms client e found late) =
-      new_in (relay_of w.house.relays id) (listener_of w.seats id) client (asking_at w.house.settings.limits.header_timeout ms client.arrived client.state late)
-      (ap (standing_in (relay_of w.house.relays id) (listener_of w.seats id)) (sym found) ∙ unknown)
+      new_in (relay_of w.station.relays id) (listener_of w.seats id) client (asking_at w.station.settings.limits.header_timeout ms client.arrived client.state late)
+      (ap (standing_in (relay_of w.station.relays id) (listener_of w.seats id)) (sym found) ∙ unknown)
   by_cause (HasSentNothing ms session e feeds live silent) = cc
   by_cause (IsKilled seat has named) = no_seat seat has
   by_cause (IsNotAccepted seat has changes out) = no_seat seat has
@@ -70,9 +70,9 @@ module _ (w : World) (s : IsSound w) (event : Event) where
   -- others stand as before, or are finished
   stands_by : (id : ℕ) → (client_in event ≡ Some id → ⊥) → Effect w (world_after w event) event (reply_to w event) → StandsOn w event id
   stands_by id not (Same same) = inl (same id)
-  stands_by id not (Joins peer passing arrived t) = by_number (w.house.last_id + 1) id (λ same. inr (inr (arrived ∙ ap (λ (n : ℕ). Arrived n) same)))
+  stands_by id not (Joins peer passing arrived t) = by_number (w.station.last_id + 1) id (λ same. inr (inr (arrived ∙ ap (λ (n : ℕ). Arrived n) same)))
       (λ other. inl (t.others id other))
-  stands_by id not (Rises mount arrived t) = by_number (w.house.last_id + 1) id (λ same. inr (inr (arrived ∙ ap (λ (n : ℕ). Arrived n) same)))
+  stands_by id not (Rises mount arrived t) = by_number (w.station.last_id + 1) id (λ same. inr (inr (arrived ∙ ap (λ (n : ℕ). Arrived n) same)))
       (λ other. inl (t.others id other))
   stands_by id not (Acts him now his acted t) = inl (t.others id (apart_from event him id his not))
   stands_by id not (Sweeps swept) = by_sweep (swept id) where
@@ -89,11 +89,11 @@ module _ (w : World) (s : IsSound w) (event : Event) where
       → (standing_of w id ≡ HasFinished rule) ⊎ Finishes w event id rule
   finished_by id rule e (Same same) = inl (sym (same id) ∙ e)
   finished_by id rule e (Joins peer passing arrived t) =
-      by_number (w.house.last_id + 1) id
+      by_number (w.station.last_id + 1) id
       (λ same. let now : Undecided peer ≡ HasFinished rule = sym t.his ∙ ap (standing_of (world_after w event)) same ∙ e in cc)
       (λ other. inl (sym (t.others id other) ∙ e))
   finished_by id rule e (Rises mount arrived t) =
-      by_number (w.house.last_id + 1) id
+      by_number (w.station.last_id + 1) id
       (λ same. let now : Feeds mount ≡ HasFinished rule = sym t.his ∙ ap (standing_of (world_after w event)) same ∙ e in cc)
       (λ other. inl (sym (t.others id other) ∙ e))
   finished_by id rule e (Acts him now his acted t) =
@@ -115,22 +115,22 @@ module _ (w : World) (s : IsSound w) (event : Event) where
 
   -- it has a new number, and its address passes the address lists
   abbrev HasArrived : ℕ → Peer → Type 0
-  HasArrived id peer = (w.house.last_id < id) × (passes w.house.lists peer ≡ true)
+  HasArrived id peer = (w.station.last_id < id) × (passes w.station.lists peer ≡ true)
 
   -- who has asked for nothing after an event had not before, or has only arrived
   undecided_by : (id : ℕ) (peer : Peer) → standing_of (world_after w event) id ≡ Undecided peer → Effect w (world_after w event) event (reply_to w event)
       → (standing_of w id ≡ Undecided peer) ⊎ HasArrived id peer
   undecided_by id peer e (Same same) = inl (sym (same id) ∙ e)
   undecided_by id peer e (Joins other passing arrived t) =
-      by_number (w.house.last_id + 1) id
+      by_number (w.station.last_id + 1) id
       (λ same.
       let both : Undecided other ≡ Undecided peer = sym t.his ∙ ap (standing_of (world_after w event)) same ∙ e in
       let one : other ≡ peer = cc in
-      let new : w.house.last_id < id = omega arith in
-      inr (new, ap (passes w.house.lists) (sym one) ∙ passing))
+      let new : w.station.last_id < id = omega arith in
+      inr (new, ap (passes w.station.lists) (sym one) ∙ passing))
       (λ apart. inl (sym (t.others id apart) ∙ e))
   undecided_by id peer e (Rises mount arrived t) =
-      by_number (w.house.last_id + 1) id
+      by_number (w.station.last_id + 1) id
       (λ same. let now : Feeds mount ≡ Undecided peer = sym t.his ∙ ap (standing_of (world_after w event)) same ∙ e in cc)
       (λ apart. inl (sym (t.others id apart) ∙ e))
   undecided_by id peer e (Acts him now his acted t) =

@@ -5,16 +5,16 @@ use Rattle.std.proofs.lemmas.Slice.Eq.{bytes_eq-Decides}
 use Rattle.radio_tables.proofs.KeyLaws.{by_number, by_name}
 use Rattle.radio_seats_rows.specs.declared.seat.Seat.{Seat}
 use Rattle.radio_seats_rows.specs.Seats.{seat_of}
-use Rattle.radio_parts.specs.Sessions.{Session, session_of}
-use Rattle.radio_house.specs.declared.standing.Standing.TheVariants.{Unknown, Feeds}
-use Rattle.radio_house.specs.Waiting.{heard_at}
-use Rattle.radio_house.specs.World.{World, standing_of}
+use Rattle.radio_parts_mount.specs.Sessions.{Session, session_of}
+use Rattle.radio_parts_station.specs.declared.standing.Standing.TheVariants.{Unknown, Feeds}
+use Rattle.radio_parts_station.specs.Waiting.{heard_at}
+use Rattle.radio_parts_station.specs.World.{World, standing_of}
 use Rattle.radio_core.specs.Sound.{IsSound}
 use Rattle.radio_core.proofs.Fates.{HasEnded}
-use Rattle.radio_core.proofs.HeardLemmas.{heard_live, heard_cases}
+use Rattle.radio_parts.proofs.HeardLemmas.{heard_live, heard_cases}
 
 -- no session has the number 0
-pub past_zero : (w : World) → IsSound w → (mount : List ℕ) (session : Session) → session_of w.house.live mount ≡ Some session → (session.number == 0) ≡ false
+pub past_zero : (w : World) → IsSound w → (mount : List ℕ) (session : Session) → session_of w.station.live mount ≡ Some session → (session.number == 0) ≡ false
 past_zero w s mount session live =
     by_number session.number 0
     (λ same.
@@ -25,23 +25,23 @@ past_zero w s mount session live =
 
 -- so whoever sits where there is one sits in no session of that number
 pub sits_past_zero : (w : World) → IsSound w → (id : ℕ) (seat : Seat) (session : Session) → seat_of w.seats id ≡ Some seat
-    → session_of w.house.live seat.mount ≡ Some session → (seat.session == 0) ≡ false
+    → session_of w.station.live seat.mount ≡ Some session → (seat.session == 0) ≡ false
 sits_past_zero w s id seat session has live =
     let old = s.seated id seat has in
-    let both : Some old.session ≡ Some session = sym old.is_heard ∙ heard_live w.house seat.mount session live in
+    let both : Some old.session ≡ Some session = sym old.is_heard ∙ heard_live w.station seat.mount session live in
     let one : old.session ≡ session = cc in
     let number : seat.session ≡ session.number = sym old.his_session ∙ ap (λ (x : Session). x.number) one in
     ap (λ (n : ℕ). n == 0) number ∙ past_zero w s seat.mount session live
 
 -- who sits in the session of one mount, or waits for one, does not sit in that of another
 pub apart_sessions : (w : World) → IsSound w → (id : ℕ) (seat : Seat) (session : Session) → seat_of w.seats id ≡ Some seat
-    → session_of w.house.live session.mount ≡ Some session → bytes_eq seat.mount session.mount ≡ false → (seat.session == session.number) ≡ false
+    → session_of w.station.live session.mount ≡ Some session → bytes_eq seat.mount session.mount ≡ false → (seat.session == session.number) ≡ false
 apart_sessions w s id seat session has live away =
     by_number seat.session session.number
     (λ same.
     let old = s.seated id seat has in
     let feeds : standing_of w session.number ≡ Feeds session.mount = s.fed session.mount session live in
-    heard_cases w.house seat.mount old.session old.is_heard
+    heard_cases w.station seat.mount old.session old.is_heard
     (λ there.
     let fed : standing_of w old.session.number ≡ Feeds seat.mount = s.fed seat.mount old.session there in
     let both : Feeds seat.mount ≡ Feeds session.mount = sym fed ∙ ap (standing_of w) (old.his_session ∙ same) ∙ feeds in
@@ -56,14 +56,14 @@ apart_sessions w s id seat session has live away =
 
 -- and who is moved since its session is over goes on in another, or waits
 pub apart_then : (w later : World) → IsSound w
-    → ((mount : List ℕ) (session : Session) → session_of later.house.live mount ≡ Some session → session_of w.house.live mount ≡ Some session)
+    → ((mount : List ℕ) (session : Session) → session_of later.station.live mount ≡ Some session → session_of w.station.live mount ≡ Some session)
     → (id : ℕ) (old : Seat) (session : Session) → seat_of w.seats id ≡ Some old → HasEnded later old session
-    → heard_at later.house session.mount ≡ Some session → (old.session == session.number) ≡ false
+    → heard_at later.station session.mount ≡ Some session → (old.session == session.number) ≡ false
 apart_then w later s live id old session had left heard =
-    heard_cases later.house session.mount session heard
+    heard_cases later.station session.mount session heard
     (λ there.
     apart_sessions w s id old session had (live session.mount session there)
     (by_name old.mount session.mount
-    (λ same. let gone : session_of later.house.live session.mount ≡ None = ap (session_of later.house.live) (sym same) ∙ left.0 in cc)
+    (λ same. let gone : session_of later.station.live session.mount ≡ None = ap (session_of later.station.live) (sym same) ∙ left.0 in cc)
     (λ away. away)))
     (λ none silent. ap (λ (x : Session). old.session == x.number) (sym silent) ∙ left.1)

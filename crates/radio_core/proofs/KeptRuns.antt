@@ -8,24 +8,24 @@ use Rattle.radio_tables.proofs.FindLaws.{found_has}
 use Rattle.radio_seats_rows.specs.declared.seat.Seat.{Seat}
 use Rattle.radio_seats_rows.specs.Seats.{seat_of, AreByNumber}
 use Rattle.radio_events.specs.declared.event.Event.{Event}
-use Rattle.radio_changes.specs.Changes.{changed}
-use Rattle.radio_parts.specs.Kept.{first_start, kept_from, kept_session, kept_live}
+use Rattle.radio_parts_changes.specs.Changes.{changed}
+use Rattle.radio_parts_mount.specs.Kept.{first_start, kept_from, kept_session, kept_live}
 use Rattle.radio_core.specs.Lagging.{EachSeat, NobodyLags}
 use Rattle.radio_core.specs.Run.{world_after_all, run_after}
-use Rattle.radio_parts.specs.Sessions.{Session, is_of, session_of, HasRisingStarts}
+use Rattle.radio_parts_mount.specs.Sessions.{Session, is_of, session_of, HasRisingStarts}
 use Rattle.radio_core.specs.Sound.{IsSound}
 use Rattle.radio_core.specs.StandsFor.{SeatsAreKept}
-use Rattle.radio_core.specs.Step.{outcome, world_after}
-use Rattle.radio_parts.specs.Stream.{end_of}
-use Rattle.radio_house.specs.World.{World, opening}
-use Rattle.radio_parts.proofs.KeptLists.{kept_found}
+use Rattle.radio_parts.specs.Step.{outcome, world_after}
+use Rattle.radio_parts_mount.specs.Stream.{end_of}
+use Rattle.radio_parts_station.specs.World.{World, opening}
+use Rattle.radio_parts_mount.proofs.KeptLists.{kept_found}
 use Rattle.radio_core.proofs.KeptSeats.{HoldsOn, each_after, settings_stay}
-use Rattle.radio_parts.proofs.KeptStreams.{kept_end, kept_within, kept_still, burst_is_kept, burst_is_near}
+use Rattle.radio_parts_mount.proofs.KeptStreams.{kept_end, kept_within, kept_still, burst_is_kept, burst_is_near}
 use Rattle.radio_core.proofs.SoundRuns.{sound_after, sound_opening}
 
 module _ (w : World) where
   abbrev queue : ℕ
-  queue = w.house.settings.limits.queue_size
+  queue = w.station.settings.limits.queue_size
 
   holds_near : HoldsOn (λ stream place. end_of stream - place ≤ queue) w
   holds_near = record {
@@ -42,9 +42,9 @@ module _ (w : World) where
       subst (λ (x : Settings). EachSeat (λ stream place. end_of stream - place ≤ x.limits.queue_size) (changed w (outcome w event).change))
       (sym (settings_stay w order event)) (each_after (λ stream place. end_of stream - place ≤ queue) w order holds_near all event)
 
-  module _ (rise : Each HasRisingStarts w.house.live) where
-    found_rises : (mount : List ℕ) (session : Session) → session_of w.house.live mount ≡ Some session → HasRisingStarts session
-    found_rises mount session e = found_has (is_of mount) HasRisingStarts w.house.live session rise e
+  module _ (rise : Each HasRisingStarts w.station.live) where
+    found_rises : (mount : List ℕ) (session : Session) → session_of w.station.live mount ≡ Some session → HasRisingStarts session
+    found_rises mount session e = found_has (is_of mount) HasRisingStarts w.station.live session rise e
 
     holds_kept : HoldsOn (λ stream place. kept_from queue stream ≤ place) w
     holds_kept = record {
@@ -62,13 +62,13 @@ module _ (w : World) where
 
     -- where a seat is, the core has the stream from its place on
     pub seat_is_kept : SeatsAreKept w → (id : ℕ) (seat : Seat) (session : Session) → seat_of w.seats id ≡ Some seat
-        → session_of (kept_live queue w.house.live) seat.mount ≡ Some session → first_start (end_of session.stream) session.stream.starts ≤ seat.place
-    seat_is_kept all id seat session has live = by_found (session_of w.house.live seat.mount) refl (sym (kept_found queue w.house.live seat.mount) ∙ live) where
-      by_found : (found : Option Session) → session_of w.house.live seat.mount ≡ found
-          → option_map (kept_session queue) (session_of w.house.live seat.mount) ≡ Some session
+        → session_of (kept_live queue w.station.live) seat.mount ≡ Some session → first_start (end_of session.stream) session.stream.starts ≤ seat.place
+    seat_is_kept all id seat session has live = by_found (session_of w.station.live seat.mount) refl (sym (kept_found queue w.station.live seat.mount) ∙ live) where
+      by_found : (found : Option Session) → session_of w.station.live seat.mount ≡ found
+          → option_map (kept_session queue) (session_of w.station.live seat.mount) ≡ Some session
           → first_start (end_of session.stream) session.stream.starts ≤ seat.place
       by_found None none is =
-          let nothing : option_map (kept_session queue) (session_of w.house.live seat.mount) ≡ None = ap (option_map (kept_session queue)) none in cc
+          let nothing : option_map (kept_session queue) (session_of w.station.live seat.mount) ≡ None = ap (option_map (kept_session queue)) none in cc
       by_found (Some whole) found is =
           let both : Some (kept_session queue whole) ≡ Some session = sym (ap (option_map (kept_session queue)) found) ∙ is in
           let one : kept_session queue whole ≡ session = cc in

@@ -1,24 +1,18 @@
 pub mod AllowedCommands
 pub mod CommandLemmas
 mod CoreReplyLemmas
-pub mod HeardLemmas
 pub mod GivenSeats
 pub mod HeardApart
-pub mod ListingLemmas
+mod KeptListings
 mod KeptOutcomes
 mod KeptRuns
 pub mod KeptSeats
 mod KeptSights
 mod KeptSteps
-mod LentState
-pub mod DrawLemmas
-mod SeatedDraws
 mod CanSteps
 pub mod ChangedUsers
 pub mod ListsSteps
 pub mod Obeyed
-mod PlannedLemmas
-mod CommonLemmas
 mod SourceReplyLemmas
 pub mod ArrivalLemmas
 pub mod CalledHome
@@ -49,5 +43,4 @@ pub mod StepLemmas
 pub mod TickLemmas
 pub mod TotalLemmas
 mod UpdatedSessions
-pub mod Ways
 pub mod Threads

@@ -7,15 +7,15 @@ use Rattle.radio_events.specs.Events.{client_in}
 use Rattle.radio_events.specs.declared.event.Event.{Event}
 use Rattle.radio_events.specs.declared.reply.Reply.{Reply}
 use Rattle.radio_events.specs.declared.reply.Reply.TheVariants.{Deny, Finished}
-use Rattle.radio_changes.specs.declared.change.Change.TheVariants.{Nothing, Answer}
-use Rattle.radio_core.specs.declared.outcome.Outcome.{Outcome}
-use Rattle.radio_house.specs.declared.standing.Standing.TheVariants.{Finished as HasFinished}
-use Rattle.radio_core.specs.Outcomes.{says}
-use Rattle.radio_core.specs.Step.{outcome}
-use Rattle.radio_core.specs.Ways.{Way, Misplaced, IsFinished, IsDenied, IsRefused, IsAdmitted, Begins, ComesUp, Receives, SetsTitle, TakesSeat, HandsOut, Ends}
-use Rattle.radio_core.specs.Ways.{EndsAndLeaves, Leaves, GoesDown, Obeys, Shows, HasPassed, Ticks, rows_for, IsUndecided}
-use Rattle.radio_house.specs.World.{World, standing_of}
-use Rattle.radio_core.proofs.Ways.{way_of}
+use Rattle.radio_parts_changes.specs.declared.change.Change.TheVariants.{Nothing, Answer}
+use Rattle.radio_parts.specs.declared.outcome.Outcome.{Outcome}
+use Rattle.radio_parts_station.specs.declared.standing.Standing.TheVariants.{Finished as HasFinished}
+use Rattle.radio_parts.specs.Outcomes.{says}
+use Rattle.radio_parts.specs.Step.{outcome}
+use Rattle.radio_parts.specs.Ways.{Way, Misplaced, IsFinished, IsDenied, IsRefused, IsAdmitted, Begins, ComesUp, Receives, SetsTitle, TakesSeat, HandsOut, Ends}
+use Rattle.radio_parts.specs.Ways.{EndsAndLeaves, Leaves, GoesDown, Obeys, Shows, HasPassed, Ticks, rows_for, IsUndecided}
+use Rattle.radio_parts_station.specs.World.{World, standing_of}
+use Rattle.radio_parts.proofs.Ways.{way_of}
 
 -- the rule that a reply names
 abbrev pub rule_in : Reply → Option Rule

@@ -12,45 +12,45 @@ use Rattle.radio_seats_rows.specs.declared.seat.Seat.{Seat}
 use Rattle.radio_seats_rows.specs.declared.seat.Seating.{Seating}
 use Rattle.radio_seats_rows.specs.declared.seat.Seating.TheVariants.{Sits as HasSeat, Finished as HasFinished}
 use Rattle.radio_seats_rows.specs.Seats.{is_listener, listener_of, advanced, seated}
-use Rattle.radio_house.specs.declared.clients.ClientState.{ClientState}
-use Rattle.radio_house.specs.declared.clients.ClientState.TheVariants.{Undecided as IsNew, Feeds as IsSource, Listens, Answered as HasHisAnswer, Ended}
+use Rattle.radio_parts_station.specs.declared.clients.ClientState.{ClientState}
+use Rattle.radio_parts_station.specs.declared.clients.ClientState.TheVariants.{Undecided as IsNew, Feeds as IsSource, Listens, Answered as HasHisAnswer, Ended}
 use Rattle.radio_events.specs.declared.event.Event.{Event}
 use Rattle.radio_events.specs.declared.event.Event.TheVariants.{Push}
-use Rattle.radio_changes.specs.declared.change.Change.TheVariants.{TakeSeat, Forget}
-use Rattle.radio_core.specs.declared.outcome.Outcome.{Outcome}
+use Rattle.radio_parts_changes.specs.declared.change.Change.TheVariants.{TakeSeat, Forget}
+use Rattle.radio_parts.specs.declared.outcome.Outcome.{Outcome}
 use Rattle.radio_events.specs.Events.{client_in}
-use Rattle.radio_house.specs.declared.standing.Standing.{Standing}
-use Rattle.radio_house.specs.declared.standing.Standing.TheVariants.{Unknown, Undecided, Feeds, Answered}
+use Rattle.radio_parts_station.specs.declared.standing.Standing.{Standing}
+use Rattle.radio_parts_station.specs.declared.standing.Standing.TheVariants.{Unknown, Undecided, Feeds, Answered}
 use Rattle.radio_values.specs.declared.field.Shown.{Shown}
 use Rattle.radio_tables.specs.Lists.{placed, Each}
 use Rattle.radio_tables.proofs.EachLaws.{Each_each, Each_kept, Each_placed}
-use Rattle.radio_house.specs.Clients.{Client, client_of, newcomer}
-use Rattle.radio_house.specs.Relays.{Relay, relay_of, risen}
-use Rattle.radio_parts.specs.Sessions.{session_of}
+use Rattle.radio_parts_station.specs.Clients.{Client, client_of, newcomer}
+use Rattle.radio_parts_station.specs.Relays.{Relay, relay_of, risen}
+use Rattle.radio_parts_mount.specs.Sessions.{session_of}
 use Rattle.radio_core.specs.Finishes.{Cause}
-use Rattle.radio_changes.specs.Changes.{changed, session_ended, taken_in}
-use Rattle.radio_changes.specs.Changes.{ticked}
-use Rattle.radio_core.specs.Listen.{first_seat}
+use Rattle.radio_parts_changes.specs.Changes.{changed, session_ended, taken_in}
+use Rattle.radio_parts_changes.specs.Changes.{ticked}
+use Rattle.radio_parts.specs.Listen.{first_seat}
 use Rattle.radio_core.specs.Sound.{IsSound}
-use Rattle.radio_house.specs.Streams.{shown_for}
-use Rattle.radio_core.specs.Step.{outcome, world_after}
-use Rattle.radio_core.specs.Ways.{Way, Misplaced, IsFinished, IsDenied, IsRefused, IsAdmitted, Begins, ComesUp, Receives, SetsTitle, TakesSeat, HandsOut, Ends}
-use Rattle.radio_core.specs.Ways.{EndsAndLeaves, Leaves, GoesDown, Obeys, Shows, HasPassed, Ticks}
-use Rattle.radio_house.specs.World.{World, opening, standing_of, standing_in, standing_by, standing_seated, standing_of_listener}
+use Rattle.radio_parts_station.specs.Streams.{shown_for}
+use Rattle.radio_parts.specs.Step.{outcome, world_after}
+use Rattle.radio_parts.specs.Ways.{Way, Misplaced, IsFinished, IsDenied, IsRefused, IsAdmitted, Begins, ComesUp, Receives, SetsTitle, TakesSeat, HandsOut, Ends}
+use Rattle.radio_parts.specs.Ways.{EndsAndLeaves, Leaves, GoesDown, Obeys, Shows, HasPassed, Ticks}
+use Rattle.radio_parts_station.specs.World.{World, opening, standing_of, standing_in, standing_by, standing_seated, standing_of_listener}
 use Rattle.radio_core.proofs.CalledHome.{turns_up, just_raised, sound_just_raised, stands_called}
 use Rattle.radio_core.proofs.Effects.{IsSwept, GoesOnAs, IsOut, HasDone, tick_swept, obeyed_swept, his_event}
 use Rattle.radio_core.proofs.Fates.{Fate, GoesOn, IsEnded, HasStopped, IsMoved, HasEnded, Nobody}
-use Rattle.radio_parts.proofs.NumberLists.{IsRising, IsFree, has, without, placed_rising, placed_free, kept_rising, kept_free}
-use Rattle.radio_parts.proofs.NumberLists.{taken_free, numbers_updated, numbers_placed, numbers_without, number_found, number_free}
+use Rattle.radio_parts_mount.proofs.NumberLists.{IsRising, IsFree, has, without, placed_rising, placed_free, kept_rising, kept_free}
+use Rattle.radio_parts_mount.proofs.NumberLists.{taken_free, numbers_updated, numbers_placed, numbers_without, number_found, number_free}
 use Rattle.radio_core.proofs.Obeyed.{is_answered}
 use Rattle.radio_core.proofs.SoundEnds.{turns_ended}
 use Rattle.radio_core.proofs.SoundRuns.{grown_world, NoMove, lag_fates}
 use Rattle.radio_core.proofs.Standings.{Turns, IsThere, asks, no_client_there, no_relay_there, turns_answered, turns_sitting, turns_forgotten, turns_admitted, turns_raised, stays_given}
 use Rattle.radio_core.proofs.Standings.{stays_hearing}
-use Rattle.radio_core.proofs.Ways.{way_of}
+use Rattle.radio_parts.proofs.Ways.{way_of}
 use Rattle.radio_seats_rows.proofs.SeatLaws.{listener_seated}
 use Rattle.radio_core.proofs.NumbersStay.{number_of, relay_number, row_of, ids, relay_ids, rows, AreTheSame, same_called, same_state, same_obeyed, same_over_rows, same_ticked, same_begun, same_received}
-use Rattle.radio_house.specs.HouseChanges.{raised}
+use Rattle.radio_parts_station.specs.StationChanges.{raised}
 use Rattle.radio_seats_rows.proofs.GivenLaws.{numbers_hearing}
 
 -- it has not asked for anything yet, if it is there at all
@@ -153,7 +153,7 @@ module _ (w : World) (inv : AreInOrder w) where
 
   -- a session has ended
   ended_yet : (mount : List ℕ) (id : ℕ) → IsYetToAsk (standing_of (session_ended w mount) id) → IsYetToAsk (standing_of w id)
-  ended_yet mount id asks = yet_whoever_sits (relay_of w.house.relays id) (listener_of (session_ended w mount).seats id) (listener_of w.seats id) (client_of w.house.clients id) asks
+  ended_yet mount id asks = yet_whoever_sits (relay_of w.station.relays id) (listener_of (session_ended w mount).seats id) (listener_of w.seats id) (client_of w.station.clients id) asks
 
   same_over : (mount : List ℕ) → AreTheSame w (session_ended w mount)
   same_over mount = record { same_ids = refl; same_relays = refl; same_rows = same_over_rows w mount; same_last = refl }
@@ -165,8 +165,8 @@ module _ (w : World) (inv : AreInOrder w) where
 order_left : (w : World) (inv : AreInOrder w) (him : ℕ) → AreInOrder (changed w (Forget him))
 order_left w inv him =
     let later = changed w (Forget him) in
-    let now_ids = numbers_without number_of him w.house.clients in
-    let now_relays = numbers_without relay_number him w.house.relays in
+    let now_ids = numbers_without number_of him w.station.clients in
+    let now_relays = numbers_without relay_number him w.station.relays in
     let now_rows = numbers_without row_of him w.seats in
     record {
       clients = subst IsRising (sym now_ids) (kept_rising him (ids w) inv.clients);
@@ -185,43 +185,43 @@ order_seated w inv id seat there =
     let later = changed w (TakeSeat id seat) in
     let now_rows = numbers_placed row_of (seated id seat) w.seats in
     let t = turns_sitting w id seat there in
-    let is_client : has id (ids w) ≡ true = sym (number_found number_of id w.house.clients) ∙ ap is_some there.1 in
+    let is_client : has id (ids w) ≡ true = sym (number_found number_of id w.station.clients) ∙ ap is_some there.1 in
     record {
-      clients = subst IsRising (sym (same_state id Listens w.house.clients)) inv.clients;
+      clients = subst IsRising (sym (same_state id Listens w.station.clients)) inv.clients;
       relays = inv.relays;
       seats = subst IsRising (sym now_rows) (placed_rising id (rows w) inv.seats);
       fresh = λ him asks.
           by_number id him
           (λ same. absurd (subst IsYetToAsk (ap (standing_of later) (sym same) ∙ t.his) asks))
           (λ other. subst (IsFree him) (sym now_rows) (placed_free id him (rows w) other (inv.fresh him (subst IsYetToAsk (t.others him other) asks))));
-      alone = same_alone refl (same_state id Listens w.house.clients) now_rows
+      alone = same_alone refl (same_state id Listens w.station.clients) now_rows
           (Each_each (λ n. IsFree n (ids w) × IsFree n (rows w)) (λ n. IsFree n (ids w) × IsFree n (placed nat_cmp id (rows w)))
           (λ n free. (free.0, placed_free id n (rows w) (apart_from_those id n (ids w) is_client free.0) free.1)) (relay_ids w) inv.alone);
     }
 
 module _ (w : World) (s : IsSound w) (inv : AreInOrder w) where
   -- a relay comes up
-  order_risen : (mount : List ℕ) (shown : Shown) → AreInOrder (record w { house = raised w.house (w.house.last_id + 1) mount shown })
+  order_risen : (mount : List ℕ) (shown : Shown) → AreInOrder (record w { station = raised w.station (w.station.last_id + 1) mount shown })
   order_risen mount shown =
-      let id = w.house.last_id + 1 in
+      let id = w.station.last_id + 1 in
       let unknown : standing_of w id ≡ Unknown = s.numbered id (omega arith) in
-      let now = numbers_placed relay_number (risen id mount) w.house.relays in
+      let now = numbers_placed relay_number (risen id mount) w.station.relays in
       record {
         clients = inv.clients;
         relays = subst IsRising (sym now) (placed_rising id (relay_ids w) inv.relays);
         seats = inv.seats;
-        fresh = turned w (record w { house = raised w.house id mount shown }) id (Feeds mount) (turns_raised w id mount shown unknown) (λ h. h) (λ him asks. inv.fresh him asks);
+        fresh = turned w (record w { station = raised w.station id mount shown }) id (Feeds mount) (turns_raised w id mount shown unknown) (λ h. h) (λ him asks. inv.fresh him asks);
         alone = same_alone now refl refl
             (Each_placed (λ n. IsFree n (ids w) × IsFree n (rows w)) nat_cmp id (relay_ids w)
-            (number_free number_of id w.house.clients (no_client_there w id unknown), inv.fresh id (subst IsYetToAsk (sym unknown) tt)) inv.alone);
+            (number_free number_of id w.station.clients (no_client_there w id unknown), inv.fresh id (subst IsYetToAsk (sym unknown) tt)) inv.alone);
       }
 
-  order_raised : (mount : List ℕ) (shown : Shown) (free : session_of w.house.live mount ≡ None) → AreInOrder (just_raised w s mount shown free)
+  order_raised : (mount : List ℕ) (shown : Shown) (free : session_of w.station.live mount ≡ None) → AreInOrder (just_raised w s mount shown free)
   order_raised mount shown free =
-      let id = w.house.last_id + 1 in
-      order_still (record w { house = raised w.house id mount shown }) (order_risen mount shown) (just_raised w s mount shown free)
+      let id = w.station.last_id + 1 in
+      order_still (record w { station = raised w.station id mount shown }) (order_risen mount shown) (just_raised w s mount shown free)
       (record { same_ids = refl; same_relays = refl; same_rows = numbers_hearing mount id w.seats; same_last = refl })
-      (λ him asks. subst IsYetToAsk (stays_given (raised w.house id mount shown) w.seats mount id him) asks)
+      (λ him asks. subst IsYetToAsk (stays_given (raised w.station id mount shown) w.seats mount id him) asks)
 
   order_by : (event : Event) (o : Outcome) → Way w event o → AreInOrder (changed w o.change)
   order_by event o (Misplaced _) = inv
@@ -230,29 +230,29 @@ module _ (w : World) (s : IsSound w) (inv : AreInOrder w) where
   order_by event o (IsRefused _ him by v its undecided) =
       let at = undecided.1 in
       order_turned w inv (changed w o.change) him Answered
-      (record { same_ids = same_state him HasHisAnswer w.house.clients; same_relays = refl; same_rows = refl; same_last = refl })
+      (record { same_ids = same_state him HasHisAnswer w.station.clients; same_relays = refl; same_rows = refl; same_last = refl })
       (turns_answered w him (asks w him undecided.0 undecided.1)) (λ h. h)
   order_by event o (IsAdmitted peer allowed) =
-      let id = w.house.last_id + 1 in
-      let new = newcomer id peer w.house.time in
+      let id = w.station.last_id + 1 in
+      let new = newcomer id peer w.station.time in
       let none = inv.fresh id (subst IsYetToAsk (sym (s.numbered id (omega arith))) tt) in
       record {
-        clients = subst IsRising (sym (numbers_placed number_of new w.house.clients)) (placed_rising id (ids w) inv.clients);
+        clients = subst IsRising (sym (numbers_placed number_of new w.station.clients)) (placed_rising id (ids w) inv.clients);
         relays = inv.relays;
         seats = inv.seats;
         fresh = turned_free w (changed w o.change) id (Undecided peer) (turns_admitted w id peer) none (λ him asks. inv.fresh him asks);
-        alone = same_alone refl (numbers_placed number_of new w.house.clients) refl
+        alone = same_alone refl (numbers_placed number_of new w.station.clients) refl
             (Each_each (λ n. ((n == id) ≡ false) × (IsFree n (ids w) × IsFree n (rows w))) (λ n. IsFree n (placed nat_cmp id (ids w)) × IsFree n (rows w))
             (λ n both. (placed_free id n (ids w) (let apart = both.0 in grind (arith, nat_tests)) both.1.0, both.1.1)) (relay_ids w)
-            (both_hold (λ n. (n == id) ≡ false) (λ n. IsFree n (ids w) × IsFree n (rows w)) (relay_ids w) (number_free relay_number id w.house.relays (no_relay_there w id (s.numbered id (omega arith)))) inv.alone));
+            (both_hold (λ n. (n == id) ≡ false) (λ n. IsFree n (ids w) × IsFree n (rows w)) (relay_ids w) (number_free relay_number id w.station.relays (no_relay_there w id (s.numbered id (omega arith)))) inv.alone));
       }
   order_by event o (Begins asked undecided none allowed) =
       let at = undecided.1 in
       order_turned w inv (changed w o.change) asked.id (Feeds asked.mount)
-      (same_begun w asked.id asked.mount (shown_for w.house asked.mount asked.shown))
-      (turns_up w s asked.id asked.mount (shown_for w.house asked.mount asked.shown) undecided.0 undecided.1 none) (λ h. h)
+      (same_begun w asked.id asked.mount (shown_for w.station asked.mount asked.shown))
+      (turns_up w s asked.id asked.mount (shown_for w.station asked.mount asked.shown) undecided.0 undecided.1 none) (λ h. h)
   order_by event o (ComesUp mount shown free allowed) =
-      let on = shown_for w.house mount shown in
+      let on = shown_for w.station mount shown in
       order_still (just_raised w s mount on free) (order_raised mount on free) (changed w o.change) (same_called (just_raised w s mount on free) mount)
       (λ id asks. subst IsYetToAsk
       (stands_called (just_raised w s mount on free) (sound_just_raised w s mount on free) mount (λ him session. Unit {0}) (λ calls him session turn. tt) id) asks)
@@ -268,7 +268,7 @@ module _ (w : World) (s : IsSound w) (inv : AreInOrder w) where
   order_by event o (Shows _ asker peer text its undecided what) =
       let at = undecided in
       order_turned w inv (changed w o.change) asker Answered
-      (record { same_ids = same_state asker HasHisAnswer w.house.clients; same_relays = refl; same_rows = refl; same_last = refl })
+      (record { same_ids = same_state asker HasHisAnswer w.station.clients; same_relays = refl; same_rows = refl; same_last = refl })
       (turns_answered w asker (asks w asker peer undecided)) (λ h. h)
   order_by event o (Obeys _ command c) =
       order_still w inv (changed w o.change) (same_obeyed w c.asked.id command)
@@ -288,7 +288,7 @@ module _ (w : World) (s : IsSound w) (inv : AreInOrder w) where
       (λ id. swept_yet w inv (ticked w ms) event id (λ own. cc) (tick_swept w s ms id))
   order_by event o (SetsTitle him mount text feeding) = record { clients = inv.clients; relays = inv.relays; seats = inv.seats; fresh = inv.fresh; alone = inv.alone }
   order_by event o (TakesSeat asked peer session undecided lands live allowed) =
-      order_seated w inv asked.id (first_seat w.house asked peer session) (asks w asked.id peer undecided)
+      order_seated w inv asked.id (first_seat w.station asked peer session) (asks w asked.id peer undecided)
   order_by event o (HandsOut him room seat session sits has_one live) =
       let listener = listener_seated w.seats him seat has_one in
       order_still w inv (changed w o.change)
@@ -296,7 +296,7 @@ module _ (w : World) (s : IsSound w) (inv : AreInOrder w) where
       (λ id asks. subst IsYetToAsk (stays_hearing w him _ listener.0 listener.1 id) asks)
   order_by event o (Ends him mount feeding no_relay) =
       order_turned (session_ended w mount) (order_over w inv mount) (changed w o.change) him Answered
-      (record { same_ids = same_state him HasHisAnswer w.house.clients; same_relays = refl; same_rows = refl; same_last = refl }) (turns_ended w s him mount feeding no_relay) (λ h. h)
+      (record { same_ids = same_state him HasHisAnswer w.station.clients; same_relays = refl; same_rows = refl; same_last = refl }) (turns_ended w s him mount feeding no_relay) (λ h. h)
   order_by event o (EndsAndLeaves _ him mount closes feeding) = order_left (session_ended w mount) (order_over w inv mount) him
   order_by event o (Leaves him no_relay other) = order_left w inv him
   order_by event o (GoesDown him rule relay told) = order_left w inv him

@@ -18,37 +18,37 @@ use Rattle.radio_fallback.proofs.Faring.{goes_there, never_out_there}
 use Rattle.radio_events.specs.declared.command.Command.{Command}
 use Rattle.radio_events.specs.declared.command.Command.TheVariants.{MoveClients, KillClient, KillSource, SetTitle, SetFallback, AddUser, DeleteUser}
 use Rattle.radio_events.specs.declared.event.Event.{Event}
-use Rattle.radio_house.specs.declared.clients.ClientState.TheVariants.{Ended}
-use Rattle.radio_changes.specs.declared.change.Change.TheVariants.{Obey}
-use Rattle.radio_house.specs.declared.standing.Standing.{Standing}
-use Rattle.radio_house.specs.declared.standing.Standing.TheVariants.{Unknown, Undecided, Feeds, Sits, Answered, Finished}
-use Rattle.radio_changes.specs.Changes.{answered, changed, session_over, session_ended, session_ended_by, session_killed, outsiders_ended}
-use Rattle.radio_house.specs.Clients.{client_of}
-use Rattle.radio_house.specs.Relays.{relay_of}
+use Rattle.radio_parts_station.specs.declared.clients.ClientState.TheVariants.{Ended}
+use Rattle.radio_parts_changes.specs.declared.change.Change.TheVariants.{Obey}
+use Rattle.radio_parts_station.specs.declared.standing.Standing.{Standing}
+use Rattle.radio_parts_station.specs.declared.standing.Standing.TheVariants.{Unknown, Undecided, Feeds, Sits, Answered, Finished}
+use Rattle.radio_parts_changes.specs.Changes.{answered, changed, session_over, session_ended, session_ended_by, session_killed, outsiders_ended}
+use Rattle.radio_parts_station.specs.Clients.{client_of}
+use Rattle.radio_parts_station.specs.Relays.{relay_of}
 use Rattle.radio_access.specs.Lists.{Lists, with_user_at, without_user_at}
-use Rattle.radio_core.specs.Allowed.{IsCommanded, ChangesUsers, Adds, Deletes}
+use Rattle.radio_parts.specs.Allowed.{IsCommanded, ChangesUsers, Adds, Deletes}
 use Rattle.radio_core.proofs.ChangedUsers.{with_lists, sound_set, users_fates}
-use Rattle.radio_facts.specs.CommandFacts.{is_live, opens}
-use Rattle.radio_house.specs.Facts.{sight_of}
+use Rattle.radio_parts_facts.specs.CommandFacts.{is_live, opens}
+use Rattle.radio_parts_station.specs.Facts.{sight_of}
 use Rattle.radio_core.specs.Finishes.{Cause, SessionIsOver, IsKilled, HisSessionIsKilled}
 use Rattle.radio_core.specs.Moves.{TakesTo, ByKilling, ByMoving}
 use Rattle.radio_core.specs.SeatSteps.{IsSent, HisSessionIsOver, IsCommandedThere}
-use Rattle.radio_parts.specs.Sessions.{Session, session_of}
+use Rattle.radio_parts_mount.specs.Sessions.{Session, session_of}
 use Rattle.radio_core.specs.Sound.{IsSound}
-use Rattle.radio_house.specs.World.{World, standing_of, standing_in}
+use Rattle.radio_parts_station.specs.World.{World, standing_of, standing_in}
 use Rattle.radio_core.proofs.AllowedCommands.{may_act, may_move, needs_hold, may_go}
 use Rattle.radio_core.proofs.CommandedSeats.{found_there, killed_seat}
 use Rattle.radio_core.proofs.CarriedFates.{order_carried, carried_fate}
 use Rattle.radio_core.proofs.Fates.{IsActive, Fate, GoesOn, IsEnded, HasStopped, IsMoved, Fates, HasEnded, Nobody, sound_fates, fates_none, lost_in, active_sitter}
-use Rattle.radio_parts.proofs.SessionLookups.{found_named, is_over}
-use Rattle.radio_parts.proofs.NumberOrder.{order_lost}
+use Rattle.radio_parts_mount.proofs.SessionLookups.{found_named, is_over}
+use Rattle.radio_parts_mount.proofs.NumberOrder.{order_lost}
 use Rattle.radio_core.proofs.SoundEnds.{over_fates, late_beside, still_feeds, has_none_then, order_then}
 use Rattle.radio_core.proofs.SoundTitles.{sound_titled}
 use Rattle.radio_core.proofs.Soundness.{sound_answered}
 use Rattle.radio_core.proofs.Standings.{Turns, asks, turns_answered, turns_ended_by}
-use Rattle.radio_house.specs.Waiting.{heard_at}
+use Rattle.radio_parts_station.specs.Waiting.{heard_at}
 use Rattle.radio_core.proofs.HeardApart.{apart_sessions, apart_then}
-use Rattle.radio_core.proofs.HeardLemmas.{heard_cases}
+use Rattle.radio_parts.proofs.HeardLemmas.{heard_cases}
 
 -- whoever is moved by a command, or since its session is over, goes on in another
 abbrev pub LeavesFor : World → Event → World → Seat → Session → Type 0
@@ -104,7 +104,7 @@ module _ (w : World) (s : IsSound w) (event : Event) where
     moved_world = changed w (Obey c.asked.id (MoveClients mount destination))
 
     pub is_another : bytes_eq mount destination ≡ false
-    is_another = may_move (is_live w.house mount) (is_live w.house destination) (bytes_eq mount destination) (needs_hold w event c)
+    is_another = may_move (is_live w.station mount) (is_live w.station destination) (bytes_eq mount destination) (needs_hold w event c)
 
     sent : (seat : Seat) (to : List ℕ) → seat.mount ≡ mount → destination ≡ to → IsCommanded w event (MoveClients seat.mount to)
     sent seat to at goes =
@@ -114,30 +114,30 @@ module _ (w : World) (s : IsSound w) (event : Event) where
     away seat to at goes = ap (λ (m : List ℕ). bytes_eq m to) at ∙ ap (bytes_eq mount) (sym goes) ∙ is_another
 
     -- there is a session where they go
-    live_there : (session : Session) → destination ≡ session.mount → heard_at w.house session.mount ≡ Some session
-        → session_of w.house.live session.mount ≡ Some session
+    live_there : (session : Session) → destination ≡ session.mount → heard_at w.station session.mount ≡ Some session
+        → session_of w.station.live session.mount ≡ Some session
     live_there session goes hears =
-        heard_cases w.house session.mount session hears (λ there. there)
+        heard_cases w.station session.mount session hears (λ there. there)
         (λ none silent.
-        let live : is_live w.house destination ≡ true
-        = may_go (is_live w.house mount) (is_live w.house destination) (bytes_eq mount destination) (needs_hold w event c) in
-        let not : is_live w.house destination ≡ false = ap (is_live w.house) goes ∙ ap is_some none in
+        let live : is_live w.station destination ≡ true
+        = may_go (is_live w.station mount) (is_live w.station destination) (bytes_eq mount destination) (needs_hold w event c) in
+        let not : is_live w.station destination ≡ false = ap (is_live w.station) goes ∙ ap is_some none in
         cc)
 
     moved_fate : (id : ℕ) → Fate (Cause w moved_world event) (Takes w event) Nobody (LeavesFor w event) (heard c) moved_world id
     moved_fate id =
-        carried_fate (Cause w moved_world event) (Takes w event) Nobody (LeavesFor w event) (heard c) (sound_heard c) (heard c).house refl refl refl (To mount destination)
+        carried_fate (Cause w moved_world event) (Takes w event) Nobody (LeavesFor w event) (heard c) (sound_heard c) (heard c).station refl refl refl (To mount destination)
         moved_world (λ m. refl) id refl refl
         (λ turn same seats. GoesOn same seats (λ m feeds. refl) (λ seat has. refl))
         (λ seat session had concerned turn live.
         let at : seat.mount ≡ mount = (bytes_eq-Decides seat.mount mount).0 concerned in
         let goes : destination ≡ session.mount =
-        goes_there (sight_of w.house) mount destination (at_his_turn (sight_of w.house) (To mount destination) w.seats id) id session.mount turn in (
+        goes_there (sight_of w.station) mount destination (at_his_turn (sight_of w.station) (To mount destination) w.seats id) id session.mount turn in (
           IsCommandedThere (sent seat session.mount at goes),
           apart_sessions (heard c) (sound_heard c) id seat session had (live_there session goes live) (away seat session.mount at goes),
         ))
         (λ seat rule had turn.
-        absurd (never_out_there (sight_of w.house) mount destination (at_his_turn (sight_of w.house) (To mount destination) w.seats id) id rule turn))
+        absurd (never_out_there (sight_of w.station) mount destination (at_his_turn (sight_of w.station) (To mount destination) w.seats id) id rule turn))
         (λ session turn. (To mount destination, w, ByMoving event mount destination c, turn))
 
     obeyed_move : IsObeyed w event c.asked.id moved_world
@@ -176,8 +176,8 @@ module _ (w : World) (s : IsSound w) (event : Event) where
 
     pub has_been_killed : standing_of killed_world listener ≡ Finished Killed
     has_been_killed =
-        ap (λ l. standing_in (relay_of w.house.relays listener) l (client_of (heard c).house.clients listener)) then_so
-        ∙ lost_in (relay_of w.house.relays listener) (listener_of w.seats listener) held.0.id Killed his_seat.0.mount (client_of (heard c).house.clients listener) sat
+        ap (λ l. standing_in (relay_of w.station.relays listener) l (client_of (heard c).station.clients listener)) then_so
+        ∙ lost_in (relay_of w.station.relays listener) (listener_of w.seats listener) held.0.id Killed his_seat.0.mount (client_of (heard c).station.clients listener) sat
 
     pub sits_no_more : seat_of killed_world.seats listener ≡ None
     sits_no_more = ap seat_in then_so
@@ -196,7 +196,7 @@ module _ (w : World) (s : IsSound w) (event : Event) where
     killed_fate : (id : ℕ) → KilledFate id
     killed_fate id =
         by_number listener id (λ same. subst KilledFate same his_end)
-        (λ apart. GoesOn (ap (λ l. standing_in (relay_of w.house.relays id) l (client_of (heard c).house.clients id)) (beside_him id apart)) (ap seat_in (beside_him id apart)) (λ m e. refl) (λ seat e. refl))
+        (λ apart. GoesOn (ap (λ l. standing_in (relay_of w.station.relays id) l (client_of (heard c).station.clients id)) (beside_him id apart)) (ap seat_in (beside_him id apart)) (λ m e. refl) (λ seat e. refl))
 
     obeyed_kill : IsObeyed w event c.asked.id killed_world
     obeyed_kill = with_seats c killed_world.seats (order_lost w.seats s.by_number listener Killed) killed_fate
@@ -206,17 +206,17 @@ module _ (w : World) (s : IsSound w) (event : Event) where
     abbrev cut_world : World
     cut_world = changed w (Obey c.asked.id (KillSource mount))
 
-    pub live : (session : Session) × (session_of w.house.live mount ≡ Some session)
-    live = found_there (session_of w.house.live mount) (may_act (is_live w.house mount) (needs_hold w event c))
+    pub live : (session : Session) × (session_of w.station.live mount ≡ Some session)
+    live = found_there (session_of w.station.live mount) (may_act (is_live w.station mount) (needs_hold w event c))
 
     abbrev cut : Session
     cut = live.0
 
     pub named : cut.mount ≡ mount
-    named = found_named w.house.live mount cut live.1
+    named = found_named w.station.live mount cut live.1
 
-    there_live : session_of w.house.live cut.mount ≡ Some cut
-    there_live = ap (session_of w.house.live) named ∙ live.1
+    there_live : session_of w.station.live cut.mount ≡ Some cut
+    there_live = ap (session_of w.station.live) named ∙ live.1
 
     own : IsCommanded w event (KillSource cut.mount)
     own = subst (λ (m : List ℕ). IsCommanded w event (KillSource m)) (sym named) c
@@ -247,11 +247,11 @@ module _ (w : World) (s : IsSound w) (event : Event) where
         (λ m e.
         let both : Feeds cut.mount ≡ Feeds m = sym feeding ∙ e in
         let one : cut.mount ≡ m = cc in
-        ap (session_of after.house.live) (sym one) ∙ is_over w.house.live cut.mount))
+        ap (session_of after.station.live) (sym one) ∙ is_over w.station.live cut.mount))
         (λ id seat rule had turn. SessionIsOver rule seat had (SessionEnds cut.mount, session_over w cut.mount, ByKilling event cut.mount own, turn))
         (λ id session turn. (SessionEnds cut.mount, session_over w cut.mount, ByKilling event cut.mount own, turn))
         refl refl refl (order_then (heard c) (sound_heard c) cut.number cut.mount feeding)
-        (late_beside (heard c).house.clients cut.number (Ended SourceKilled) (λ client seconds moment late. cc))
+        (late_beside (heard c).station.clients cut.number (Ended SourceKilled) (λ client seconds moment late. cc))
 
     -- whoever goes on elsewhere left a mount whose session is over
     leaves_so : (id : ℕ) → Fate (Cause w cut_world event) (Takes w event) Nobody HasEnded (heard c) after id
@@ -288,9 +288,9 @@ module _ (w : World) (s : IsSound w) (event : Event) where
     abbrev titled_world : World
     titled_world = changed w (Obey c.asked.id (SetTitle mount text))
 
-    pub title_live : (session : Session) × (session_of w.house.live mount ≡ Some session)
+    pub title_live : (session : Session) × (session_of w.station.live mount ≡ Some session)
     title_live =
-        found_there (session_of w.house.live mount) (may_act (is_live w.house mount) (needs_hold w event c))
+        found_there (session_of w.station.live mount) (may_act (is_live w.station mount) (needs_hold w event c))
 
     sound_text : IsSound titled_world
     sound_text =
@@ -312,7 +312,7 @@ module _ (w : World) (s : IsSound w) (event : Event) where
     set_world = changed w (Obey c.asked.id (SetFallback mount fallback))
 
     sound_fallback : IsSound set_world
-    sound_fallback = sound_set (heard c) (sound_heard c) w.house.lists set_world.house.fallbacks
+    sound_fallback = sound_set (heard c) (sound_heard c) w.station.lists set_world.station.fallbacks
 
     obeyed_fallback : IsObeyed w event c.asked.id set_world
     obeyed_fallback = record {
@@ -329,7 +329,7 @@ module _ (w : World) (s : IsSound w) (event : Event) where
     listed_world = with_lists (heard c) lists
 
     sound_listed : IsSound listed_world
-    sound_listed = sound_set (heard c) (sound_heard c) lists w.house.fallbacks
+    sound_listed = sound_set (heard c) (sound_heard c) lists w.station.fallbacks
 
     obeyed_users : IsObeyed w event c.asked.id (outsiders_ended listed_world mount)
     obeyed_users = record {
@@ -346,8 +346,8 @@ module _ (w : World) (s : IsSound w) (event : Event) where
   obeyed (KillSource mount) c = obeyed_cut mount c
   obeyed (SetTitle mount text) c = obeyed_title mount text c
   obeyed (SetFallback mount fallback) c = obeyed_fallback mount fallback c
-  obeyed (AddUser mount user password) c = obeyed_users c mount (Adds user password c) (with_user_at w.house.lists mount user password)
-  obeyed (DeleteUser mount user) c = obeyed_users c mount (Deletes user c) (without_user_at w.house.lists mount user)
+  obeyed (AddUser mount user password) c = obeyed_users c mount (Adds user password c) (with_user_at w.station.lists mount user password)
+  obeyed (DeleteUser mount user) c = obeyed_users c mount (Deletes user c) (without_user_at w.station.lists mount user)
 
   -- the client who gave it has had its answer, and is no listener
   module _ (command : Command) (c : IsCommanded w event command) where

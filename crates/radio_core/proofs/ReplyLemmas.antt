@@ -7,24 +7,24 @@ use Rattle.radio_events.specs.declared.event.Event.{Event}
 use Rattle.radio_events.specs.declared.event.Event.TheVariants.{Arrive, Source, Listen, RelayUp}
 use Rattle.radio_events.specs.declared.event.SourceRequest.{SourceRequest}
 use Rattle.radio_events.specs.declared.event.ListenRequest.{ListenRequest}
-use Rattle.radio_core.specs.declared.outcome.Outcome.{Outcome}
+use Rattle.radio_parts.specs.declared.outcome.Outcome.{Outcome}
 use Rattle.radio_events.specs.declared.reply.Reply.TheVariants.{Arrived, Feeding, Seated}
-use Rattle.radio_house.specs.declared.standing.Standing.TheVariants.{Unknown, Undecided, Feeds, Sits}
-use Rattle.radio_house.specs.World.{World, standing_of}
-use Rattle.radio_changes.specs.Changes.{changed}
-use Rattle.radio_core.specs.Arrive.{admits_client}
-use Rattle.radio_house.specs.Streams.{shown_for}
-use Rattle.radio_core.specs.RelayUp.{raises}
-use Rattle.radio_core.specs.Listen.{first_seat}
+use Rattle.radio_parts_station.specs.declared.standing.Standing.TheVariants.{Unknown, Undecided, Feeds, Sits}
+use Rattle.radio_parts_station.specs.World.{World, standing_of}
+use Rattle.radio_parts_changes.specs.Changes.{changed}
+use Rattle.radio_parts.specs.Arrive.{admits_client}
+use Rattle.radio_parts_station.specs.Streams.{shown_for}
+use Rattle.radio_parts.specs.RelayUp.{raises}
+use Rattle.radio_parts.specs.Listen.{first_seat}
 use Rattle.radio_core.specs.Others.{HasCome, AsClient, AsRelay, RepliesFit}
 use Rattle.radio_core.specs.Sound.{IsSound}
-use Rattle.radio_core.specs.Step.{outcome, reply_to, world_after}
-use Rattle.radio_core.specs.Ways.{Way, Misplaced, IsFinished, IsDenied, IsRefused, IsAdmitted, Begins, ComesUp, Receives, SetsTitle, TakesSeat, HandsOut, Ends}
-use Rattle.radio_core.specs.Ways.{EndsAndLeaves, Leaves, GoesDown, Obeys, Shows, HasPassed, Ticks, IsUndecided}
+use Rattle.radio_parts.specs.Step.{outcome, reply_to, world_after}
+use Rattle.radio_parts.specs.Ways.{Way, Misplaced, IsFinished, IsDenied, IsRefused, IsAdmitted, Begins, ComesUp, Receives, SetsTitle, TakesSeat, HandsOut, Ends}
+use Rattle.radio_parts.specs.Ways.{EndsAndLeaves, Leaves, GoesDown, Obeys, Shows, HasPassed, Ticks, IsUndecided}
 use Rattle.radio_core.proofs.FinishLemmas.{finished_told}
 use Rattle.radio_core.proofs.CalledHome.{turns_up, turns_risen}
 use Rattle.radio_core.proofs.Standings.{asks, turns_sitting, turns_admitted}
-use Rattle.radio_core.proofs.Ways.{way_of}
+use Rattle.radio_parts.proofs.Ways.{way_of}
 
 -- by which event a number was given, where this is the state after it
 data Came (w later : World) (id : ℕ) : Event → Type 0 where
@@ -32,7 +32,7 @@ data Came (w later : World) (id : ℕ) : Event → Type 0 where
   RelayCame : (mount : List ℕ) (shown : Shown) → standing_of later id ≡ Feeds mount → Came w later id (RelayUp mount shown)
 
 record Fits (w : World) (event : Event) (o : Outcome) : Type 0 where
-  pub arrived : (id : ℕ) → o.reply ≡ Arrived id → Came w (changed w o.change) id event × (w.house.last_id < id) × (standing_of w id ≡ Unknown)
+  pub arrived : (id : ℕ) → o.reply ≡ Arrived id → Came w (changed w o.change) id event × (w.station.last_id < id) × (standing_of w id ≡ Unknown)
   pub feeding : o.reply ≡ Feeding → (asked : SourceRequest) × (event ≡ Source asked) × IsUndecided w asked.id
       × (standing_of (changed w o.change) asked.id ≡ Feeds asked.mount)
   pub seated : (interval : Option ℕ) (head : StreamHead) → o.reply ≡ Seated interval head
@@ -41,24 +41,24 @@ record Fits (w : World) (event : Event) (o : Outcome) : Type 0 where
 module _ (w : World) (s : IsSound w) where
   fits_by : (event : Event) (o : Outcome) → Way w event o → Fits w event o
   fits_by event o (IsAdmitted peer allowed) = record { arrived = his; feeding = λ d. cc; seated = λ interval shown d. cc } where
-    his : (id : ℕ) → Arrived (w.house.last_id + 1) ≡ Arrived id
-        → Came w (changed w (admits_client w peer).change) id (Arrive peer) × (w.house.last_id < id) × (standing_of w id ≡ Unknown)
+    his : (id : ℕ) → Arrived (w.station.last_id + 1) ≡ Arrived id
+        → Came w (changed w (admits_client w peer).change) id (Arrive peer) × (w.station.last_id < id) × (standing_of w id ≡ Unknown)
     his id d =
-        let same : w.house.last_id + 1 ≡ id = cc in
-        let above : w.house.last_id < id = omega arith in (
+        let same : w.station.last_id + 1 ≡ id = cc in
+        let above : w.station.last_id < id = omega arith in (
           ClientCame peer
-              (ap (standing_of (changed w (admits_client w peer).change)) (sym same) ∙ (turns_admitted w (w.house.last_id + 1) peer).his),
+              (ap (standing_of (changed w (admits_client w peer).change)) (sym same) ∙ (turns_admitted w (w.station.last_id + 1) peer).his),
           above,
           s.numbered id above,
         )
   fits_by event o (ComesUp mount shown none allowed) = record { arrived = its; feeding = λ d. cc; seated = λ interval shown d. cc } where
-    its : (id : ℕ) → Arrived (w.house.last_id + 1) ≡ Arrived id
-        → Came w (changed w (raises w.house mount shown).change) id (RelayUp mount shown) × (w.house.last_id < id) × (standing_of w id ≡ Unknown)
+    its : (id : ℕ) → Arrived (w.station.last_id + 1) ≡ Arrived id
+        → Came w (changed w (raises w.station mount shown).change) id (RelayUp mount shown) × (w.station.last_id < id) × (standing_of w id ≡ Unknown)
     its id d =
-        let same : w.house.last_id + 1 ≡ id = cc in
-        let above : w.house.last_id < id = omega arith in (
+        let same : w.station.last_id + 1 ≡ id = cc in
+        let above : w.station.last_id < id = omega arith in (
           RelayCame mount shown
-              (ap (standing_of (changed w (raises w.house mount shown).change)) (sym same) ∙ (turns_risen w s mount (shown_for w.house mount shown) none).his),
+              (ap (standing_of (changed w (raises w.station mount shown).change)) (sym same) ∙ (turns_risen w s mount (shown_for w.station mount shown) none).his),
           above,
           s.numbered id above,
         )
@@ -66,7 +66,7 @@ module _ (w : World) (s : IsSound w) where
       let at = undecided.1 in
       record {
         arrived = λ id d. cc;
-        feeding = λ d. (asked, refl, undecided, (turns_up w s asked.id asked.mount (shown_for w.house asked.mount asked.shown) undecided.0 undecided.1 none).his);
+        feeding = λ d. (asked, refl, undecided, (turns_up w s asked.id asked.mount (shown_for w.station asked.mount asked.shown) undecided.0 undecided.1 none).his);
         seated =
             λ interval shown d. cc;
       }
@@ -75,7 +75,7 @@ module _ (w : World) (s : IsSound w) where
         arrived = λ id d. cc;
         feeding = λ d. cc;
         seated =
-            λ interval shown d. (asked, refl, (peer, undecided), (turns_sitting w asked.id (first_seat w.house asked peer session) (asks w asked.id peer undecided)).his);
+            λ interval shown d. (asked, refl, (peer, undecided), (turns_sitting w asked.id (first_seat w.station asked peer session) (asks w asked.id peer undecided)).his);
       }
   fits_by event o (Misplaced _) = record { arrived = λ id d. cc; feeding = λ d. cc; seated = λ interval shown d. cc }
   fits_by event o (IsFinished _ him by its known) = record { arrived = λ id d. cc; feeding = λ d. cc; seated = λ interval shown d. cc }

@@ -11,22 +11,22 @@ use Rattle.radio_tables.proofs.KeyLaws.{by_number}
 use Rattle.radio_events.specs.declared.event.Event.{Event}
 use Rattle.radio_events.specs.declared.event.Event.TheVariants.{Push, SourceEnd, Listen, Draw, Leave, Clock}
 use Rattle.radio_events.specs.declared.event.ListenRequest.{ListenRequest}
-use Rattle.radio_changes.specs.declared.change.Change.TheVariants.{TakeSeat, Advance, End, EndAndLeave, Forget, Obey}
-use Rattle.radio_core.specs.declared.outcome.Outcome.{Outcome}
+use Rattle.radio_parts_changes.specs.declared.change.Change.TheVariants.{TakeSeat, Advance, End, EndAndLeave, Forget, Obey}
+use Rattle.radio_parts.specs.declared.outcome.Outcome.{Outcome}
 use Rattle.radio_seats_rows.specs.declared.seat.Seat.{Seat}
-use Rattle.radio_house.specs.declared.standing.Standing.TheVariants.{Undecided, Feeds, Sits, Unknown}
-use Rattle.radio_house.specs.World.{World, standing_of, world}
-use Rattle.radio_changes.specs.Changes.{changed, called_home, taken_in, ticked}
-use Rattle.radio_house.specs.HouseChanges.{begun, raised}
+use Rattle.radio_parts_station.specs.declared.standing.Standing.TheVariants.{Undecided, Feeds, Sits, Unknown}
+use Rattle.radio_parts_station.specs.World.{World, standing_of, world}
+use Rattle.radio_parts_changes.specs.Changes.{changed, called_home, taken_in, ticked}
+use Rattle.radio_parts_station.specs.StationChanges.{begun, raised}
 use Rattle.radio_core.specs.Handing.{data_in, of_client, handed_at}
-use Rattle.radio_house.specs.Facts.{sight_of, rows_to_listen, walks_to}
+use Rattle.radio_parts_station.specs.Facts.{sight_of, rows_to_listen, walks_to}
 use Rattle.radio_core.specs.Finishes.{Cause, Finishes}
 use Rattle.radio_core.specs.Moves.{Brings, TakesTo, ByComingUp, ByRelayUp, moved_into}
-use Rattle.radio_house.specs.Streams.{shown_for}
-use Rattle.radio_house.specs.House.{House}
+use Rattle.radio_parts_station.specs.Streams.{shown_for}
+use Rattle.radio_parts_station.specs.StationState.{StationState}
 use Rattle.radio_access.specs.Lists.{Lists, lets_in}
 use Rattle.radio_events.specs.declared.command.Command.{Command}
-use Rattle.radio_core.specs.Allowed.{IsCommanded}
+use Rattle.radio_parts.specs.Allowed.{IsCommanded}
 use Rattle.radio_events.specs.Events.{client_in}
 use Rattle.radio_fallback.specs.declared.moves.Move.TheVariants.{Up}
 use Rattle.radio_fallback.specs.Carry.{at_his_turn}
@@ -35,31 +35,32 @@ use Rattle.radio_settings_values.specs.declared.settings.Settings.{Settings}
 use Rattle.radio_settings_values.specs.Options.{options_for}
 use Rattle.radio_fallback.specs.declared.walking.Landing.TheVariants.{Lands}
 use Rattle.std.proofs.lemmas.Slice.Eq.{bytes_eq-Decides}
-use Rattle.radio_core.specs.Listen.{first_seat}
+use Rattle.radio_parts.specs.Listen.{first_seat}
 use Rattle.radio_core.specs.SeatSteps.{ComesUpOn, ASource, ARelay, IsSent, HisSessionIsOver, HeIsCalledHome, SeatStep, Stays, IsHanded, SitsDown, IsMoved as HeIsMoved, Leaves as HeLeaves, IsEnded as HeIsEnded, SeatsStep, IsGiven}
 use Rattle.radio_seats_rows.specs.Seats.{seat_of, seat_in, with_session_at}
-use Rattle.radio_parts.specs.Sessions.{Session, session_of, opened, with_session}
+use Rattle.radio_parts_mount.specs.Sessions.{Session, session_of, opened, with_session}
 use Rattle.radio_core.specs.Sound.{IsSound}
-use Rattle.radio_core.specs.Step.{outcome, reply_to, world_after}
-use Rattle.radio_parts.specs.Stream.{data_at, end_of}
-use Rattle.radio_core.specs.Ways.{Way, Misplaced, IsFinished, IsDenied, IsRefused, IsAdmitted, Begins, ComesUp, Receives, SetsTitle, TakesSeat, HandsOut, Ends}
-use Rattle.radio_core.specs.Ways.{EndsAndLeaves, Leaves, GoesDown, Obeys, Shows, HasPassed, Ticks}
+use Rattle.radio_parts.specs.Step.{outcome, reply_to, world_after}
+use Rattle.radio_parts_mount.specs.Stream.{data_at, end_of}
+use Rattle.radio_parts.specs.Ways.{Way, Misplaced, IsFinished, IsDenied, IsRefused, IsAdmitted, Begins, ComesUp, Receives, SetsTitle, TakesSeat, HandsOut, Ends}
+use Rattle.radio_parts.specs.Ways.{EndsAndLeaves, Leaves, GoesDown, Obeys, Shows, HasPassed, Ticks}
 use Rattle.radio_core.proofs.Obeyed.{IsObeyed, LeavesFor, Takes as TakesByIt, obeyed}
 use Rattle.radio_core.proofs.OwnLemmas.{not_of, nothing_of}
 use Rattle.radio_seats_rows.proofs.SeatLaws.{is_no_listener, beside_left}
 use Rattle.radio_core.proofs.LostSeats.{loses_no_seat_else}
 use Rattle.radio_core.proofs.Soundness.{has_new_seat, had_no_seat, beside_new_seat}
 use Rattle.radio_core.proofs.SoundSessions.{has_advanced, others_seats, behind_within}
-use Rattle.radio_core.proofs.CalledHome.{IsCalled, Rests as CalledRests, Comes as CalledComes, is_called, house_called, sound_just_begun, sound_just_raised}
+use Rattle.radio_core.proofs.CalledHome.{IsCalled, Rests as CalledRests, Comes as CalledComes, is_called, sound_just_begun, sound_just_raised}
+use Rattle.radio_parts.proofs.CalledStation.{station_called}
 use Rattle.radio_core.proofs.SoundEnds.{ended_fates, ended_and_left_fates}
 use Rattle.radio_core.proofs.Fates.{Fate, GoesOn, IsEnded, HasStopped, IsMoved, Fates, HasEnded, Nobody}
 use Rattle.radio_core.proofs.TickLemmas.{ticked_fates}
 use Rattle.radio_core.proofs.SoundRuns.{grown_world, NoMove, lag_fates}
-use Rattle.radio_core.proofs.Ways.{way_of}
+use Rattle.radio_parts.proofs.Ways.{way_of}
 use Rattle.std.specs.Option.{option_map}
-use Rattle.radio_house.specs.Waiting.{heard_at}
-use Rattle.radio_parts.proofs.SessionLookups.{is_new_session}
-use Rattle.radio_core.proofs.HeardLemmas.{heard_cases, heard_live}
+use Rattle.radio_parts_station.specs.Waiting.{heard_at}
+use Rattle.radio_parts_mount.proofs.SessionLookups.{is_new_session}
+use Rattle.radio_parts.proofs.HeardLemmas.{heard_cases, heard_live}
 use Rattle.radio_core.proofs.HeardApart.{apart_sessions, apart_then}
 use Rattle.radio_seats_rows.proofs.GivenLaws.{seat_hearing, seat_of_hearing}
 use Rattle.radio_core.proofs.GivenSeats.{sat_elsewhere}
@@ -68,18 +69,18 @@ use Rattle.radio_values.specs.declared.field.Shown.{Shown}
 -- all that an event can do to a seat: nothing, hand out what stands at its place, give one to who had none, carry it along, take it away
 data Turn (w later : World) (event : Event) (id : ℕ) : Option Seat → List ℕ → Option Seat → Type 0 where
   Rests : (seat : Option Seat) → Turn w later event id seat [] seat
-  Draws : (seat : Seat) (session : Session) (room : ℕ) → event ≡ Draw id room → heard_at w.house seat.mount ≡ Some session
+  Draws : (seat : Seat) (session : Session) (room : ℕ) → event ≡ Draw id room → heard_at w.station seat.mount ≡ Some session
       → session.number ≡ seat.session → seat.place + length (data_at session.stream seat.place room) ≤ end_of session.stream
       → Turn w later event id (Some seat) (data_at session.stream seat.place room)
       (Some (record seat { place = seat.place + length (data_at session.stream seat.place room) }))
   Comes : (asked : ListenRequest) (peer : Peer) (session : Session) → event ≡ Listen asked → asked.id ≡ id → standing_of w id ≡ Undecided peer
-      → walks_to w.house w.seats asked.mount asked.pair ≡ Lands session.mount → heard_at w.house session.mount ≡ Some session
-      → verdict_in (rows_to_listen w asked) ≡ Allow → Turn w later event id None [] (Some (first_seat w.house asked peer session))
-  Moves : (seat : Seat) (session : Session) → TakesTo w event id session.mount → IsSent w later event seat session.mount → heard_at later.house session.mount ≡ Some session
-      → lets_in later.house.lists session.mount seat.pair ≡ true → (seat.session == session.number) ≡ false
+      → walks_to w.station w.seats asked.mount asked.pair ≡ Lands session.mount → heard_at w.station session.mount ≡ Some session
+      → verdict_in (rows_to_listen w asked) ≡ Allow → Turn w later event id None [] (Some (first_seat w.station asked peer session))
+  Moves : (seat : Seat) (session : Session) → TakesTo w event id session.mount → IsSent w later event seat session.mount → heard_at later.station session.mount ≡ Some session
+      → lets_in later.station.lists session.mount seat.pair ≡ true → (seat.session == session.number) ≡ false
       → Turn w later event id (Some seat) [] (Some (moved_into session seat))
-  Hears : (seat : Seat) (session : Session) → ComesUpOn event seat.mount → session_of w.house.live seat.mount ≡ None
-      → session_of later.house.live seat.mount ≡ Some session → session.stream.bytes ≡ [] → seat.session ≡ 0 → seat.place ≡ 0
+  Hears : (seat : Seat) (session : Session) → ComesUpOn event seat.mount → session_of w.station.live seat.mount ≡ None
+      → session_of later.station.live seat.mount ≡ Some session → session.stream.bytes ≡ [] → seat.session ≡ 0 → seat.place ≡ 0
       → (0 == session.number) ≡ false → Turn w later event id (Some seat) [] (Some (record seat { session = session.number }))
   Goes : (before : Option Seat) → Turn w later event id before [] None
 
@@ -107,8 +108,8 @@ module _ (w : World) (s : IsSound w) (id : ℕ) where
     -- it is carried along
     moves : (bytes : List ℕ) (old : Seat) (session : Session) → bytes ≡ [] → TakesTo w event id session.mount
         → IsSent w now event old session.mount → mine ≡ Some old
-        → seat_of now.seats id ≡ Some (moved_into session old) → heard_at now.house session.mount ≡ Some session
-        → lets_in now.house.lists session.mount old.pair ≡ true → (old.session == session.number) ≡ false
+        → seat_of now.seats id ≡ Some (moved_into session old) → heard_at now.station session.mount ≡ Some session
+        → lets_in now.station.lists session.mount old.pair ≡ true → (old.session == session.number) ≡ false
         → Turn w now event id mine bytes (seat_of now.seats id)
     moves bytes old session none takes sent had has live opens apart =
         adapted w now event id (sym had) (sym none) (sym has) (Moves old session takes sent live opens apart)
@@ -129,12 +130,12 @@ module _ (w : World) (s : IsSound w) (id : ℕ) where
 
   -- it sits down
   takes_seat_at : (asked : ListenRequest) (peer : Peer) (session : Session) → standing_of w asked.id ≡ Undecided peer
-      → walks_to w.house w.seats asked.mount asked.pair ≡ Lands session.mount → heard_at w.house session.mount ≡ Some session
+      → walks_to w.station w.seats asked.mount asked.pair ≡ Lands session.mount → heard_at w.station session.mount ≡ Some session
       → verdict_in (rows_to_listen w asked) ≡ Allow → (bytes : List ℕ) → bytes ≡ []
-      → Turn w (changed w (TakeSeat asked.id (first_seat w.house asked peer session))) (Listen asked) id mine bytes
-      (seat_of (changed w (TakeSeat asked.id (first_seat w.house asked peer session))).seats id)
+      → Turn w (changed w (TakeSeat asked.id (first_seat w.station asked peer session))) (Listen asked) id mine bytes
+      (seat_of (changed w (TakeSeat asked.id (first_seat w.station asked peer session))).seats id)
   takes_seat_at asked peer session undecided lands live allowed bytes none =
-      let seat = first_seat w.house asked peer session in
+      let seat = first_seat w.station asked peer session in
       let now = changed w (TakeSeat asked.id seat) in
       by_number asked.id id
       (λ same.
@@ -148,7 +149,7 @@ module _ (w : World) (s : IsSound w) (id : ℕ) where
 
   -- it is handed what stands at its place
   hands_at : (him room : ℕ) (seat : Seat) (session : Session) → standing_of w him ≡ Sits → seat_of w.seats him ≡ Some seat
-      → heard_at w.house seat.mount ≡ Some session
+      → heard_at w.station seat.mount ≡ Some session
       → Turn w (changed w (Advance him (seat.place + length (data_at session.stream seat.place room)))) (Draw him room) id mine
       (of_client (Draw him room) id (data_at session.stream seat.place room))
       (seat_of (changed w (Advance him (seat.place + length (data_at session.stream seat.place room)))).seats id)
@@ -183,41 +184,41 @@ module _ (w : World) (s : IsSound w) (id : ℕ) where
     by_fate (IsMoved old session carries left had has same live opens) = absurd carries
 
   -- a source, or a relay, comes up: it hears it where it waited for it, rests where it is, or comes home
-  module _ (event : Event) (him : ℕ) (mount : List ℕ) (shown : Shown) (house : House) (settings : house.settings ≡ w.house.settings)
-      (begins : house.live ≡ with_session w.house.live (opened mount him shown w.house.time)) (not_live : session_of w.house.live mount ≡ None)
+  module _ (event : Event) (him : ℕ) (mount : List ℕ) (shown : Shown) (station : StationState) (settings : station.settings ≡ w.station.settings)
+      (begins : station.live ≡ with_session w.station.live (opened mount him shown w.station.time)) (not_live : session_of w.station.live mount ≡ None)
       (past : (him == 0) ≡ false)
-      (sound_then : IsSound (world house (with_session_at w.seats mount him))) (coming : ComesUpOn event mount)
-      (brings : (options_for w.house.settings mount).listeners.fallback_override ≡ true
-      → Brings w event (Up mount) (world house (with_session_at w.seats mount him)))
+      (sound_then : IsSound (world station (with_session_at w.seats mount him))) (coming : ComesUpOn event mount)
+      (brings : (options_for w.station.settings mount).listeners.fallback_override ≡ true
+      → Brings w event (Up mount) (world station (with_session_at w.seats mount him)))
       (bytes : List ℕ) (none : bytes ≡ []) where
     abbrev up : World
-    up = world house (with_session_at w.seats mount him)
+    up = world station (with_session_at w.seats mount him)
 
     abbrev come_up : World
-    come_up = called_home (world house (with_session_at w.seats mount him)) mount
+    come_up = called_home (world station (with_session_at w.seats mount him)) mount
 
     abbrev fresh : Session
-    fresh = opened mount him shown w.house.time
+    fresh = opened mount him shown w.station.time
 
     -- it is there
-    there : (at : List ℕ) → mount ≡ at → session_of house.live at ≡ Some fresh
+    there : (at : List ℕ) → mount ≡ at → session_of station.live at ≡ Some fresh
     there at same =
         ap (λ (sessions : List Session). session_of sessions at) begins
-        ∙ is_new_session w.house.live fresh at ((bytes_eq-Decides mount at).1 same)
+        ∙ is_new_session w.station.live fresh at ((bytes_eq-Decides mount at).1 same)
 
-    there_then : (at : List ℕ) → mount ≡ at → session_of come_up.house.live at ≡ Some fresh
-    there_then at same = ap (λ (h : House). session_of h.live at) (house_called up mount) ∙ there at same
+    there_then : (at : List ℕ) → mount ≡ at → session_of come_up.station.live at ≡ Some fresh
+    there_then at same = ap (λ (h : StationState). session_of h.live at) (station_called up mount) ∙ there at same
 
     abbrev Takes : ℕ → Session → Type 0
     Takes who session = TakesTo w event who session.mount × (session.mount ≡ mount)
-        × ((options_for w.house.settings mount).listeners.fallback_override ≡ true)
+        × ((options_for w.station.settings mount).listeners.fallback_override ≡ true)
 
     -- who sat there had heard nothing
     waited : (old : Seat) → seat_of w.seats id ≡ Some old → old.mount ≡ mount → (old.session ≡ 0) × (old.place ≡ 0)
     waited old had same =
         let before = s.seated id old had in
-        heard_cases w.house old.mount before.session before.is_heard
-        (λ live. let gone : session_of w.house.live old.mount ≡ None = ap (session_of w.house.live) same ∙ not_live in cc)
+        heard_cases w.station old.mount before.session before.is_heard
+        (λ live. let gone : session_of w.station.live old.mount ≡ None = ap (session_of w.station.live) same ∙ not_live in cc)
         (λ gone silent.
         let low : old.place ≤ 0 = subst (λ (x : Session). old.place ≤ end_of x.stream) (sym silent) before.within in (
           sym before.his_session ∙ sym (ap (λ (x : Session). x.number) silent),
@@ -231,7 +232,7 @@ module _ (w : World) (s : IsSound w) (id : ℕ) where
         let same : old.mount ≡ mount = (bytes_eq-Decides old.mount mount).0 at in
         let nothing = waited old had same in
         adapted w come_up event id (sym had) (sym none) (sym now)
-        (Hears old fresh (subst (λ (m : List ℕ). ComesUpOn event m) (sym same) coming) (ap (session_of w.house.live) same ∙ not_live)
+        (Hears old fresh (subst (λ (m : List ℕ). ComesUpOn event m) (sym same) coming) (ap (session_of w.station.live) same ∙ not_live)
         (there_then old.mount (sym same)) refl nothing.0 nothing.1 (zero_apart him past))
     rests_at old had false away now = adapted w come_up event id (sym had) (sym none) (sym now) (Rests (Some old))
 
@@ -243,25 +244,25 @@ module _ (w : World) (s : IsSound w) (id : ℕ) where
     by_call : IsCalled Takes up come_up id → Turn w come_up event id mine bytes (seat_of come_up.seats id)
     by_call (CalledRests same seat) = rests_by (seat_of w.seats id) refl (seat ∙ seat_of_hearing mount him w.seats id)
     by_call (CalledComes old session takes left had has same live opens) =
-        let here : session_of house.live session.mount ≡ Some fresh = there session.mount (sym takes.1) in
+        let here : session_of station.live session.mount ≡ Some fresh = there session.mount (sym takes.1) in
         let both : Some session ≡ Some fresh
-        = sym live ∙ heard_live come_up.house session.mount fresh (there_then session.mount (sym takes.1)) in
+        = sym live ∙ heard_live come_up.station session.mount fresh (there_then session.mount (sym takes.1)) in
         let one : session ≡ fresh = cc in
         moves come_up event bytes old session none takes.0
         (HeIsCalledHome (subst (λ (m : List ℕ). ComesUpOn event m) (sym takes.1) coming) left.1
-        (ap (λ (m : List ℕ). (options_for w.house.settings m).listeners.fallback_override) takes.1 ∙ takes.2))
+        (ap (λ (m : List ℕ). (options_for w.station.settings m).listeners.fallback_override) takes.1 ∙ takes.2))
         (sat_elsewhere mount him w.seats id old had (ap (bytes_eq old.mount) (sym takes.1) ∙ left.0)) has live
-        (ap (λ (h : House). lets_in h.lists session.mount old.pair) (house_called up mount) ∙ opens)
+        (ap (λ (h : StationState). lets_in h.lists session.mount old.pair) (station_called up mount) ∙ opens)
         (apart_sessions up sound_then id old session had (here ∙ ap (λ (x : Session). Some x) (sym one)) left.0)
 
     comes_up : Turn w come_up event id mine bytes (seat_of come_up.seats id)
     comes_up =
         by_call (is_called up sound_then mount Takes
         (λ calls who session turn.
-        let here : (options_for w.house.settings mount).listeners.fallback_override ≡ true
+        let here : (options_for w.station.settings mount).listeners.fallback_override ≡ true
         = ap (λ (set : Settings). (options_for set mount).listeners.fallback_override) (sym settings) ∙ calls in (
           (Up mount, up, brings here, turn),
-          sym (comes_home (sight_of house) mount (at_his_turn (sight_of house) (Up mount) up.seats who) who session.mount turn),
+          sym (comes_home (sight_of station) mount (at_his_turn (sight_of station) (Up mount) up.seats who) who session.mount turn),
           here,
         )) id)
 
@@ -310,14 +311,14 @@ module _ (w : World) (s : IsSound w) (id : ℕ) where
       stays (changed w o.change) event (of_client event id []) mine (nothing_of event id [] refl) refl
   step_by event o (IsAdmitted peer allowed) = stays (changed w o.change) event [] mine refl refl
   step_by event o (Begins asked undecided none allowed) =
-      comes_up event asked.id asked.mount (shown_for w.house asked.mount asked.shown)
-      (begun w.house asked.id asked.mount (shown_for w.house asked.mount asked.shown)) refl refl none (asks_past_zero asked.id undecided.0 undecided.1)
-      (sound_just_begun w s asked.id asked.mount (shown_for w.house asked.mount asked.shown) undecided.0 undecided.1 none) (ASource asked)
+      comes_up event asked.id asked.mount (shown_for w.station asked.mount asked.shown)
+      (begun w.station asked.id asked.mount (shown_for w.station asked.mount asked.shown)) refl refl none (asks_past_zero asked.id undecided.0 undecided.1)
+      (sound_just_begun w s asked.id asked.mount (shown_for w.station asked.mount asked.shown) undecided.0 undecided.1 none) (ASource asked)
       (λ calls. ByComingUp asked undecided.0 undecided.1 allowed calls) (of_client event id []) (nothing_of event id [] refl)
   step_by event o (ComesUp mount shown none allowed) =
-      comes_up event (w.house.last_id + 1) mount (shown_for w.house mount shown)
-      (raised w.house (w.house.last_id + 1) mount (shown_for w.house mount shown)) refl refl none (grind (arith, nat_tests))
-      (sound_just_raised w s mount (shown_for w.house mount shown) none) (ARelay mount shown)
+      comes_up event (w.station.last_id + 1) mount (shown_for w.station mount shown)
+      (raised w.station (w.station.last_id + 1) mount (shown_for w.station mount shown)) refl refl none (grind (arith, nat_tests))
+      (sound_just_raised w s mount (shown_for w.station mount shown) none) (ARelay mount shown)
       (λ calls. ByRelayUp mount shown allowed calls) [] refl
   step_by event o (Receives him mount block feeding) = lags him mount block feeding (of_client event id []) (nothing_of event id [] refl)
   step_by event o (Shows _ asker peer text its undecided what) =

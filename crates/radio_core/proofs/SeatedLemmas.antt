@@ -6,13 +6,13 @@ use Rattle.radio_seats_rows.specs.declared.seat.Seat.{Seat}
 use Rattle.radio_seats_rows.specs.declared.seat.Seating.{Seating}
 use Rattle.radio_seats_rows.specs.declared.seat.Seating.TheVariants.{Sits as HasSeat, Finished as HasFinished}
 use Rattle.radio_seats_rows.specs.Seats.{listener_of, seat_of, seat_in, seat_held}
-use Rattle.radio_house.specs.declared.clients.ClientState.{ClientState}
-use Rattle.radio_house.specs.declared.clients.ClientState.TheVariants.{Undecided as IsNew, Feeds as IsSource, Listens, Answered, Ended}
-use Rattle.radio_house.specs.declared.standing.Standing.TheVariants.{Sits}
-use Rattle.radio_house.specs.Clients.{Client, client_of}
-use Rattle.radio_house.specs.Relays.{Relay, relay_of}
+use Rattle.radio_parts_station.specs.declared.clients.ClientState.{ClientState}
+use Rattle.radio_parts_station.specs.declared.clients.ClientState.TheVariants.{Undecided as IsNew, Feeds as IsSource, Listens, Answered, Ended}
+use Rattle.radio_parts_station.specs.declared.standing.Standing.TheVariants.{Sits}
+use Rattle.radio_parts_station.specs.Clients.{Client, client_of}
+use Rattle.radio_parts_station.specs.Relays.{Relay, relay_of}
 use Rattle.radio_core.proofs.Standings.{no_relay_sits}
-use Rattle.radio_house.specs.World.{World, standing_of, standing_in, standing_by, standing_of_listener, standing_seated}
+use Rattle.radio_parts_station.specs.World.{World, standing_of, standing_in, standing_by, standing_of_listener, standing_seated}
 
 -- who sits has a seat
 held_seat : (seating : Seating) → standing_seated seating ≡ Sits → (seat : Seat) × (seat_held seating ≡ Some seat)
@@ -36,4 +36,4 @@ by_client relay listener None e = absurd (no_relay_sits relay e)
 by_client relay listener (Some client) e = by_state listener client.peer client.state e
 
 pub seat_of_sitting : (w : World) (id : ℕ) → standing_of w id ≡ Sits → (seat : Seat) × (seat_of w.seats id ≡ Some seat)
-seat_of_sitting w id e = by_client (relay_of w.house.relays id) (listener_of w.seats id) (client_of w.house.clients id) e
+seat_of_sitting w id e = by_client (relay_of w.station.relays id) (listener_of w.seats id) (client_of w.station.clients id) e

@@ -1,18 +1,18 @@
 -- which sessions are silent: when the first of them has ended, the others are left
 use Rattle.std.proofs.Common.{◌≡◌, Bool, List, ◌∷◌, sym, ◌∙◌}
-use Rattle.radio_parts.specs.Sessions.{Session, AreApart}
-use Rattle.radio_parts.specs.Timeouts.{is_silent}
-use Rattle.radio_parts.proofs.SilentSessions.{found_first, others_left}
-use Rattle.radio_changes.specs.Changes.{session_silenced, silent_in}
-use Rattle.radio_house.specs.World.{World}
+use Rattle.radio_parts_mount.specs.Sessions.{Session, AreApart}
+use Rattle.radio_parts_mount.specs.Timeouts.{is_silent}
+use Rattle.radio_parts_mount.proofs.SilentSessions.{found_first, others_left}
+use Rattle.radio_parts_changes.specs.Changes.{session_silenced, silent_in}
+use Rattle.radio_parts_station.specs.World.{World}
 
-module _ (w : World) (session : Session) (apart : AreApart w.house.live) where
+module _ (w : World) (session : Session) (apart : AreApart w.station.live) where
   abbrev silent : Session → Bool
-  silent = is_silent w.house.settings.limits.source_timeout w.house.time
+  silent = is_silent w.station.settings.limits.source_timeout w.station.time
 
   -- what is silent then
   pub silent_then : (sessions : List Session) → silent_in w ≡ session ∷ sessions → silent_in (session_silenced w session) ≡ sessions
   silent_then sessions are =
       let both : session ∷ silent_in (session_silenced w session) ≡ session ∷ sessions
-      = sym (others_left silent w.house.live session apart (found_first silent w.house.live session sessions are)) ∙ are in
+      = sym (others_left silent w.station.live session apart (found_first silent w.station.live session sessions are)) ∙ are in
       cc

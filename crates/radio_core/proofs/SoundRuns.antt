@@ -8,36 +8,36 @@ use Rattle.radio_settings_values.specs.declared.settings.Settings.{Settings}
 use Rattle.radio_access.specs.Lists.{Lists}
 use Rattle.radio_events.specs.declared.event.Event.{Event}
 use Rattle.radio_events.specs.declared.event.Event.TheVariants.{Push}
-use Rattle.radio_house.specs.declared.standing.Standing.TheVariants.{Feeds}
-use Rattle.radio_core.specs.declared.outcome.Outcome.{Outcome}
-use Rattle.radio_house.specs.World.{World, opening, standing_of}
-use Rattle.radio_changes.specs.Changes.{changed, laggards_ended, taken_in, ticked}
-use Rattle.radio_changes.proofs.PartChanges.{is_taken_in}
-use Rattle.radio_house.specs.HouseChanges.{received}
-use Rattle.radio_house.specs.Facts.{live_end}
+use Rattle.radio_parts_station.specs.declared.standing.Standing.TheVariants.{Feeds}
+use Rattle.radio_parts.specs.declared.outcome.Outcome.{Outcome}
+use Rattle.radio_parts_station.specs.World.{World, opening, standing_of}
+use Rattle.radio_parts_changes.specs.Changes.{changed, laggards_ended, taken_in, ticked}
+use Rattle.radio_parts_changes.proofs.PartChanges.{is_taken_in}
+use Rattle.radio_parts_station.specs.StationChanges.{received}
+use Rattle.radio_parts_station.specs.Facts.{live_end}
 use Rattle.radio_core.specs.Finishes.{Cause, IsFarBehind}
-use Rattle.radio_parts.specs.Sessions.{Session}
-use Rattle.radio_parts.specs.Timeouts.{lags_behind}
+use Rattle.radio_parts_mount.specs.Sessions.{Session}
+use Rattle.radio_parts_mount.specs.Timeouts.{lags_behind}
 use Rattle.radio_core.specs.Run.{world_after_all, run_after}
 use Rattle.radio_core.specs.Sound.{IsSound}
-use Rattle.radio_house.specs.Streams.{shown_for}
-use Rattle.radio_core.specs.Step.{outcome, world_after}
-use Rattle.radio_core.specs.Ways.{Way, Misplaced, IsFinished, IsDenied, IsRefused, IsAdmitted, Begins, ComesUp, Receives, SetsTitle, TakesSeat, HandsOut, Ends}
-use Rattle.radio_core.specs.Ways.{EndsAndLeaves, Leaves, GoesDown, Obeys, Shows, HasPassed, Ticks}
+use Rattle.radio_parts_station.specs.Streams.{shown_for}
+use Rattle.radio_parts.specs.Step.{outcome, world_after}
+use Rattle.radio_parts.specs.Ways.{Way, Misplaced, IsFinished, IsDenied, IsRefused, IsAdmitted, Begins, ComesUp, Receives, SetsTitle, TakesSeat, HandsOut, Ends}
+use Rattle.radio_parts.specs.Ways.{EndsAndLeaves, Leaves, GoesDown, Obeys, Shows, HasPassed, Ticks}
 use Rattle.radio_core.proofs.Soundness.{sound_answered, sound_forgotten, sound_admitted, sound_sits}
 use Rattle.radio_core.proofs.CalledHome.{sound_up, sound_risen}
 use Rattle.radio_core.proofs.SoundSessions.{sound_grown, sound_heard}
-use Rattle.radio_parts.proofs.NumberOrder.{in_order}
+use Rattle.radio_parts_mount.proofs.NumberOrder.{in_order}
 use Rattle.radio_core.proofs.SoundTitles.{sound_titled}
 use Rattle.radio_core.proofs.Fates.{Fates, HasEnded, Nobody, sound_fates, seats_fates}
 use Rattle.radio_core.proofs.TickLemmas.{ClockCause, ClockCarries, ticked_fates}
 use Rattle.radio_core.proofs.SoundEnds.{sound_ended, sound_ended_and_left}
 use Rattle.radio_core.proofs.Obeyed.{sound_obeyed}
-use Rattle.radio_core.proofs.Ways.{way_of}
+use Rattle.radio_parts.proofs.Ways.{way_of}
 
 -- a block has come, and who is too far behind has lost its seat
 abbrev pub grown_world : World → List ℕ → List ℕ → World
-grown_world w mount block = record w { house = received w.house mount block }
+grown_world w mount block = record w { station = received w.station mount block }
 
 -- by a block nobody is moved
 abbrev pub NoMove : ℕ → Session → Type 0
@@ -46,16 +46,16 @@ NoMove id session = ⊥
 pub lag_fates : (w : World) → IsSound w → (mount block : List ℕ) (him : ℕ) → standing_of w him ≡ Feeds mount
     → Fates (Cause w (taken_in w mount block) (Push him block)) NoMove Nobody HasEnded (grown_world w mount block) (taken_in w mount block)
 lag_fates w s mount block him feeding =
-    let house = received w.house mount block in
-    let queue = w.house.settings.limits.queue_size in
+    let station = received w.station mount block in
+    let queue = w.station.settings.limits.queue_size in
     subst (λ (later : World). Fates (Cause w later (Push him block)) NoMove Nobody HasEnded (grown_world w mount block) later)
     (sym (is_taken_in w mount block))
     (seats_fates (Cause w (laggards_ended (grown_world w mount block) mount) (Push him block)) NoMove Nobody HasEnded (grown_world w mount block)
-    (sound_grown w s mount block him feeding) (lags_behind mount (live_end house mount) queue) Lagged
+    (sound_grown w s mount block him feeding) (lags_behind mount (live_end station mount) queue) Lagged
     (λ id seat has behind.
     let there : seat.mount ≡ mount = (bytes_eq-Decides seat.mount mount).0 (and_parts (bytes_eq seat.mount mount) _ behind).0 in
     IsFarBehind him block seat refl (feeding ∙ ap (λ (m : List ℕ). Feeds m) (sym there)) has
-    (ap (λ (m : List ℕ). lags_behind m (live_end house m) queue seat) there ∙ behind)))
+    (ap (λ (m : List ℕ). lags_behind m (live_end station m) queue seat) there ∙ behind)))
 
 sound_by : (w : World) → IsSound w → (event : Event) (o : Outcome) → Way w event o → IsSound (changed w o.change)
 sound_by w s event o (Misplaced _) = s
@@ -64,8 +64,8 @@ sound_by w s event o (IsDenied _ rule v other) = s
 sound_by w s event o (IsRefused _ id rule v his undecided) = sound_answered w s id undecided.0 undecided.1
 sound_by w s event o (IsAdmitted peer allowed) = sound_admitted w s peer
 sound_by w s event o (Begins asked undecided none allowed) =
-    sound_up w s asked.id asked.mount (shown_for w.house asked.mount asked.shown) undecided.0 undecided.1 none
-sound_by w s event o (ComesUp mount shown none allowed) = sound_risen w s mount (shown_for w.house mount shown) none
+    sound_up w s asked.id asked.mount (shown_for w.station asked.mount asked.shown) undecided.0 undecided.1 none
+sound_by w s event o (ComesUp mount shown none allowed) = sound_risen w s mount (shown_for w.station mount shown) none
 sound_by w s event o (Receives id mount block feeding) = sound_fates (Cause w (taken_in w mount block) (Push id block)) NoMove Nobody HasEnded
     (grown_world w mount block) (taken_in w mount block) (sound_grown w s mount block id feeding) (lag_fates w s mount block id feeding)
 sound_by w s event o (Shows _ asker peer text its undecided what) = sound_answered w s asker peer undecided

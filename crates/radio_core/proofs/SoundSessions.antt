@@ -7,31 +7,31 @@ use Rattle.std.proofs.lemmas.Slice.Eq.{bytes_eq-Decides}
 use Rattle.radio_addr.specs.declared.peer.Peer.{Peer}
 use Rattle.radio_values.specs.declared.field.Shown.{Shown}
 use Rattle.radio_tables.proofs.KeyLaws.{by_number, by_name}
-use Rattle.radio_changes.specs.declared.change.Change.TheVariants.{Advance}
+use Rattle.radio_parts_changes.specs.declared.change.Change.TheVariants.{Advance}
 use Rattle.radio_seats_rows.specs.declared.seat.Seat.{Seat}
 use Rattle.radio_seats_rows.specs.declared.seat.Seating.{Seating}
 use Rattle.radio_seats_rows.specs.declared.seat.Seating.TheVariants.{Sits as HasSeat, Finished as HasFinished}
-use Rattle.radio_house.specs.declared.standing.Standing.TheVariants.{Unknown, Undecided, Feeds, Sits}
-use Rattle.radio_house.specs.House.{House}
-use Rattle.radio_house.specs.World.{World, standing_of}
-use Rattle.radio_changes.specs.Changes.{changed, session_begun, session_raised}
-use Rattle.radio_house.specs.HouseChanges.{begun, raised, received}
+use Rattle.radio_parts_station.specs.declared.standing.Standing.TheVariants.{Unknown, Undecided, Feeds, Sits}
+use Rattle.radio_parts_station.specs.StationState.{StationState}
+use Rattle.radio_parts_station.specs.World.{World, standing_of}
+use Rattle.radio_parts_changes.specs.Changes.{changed, session_begun, session_raised}
+use Rattle.radio_parts_station.specs.StationChanges.{begun, raised, received}
 use Rattle.radio_seats_rows.specs.Seats.{seat_of, seat_in, seat_held, heard_to, with_session_at}
-use Rattle.radio_parts.specs.Sessions.{Session, AreApart, is_of, session_of, opened, with_session, longer}
-use Rattle.radio_parts.specs.Stream.{AreRising, end_of, data_at}
+use Rattle.radio_parts_mount.specs.Sessions.{Session, AreApart, is_of, session_of, opened, with_session, longer}
+use Rattle.radio_parts_mount.specs.Stream.{AreRising, end_of, data_at}
 use Rattle.radio_core.specs.Sound.{IsSeatedIn, IsSound}
 use Rattle.radio_seats_rows.proofs.SeatLaws.{beside_moved, has_moved}
-use Rattle.radio_parts.proofs.ApartLemmas.{begun_apart, updated_apart, bytes_apart}
-use Rattle.radio_parts.proofs.NumberOrder.{order_heard, same_order}
-use Rattle.radio_parts.proofs.SessionLookups.{beside_fed, is_longer, is_new_session, beside_begun}
+use Rattle.radio_parts_mount.proofs.ApartLemmas.{begun_apart, updated_apart, bytes_apart}
+use Rattle.radio_parts_mount.proofs.NumberOrder.{order_heard, same_order}
+use Rattle.radio_parts_mount.proofs.SessionLookups.{beside_fed, is_longer, is_new_session, beside_begun}
 use Rattle.radio_seats_rows.proofs.SeatLaws.{listener_seated}
 use Rattle.radio_core.proofs.Standings.{Turns, asks, turns_feeding, turns_raised, stays_hearing, turns_given}
-use Rattle.radio_parts.proofs.RisingLemmas.{rising_more}
+use Rattle.radio_parts_mount.proofs.RisingLemmas.{rising_more}
 use Rattle.radio_core.proofs.Soundness.{IsLiveStill, seated_still, seated_beside}
-use Rattle.radio_house.specs.Waiting.{heard_at}
+use Rattle.radio_parts_station.specs.Waiting.{heard_at}
 use Rattle.radio_seats_rows.proofs.GivenLaws.{numbers_hearing}
 use Rattle.radio_core.proofs.GivenSeats.{given_from}
-use Rattle.radio_core.proofs.HeardLemmas.{heard_cases, heard_live, heard_same}
+use Rattle.radio_parts.proofs.HeardLemmas.{heard_cases, heard_live, heard_same}
 use Rattle.std.specs.Prelude.{if◌then◌else◌}
 
 -- the names of the mount are the same
@@ -39,35 +39,35 @@ same_names : (mount other : List ℕ) → mount ≡ other → bytes_eq mount oth
 same_names mount other same = (bytes_eq-Decides mount other).1 same
 
 -- a session begins on a mount that was not live, for one who sat nowhere and fed nothing
-module _ (w : World) (s : IsSound w) (him : ℕ) (mount : List ℕ) (shown : Shown) (house : House)
-    (live : house.live ≡ with_session w.house.live (opened mount him shown w.house.time)) (t : Turns w (record w { house = house }) him (Feeds mount))
-    (not_live : session_of w.house.live mount ≡ None) where
+module _ (w : World) (s : IsSound w) (him : ℕ) (mount : List ℕ) (shown : Shown) (station : StationState)
+    (live : station.live ≡ with_session w.station.live (opened mount him shown w.station.time)) (t : Turns w (record w { station = station }) him (Feeds mount))
+    (not_live : session_of w.station.live mount ≡ None) where
   abbrev after_begin : World
-  after_begin = record w { house = house }
+  after_begin = record w { station = station }
 
   abbrev fresh : Session
-  fresh = opened mount him shown w.house.time
+  fresh = opened mount him shown w.station.time
 
-  new_here : (other : List ℕ) → mount ≡ other → session_of after_begin.house.live other ≡ Some fresh
+  new_here : (other : List ℕ) → mount ≡ other → session_of after_begin.station.live other ≡ Some fresh
   new_here other same =
-      ap (λ (sessions : List Session). session_of sessions other) live ∙ is_new_session w.house.live fresh other (same_names mount other same)
+      ap (λ (sessions : List Session). session_of sessions other) live ∙ is_new_session w.station.live fresh other (same_names mount other same)
 
-  as_before : (other : List ℕ) → bytes_eq mount other ≡ false → session_of after_begin.house.live other ≡ session_of w.house.live other
-  as_before other apart = ap (λ (sessions : List Session). session_of sessions other) live ∙ beside_begun w.house.live fresh other apart
+  as_before : (other : List ℕ) → bytes_eq mount other ≡ false → session_of after_begin.station.live other ≡ session_of w.station.live other
+  as_before other apart = ap (λ (sessions : List Session). session_of sessions other) live ∙ beside_begun w.station.live fresh other apart
 
   -- and those hear it who sat there waiting for one
   abbrev after_given : World
-  after_given = record { house = house; seats = with_session_at w.seats mount him }
+  after_given = record { station = station; seats = with_session_at w.seats mount him }
 
   t' : Turns w after_given him (Feeds mount)
-  t' = turns_given w house mount him him (Feeds mount) t
+  t' = turns_given w station mount him him (Feeds mount) t
 
   -- who sat there had heard nothing
   pub waited : (id : ℕ) (old : Seat) → seat_of w.seats id ≡ Some old → old.mount ≡ mount → (old.session ≡ 0) × (old.place ≡ 0)
   waited id old had same =
       let before = s.seated id old had in
-      heard_cases w.house old.mount before.session before.is_heard
-      (λ there. let none : session_of w.house.live old.mount ≡ None = ap (session_of w.house.live) same ∙ not_live in cc)
+      heard_cases w.station old.mount before.session before.is_heard
+      (λ there. let none : session_of w.station.live old.mount ≡ None = ap (session_of w.station.live) same ∙ not_live in cc)
       (λ none silent.
       let low : old.place ≤ 0 = subst (λ (x : Session). old.place ≤ end_of x.stream) (sym silent) before.within in (
         sym before.his_session ∙ sym (ap (λ (x : Session). x.number) silent),
@@ -75,24 +75,24 @@ module _ (w : World) (s : IsSound w) (him : ℕ) (mount : List ℕ) (shown : Sho
       ))
 
   -- what was live is live as it was
-  pub begun_beside : (other : List ℕ) (session : Session) → session_of w.house.live other ≡ Some session
-      → session_of after_begin.house.live other ≡ Some session
+  pub begun_beside : (other : List ℕ) (session : Session) → session_of w.station.live other ≡ Some session
+      → session_of after_begin.station.live other ≡ Some session
   begun_beside other session e =
       by_name mount other
-      (λ same. let none : session_of w.house.live other ≡ None = ap (session_of w.house.live) (sym same) ∙ not_live in cc)
+      (λ same. let none : session_of w.station.live other ≡ None = ap (session_of w.station.live) (sym same) ∙ not_live in cc)
       (λ apart. as_before other apart ∙ e)
 
   -- and what is live now is the new session, or was live
-  pub begun_cases : {A : Type 0} (other : List ℕ) (session : Session) → session_of after_begin.house.live other ≡ Some session
-      → (mount ≡ other → fresh ≡ session → A) → (session_of w.house.live other ≡ Some session → A) → A
+  pub begun_cases : {A : Type 0} (other : List ℕ) (session : Session) → session_of after_begin.station.live other ≡ Some session
+      → (mount ≡ other → fresh ≡ session → A) → (session_of w.station.live other ≡ Some session → A) → A
   begun_cases {A} other session e new old =
       by_name mount other
       (λ same. let found : Some fresh ≡ Some session = sym (new_here other same) ∙ e in let one : fresh ≡ session = cc in new same one)
       (λ apart. old (sym (as_before other apart) ∙ e))
 
-  module _ (numbers : (id : ℕ) → house.last_id < id → (w.house.last_id < id) × ((him == id) ≡ false))
+  module _ (numbers : (id : ℕ) → station.last_id < id → (w.station.last_id < id) × ((him == id) ≡ false))
       (fed_none : (other : List ℕ) → standing_of w him ≡ Feeds other → ⊥) (sat_nowhere : standing_of w him ≡ Sits → ⊥)
-      (settings : house.settings ≡ w.house.settings) (past : (him == 0) ≡ false) where
+      (settings : station.settings ≡ w.station.settings) (past : (him == 0) ≡ false) where
     seated_by : (id : ℕ) (old : Seat) → seat_of w.seats id ≡ Some old → (there : Bool) → bytes_eq old.mount mount ≡ there
         → IsSeatedIn after_given (record old { session = (if there then him else old.session) })
     seated_by id old had true at =
@@ -100,7 +100,7 @@ module _ (w : World) (s : IsSound w) (him : ℕ) (mount : List ℕ) (shown : Sho
         let place : old.place ≡ 0 = (waited id old had same).1 in
         record {
           session = fresh;
-          is_heard = heard_live house old.mount fresh (new_here old.mount (sym same));
+          is_heard = heard_live station old.mount fresh (new_here old.mount (sym same));
           his_session = refl;
           within = omega (arith, place);
         }
@@ -108,7 +108,7 @@ module _ (w : World) (s : IsSound w) (him : ℕ) (mount : List ℕ) (shown : Sho
         let before = s.seated id old had in
         record {
           session = before.session;
-          is_heard = heard_same house w.house old.mount settings (as_before old.mount (bytes_apart old.mount mount away)) ∙ before.is_heard;
+          is_heard = heard_same station w.station old.mount settings (as_before old.mount (bytes_apart old.mount mount away)) ∙ before.is_heard;
           his_session = before.his_session;
           within = before.within;
         }
@@ -131,7 +131,7 @@ module _ (w : World) (s : IsSound w) (him : ℕ) (mount : List ℕ) (shown : Sho
           let was = s.fed other session old in
           by_number him session.number (λ same. absurd (fed_none other (ap (standing_of w) same ∙ was)))
           (λ apart. t'.others session.number apart ∙ was));
-      apart = subst AreApart (sym live) (begun_apart fresh w.house.live not_live s.apart);
+      apart = subst AreApart (sym live) (begun_apart fresh w.station.live not_live s.apart);
       starts = λ other session e.
           begun_cases other session e
           (λ same one. subst (λ (x : Session). AreRising x.stream.starts (end_of x.stream)) one tt)
@@ -148,57 +148,57 @@ module _ (w : World) (s : IsSound w) (him : ℕ) (mount : List ℕ) (shown : Sho
 
 -- a client begins to feed
 pub sound_begun : (w : World) → IsSound w → (him : ℕ) (mount : List ℕ) (shown : Shown) (peer : Peer) → standing_of w him ≡ Undecided peer
-    → session_of w.house.live mount ≡ None → IsSound (session_begun w him mount shown)
+    → session_of w.station.live mount ≡ None → IsSound (session_begun w him mount shown)
 sound_begun w s him mount shown peer stood not_live =
-    sound_begun_so w s him mount shown (begun w.house him mount shown) refl (turns_feeding w him mount shown (asks w him peer stood)) not_live
+    sound_begun_so w s him mount shown (begun w.station him mount shown) refl (turns_feeding w him mount shown (asks w him peer stood)) not_live
     (λ id h. (h, by_number him id (λ same. let unknown : standing_of w him ≡ Unknown = ap (standing_of w) same ∙ s.numbered id h in cc) (λ apart. apart)))
     (λ other e. cc) (λ e. cc) refl
     (by_number him 0 (λ same. let unknown : standing_of w him ≡ Unknown = ap (standing_of w) same ∙ s.from_one in cc) (λ apart. apart))
 
 -- a relay comes up
-pub sound_raised : (w : World) → IsSound w → (mount : List ℕ) (shown : Shown) → session_of w.house.live mount ≡ None
-    → IsSound (session_raised w (w.house.last_id + 1) mount shown)
+pub sound_raised : (w : World) → IsSound w → (mount : List ℕ) (shown : Shown) → session_of w.station.live mount ≡ None
+    → IsSound (session_raised w (w.station.last_id + 1) mount shown)
 sound_raised w s mount shown not_live =
-    let him = w.house.last_id + 1 in
+    let him = w.station.last_id + 1 in
     let unknown : standing_of w him ≡ Unknown = s.numbered him (omega arith) in
-    sound_begun_so w s him mount shown (raised w.house him mount shown) refl (turns_raised w him mount shown unknown) not_live
+    sound_begun_so w s him mount shown (raised w.station him mount shown) refl (turns_raised w him mount shown unknown) not_live
     (λ id h. (omega (arith, h), grind (arith, nat_tests, h)))
     (λ other e. cc) (λ e. cc) refl (grind (arith, nat_tests))
 
 -- a source delivers a block
 module _ (w : World) (s : IsSound w) (mount block : List ℕ) where
   abbrev after_block : World
-  after_block = record w { house = received w.house mount block }
+  after_block = record w { station = received w.station mount block }
 
-  pub grown : (other : List ℕ) (session : Session) → session_of w.house.live other ≡ Some session → IsLiveStill after_block.house other session
+  pub grown : (other : List ℕ) (session : Session) → session_of w.station.live other ≡ Some session → IsLiveStill after_block.station other session
   grown other session e =
       by_name mount other
       (λ same.
-      let here : session_of w.house.live mount ≡ Some session = ap (session_of w.house.live) same ∙ e in
-      let longer_here = is_longer w.house.live mount block w.house.time session here in (
-        longer block w.house.time session,
-        ap (session_of after_block.house.live) (sym same) ∙ longer_here,
+      let here : session_of w.station.live mount ≡ Some session = ap (session_of w.station.live) same ∙ e in
+      let longer_here = is_longer w.station.live mount block w.station.time session here in (
+        longer block w.station.time session,
+        ap (session_of after_block.station.live) (sym same) ∙ longer_here,
         refl,
         omega
             (arith, length-append session.stream.bytes block),
       ))
-      (λ apart. (session, beside_fed w.house.live mount other apart block w.house.time ∙ e, refl, omega arith))
+      (λ apart. (session, beside_fed w.station.live mount other apart block w.station.time ∙ e, refl, omega arith))
 
   -- what is live now was live, and is as it was or longer by the block
-  pub grown_cases : {A : Type 0} (other : List ℕ) (now : Session) → session_of after_block.house.live other ≡ Some now
-      → ((session : Session) → mount ≡ other → session_of w.house.live mount ≡ Some session → longer block w.house.time session ≡ now → A)
-      → (bytes_eq mount other ≡ false → session_of w.house.live other ≡ Some now → A) → (session_of w.house.live mount ≡ None → A) → A
+  pub grown_cases : {A : Type 0} (other : List ℕ) (now : Session) → session_of after_block.station.live other ≡ Some now
+      → ((session : Session) → mount ≡ other → session_of w.station.live mount ≡ Some session → longer block w.station.time session ≡ now → A)
+      → (bytes_eq mount other ≡ false → session_of w.station.live other ≡ Some now → A) → (session_of w.station.live mount ≡ None → A) → A
   grown_cases {A} other now e new old none =
-      by_name mount other here (λ apart. old apart (sym (beside_fed w.house.live mount other apart block w.house.time) ∙ e)) where
+      by_name mount other here (λ apart. old apart (sym (beside_fed w.station.live mount other apart block w.station.time) ∙ e)) where
         here : mount ≡ other → A
-        here same = by_found (session_of w.house.live mount) refl where
-          by_found : (found : Option Session) → session_of w.house.live mount ≡ found → A
+        here same = by_found (session_of w.station.live mount) refl where
+          by_found : (found : Option Session) → session_of w.station.live mount ≡ found → A
           by_found None missing = none missing
           by_found (Some session) found =
-              let longer_here : session_of after_block.house.live mount ≡ Some (longer block w.house.time session) =
-              is_longer w.house.live mount block w.house.time session found in
-              let both : Some (longer block w.house.time session) ≡ Some now = sym longer_here ∙ ap (session_of after_block.house.live) same ∙ e in
-              let one : longer block w.house.time session ≡ now = cc in
+              let longer_here : session_of after_block.station.live mount ≡ Some (longer block w.station.time session) =
+              is_longer w.station.live mount block w.station.time session found in
+              let both : Some (longer block w.station.time session) ≡ Some now = sym longer_here ∙ ap (session_of after_block.station.live) same ∙ e in
+              let one : longer block w.station.time session ≡ now = cc in
               new session same found one
 
   pub sound_grown : (him : ℕ) → standing_of w him ≡ Feeds mount → IsSound after_block
@@ -211,25 +211,25 @@ module _ (w : World) (s : IsSound w) (mount block : List ℕ) where
         (λ session same found one. ap (λ (x : Session). standing_of w x.number) (sym one) ∙ s.fed mount session found ∙ ap (λ (m : List ℕ). Feeds m) same)
         (λ apart found. s.fed other now found)
         never;
-    apart = updated_apart (is_of mount) (longer block w.house.time) (λ x. refl) w.house.live s.apart;
+    apart = updated_apart (is_of mount) (longer block w.station.time) (λ x. refl) w.station.live s.apart;
     starts = λ other now e.
         grown_cases other now e
         (λ session same found one. subst (λ (x : Session). AreRising x.stream.starts (end_of x.stream)) one
-        (rising_more session.stream.starts (end_of session.stream) (end_of (longer block w.house.time session).stream)
+        (rising_more session.stream.starts (end_of session.stream) (end_of (longer block w.station.time session).stream)
         (omega (arith, length-append session.stream.bytes block)) (s.starts mount session found)))
         (λ apart found. s.starts other now found)
         never;
     by_number = s.by_number;
     sitting = λ id seat e. s.sitting id seat e;
     seated =
-        seated_beside w s after_block.house mount him feeding refl (λ other apart. beside_fed w.house.live mount other apart block w.house.time) grown;
+        seated_beside w s after_block.station mount him feeding refl (λ other apart. beside_fed w.station.live mount other apart block w.station.time) grown;
   } where
-    never : {A : Type 0} → session_of w.house.live mount ≡ None → A
-    never {A} none = let ours = s.feeds him mount feeding in let found : session_of w.house.live mount ≡ Some ours.0 = ours.1 in cc
+    never : {A : Type 0} → session_of w.station.live mount ≡ None → A
+    never {A} none = let ours = s.feeds him mount feeding in let found : session_of w.station.live mount ≡ Some ours.0 = ours.1 in cc
 
 -- a listener hears on
 module _ (w : World) (s : IsSound w) (him room : ℕ) (seat : Seat) (session : Session) (sits : standing_of w him ≡ Sits)
-    (has : seat_of w.seats him ≡ Some seat) (live : heard_at w.house seat.mount ≡ Some session) where
+    (has : seat_of w.seats him ≡ Some seat) (live : heard_at w.station seat.mount ≡ Some session) where
   abbrev behind : ℕ
   behind = seat.place + length (data_at session.stream seat.place room)
 

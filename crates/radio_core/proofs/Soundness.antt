@@ -5,34 +5,34 @@ use Rattle.std.proofs.lemmas.Bool.Decides.{nat_tests}
 use Rattle.radio_addr.specs.declared.peer.Peer.{Peer}
 use Rattle.radio_tables.proofs.KeyLaws.{by_number, by_name}
 use Rattle.radio_events.specs.declared.event.ListenRequest.{ListenRequest}
-use Rattle.radio_changes.specs.declared.change.Change.TheVariants.{Answer, Admit, TakeSeat, Forget}
+use Rattle.radio_parts_changes.specs.declared.change.Change.TheVariants.{Answer, Admit, TakeSeat, Forget}
 use Rattle.radio_seats_rows.specs.declared.seat.Seat.{Seat}
-use Rattle.radio_house.specs.declared.standing.Standing.{Standing}
-use Rattle.radio_house.specs.declared.standing.Standing.TheVariants.{Unknown, Undecided, Feeds, Sits, Answered}
-use Rattle.radio_house.specs.House.{House}
-use Rattle.radio_house.specs.World.{World, standing_of}
-use Rattle.radio_changes.specs.Changes.{changed}
-use Rattle.radio_core.specs.Listen.{first_seat}
-use Rattle.radio_facts.specs.Streams.{burst_of}
+use Rattle.radio_parts_station.specs.declared.standing.Standing.{Standing}
+use Rattle.radio_parts_station.specs.declared.standing.Standing.TheVariants.{Unknown, Undecided, Feeds, Sits, Answered}
+use Rattle.radio_parts_station.specs.StationState.{StationState}
+use Rattle.radio_parts_station.specs.World.{World, standing_of}
+use Rattle.radio_parts_changes.specs.Changes.{changed}
+use Rattle.radio_parts.specs.Listen.{first_seat}
+use Rattle.radio_parts_facts.specs.Streams.{burst_of}
 use Rattle.radio_seats_rows.specs.Seats.{seat_of, seat_in, without_listener, AreByNumber}
-use Rattle.radio_parts.specs.Sessions.{Session, session_of, AreApart}
+use Rattle.radio_parts_mount.specs.Sessions.{Session, session_of, AreApart}
 use Rattle.radio_core.specs.Sound.{IsSeatedIn, IsSound}
 use Rattle.radio_seats_rows.proofs.SeatLaws.{beside_left, beside_seated, is_no_listener, has_sat_down}
-use Rattle.radio_parts.proofs.RisingLemmas.{burst_within}
-use Rattle.radio_parts.proofs.NumberOrder.{order_left, order_seated}
+use Rattle.radio_parts_mount.proofs.RisingLemmas.{burst_within}
+use Rattle.radio_parts_mount.proofs.NumberOrder.{order_left, order_seated}
 use Rattle.radio_core.proofs.Standings.{Turns, asks, turns_answered, turns_sitting, turns_forgotten, turns_admitted}
-use Rattle.radio_house.specs.Waiting.{heard_at}
-use Rattle.radio_parts.specs.Stream.{AreRising, end_of}
-use Rattle.radio_core.proofs.HeardLemmas.{heard_cases, heard_live, heard_same}
+use Rattle.radio_parts_station.specs.Waiting.{heard_at}
+use Rattle.radio_parts_mount.specs.Stream.{AreRising, end_of}
+use Rattle.radio_parts.proofs.HeardLemmas.{heard_cases, heard_live, heard_same}
 
 -- the mount has a session that is fed by the same source and goes as far
-abbrev pub IsLiveStill : House → List ℕ → Session → Type 0
-IsLiveStill house mount session =
-    (now : Session) × (session_of house.live mount ≡ Some now) × (now.number ≡ session.number) × (end_of session.stream ≤ end_of now.stream)
+abbrev pub IsLiveStill : StationState → List ℕ → Session → Type 0
+IsLiveStill station mount session =
+    (now : Session) × (session_of station.live mount ≡ Some now) × (now.number ≡ session.number) × (end_of session.stream ≤ end_of now.stream)
 
 module _ (w : World) (s : IsSound w) where
   -- who is seated is seated still, where there is the same to be heard
-  pub seated_still : (later : World) → ((mount : List ℕ) → heard_at later.house mount ≡ heard_at w.house mount) → (seat : Seat)
+  pub seated_still : (later : World) → ((mount : List ℕ) → heard_at later.station mount ≡ heard_at w.station mount) → (seat : Seat)
       → IsSeatedIn w seat → IsSeatedIn later seat
   seated_still later heard seat old = record {
     session = old.session;
@@ -43,27 +43,27 @@ module _ (w : World) (s : IsSound w) where
   }
 
   -- and where one mount's session has become another that goes as far, and no other mount's has
-  module _ (house : House) (mount : List ℕ) (him : ℕ) (feeding : standing_of w him ≡ Feeds mount) (settings : house.settings ≡ w.house.settings)
-      (beside : (other : List ℕ) → bytes_eq mount other ≡ false → session_of house.live other ≡ session_of w.house.live other)
-      (still : (other : List ℕ) (session : Session) → session_of w.house.live other ≡ Some session → IsLiveStill house other session) where
-    pub seated_beside : (id : ℕ) (seat : Seat) → seat_of w.seats id ≡ Some seat → IsSeatedIn (record w { house = house }) seat
+  module _ (station : StationState) (mount : List ℕ) (him : ℕ) (feeding : standing_of w him ≡ Feeds mount) (settings : station.settings ≡ w.station.settings)
+      (beside : (other : List ℕ) → bytes_eq mount other ≡ false → session_of station.live other ≡ session_of w.station.live other)
+      (still : (other : List ℕ) (session : Session) → session_of w.station.live other ≡ Some session → IsLiveStill station other session) where
+    pub seated_beside : (id : ℕ) (seat : Seat) → seat_of w.seats id ≡ Some seat → IsSeatedIn (record w { station = station }) seat
     seated_beside id seat e =
         let old = s.seated id seat e in
-        heard_cases w.house seat.mount old.session old.is_heard
+        heard_cases w.station seat.mount old.session old.is_heard
         (λ there.
         let now = still seat.mount old.session there in
         record {
           session = now.0;
-          is_heard = heard_live house seat.mount now.0 now.1;
+          is_heard = heard_live station seat.mount now.0 now.1;
           his_session = now.2 ∙ old.his_session;
           within = omega (arith, now.3, old.within);
         })
         (λ none silent.
         by_name mount seat.mount
-        (λ same. let ours = s.feeds him mount feeding in let there : session_of w.house.live mount ≡ None = ap (session_of w.house.live) same ∙ none in cc)
+        (λ same. let ours = s.feeds him mount feeding in let there : session_of w.station.live mount ≡ None = ap (session_of w.station.live) same ∙ none in cc)
         (λ apart. record {
           session = old.session;
-          is_heard = heard_same house w.house seat.mount settings (beside seat.mount apart) ∙ old.is_heard;
+          is_heard = heard_same station w.station seat.mount settings (beside seat.mount apart) ∙ old.is_heard;
           his_session = old.his_session;
           within = old.within;
         }))
@@ -76,19 +76,19 @@ module _ (w : World) (s : IsSound w) where
       by_number him id (λ same. absurd (not (ap (standing_of w) same ∙ sat))) (λ other. t.others id other ∙ sat)
 
   -- one client turns to something else, and neither fed a mount nor does now
-  module _ (later : World) (him : ℕ) (now : Standing) (t : Turns w later him now) (apart : AreApart later.house.live)
+  module _ (later : World) (him : ℕ) (now : Standing) (t : Turns w later him now) (apart : AreApart later.station.live)
       (order : AreByNumber later.seats)
-      (sessions : (mount : List ℕ) → session_of later.house.live mount ≡ session_of w.house.live mount)
+      (sessions : (mount : List ℕ) → session_of later.station.live mount ≡ session_of w.station.live mount)
       (sitting : (id : ℕ) (seat : Seat) → seat_of later.seats id ≡ Some seat → standing_of later id ≡ Sits)
-      (seated : (id : ℕ) (seat : Seat) → seat_of later.seats id ≡ Some seat → IsSeatedIn later seat) (last : w.house.last_id ≤ later.house.last_id)
-      (above : later.house.last_id < him → now ≡ Unknown) (zero : him ≡ 0 → now ≡ Unknown) (not_before : (mount : List ℕ) → standing_of w him ≡ Feeds mount → ⊥)
+      (seated : (id : ℕ) (seat : Seat) → seat_of later.seats id ≡ Some seat → IsSeatedIn later seat) (last : w.station.last_id ≤ later.station.last_id)
+      (above : later.station.last_id < him → now ≡ Unknown) (zero : him ≡ 0 → now ≡ Unknown) (not_before : (mount : List ℕ) → standing_of w him ≡ Feeds mount → ⊥)
       (not_now : (mount : List ℕ) → now ≡ Feeds mount → ⊥) where
     pub sound_turned : IsSound later
     sound_turned = record {
       numbered = λ id h.
           by_number him id
-          (λ same. let here : later.house.last_id < him = omega arith in ap (standing_of later) (sym same) ∙ t.his ∙ above here)
-          (λ other. let high : w.house.last_id < id = omega arith in t.others id other ∙ s.numbered id high);
+          (λ same. let here : later.station.last_id < him = omega arith in ap (standing_of later) (sym same) ∙ t.his ∙ above here)
+          (λ other. let high : w.station.last_id < id = omega arith in t.others id other ∙ s.numbered id high);
       from_one = by_number him 0 (λ same. ap (standing_of later) (sym same) ∙ t.his ∙ zero same) (λ other. t.others 0 other ∙ s.from_one);
       feeds = λ id mount e.
           by_number him id
@@ -105,7 +105,7 @@ module _ (w : World) (s : IsSound w) where
     }
 
   -- a client has no seat before it is known, and so on
-  known_low : (id : ℕ) (now : Standing) → standing_of w id ≡ now → (now ≡ Unknown → ⊥) → w.house.last_id < id → {A : Type 0} → A
+  known_low : (id : ℕ) (now : Standing) → standing_of w id ≡ now → (now ≡ Unknown → ⊥) → w.station.last_id < id → {A : Type 0} → A
   known_low id now e known high {A} = absurd (known (sym e ∙ s.numbered id high))
 
   known_past_zero : (id : ℕ) (now : Standing) → standing_of w id ≡ now → (now ≡ Unknown → ⊥) → id ≡ 0 → {A : Type 0} → A
@@ -138,9 +138,9 @@ module _ (w : World) (s : IsSound w) where
             (λ other. seated_still (changed w (Forget id)) (λ mount. refl) seat (s.seated him seat (sym (ap seat_in (beside_left w.seats id him other)) ∙ h)))
 
   -- of a newcomer nothing was known
-  pub sound_admitted : (peer : Peer) → IsSound (changed w (Admit (w.house.last_id + 1) peer))
+  pub sound_admitted : (peer : Peer) → IsSound (changed w (Admit (w.station.last_id + 1) peer))
   sound_admitted peer =
-      let id = w.house.last_id + 1 in
+      let id = w.station.last_id + 1 in
       let unknown : standing_of w id ≡ Unknown = s.numbered id (omega arith) in
       let t = turns_admitted w id peer in
       sound_turned (changed w (Admit id peer)) id (Undecided peer) t s.apart s.by_number (λ mount. refl)
@@ -150,9 +150,9 @@ module _ (w : World) (s : IsSound w) where
 
   -- a listener sits down
   module _ (asked : ListenRequest) (peer : Peer) (session : Session) (e : standing_of w asked.id ≡ Undecided peer)
-      (live : heard_at w.house session.mount ≡ Some session) where
+      (live : heard_at w.station session.mount ≡ Some session) where
     abbrev pub new_seat : Seat
-    new_seat = first_seat w.house asked peer session
+    new_seat = first_seat w.station asked peer session
 
     abbrev pub after_seat : World
     after_seat = changed w (TakeSeat asked.id new_seat)
@@ -177,7 +177,7 @@ module _ (w : World) (s : IsSound w) where
 
     rising : AreRising session.stream.starts (end_of session.stream)
     rising =
-        heard_cases w.house session.mount session live (λ there. s.starts session.mount session there)
+        heard_cases w.station session.mount session live (λ there. s.starts session.mount session there)
         (λ none silent. subst (λ (x : Session). AreRising x.stream.starts (end_of x.stream)) silent tt)
 
     new_seated : IsSeatedIn after_seat new_seat
@@ -185,7 +185,7 @@ module _ (w : World) (s : IsSound w) where
       session = session;
       is_heard = live;
       his_session = refl;
-      within = burst_within session.stream (burst_of w.house session.mount) rising;
+      within = burst_within session.stream (burst_of w.station session.mount) rising;
     }
 
     all_seated : (id : ℕ) (seat : Seat) → seat_of after_seat.seats id ≡ Some seat → IsSeatedIn after_seat seat

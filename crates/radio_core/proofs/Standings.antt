@@ -5,30 +5,30 @@ use Rattle.radio_policy.specs.declared.rule.Rule.{Rule}
 use Rattle.radio_addr.specs.declared.peer.Peer.{Peer}
 use Rattle.radio_values.specs.declared.field.Shown.{Shown}
 use Rattle.radio_tables.proofs.KeyLaws.{by_number}
-use Rattle.radio_house.specs.declared.clients.ClientState.{ClientState}
-use Rattle.radio_house.specs.declared.clients.ClientState.TheVariants.{Undecided, Feeds, Listens, Answered, Ended}
-use Rattle.radio_changes.specs.declared.change.Change.TheVariants.{Answer, Admit, TakeSeat, Advance, Forget}
+use Rattle.radio_parts_station.specs.declared.clients.ClientState.{ClientState}
+use Rattle.radio_parts_station.specs.declared.clients.ClientState.TheVariants.{Undecided, Feeds, Listens, Answered, Ended}
+use Rattle.radio_parts_changes.specs.declared.change.Change.TheVariants.{Answer, Admit, TakeSeat, Advance, Forget}
 use Rattle.radio_seats_rows.specs.declared.seat.Listener.{Listener}
 use Rattle.radio_seats_rows.specs.declared.seat.Seat.{Seat}
 use Rattle.radio_seats_rows.specs.declared.seat.Seating.{Seating}
 use Rattle.radio_seats_rows.specs.declared.seat.Seating.TheVariants.{Sits as HasSeat, Finished as HasFinished}
-use Rattle.radio_house.specs.declared.standing.Standing.{Standing}
-use Rattle.radio_house.specs.declared.standing.Standing.TheVariants.{Unknown, Undecided as IsUndecided, Feeds as IsFeeding, Sits}
-use Rattle.radio_house.specs.declared.standing.Standing.TheVariants.{Answered as IsAnswered, Finished}
-use Rattle.radio_house.specs.declared.relays.RelayState.{RelayState}
-use Rattle.radio_house.specs.declared.relays.RelayState.TheVariants.{Feeds as RelayFeeds, Ended as RelayEnded}
-use Rattle.radio_house.specs.Clients.{Client, client_of, in_state, with_state}
-use Rattle.radio_house.specs.Relays.{Relay, relay_of, risen, ended}
+use Rattle.radio_parts_station.specs.declared.standing.Standing.{Standing}
+use Rattle.radio_parts_station.specs.declared.standing.Standing.TheVariants.{Unknown, Undecided as IsUndecided, Feeds as IsFeeding, Sits}
+use Rattle.radio_parts_station.specs.declared.standing.Standing.TheVariants.{Answered as IsAnswered, Finished}
+use Rattle.radio_parts_station.specs.declared.relays.RelayState.{RelayState}
+use Rattle.radio_parts_station.specs.declared.relays.RelayState.TheVariants.{Feeds as RelayFeeds, Ended as RelayEnded}
+use Rattle.radio_parts_station.specs.Clients.{Client, client_of, in_state, with_state}
+use Rattle.radio_parts_station.specs.Relays.{Relay, relay_of, risen, ended}
 use Rattle.radio_seats_rows.specs.Seats.{listener_of, advanced, heard_to, hears_session, in_session_at, with_session_at}
-use Rattle.radio_house.specs.World.{World, standing_of, standing_in, standing_by, standing_seated, standing_of_listener, standing_relayed, standing_of_relay, has_relay, world}
-use Rattle.radio_changes.specs.Changes.{changed}
-use Rattle.radio_house.specs.HouseChanges.{begun, raised, finished_in}
+use Rattle.radio_parts_station.specs.World.{World, standing_of, standing_in, standing_by, standing_seated, standing_of_listener, standing_relayed, standing_of_relay, has_relay, world}
+use Rattle.radio_parts_changes.specs.Changes.{changed}
+use Rattle.radio_parts_station.specs.StationChanges.{begun, raised, finished_in}
 use Rattle.radio_seats_rows.proofs.SeatLaws.{beside_moved, beside_left, beside_seated, has_moved, is_no_listener, has_sat_down}
-use Rattle.radio_house.proofs.Lookups.{beside_state, beside_forgotten, does, still_none, is_no_client, is_new_client, beside_new}
-use Rattle.radio_house.proofs.Lookups.{relay_beside_ended, relay_beside_gone, is_ended_relay, is_no_relay, is_new_relay, beside_new_relay}
+use Rattle.radio_parts_station.proofs.Lookups.{beside_state, beside_forgotten, does, still_none, is_no_client, is_new_client, beside_new}
+use Rattle.radio_parts_station.proofs.Lookups.{relay_beside_ended, relay_beside_gone, is_ended_relay, is_no_relay, is_new_relay, beside_new_relay}
 use Rattle.radio_seats_rows.proofs.GivenLaws.{listener_hearing}
 use Rattle.std.specs.Option.{option_map}
-use Rattle.radio_house.specs.House.{House}
+use Rattle.radio_parts_station.specs.StationState.{StationState}
 
 -- one client stands so from now on, and the others as before
 pub record Turns (w later : World) (him : ℕ) (now : Standing) : Type 0 where
@@ -37,7 +37,7 @@ pub record Turns (w later : World) (him : ℕ) (now : Standing) : Type 0 where
 
 -- a client of this number is there
 abbrev pub IsThere : World → ℕ → Type 0
-IsThere w id = (client : Client) × (client_of w.house.clients id ≡ Some client)
+IsThere w id = (client : Client) × (client_of w.station.clients id ≡ Some client)
 
 -- no relay has yet to ask for something
 no_relay_asks : (relay : Option Relay) (peer : Peer) → standing_of_relay relay ≡ IsUndecided peer → ⊥
@@ -70,40 +70,40 @@ is_known_relay (RelayEnded rule) e = cc
 
 module _ (w : World) (id : ℕ) where
   abbrev relay_row : Option Relay
-  relay_row = relay_of w.house.relays id
+  relay_row = relay_of w.station.relays id
 
   abbrev listener_row : Option Listener
   listener_row = listener_of w.seats id
 
   -- where there is no client, it stands as a relay
-  pub stands_as_relay : client_of w.house.clients id ≡ None → standing_of w id ≡ standing_of_relay relay_row
+  pub stands_as_relay : client_of w.station.clients id ≡ None → standing_of w id ≡ standing_of_relay relay_row
   stands_as_relay none = ap (standing_in relay_row listener_row) none
 
-  pub stands_as_client : (client : Client) → client_of w.house.clients id ≡ Some client → standing_of w id ≡ standing_by listener_row client.peer client.state
+  pub stands_as_client : (client : Client) → client_of w.station.clients id ≡ Some client → standing_of w id ≡ standing_by listener_row client.peer client.state
   stands_as_client client there = ap (standing_in relay_row listener_row) there
 
   -- whoever has yet to ask for something is a client
   pub asks : (peer : Peer) → standing_of w id ≡ IsUndecided peer → IsThere w id
-  asks peer e = by_found (client_of w.house.clients id) refl where
-    by_found : (found : Option Client) → client_of w.house.clients id ≡ found → IsThere w id
+  asks peer e = by_found (client_of w.station.clients id) refl where
+    by_found : (found : Option Client) → client_of w.station.clients id ≡ found → IsThere w id
     by_found None none = absurd (no_relay_asks relay_row peer (sym (stands_as_relay none) ∙ e))
     by_found (Some client) there = (client, there)
 
   -- whoever is known, and no relay, is a client
   pub is_client_there : (standing_of w id ≡ Unknown → ⊥) → has_relay w id ≡ false → IsThere w id
-  is_client_there known no_relay = by_found (client_of w.house.clients id) refl where
+  is_client_there known no_relay = by_found (client_of w.station.clients id) refl where
     no_row : (relay : Option Relay) → is_some relay ≡ false → standing_of_relay relay ≡ Unknown
     no_row None e = refl
     no_row (Some relay) e = cc
 
-    by_found : (found : Option Client) → client_of w.house.clients id ≡ found → IsThere w id
+    by_found : (found : Option Client) → client_of w.station.clients id ≡ found → IsThere w id
     by_found None none = absurd (known (stands_as_relay none ∙ no_row relay_row no_relay))
     by_found (Some client) there = (client, there)
 
   -- nobody has a number by which nobody is known
-  pub no_client_there : standing_of w id ≡ Unknown → client_of w.house.clients id ≡ None
-  no_client_there unknown = by_found (client_of w.house.clients id) refl where
-    by_found : (found : Option Client) → client_of w.house.clients id ≡ found → found ≡ None
+  pub no_client_there : standing_of w id ≡ Unknown → client_of w.station.clients id ≡ None
+  no_client_there unknown = by_found (client_of w.station.clients id) refl where
+    by_found : (found : Option Client) → client_of w.station.clients id ≡ found → found ≡ None
     by_found None none = refl
     by_found (Some client) there = absurd (is_known listener_row client.peer client.state (sym (stands_as_client client there) ∙ unknown))
 
@@ -115,61 +115,61 @@ module _ (w : World) (id : ℕ) where
 
 -- one client, or relay, is kept so from now on
 module _ (w later : World) (him : ℕ) (relay : Option Relay) (client : Option Client) (listener : Option Listener)
-    (its_row : relay_of later.house.relays him ≡ relay) (his_client : client_of later.house.clients him ≡ client)
+    (its_row : relay_of later.station.relays him ≡ relay) (his_client : client_of later.station.clients him ≡ client)
     (his_seat : listener_of later.seats him ≡ listener) (relays : (id : ℕ) → (him == id) ≡ false
-    → relay_of later.house.relays id ≡ relay_of w.house.relays id) (clients : (id : ℕ) → (him == id) ≡ false
-    → client_of later.house.clients id ≡ client_of w.house.clients id)
+    → relay_of later.station.relays id ≡ relay_of w.station.relays id) (clients : (id : ℕ) → (him == id) ≡ false
+    → client_of later.station.clients id ≡ client_of w.station.clients id)
     (seats : (id : ℕ) → (him == id) ≡ false → listener_of later.seats id ≡ listener_of w.seats id) where
   turns : Turns w later him (standing_in relay listener client)
   turns = record {
-    his = ap (λ r. standing_in r (listener_of later.seats him) (client_of later.house.clients him)) its_row
-        ∙ ap (λ l. standing_in relay l (client_of later.house.clients him)) his_seat ∙ ap (standing_in relay listener) his_client;
-    others = λ id other. ap (λ r. standing_in r (listener_of later.seats id) (client_of later.house.clients id)) (relays id other)
-        ∙ ap (λ l. standing_in (relay_of w.house.relays id) l (client_of later.house.clients id)) (seats id other)
-        ∙ ap (standing_in (relay_of w.house.relays id) (listener_of w.seats id)) (clients id other);
+    his = ap (λ r. standing_in r (listener_of later.seats him) (client_of later.station.clients him)) its_row
+        ∙ ap (λ l. standing_in relay l (client_of later.station.clients him)) his_seat ∙ ap (standing_in relay listener) his_client;
+    others = λ id other. ap (λ r. standing_in r (listener_of later.seats id) (client_of later.station.clients id)) (relays id other)
+        ∙ ap (λ l. standing_in (relay_of w.station.relays id) l (client_of later.station.clients id)) (seats id other)
+        ∙ ap (standing_in (relay_of w.station.relays id) (listener_of w.seats id)) (clients id other);
   }
 
 module _ (w : World) (id : ℕ) where
   -- who does something else, and is there
   module _ (state : ClientState) (there : IsThere w id) where
-    turns_state : (later : World) (listener : Option Listener) → later.house.clients ≡ in_state w.house.clients id state
-        → ((him : ℕ) → (id == him) ≡ false → relay_of later.house.relays him ≡ relay_of w.house.relays him)
+    turns_state : (later : World) (listener : Option Listener) → later.station.clients ≡ in_state w.station.clients id state
+        → ((him : ℕ) → (id == him) ≡ false → relay_of later.station.relays him ≡ relay_of w.station.relays him)
         → listener_of later.seats id ≡ listener → ((him : ℕ) → (id == him) ≡ false → listener_of later.seats him ≡ listener_of w.seats him)
         → (client : Client) × Turns w later id (standing_by listener client.peer state)
     turns_state later listener e relays his others =
-        let is_so : client_of later.house.clients id ≡ Some (with_state state there.0) =
-        ap (λ cs. client_of cs id) e ∙ does w.house.clients id state there.0 there.1 in (
+        let is_so : client_of later.station.clients id ≡ Some (with_state state there.0) =
+        ap (λ cs. client_of cs id) e ∙ does w.station.clients id state there.0 there.1 in (
           there.0,
-          turns w later id (relay_of later.house.relays id) (Some (with_state state there.0)) listener refl is_so his relays
-              (λ him other. ap (λ cs. client_of cs him) e ∙ beside_state w.house.clients id him other state) others,
+          turns w later id (relay_of later.station.relays id) (Some (with_state state there.0)) listener refl is_so his relays
+              (λ him other. ap (λ cs. client_of cs him) e ∙ beside_state w.station.clients id him other state) others,
         )
 
   pub turns_answered : IsThere w id → Turns w (changed w (Answer id)) id IsAnswered
   turns_answered there = (turns_state Answered there (changed w (Answer id)) (listener_of w.seats id) refl (λ him other. refl) refl (λ him other. refl)).1
 
   abbrev ended_then : Rule → World
-  ended_then rule = record w { house = finished_in w.house id rule }
+  ended_then rule = record w { station = finished_in w.station id rule }
 
   -- a rule finishes whoever is known: a client, or a relay
-  pub turns_ended_by : (rule : Rule) → (standing_of w id ≡ Unknown → ⊥) → Turns w (record w { house = finished_in w.house id rule }) id (Finished rule)
-  turns_ended_by rule known = by_client (client_of w.house.clients id) refl where
-    by_relay : client_of w.house.clients id ≡ None → (found : Option Relay) → relay_of w.house.relays id ≡ found → Turns w (ended_then rule) id (Finished rule)
+  pub turns_ended_by : (rule : Rule) → (standing_of w id ≡ Unknown → ⊥) → Turns w (record w { station = finished_in w.station id rule }) id (Finished rule)
+  turns_ended_by rule known = by_client (client_of w.station.clients id) refl where
+    by_relay : client_of w.station.clients id ≡ None → (found : Option Relay) → relay_of w.station.relays id ≡ found → Turns w (ended_then rule) id (Finished rule)
     by_relay nobody None none = absurd (known (stands_as_relay w id nobody ∙ ap standing_of_relay none))
     by_relay nobody (Some relay) there =
-        turns w (ended_then rule) id (Some (ended rule relay)) None (listener_of w.seats id) (is_ended_relay w.house.relays id rule relay there)
-        (still_none id (Ended rule) w.house.clients nobody) refl (λ him other. relay_beside_ended w.house.relays id him other rule)
-        (λ him other. beside_state w.house.clients id him other (Ended rule)) (λ him other. refl)
+        turns w (ended_then rule) id (Some (ended rule relay)) None (listener_of w.seats id) (is_ended_relay w.station.relays id rule relay there)
+        (still_none id (Ended rule) w.station.clients nobody) refl (λ him other. relay_beside_ended w.station.relays id him other rule)
+        (λ him other. beside_state w.station.clients id him other (Ended rule)) (λ him other. refl)
 
-    by_client : (found : Option Client) → client_of w.house.clients id ≡ found → Turns w (ended_then rule) id (Finished rule)
-    by_client None none = by_relay none (relay_of w.house.relays id) refl
+    by_client : (found : Option Client) → client_of w.station.clients id ≡ found → Turns w (ended_then rule) id (Finished rule)
+    by_client None none = by_relay none (relay_of w.station.relays id) refl
     by_client (Some client) there =
         (turns_state (Ended rule) (client, there) (ended_then rule) (listener_of w.seats id) refl
-        (λ him other. relay_beside_ended w.house.relays id him other rule) refl (λ him other. refl)).1
+        (λ him other. relay_beside_ended w.station.relays id him other rule) refl (λ him other. refl)).1
 
   pub turns_feeding : (mount : List ℕ) (shown : Shown) → IsThere w id
-      → Turns w (record w { house = begun w.house id mount shown }) id (IsFeeding mount)
+      → Turns w (record w { station = begun w.station id mount shown }) id (IsFeeding mount)
   turns_feeding mount shown there =
-      (turns_state (Feeds mount) there (record w { house = begun w.house id mount shown }) (listener_of w.seats id) refl (λ him other. refl) refl
+      (turns_state (Feeds mount) there (record w { station = begun w.station id mount shown }) (listener_of w.seats id) refl (λ him other. refl) refl
       (λ him other. refl)).1
 
   pub turns_sitting : (seat : Seat) → IsThere w id → Turns w (changed w (TakeSeat id seat)) id Sits
@@ -180,26 +180,26 @@ module _ (w : World) (id : ℕ) where
 
   pub turns_forgotten : Turns w (changed w (Forget id)) id Unknown
   turns_forgotten =
-      turns w (changed w (Forget id)) id None None None (is_no_relay w.house.relays id) (is_no_client w.house.clients id) (is_no_listener w.seats id)
-      (λ him other. relay_beside_gone w.house.relays id him other) (λ him other. beside_forgotten w.house.clients id him other)
+      turns w (changed w (Forget id)) id None None None (is_no_relay w.station.relays id) (is_no_client w.station.clients id) (is_no_listener w.seats id)
+      (λ him other. relay_beside_gone w.station.relays id him other) (λ him other. beside_forgotten w.station.clients id him other)
       (λ him other. beside_left w.seats id him other)
 
   pub turns_admitted : (peer : Peer) → Turns w (changed w (Admit id peer)) id (IsUndecided peer)
   turns_admitted peer =
       let itself : (id == id) ≡ true = grind (arith, nat_tests) in
-      let new : Client = record { id = id; peer = peer; arrived = w.house.time; state = Undecided } in
-      turns w (changed w (Admit id peer)) id (relay_of w.house.relays id) (Some new) (listener_of w.seats id) refl
-      (is_new_client w.house.clients new id itself) refl (λ him other. refl) (λ him other. beside_new w.house.clients new him other) (λ him other. refl)
+      let new : Client = record { id = id; peer = peer; arrived = w.station.time; state = Undecided } in
+      turns w (changed w (Admit id peer)) id (relay_of w.station.relays id) (Some new) (listener_of w.seats id) refl
+      (is_new_client w.station.clients new id itself) refl (λ him other. refl) (λ him other. beside_new w.station.clients new him other) (λ him other. refl)
 
   -- a relay comes up with a number that nobody had
   pub turns_raised : (mount : List ℕ) (shown : Shown) → standing_of w id ≡ Unknown
-      → Turns w (record w { house = raised w.house id mount shown }) id (IsFeeding mount)
+      → Turns w (record w { station = raised w.station id mount shown }) id (IsFeeding mount)
   turns_raised mount shown unknown =
       let itself : (id == id) ≡ true = grind (arith, nat_tests) in
       let new : Relay = risen id mount in
-      turns w (record w { house = raised w.house id mount shown }) id (Some new) None (listener_of w.seats id)
-      (is_new_relay w.house.relays new id itself) (no_client_there w id unknown) refl
-      (λ him other. beside_new_relay w.house.relays new him other) (λ him other. refl) (λ him other. refl)
+      turns w (record w { station = raised w.station id mount shown }) id (Some new) None (listener_of w.seats id)
+      (is_new_relay w.station.relays new id itself) (no_client_there w id unknown) refl
+      (λ him other. beside_new_relay w.station.relays new him other) (λ him other. refl) (λ him other. refl)
 
 -- a listener hears on, and stands as before
 heard_on : (place : ℕ) (seating : Seating) → standing_seated (heard_to place seating) ≡ standing_seated seating
@@ -224,8 +224,8 @@ pub stays_hearing : (w : World) (him place : ℕ) (listener : Listener) → list
 stays_hearing w him place listener found id = by_number him id his others where
   his : him ≡ id → standing_of (changed w (Advance him place)) id ≡ standing_of w id
   his same =
-      let client = client_of w.house.clients id in
-      let relay = relay_of w.house.relays id in
+      let client = client_of w.station.clients id in
+      let relay = relay_of w.station.relays id in
       ap (λ n. standing_in relay (listener_of (changed w (Advance him place)).seats n) client) (sym same)
       ∙ ap (λ l. standing_in relay l client) (has_moved w.seats him place listener found)
       ∙ heard_in relay place listener client
@@ -233,7 +233,7 @@ stays_hearing w him place listener found id = by_number him id his others where
       ∙ ap (λ n. standing_in relay (listener_of w.seats n) client) same
 
   others : (him == id) ≡ false → standing_of (changed w (Advance him place)) id ≡ standing_of w id
-  others other = ap (λ l. standing_in (relay_of w.house.relays id) l (client_of w.house.clients id)) (beside_moved w.seats him id other place)
+  others other = ap (λ l. standing_in (relay_of w.station.relays id) l (client_of w.station.clients id)) (beside_moved w.seats him id other place)
 
 -- who hears a session that begins at its mount stands as before
 given_seated : (mount : List ℕ) (session : ℕ) (seating : Seating) → standing_seated (in_session_at mount session seating) ≡ standing_seated seating
@@ -254,17 +254,17 @@ given_in relay mount session None client = refl
 given_in relay mount session (Some listener) None = refl
 given_in relay mount session (Some listener) (Some client) = given_by mount session listener client.peer client.state
 
-pub stays_given : (house : House) (seats : List Listener) (mount : List ℕ) (session id : ℕ)
-    → standing_of (world house (with_session_at seats mount session)) id ≡ standing_of (world house seats) id
-stays_given house seats mount session id =
-    ap (λ l. standing_in (relay_of house.relays id) l (client_of house.clients id)) (listener_hearing mount session seats id)
-    ∙ given_in (relay_of house.relays id) mount session (listener_of seats id) (client_of house.clients id)
+pub stays_given : (station : StationState) (seats : List Listener) (mount : List ℕ) (session id : ℕ)
+    → standing_of (world station (with_session_at seats mount session)) id ≡ standing_of (world station seats) id
+stays_given station seats mount session id =
+    ap (λ l. standing_in (relay_of station.relays id) l (client_of station.clients id)) (listener_hearing mount session seats id)
+    ∙ given_in (relay_of station.relays id) mount session (listener_of seats id) (client_of station.clients id)
 
-pub turns_given : (w : World) (house : House) (mount : List ℕ) (session him : ℕ) (now : Standing) → Turns w (record w { house = house }) him now
-    → Turns w (world house (with_session_at w.seats mount session)) him now
-turns_given w house mount session him now t = record {
-  his = stays_given house w.seats mount session him ∙ t.his;
-  others = λ id other. stays_given house w.seats mount session id ∙ t.others id other;
+pub turns_given : (w : World) (station : StationState) (mount : List ℕ) (session him : ℕ) (now : Standing) → Turns w (record w { station = station }) him now
+    → Turns w (world station (with_session_at w.seats mount session)) him now
+turns_given w station mount session him now t = record {
+  his = stays_given station w.seats mount session him ∙ t.his;
+  others = λ id other. stays_given station w.seats mount session id ∙ t.others id other;
 }
 
 -- who feeds feeds whoever listens
@@ -288,7 +288,7 @@ feeds_in relay listener other (Some client) mount e = feeds_by listener other cl
 
 pub feeds_whoever_sits : (w : World) (seats : List Listener) (id : ℕ) (mount : List ℕ) → standing_of w id ≡ IsFeeding mount
     → standing_of (record w { seats = seats }) id ≡ IsFeeding mount
-feeds_whoever_sits w seats id mount e = feeds_in (relay_of w.house.relays id) (listener_of w.seats id) (listener_of seats id) (client_of w.house.clients id) mount e
+feeds_whoever_sits w seats id mount e = feeds_in (relay_of w.station.relays id) (listener_of w.seats id) (listener_of seats id) (client_of w.station.clients id) mount e
 
 -- who sits does so at whatever mount
 sits_by : (listener : Option Listener) (peer : Peer) (state : ClientState) (id : ℕ) (seat : Seat) → standing_by listener peer state ≡ Sits

@@ -1,95 +1,29 @@
--- one step of the core; the end of a session and of a connection need no memory
-use Rattle.std.specs.Prelude.{if◌then◌else◌, nat_lt}
-use Rattle.std.proofs.Common.{◌≡◌, Bool, true, false, ℕ, List, [], ◌∷◌, Some, Result, Ok, Err, OnOk, OnErr, IfOk, ◌≤◌, refl, ap, sym, subst, ◌∙◌}
+-- One step of the core, in the states that it represents.
+use Rattle.std.proofs.Common.{◌≡◌, ℕ, List, [], ◌∷◌, Some, Result, Ok, Err, OnOk, OnErr, IfOk, ◌≤◌, refl, ap, sym, subst, ◌∙◌}
 use Rattle.radio_events.specs.declared.event.Event.{Event}
-use Rattle.radio_events.specs.declared.event.Event.TheVariants.{Arrive, Source, Push, SourceEnd, Title, Listen, Draw, Command, Leave}
-use Rattle.radio_events.specs.declared.event.Event.TheVariants.{RelayUp, RelayDown, Clock}
-use Rattle.radio_core.specs.declared.outcome.Outcome.{Outcome}
-use Rattle.radio_house.specs.declared.standing.Standing.{Standing}
-use Rattle.radio_house.specs.declared.standing.Standing.TheVariants.{Unknown, Undecided, Feeds, Sits, Answered, Finished}
+use Rattle.radio_parts.specs.declared.outcome.Outcome.{Outcome}
+use Rattle.radio_parts_station.specs.declared.standing.Standing.TheVariants.{Sits}
 use Rattle.radio_events.specs.declared.reply.Reply.{Reply}
-use Rattle.radio_events.specs.declared.reply.Reply.TheVariants.{Noted, Stray}
-use Rattle.radio_changes.specs.declared.change.Change.TheVariants.{Nothing, End, Tick}
-use Rattle.radio_core.specs.Leave.{leaves_from}
-use Rattle.radio_core.specs.RelayDown.{goes_down_from}
-use Rattle.radio_core.specs.Outcomes.{says, if_feeding, unless_relayed}
-use Rattle.radio_events.specs.Replies.{HoldsNoText}
-use Rattle.radio_changes.specs.Changes.{changed}
-use Rattle.radio_parts.specs.Kept.{first_start}
-use Rattle.radio_changes.specs.KeptChanges.{kept_changed}
-use Rattle.radio_changes.specs.Counts.{counted}
-use Rattle.radio_core.specs.Planned.{with_counts, uncounted, planned}
-use Rattle.radio_parts.specs.Sessions.{Session, session_of}
-use Rattle.radio_changes.specs.Changes.{ChangeTakesNoMemory}
-use Rattle.radio_core.specs.Step.{outcome, reply_to, world_after, Step, Represents, StandsForSome}
-use Rattle.radio_events.specs.Events.{EventTakesNoMemory}
-use Rattle.radio_parts.specs.Stream.{end_of}
-use Rattle.radio_house.specs.World.{World, opening, standing_of, has_relay}
+use Rattle.radio_parts_changes.specs.Changes.{changed}
+use Rattle.radio_parts_mount.specs.Kept.{first_start}
+use Rattle.radio_parts_changes.specs.KeptChanges.{kept_changed}
+use Rattle.radio_parts_changes.specs.Counts.{counted}
+use Rattle.radio_parts.specs.Planned.{with_counts, uncounted, planned}
+use Rattle.radio_parts_mount.specs.Sessions.{Session, session_of}
+use Rattle.radio_parts.specs.Step.{outcome, reply_to, world_after, Step}
+use Rattle.radio_core.specs.Represents.{Represents, StandsForSome}
+use Rattle.radio_parts_mount.specs.Stream.{end_of}
+use Rattle.radio_parts_station.specs.World.{World, opening, standing_of}
 use Rattle.radio_settings_values.specs.declared.settings.Settings.{Settings}
 use Rattle.radio_access.specs.Lists.{Lists}
 use Rattle.radio_core.proofs.KeptOutcomes.{outcome_kept}
 use Rattle.radio_core.proofs.KeptRuns.{kept_on, seat_is_kept}
 use Rattle.radio_core.proofs.KeptSteps.{changed_kept, rise_changed}
-use Rattle.radio_core.proofs.PlannedLemmas.{planned_so, completed_so}
+use Rattle.radio_parts.proofs.PlannedLemmas.{planned_so, completed_so}
 use Rattle.radio_core.proofs.SoundRuns.{sound_after, sound_opening}
 use Rattle.radio_seats_rows.specs.declared.seat.Seat.{Seat}
 use Rattle.radio_seats_rows.specs.Seats.{seat_of, last_mount_of}
-use Rattle.radio_facts.specs.Wanted.{wanted}
-
--- its reply has no text, and its change needs no memory
-abbrev pub IsSmall : Outcome → Type 0
-IsSmall o = HoldsNoText o.reply × ChangeTakesNoMemory o.change
-
-unless_by : (relayed : Bool) (o : Outcome) → IsSmall o → IsSmall (unless_relayed relayed o)
-unless_by true o small = (tt, tt)
-unless_by false o small = small
-
-end_by : (id : ℕ) (relayed : Bool) (s : Standing) → IsSmall (if_feeding s (λ (mount : List ℕ). unless_relayed relayed (says Noted (End id mount))))
-end_by id relayed Unknown = (tt, tt)
-end_by id relayed (Undecided peer) = (tt, tt)
-end_by id relayed (Feeds mount) = unless_by relayed (says Noted (End id mount)) (tt, tt)
-end_by id relayed Sits = (tt, tt)
-end_by id relayed Answered = (tt, tt)
-end_by id relayed (Finished rule) = (tt, tt)
-
-leave_by : (id : ℕ) (s : Standing) → IsSmall (leaves_from id s)
-leave_by id Unknown = (tt, tt)
-leave_by id (Undecided peer) = (tt, tt)
-leave_by id (Feeds mount) = (tt, tt)
-leave_by id Sits = (tt, tt)
-leave_by id Answered = (tt, tt)
-leave_by id (Finished rule) = (tt, tt)
-
-down_from : (id : ℕ) (s : Standing) → IsSmall (goes_down_from id s)
-down_from id Unknown = (tt, tt)
-down_from id (Undecided peer) = (tt, tt)
-down_from id (Feeds mount) = (tt, tt)
-down_from id Sits = (tt, tt)
-down_from id Answered = (tt, tt)
-down_from id (Finished rule) = (tt, tt)
-
-down_by : (id : ℕ) (relayed : Bool) (s : Standing) → IsSmall (if relayed then goes_down_from id s else says Stray Nothing)
-down_by id true s = down_from id s
-down_by id false s = (tt, tt)
-
-clock_by : (ms : ℕ) (b : Bool) → IsSmall (says Noted (if b then Nothing else Tick ms))
-clock_by ms true = (tt, tt)
-clock_by ms false = (tt, tt)
-
-pub small_outcome : (w : World) (event : Event) → EventTakesNoMemory event → IsSmall (planned w event)
-unfolding planned outcome
-small_outcome w (SourceEnd id) small = end_by id (has_relay w id) (standing_of w id)
-small_outcome w (Leave id) small = unless_by (has_relay w id) (leaves_from id (standing_of w id)) (leave_by id (standing_of w id))
-small_outcome w (RelayDown id) small = down_by id (has_relay w id) (standing_of w id)
-small_outcome w (Clock ms) small = clock_by ms (nat_lt ms w.house.time)
-small_outcome w (Arrive peer) small = absurd small
-small_outcome w (Source asked) small = absurd small
-small_outcome w (Push id block) small = absurd small
-small_outcome w (Title id text) small = absurd small
-small_outcome w (Listen asked) small = absurd small
-small_outcome w (Draw id room) small = absurd small
-small_outcome w (Command asked) small = absurd small
-small_outcome w (RelayUp mount shown) small = absurd small
+use Rattle.radio_parts_facts.specs.Wanted.{wanted}
 
 -- the opening state stands for itself
 pub opening_represents : (settings : Settings) (lists : Lists) → Represents (opening settings lists) (opening settings lists)
@@ -97,9 +31,9 @@ unfolding Represents
 opening_represents settings lists = record { shows = refl; rise = tt; kept = λ id seat session e f. cc; sound = sound_opening settings lists }
 
 -- a core has the settings of whatever state it stands for
-pub keeps_settings : (core w : World) → Represents core w → core.house.settings ≡ w.house.settings
+pub keeps_settings : (core w : World) → Represents core w → core.station.settings ≡ w.station.settings
 unfolding Represents
-keeps_settings core w stands = ap (λ (x : World). x.house.settings) stands.shows
+keeps_settings core w stands = ap (λ (x : World). x.station.settings) stands.shows
 
 -- the mounts are wanted that are in whatever state it stands for
 pub wants_alike : (core w : World) → Represents core w → wanted core ≡ wanted w
@@ -117,13 +51,13 @@ opening_stands settings lists = (opening settings lists, opening_represents sett
 
 -- no place of a seat is forgotten
 pub place_is_kept : (now : World) → StandsForSome now → (id : ℕ) (seat : Seat) (session : Session) → seat_of now.seats id ≡ Some seat
-    → session_of now.house.live seat.mount ≡ Some session → first_start (end_of session.stream) session.stream.starts ≤ seat.place
+    → session_of now.station.live seat.mount ≡ Some session → first_start (end_of session.stream) session.stream.starts ≤ seat.place
 unfolding StandsForSome Represents
 place_is_kept now stands id seat session has live =
     let w = stands.0 in
     let shows = stands.1.shows in
     seat_is_kept w stands.1.rise stands.1.kept id seat session (sym (ap (λ (x : World). seat_of x.seats id) shows) ∙ has)
-    (sym (ap (λ (x : World). session_of x.house.live seat.mount) shows) ∙ live)
+    (sym (ap (λ (x : World). session_of x.station.live seat.mount) shows) ∙ live)
 
 -- whoever has a seat sits
 pub seat_sits : (now : World) → StandsForSome now → (id : ℕ) (seat : Seat) → seat_of now.seats id ≡ Some seat → standing_of now id ≡ Sits
@@ -185,17 +119,6 @@ module _ (now later : World) (event : Event) (o : Outcome) (is_planned : o ≡ p
       let s = steps_to ok w stands in
       (told_reply, s.0, s.1, told, s.2)
   steps_done (Err refused) ok told w stands = tt
-
-  pub small_reply : EventTakesNoMemory event → HoldsNoText o.reply
-  small_reply small = subst (λ (x : Outcome). HoldsNoText x.reply) (sym is_planned) (small_outcome now event small).0
-
-  pub small_change : EventTakesNoMemory event → ChangeTakesNoMemory o.change
-  small_change small = subst (λ (x : Outcome). ChangeTakesNoMemory x.change) (sym is_planned) (small_outcome now event small).1
-
--- what is told of a plan is the reply
-pub told_by_plan : (w : World) (event : Event) → with_counts (planned w event).reply (counted w (planned w event).change) ≡ reply_to w event
-unfolding reply_to
-told_by_plan w event = is_told w w event (planned w event) refl
 
 -- and a core replies as the state for which it stands
 pub replies_alike : (core w : World) → Represents core w → (event : Event) → reply_to core event ≡ reply_to w event

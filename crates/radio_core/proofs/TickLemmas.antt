@@ -10,29 +10,29 @@ use Rattle.radio_tables.proofs.FindLaws.{find_mapped, found_passes}
 use Rattle.radio_seats_rows.specs.declared.seat.Listener.{Listener}
 use Rattle.radio_seats_rows.specs.declared.seat.Seat.{Seat}
 use Rattle.radio_seats_rows.specs.Seats.{listener_of, seat_of}
-use Rattle.radio_house.specs.declared.clients.ClientState.{ClientState}
-use Rattle.radio_house.specs.declared.clients.ClientState.TheVariants.{Undecided as IsNew, Feeds as IsSource, Listens, Answered as HasHisAnswer, Ended}
+use Rattle.radio_parts_station.specs.declared.clients.ClientState.{ClientState}
+use Rattle.radio_parts_station.specs.declared.clients.ClientState.TheVariants.{Undecided as IsNew, Feeds as IsSource, Listens, Answered as HasHisAnswer, Ended}
 use Rattle.radio_events.specs.declared.event.Event.TheVariants.{Clock}
-use Rattle.radio_house.specs.declared.standing.Standing.{Standing}
-use Rattle.radio_house.specs.declared.standing.Standing.TheVariants.{Undecided, Feeds, Sits, Finished}
-use Rattle.radio_changes.specs.Changes.{session_over, session_ended, before_silence, silent_in, session_silenced, ticked}
-use Rattle.radio_house.specs.HouseChanges.{timed_out_by}
-use Rattle.radio_house.specs.Clients.{Client, is_client, client_of, with_state}
-use Rattle.radio_house.specs.Relays.{Relay, relay_of}
+use Rattle.radio_parts_station.specs.declared.standing.Standing.{Standing}
+use Rattle.radio_parts_station.specs.declared.standing.Standing.TheVariants.{Undecided, Feeds, Sits, Finished}
+use Rattle.radio_parts_changes.specs.Changes.{session_over, session_ended, before_silence, silent_in, session_silenced, ticked}
+use Rattle.radio_parts_station.specs.StationChanges.{timed_out_by}
+use Rattle.radio_parts_station.specs.Clients.{Client, is_client, client_of, with_state}
+use Rattle.radio_parts_station.specs.Relays.{Relay, relay_of}
 use Rattle.radio_core.specs.Finishes.{Cause, SessionIsOver, HasSatOut, HasAskedNothing, HasSentNothing}
 use Rattle.radio_core.specs.Moves.{Brings, BySilence, TakesTo}
 use Rattle.radio_fallback.specs.declared.moves.Move.TheVariants.{Ended as SessionEnds}
 use Rattle.radio_policy.specs.declared.rule.Rule.{Rule}
 use Rattle.radio_settings_values.specs.declared.settings.Settings.{Settings}
-use Rattle.radio_parts.specs.Sessions.{Session, session_of}
+use Rattle.radio_parts_mount.specs.Sessions.{Session, session_of}
 use Rattle.radio_core.specs.Sound.{IsSound}
-use Rattle.radio_parts.specs.Timeouts.{has_sat_out, is_silent}
-use Rattle.radio_house.specs.Timeouts.{asks_nothing, asks_too_late, timed_out}
-use Rattle.radio_house.specs.World.{World, standing_of, standing_in}
-use Rattle.radio_parts.proofs.ApartLemmas.{found_own}
+use Rattle.radio_parts_mount.specs.Timeouts.{has_sat_out, is_silent}
+use Rattle.radio_parts_station.specs.Timeouts.{asks_nothing, asks_too_late, timed_out}
+use Rattle.radio_parts_station.specs.World.{World, standing_of, standing_in}
+use Rattle.radio_parts_mount.proofs.ApartLemmas.{found_own}
 use Rattle.radio_core.proofs.Fates.{IsActive, Fate, GoesOn, IsEnded, HasStopped, IsMoved, Fates, HasEnded, Nobody, feeds_on, sound_fates, fates_none, fates_then, seats_fates}
-use Rattle.radio_parts.proofs.SessionLookups.{is_over}
-use Rattle.radio_parts.proofs.SilentSessions.{found_first}
+use Rattle.radio_parts_mount.proofs.SessionLookups.{is_over}
+use Rattle.radio_parts_mount.proofs.SilentSessions.{found_first}
 use Rattle.radio_core.proofs.SilentLemmas.{silent_then}
 use Rattle.radio_core.proofs.SoundEnds.{over_fates, late_beside, still_feeds, has_none_then, order_then}
 use Rattle.radio_core.proofs.Standings.{Turns, turns_ended_by}
@@ -90,18 +90,18 @@ module _ (w : World) (s : IsSound w) (ms : ℕ) where
   ClockFates = Fates ClockCause ClockCarries Nobody HasEnded
 
   abbrev pub timed : World
-  timed = record w { house = timed_out_by w.house ms }
+  timed = record w { station = timed_out_by w.station ms }
 
   abbrev timeout : ℕ
-  timeout = w.house.settings.limits.header_timeout
+  timeout = w.station.settings.limits.header_timeout
 
-  stands_in : (id : ℕ) (found : Option Client) → client_of timed.house.clients id ≡ found
-      → standing_of timed id ≡ standing_in (relay_of w.house.relays id) (listener_of w.seats id) found
-  stands_in id found e = ap (standing_in (relay_of w.house.relays id) (listener_of w.seats id)) e
+  stands_in : (id : ℕ) (found : Option Client) → client_of timed.station.clients id ≡ found
+      → standing_of timed id ≡ standing_in (relay_of w.station.relays id) (listener_of w.seats id) found
+  stands_in id found e = ap (standing_in (relay_of w.station.relays id) (listener_of w.seats id)) e
 
-  stood_in : (id : ℕ) (found : Option Client) → client_of w.house.clients id ≡ found
-      → standing_of w id ≡ standing_in (relay_of w.house.relays id) (listener_of w.seats id) found
-  stood_in id found e = ap (standing_in (relay_of w.house.relays id) (listener_of w.seats id)) e
+  stood_in : (id : ℕ) (found : Option Client) → client_of w.station.clients id ≡ found
+      → standing_of w id ≡ standing_in (relay_of w.station.relays id) (listener_of w.seats id) found
+  stood_in id found e = ap (standing_in (relay_of w.station.relays id) (listener_of w.seats id)) e
 
   new_by : (relay : Option Relay) (listener : Option Listener) (client : Client) → client.state ≡ IsNew
       → standing_in relay listener (Some client) ≡ Undecided client.peer
@@ -113,27 +113,27 @@ module _ (w : World) (s : IsSound w) (ms : ℕ) where
     by_found None h = refl
     by_found (Some seat) h = let sat : standing_of w id ≡ Sits = s.sitting id seat h in cc
 
-  timeout_at : (id : ℕ) (client : Client) → client_of w.house.clients id ≡ Some client → (b : Bool) → asks_too_late timeout ms client ≡ b
-      → client_of timed.house.clients id ≡ Some (with_state (if b then Ended HeaderTimeout else client.state) client)
+  timeout_at : (id : ℕ) (client : Client) → client_of w.station.clients id ≡ Some client → (b : Bool) → asks_too_late timeout ms client ≡ b
+      → client_of timed.station.clients id ≡ Some (with_state (if b then Ended HeaderTimeout else client.state) client)
       → ClockFate w timed id
   timeout_at id client found true late now =
       let is_new : client.state ≡ IsNew = asking_at timeout ms client.arrived client.state late in
-      let undecided : standing_of w id ≡ Undecided client.peer = stood_in id (Some client) found ∙ new_by (relay_of w.house.relays id) (listener_of w.seats id) client is_new in
+      let undecided : standing_of w id ≡ Undecided client.peer = stood_in id (Some client) found ∙ new_by (relay_of w.station.relays id) (listener_of w.seats id) client is_new in
       IsEnded HeaderTimeout (HasAskedNothing ms client refl found late) (subst (λ (x : Standing). IsActive x) (sym undecided) tt)
       (stands_in id (Some (with_state (Ended HeaderTimeout) client)) now) (has_no_seat id client.peer undecided) (λ mount e. cc)
   timeout_at id client found false late now =
       GoesOn (stands_in id (Some client) now ∙ sym (stood_in id (Some client) found)) refl (λ mount e. refl) (λ seat e. refl)
 
   timeout_fate : (id : ℕ) → ClockFate w timed id
-  timeout_fate id = by_found (client_of w.house.clients id) refl where
-    by_found : (found : Option Client) → client_of w.house.clients id ≡ found → ClockFate w timed id
+  timeout_fate id = by_found (client_of w.station.clients id) refl where
+    by_found : (found : Option Client) → client_of w.station.clients id ≡ found → ClockFate w timed id
     by_found None none =
-        let now : client_of timed.house.clients id ≡ None = clients_after timeout ms w.house.clients id
+        let now : client_of timed.station.clients id ≡ None = clients_after timeout ms w.station.clients id
         ∙ ap (option_map (timed_out timeout ms)) none in
         GoesOn (stands_in id None now ∙ sym (stood_in id None none)) refl (λ mount e. refl) (λ seat e. refl)
     by_found (Some client) found =
-        let now : client_of timed.house.clients id ≡ Some (timed_out timeout ms client) =
-        clients_after timeout ms w.house.clients id ∙ ap (option_map (timed_out timeout ms)) found in
+        let now : client_of timed.station.clients id ≡ Some (timed_out timeout ms client) =
+        clients_after timeout ms w.station.clients id ∙ ap (option_map (timed_out timeout ms)) found in
         timeout_at id client found (asks_too_late timeout ms client) refl now
 
   pub timeout_fates : ClockFates w timed
@@ -144,8 +144,8 @@ module _ (w : World) (s : IsSound w) (ms : ℕ) where
     live = λ mount session e. e;
     apart = s.apart;
     by_number = s.by_number;
-    late = λ id client seconds' ms' e late. late_in timeout ms (client_of w.house.clients id) client seconds' ms'
-        (sym (clients_after timeout ms w.house.clients id) ∙ e) late;
+    late = λ id client seconds' ms' e late. late_in timeout ms (client_of w.station.clients id) client seconds' ms'
+        (sym (clients_after timeout ms w.station.clients id) ∙ e) late;
     fate = timeout_fate;
   }
 
@@ -155,7 +155,7 @@ module _ (w : World) (s : IsSound w) (ms : ℕ) where
   -- listeners who have had their time
   pub fates_sat_out : ClockFates timed (before_silence w ms)
   fates_sat_out =
-      seats_fates ClockCause ClockCarries Nobody HasEnded timed sound_timed (has_sat_out w.house.settings ms) TimeOver
+      seats_fates ClockCause ClockCarries Nobody HasEnded timed sound_timed (has_sat_out w.station.settings ms) TimeOver
       (λ id seat has out. HasSatOut ms seat refl has out)
 
   pub sound_sat_out : IsSound (before_silence w ms)
@@ -171,7 +171,7 @@ module _ (w : World) (s : IsSound w) (ms : ℕ) where
     pub have_ended : during ≡ fold session_silenced (before_silence w ms) before
     pub are_left : silent_in during ≡ sessions
     pub sound : IsSound during
-    pub now : during.house.time ≡ ms
+    pub now : during.station.time ≡ ms
     pub so_far : ClockFates w during
 
   pub at_first : IsOnTheWay (silent_in (before_silence w ms)) (before_silence w ms)
@@ -191,19 +191,19 @@ module _ (w : World) (s : IsSound w) (ms : ℕ) where
     after_silence = session_silenced during session
 
     abbrev silent_then_too : Session → Bool
-    silent_then_too = is_silent during.house.settings.limits.source_timeout during.house.time
+    silent_then_too = is_silent during.station.settings.limits.source_timeout during.station.time
 
-    found : find silent_then_too during.house.live ≡ Some session
-    found = found_first silent_then_too during.house.live session sessions way.are_left
+    found : find silent_then_too during.station.live ≡ Some session
+    found = found_first silent_then_too during.station.live session sessions way.are_left
 
-    pub live_there : session_of during.house.live session.mount ≡ Some session
-    live_there = found_own silent_then_too during.house.live session way.sound.apart found
+    pub live_there : session_of during.station.live session.mount ≡ Some session
+    live_there = found_own silent_then_too during.station.live session way.sound.apart found
 
-    silent_now : is_silent w.house.settings.limits.source_timeout ms session ≡ true
+    silent_now : is_silent w.station.settings.limits.source_timeout ms session ≡ true
     silent_now =
         ap (λ (settings : Settings). is_silent settings.limits.source_timeout ms session) (sym way.so_far.settings)
-        ∙ ap (λ (moment : ℕ). is_silent during.house.settings.limits.source_timeout moment session) (sym way.now)
-        ∙ found_passes silent_then_too during.house.live session found
+        ∙ ap (λ (moment : ℕ). is_silent during.station.settings.limits.source_timeout moment session) (sym way.now)
+        ∙ found_passes silent_then_too during.station.live session found
 
     feeding : standing_of during session.number ≡ Feeds session.mount
     feeding = way.sound.fed session.mount session live_there
@@ -229,13 +229,13 @@ module _ (w : World) (s : IsSound w) (ms : ℕ) where
         (λ m e.
         let both : Feeds session.mount ≡ Feeds m = sym feeding ∙ e in
         let one : session.mount ≡ m = cc in
-        ap (session_of after_silence.house.live) (sym one) ∙ is_over during.house.live session.mount))
+        ap (session_of after_silence.station.live) (sym one) ∙ is_over during.station.live session.mount))
         (λ id seat rule had turn.
         let old = had_before ClockCause ClockCarries Nobody HasEnded w during way.so_far id seat had in
         SessionIsOver rule old.0 old.1 (SessionEnds session.mount, session_over during session.mount, brings, turn))
         (λ id target turn. (SessionEnds session.mount, session_over during session.mount, brings, turn))
         refl refl refl (order_then during way.sound session.number session.mount feeding)
-        (late_beside during.house.clients session.number (Ended SourceSilent) (λ client seconds moment late. cc))
+        (late_beside during.station.clients session.number (Ended SourceSilent) (λ client seconds moment late. cc))
 
     pub goes_on : IsOnTheWay sessions (session_silenced during session)
     goes_on = record {

@@ -6,7 +6,7 @@ use Rattle.std.specs.Str.{bytes_eq}
 use Rattle.radio_tables.specs.Lists.{update_first}
 use Rattle.radio_tables.proofs.FindLaws.{find_here, find_later}
 use Rattle.radio_tables.proofs.KeyLaws.{by_name}
-use Rattle.radio_parts.specs.Sessions.{Session, is_of, session_of}
+use Rattle.radio_parts_mount.specs.Sessions.{Session, is_of, session_of}
 
 module _ (live : List Session) (mount : List ℕ) (f : Session → Session) (same_test : (x : Session) → is_of mount (f x) ≡ is_of mount x) where
   updated_at : (x : Session) (xs : List Session) (his : Bool) → is_of mount x ≡ his

@@ -12,24 +12,24 @@ use Rattle.radio_events.specs.declared.event.SourceRequest.{SourceRequest}
 use Rattle.radio_events.specs.declared.event.ListenRequest.{ListenRequest}
 use Rattle.radio_events.specs.declared.reply.Reply.TheVariants.{Deny}
 use Rattle.radio_events.specs.Events.{client_in}
-use Rattle.radio_house.specs.declared.standing.Standing.{Standing}
-use Rattle.radio_house.specs.declared.standing.Standing.TheVariants.{Unknown, Undecided, Feeds, Sits, Answered, Finished}
+use Rattle.radio_parts_station.specs.declared.standing.Standing.{Standing}
+use Rattle.radio_parts_station.specs.declared.standing.Standing.TheVariants.{Unknown, Undecided, Feeds, Sits, Answered, Finished}
 use Rattle.radio_events.specs.declared.command.Command.{Command}
-use Rattle.radio_core.specs.Allowed.{IsCommanded}
-use Rattle.radio_house.specs.Facts.{rows_to_feed, rows_to_raise, rows_to_listen}
+use Rattle.radio_parts.specs.Allowed.{IsCommanded}
+use Rattle.radio_parts_station.specs.Facts.{rows_to_feed, rows_to_raise, rows_to_listen}
 use Rattle.radio_events.specs.declared.text.ReplyText.{ReplyText}
-use Rattle.radio_core.specs.Pages.{IsShownBy}
+use Rattle.radio_parts.specs.Pages.{IsShownBy}
 use Rattle.radio_core.specs.Finishes.{Finishes}
-use Rattle.radio_house.specs.Clients.{Client, client_of}
-use Rattle.radio_core.specs.Step.{reply_to, world_after}
-use Rattle.radio_house.specs.World.{World, standing_of, has_relay}
+use Rattle.radio_parts_station.specs.Clients.{Client, client_of}
+use Rattle.radio_parts.specs.Step.{reply_to, world_after}
+use Rattle.radio_parts_station.specs.World.{World, standing_of, has_relay}
 
 -- all that an event can do to the standing of the client or relay of this number; a rule finishes it only for its cause
 pub data ClientStep (w : World) (Cause : Rule → Type 0) (event : Event) (id : ℕ) : Standing → Standing → Type 0 where
   -- its standing is as before
   Stays : (standing : Standing) → ClientStep w Cause event id standing standing
   -- it arrives from an address that passes the address lists, with a number that was not given before
-  Arrives : (peer : Peer) → event ≡ Arrive peer → passes w.house.lists peer ≡ true → w.house.last_id < id
+  Arrives : (peer : Peer) → event ≡ Arrive peer → passes w.station.lists peer ≡ true → w.station.last_id < id
       → ClientStep w Cause event id Unknown (Undecided peer)
   -- what it asks for is denied
   IsAnswered : (peer : Peer) (rule : Rule) → client_in event ≡ Some id → reply_to w event ≡ Deny rule → ClientStep w Cause event id (Undecided peer) Answered
@@ -40,7 +40,7 @@ pub data ClientStep (w : World) (Cause : Rule → Type 0) (event : Event) (id : 
   IsShown : (peer : Peer) (text : ReplyText) → client_in event ≡ Some id → IsShownBy w event text
       → ClientStep w Cause event id (Undecided peer) Answered
   -- it asks to feed a mount, and the policy allows it
-  BeginsToFeed : (peer : Peer) (asked : SourceRequest) → event ≡ Source asked → asked.id ≡ id → verdict_in (rows_to_feed w.house asked) ≡ Allow
+  BeginsToFeed : (peer : Peer) (asked : SourceRequest) → event ≡ Source asked → asked.id ≡ id → verdict_in (rows_to_feed w.station asked) ≡ Allow
       → ClientStep w Cause event id (Undecided peer) (Feeds asked.mount)
   -- it asks to hear a mount, and the policy allows it
   SitsDown : (peer : Peer) (asked : ListenRequest) → event ≡ Listen asked → asked.id ≡ id → verdict_in (rows_to_listen w asked) ≡ Allow
@@ -50,8 +50,8 @@ pub data ClientStep (w : World) (Cause : Rule → Type 0) (event : Event) (id : 
   -- it leaves
   Leaves : (standing : Standing) → event ≡ Leave id → has_relay w id ≡ false → ClientStep w Cause event id standing Unknown
   -- a relay comes up, with a number that was not given before, and the policy allows it
-  ComesUp : (mount : List ℕ) (shown : Shown) → event ≡ RelayUp mount shown → w.house.last_id < id
-      → verdict_in (rows_to_raise w.house mount shown) ≡ Allow → ClientStep w Cause event id Unknown (Feeds mount)
+  ComesUp : (mount : List ℕ) (shown : Shown) → event ≡ RelayUp mount shown → w.station.last_id < id
+      → verdict_in (rows_to_raise w.station mount shown) ≡ Allow → ClientStep w Cause event id Unknown (Feeds mount)
   -- it goes down
   GoesDown : (standing : Standing) → event ≡ RelayDown id → has_relay w id ≡ true → ClientStep w Cause event id standing Unknown
   -- it is finished by a rule
@@ -64,5 +64,5 @@ ClientsStep w event = (id : ℕ) → ClientStep w (Finishes w event id) event id
 -- who is there before an event and after it came from the same address, at the same moment
 -- rule: Client states
 abbrev pub ArrivalsStay : World → Event → Type 0
-ArrivalsStay w event = (id : ℕ) (client later : Client) → client_of w.house.clients id ≡ Some client
-    → client_of (world_after w event).house.clients id ≡ Some later → (later.peer ≡ client.peer) × (later.arrived ≡ client.arrived)
+ArrivalsStay w event = (id : ℕ) (client later : Client) → client_of w.station.clients id ≡ Some client
+    → client_of (world_after w event).station.clients id ≡ Some later → (later.peer ≡ client.peer) × (later.arrived ≡ client.arrived)

@@ -1,8 +1,8 @@
 -- Cores, by the states that they represent.
 use Rattle.std.specs.Prelude.{◌≡◌, ℕ, List}
 use Rattle.radio_core.specs.SourceReplies.{to_data, to_end}
-use Rattle.radio_core.specs.Step.{Represents}
-use Rattle.radio_house.specs.World.{World}
+use Rattle.radio_core.specs.Represents.{Represents}
+use Rattle.radio_parts_station.specs.World.{World}
 
 pub record CoresGoByTheirStates : Type 0 where
   -- two cores that represent one state are the same

@@ -1,13 +1,13 @@
 -- What events hand to a listener, and what they bring from a source.
 use Rattle.std.specs.Prelude.{ℕ, ◌==◌, Bool, false, if◌then◌else◌, Option, Some, None, List, [], ◌∷◌, ◌++◌}
 use Rattle.radio_events.specs.declared.event.Event.{Event}
-use Rattle.radio_changes.specs.declared.change.Change.{Change}
-use Rattle.radio_changes.specs.declared.change.Change.TheVariants.{Receive}
+use Rattle.radio_parts_changes.specs.declared.change.Change.{Change}
+use Rattle.radio_parts_changes.specs.declared.change.Change.TheVariants.{Receive}
 use Rattle.radio_events.specs.declared.reply.Reply.{Reply}
 use Rattle.radio_events.specs.declared.reply.Reply.TheVariants.{Drawn}
-use Rattle.radio_core.specs.Step.{outcome, reply_to, world_after}
+use Rattle.radio_parts.specs.Step.{outcome, reply_to, world_after}
 use Rattle.radio_events.specs.Events.{client_in}
-use Rattle.radio_house.specs.World.{World}
+use Rattle.radio_parts_station.specs.World.{World}
 
 -- the data of a reply
 abbrev pub data_in : Reply → List ℕ

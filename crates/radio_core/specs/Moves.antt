@@ -15,21 +15,21 @@ use Rattle.radio_seats_rows.specs.declared.seat.Seat.{Seat}
 use Rattle.radio_events.specs.declared.event.Event.{Event}
 use Rattle.radio_events.specs.declared.event.Event.TheVariants.{Source, SourceEnd, RelayUp, Clock}
 use Rattle.radio_events.specs.declared.event.SourceRequest.{SourceRequest}
-use Rattle.radio_house.specs.declared.standing.Standing.TheVariants.{Undecided, Feeds}
-use Rattle.radio_changes.specs.Changes.{session_begun, session_raised, session_over, before_silence, silent_in, session_silenced}
+use Rattle.radio_parts_station.specs.declared.standing.Standing.TheVariants.{Undecided, Feeds}
+use Rattle.radio_parts_changes.specs.Changes.{session_begun, session_raised, session_over, before_silence, silent_in, session_silenced}
 use Rattle.radio_events.specs.declared.command.Command.TheVariants.{MoveClients, KillSource}
-use Rattle.radio_core.specs.Closing.{Closes}
-use Rattle.radio_core.specs.Allowed.{IsCommanded}
-use Rattle.radio_house.specs.Facts.{sight_of, rows_to_feed, rows_to_raise}
-use Rattle.radio_parts.specs.Sessions.{Session}
-use Rattle.radio_house.specs.Streams.{shown_for}
-use Rattle.radio_parts.specs.Stream.{end_of}
-use Rattle.radio_house.specs.World.{World, standing_of, has_relay}
+use Rattle.radio_parts.specs.Closing.{Closes}
+use Rattle.radio_parts.specs.Allowed.{IsCommanded}
+use Rattle.radio_parts_station.specs.Facts.{sight_of, rows_to_feed, rows_to_raise}
+use Rattle.radio_parts_mount.specs.Sessions.{Session}
+use Rattle.radio_parts_station.specs.Streams.{shown_for}
+use Rattle.radio_parts_mount.specs.Stream.{end_of}
+use Rattle.radio_parts_station.specs.World.{World, standing_of, has_relay}
 
 -- what the move has in store for the listener at its turn, where the state before the first turn is w: those of lower numbers have had theirs
 -- rule: Turns of a move
 abbrev pub his_turn : World → Move → ℕ → MoveEffect
-his_turn w move id = turn_of (sight_of w.house) move (at_his_turn (sight_of w.house) move w.seats id) id
+his_turn w move id = turn_of (sight_of w.station) move (at_his_turn (sight_of w.station) move w.seats id) id
 
 -- the seat that goes on in the session, from the end of its stream; all else of it stays
 abbrev pub moved_into : Session → Seat → Seat
@@ -47,13 +47,13 @@ pub data Brings (w : World) : Event → Move → World → Type 0 where
   BySilence : (ms : ℕ) (before others : List Session) (session : Session) → silent_in (before_silence w ms) ≡ before ++ session ∷ others
       → Brings w (Clock ms) (Ended session.mount) (session_over (fold session_silenced (before_silence w ms) before) session.mount)
   -- a source comes up on a mount that calls its listeners home
-  ByComingUp : (asked : SourceRequest) (peer : Peer) → standing_of w asked.id ≡ Undecided peer → verdict_in (rows_to_feed w.house asked) ≡ Allow
-      → (options_for w.house.settings asked.mount).listeners.fallback_override ≡ true
-      → Brings w (Source asked) (Up asked.mount) (session_begun w asked.id asked.mount (shown_for w.house asked.mount asked.shown))
+  ByComingUp : (asked : SourceRequest) (peer : Peer) → standing_of w asked.id ≡ Undecided peer → verdict_in (rows_to_feed w.station asked) ≡ Allow
+      → (options_for w.station.settings asked.mount).listeners.fallback_override ≡ true
+      → Brings w (Source asked) (Up asked.mount) (session_begun w asked.id asked.mount (shown_for w.station asked.mount asked.shown))
   -- and so does a relay
-  ByRelayUp : (mount : List ℕ) (shown : Shown) → verdict_in (rows_to_raise w.house mount shown) ≡ Allow
-      → (options_for w.house.settings mount).listeners.fallback_override ≡ true
-      → Brings w (RelayUp mount shown) (Up mount) (session_raised w (w.house.last_id + 1) mount (shown_for w.house mount shown))
+  ByRelayUp : (mount : List ℕ) (shown : Shown) → verdict_in (rows_to_raise w.station mount shown) ≡ Allow
+      → (options_for w.station.settings mount).listeners.fallback_override ≡ true
+      → Brings w (RelayUp mount shown) (Up mount) (session_raised w (w.station.last_id + 1) mount (shown_for w.station mount shown))
   -- a command ends the session of a mount
   ByKilling : (event : Event) (mount : List ℕ) → IsCommanded w event (KillSource mount) → Brings w event (Ended mount) (session_over w mount)
   -- a command moves the listeners of a mount to another

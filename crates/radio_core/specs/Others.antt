@@ -10,14 +10,14 @@ use Rattle.radio_events.specs.declared.event.SourceRequest.{SourceRequest}
 use Rattle.radio_events.specs.declared.event.ListenRequest.{ListenRequest}
 use Rattle.radio_addr.specs.declared.peer.Peer.{Peer}
 use Rattle.radio_events.specs.declared.reply.Reply.TheVariants.{Arrived, Feeding, Seated, Finished}
-use Rattle.radio_house.specs.declared.standing.Standing.TheVariants.{Unknown, Undecided, Feeds, Sits, Finished as HasFinished}
+use Rattle.radio_parts_station.specs.declared.standing.Standing.TheVariants.{Unknown, Undecided, Feeds, Sits, Finished as HasFinished}
 use Rattle.radio_seats_rows.specs.declared.seat.Seat.{Seat}
 use Rattle.radio_seats_rows.specs.Seats.{seat_of}
 use Rattle.radio_core.specs.Finishes.{Finishes}
-use Rattle.radio_core.specs.Step.{reply_to, world_after}
-use Rattle.radio_core.specs.Ways.{IsUndecided}
+use Rattle.radio_parts.specs.Step.{reply_to, world_after}
+use Rattle.radio_parts.specs.Ways.{IsUndecided}
 use Rattle.radio_events.specs.Events.{client_in}
-use Rattle.radio_house.specs.World.{World, standing_of}
+use Rattle.radio_parts_station.specs.World.{World, standing_of}
 
 -- another client's event leaves its standing as it is, unless the event finishes it, or it has only arrived by
 -- it, or come up
@@ -38,7 +38,7 @@ pub data HasCome (w : World) (id : ℕ) : Event → Type 0 where
 -- each reply fits its client, whose standing is then what the reply says
 -- rule: Other clients
 pub record RepliesFit (w : World) (event : Event) : Type 0 where
-  pub arrived : (id : ℕ) → reply_to w event ≡ Arrived id → HasCome w id event × (w.house.last_id < id) × (standing_of w id ≡ Unknown)
+  pub arrived : (id : ℕ) → reply_to w event ≡ Arrived id → HasCome w id event × (w.station.last_id < id) × (standing_of w id ≡ Unknown)
   pub feeding : reply_to w event ≡ Feeding → (asked : SourceRequest) × (event ≡ Source asked) × IsUndecided w asked.id
       × (standing_of (world_after w event) asked.id ≡ Feeds asked.mount)
   pub seated : (interval : Option ℕ) (head : StreamHead) → reply_to w event ≡ Seated interval head

@@ -3,8 +3,8 @@ use Rattle.std.specs.Prelude.{List, [], ◌∷◌}
 use Rattle.radio_settings_values.specs.declared.settings.Settings.{Settings}
 use Rattle.radio_access.specs.Lists.{Lists}
 use Rattle.radio_events.specs.declared.event.Event.{Event}
-use Rattle.radio_house.specs.World.{World, opening}
-use Rattle.radio_core.specs.Step.{world_after}
+use Rattle.radio_parts_station.specs.World.{World, opening}
+use Rattle.radio_parts.specs.Step.{world_after}
 
 -- the state after events, in their order
 abbrev pub world_after_all : World → List Event → World

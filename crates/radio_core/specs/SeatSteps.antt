@@ -12,21 +12,21 @@ use Rattle.radio_events.specs.declared.event.Event.{Event}
 use Rattle.radio_events.specs.declared.event.Event.TheVariants.{Source, Listen, Draw, Leave, RelayUp}
 use Rattle.radio_events.specs.declared.event.SourceRequest.{SourceRequest}
 use Rattle.radio_events.specs.declared.event.ListenRequest.{ListenRequest}
-use Rattle.radio_house.specs.declared.standing.Standing.TheVariants.{Undecided}
+use Rattle.radio_parts_station.specs.declared.standing.Standing.TheVariants.{Undecided}
 use Rattle.radio_access.specs.Lists.{lets_in}
 use Rattle.radio_fallback.specs.declared.walking.Landing.TheVariants.{Lands}
 use Rattle.radio_events.specs.declared.command.Command.TheVariants.{MoveClients}
-use Rattle.radio_core.specs.Allowed.{IsCommanded}
-use Rattle.radio_house.specs.Facts.{rows_to_listen, walks_to}
+use Rattle.radio_parts.specs.Allowed.{IsCommanded}
+use Rattle.radio_parts_station.specs.Facts.{rows_to_listen, walks_to}
 use Rattle.radio_core.specs.Moves.{TakesTo, moved_into}
 use Rattle.radio_core.specs.Finishes.{Finishes}
 use Rattle.radio_core.specs.Handing.{handed_at}
-use Rattle.radio_core.specs.Listen.{first_seat}
-use Rattle.radio_parts.specs.Sessions.{Session, session_of}
-use Rattle.radio_core.specs.Step.{world_after}
-use Rattle.radio_parts.specs.Stream.{data_at, end_of}
-use Rattle.radio_house.specs.World.{World, standing_of}
-use Rattle.radio_house.specs.Waiting.{heard_at}
+use Rattle.radio_parts.specs.Listen.{first_seat}
+use Rattle.radio_parts_mount.specs.Sessions.{Session, session_of}
+use Rattle.radio_parts.specs.Step.{world_after}
+use Rattle.radio_parts_mount.specs.Stream.{data_at, end_of}
+use Rattle.radio_parts_station.specs.World.{World, standing_of}
+use Rattle.radio_parts_station.specs.Waiting.{heard_at}
 
 -- a source, or a relay, comes up on the mount by the event
 pub data ComesUpOn : Event → List ℕ → Type 0 where
@@ -36,8 +36,8 @@ pub data ComesUpOn : Event → List ℕ → Type 0 where
 -- why a listener goes from its seat to the mount. The session in which it sat is over. Or a session has come up on the mount, which is the one that
 -- the listener asked for and calls its listeners home. Or a command moves the listeners of its mount there
 pub data IsSent (w later : World) (event : Event) (seat : Seat) (mount : List ℕ) : Type 0 where
-  HisSessionIsOver : session_of later.house.live seat.mount ≡ None → (seat.session == 0) ≡ false → IsSent w later event seat mount
-  HeIsCalledHome : ComesUpOn event mount → seat.home ≡ mount → (options_for w.house.settings mount).listeners.fallback_override ≡ true
+  HisSessionIsOver : session_of later.station.live seat.mount ≡ None → (seat.session == 0) ≡ false → IsSent w later event seat mount
+  HeIsCalledHome : ComesUpOn event mount → seat.home ≡ mount → (options_for w.station.settings mount).listeners.fallback_override ≡ true
       → IsSent w later event seat mount
   IsCommandedThere : IsCommanded w event (MoveClients seat.mount mount) → IsSent w later event seat mount
 
@@ -46,23 +46,23 @@ pub data SeatStep (w : World) (Cause : Rule → Type 0) (event : Event) (id : �
   -- it stays as it is, or it has none still
   Stays : (seat : Option Seat) → SeatStep w Cause event id seat [] seat
   -- it draws, and gets the data at its place in the session in which it sits
-  IsHanded : (seat : Seat) (session : Session) (room : ℕ) → event ≡ Draw id room → heard_at w.house seat.mount ≡ Some session
+  IsHanded : (seat : Seat) (session : Session) (room : ℕ) → event ≡ Draw id room → heard_at w.station seat.mount ≡ Some session
       → session.number ≡ seat.session → seat.place + length (data_at session.stream seat.place room) ≤ end_of session.stream
       → SeatStep w Cause event id (Some seat) (data_at session.stream seat.place room)
       (Some (record seat { place = seat.place + length (data_at session.stream seat.place room) }))
   -- it asks for a mount, the policy allows it, and its walk lands at a mount that is live, or waits for a session
   SitsDown : (asked : ListenRequest) (peer : Peer) (session : Session) → event ≡ Listen asked → asked.id ≡ id → standing_of w id ≡ Undecided peer
-      → walks_to w.house w.seats asked.mount asked.pair ≡ Lands session.mount → heard_at w.house session.mount ≡ Some session
+      → walks_to w.station w.seats asked.mount asked.pair ≡ Lands session.mount → heard_at w.station session.mount ≡ Some session
       → verdict_in (rows_to_listen w asked) ≡ Allow
-      → SeatStep w Cause event id None [] (Some (first_seat w.house asked peer session))
+      → SeatStep w Cause event id None [] (Some (first_seat w.station asked peer session))
   -- a session begins at its mount, which waited for one: it hears it from its start
-  IsGiven : (seat : Seat) (session : Session) → ComesUpOn event seat.mount → session_of w.house.live seat.mount ≡ None
-      → session_of (world_after w event).house.live seat.mount ≡ Some session → session.stream.bytes ≡ [] → seat.session ≡ 0 → seat.place ≡ 0
+  IsGiven : (seat : Seat) (session : Session) → ComesUpOn event seat.mount → session_of w.station.live seat.mount ≡ None
+      → session_of (world_after w event).station.live seat.mount ≡ Some session → session.stream.bytes ≡ [] → seat.session ≡ 0 → seat.place ≡ 0
       → (0 == session.number) ≡ false → SeatStep w Cause event id (Some seat) [] (Some (record seat { session = session.number }))
   -- a move that the event brings takes it, at its turn, to the end of a stream. It is the stream of another mount, which is live and lets it in, or
   -- of its own, which waits for a session from then on
   IsMoved : (seat : Seat) (session : Session) → TakesTo w event id session.mount → IsSent w (world_after w event) event seat session.mount
-      → heard_at (world_after w event).house session.mount ≡ Some session → lets_in (world_after w event).house.lists session.mount seat.pair ≡ true
+      → heard_at (world_after w event).station session.mount ≡ Some session → lets_in (world_after w event).station.lists session.mount seat.pair ≡ true
       → (seat.session == session.number) ≡ false → SeatStep w Cause event id (Some seat) [] (Some (moved_into session seat))
   -- it leaves
   Leaves : (seat : Seat) → event ≡ Leave id → SeatStep w Cause event id (Some seat) [] None

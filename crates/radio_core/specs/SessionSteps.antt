@@ -8,10 +8,10 @@ use Rattle.radio_events.specs.declared.event.Event.{Event}
 use Rattle.radio_events.specs.declared.event.Event.TheVariants.{Source, Push, SourceEnd, Title, Leave, RelayUp, RelayDown, Clock}
 use Rattle.radio_events.specs.declared.event.SourceRequest.{SourceRequest}
 use Rattle.radio_events.specs.declared.command.Command.TheVariants.{KillSource, SetTitle}
-use Rattle.radio_core.specs.Allowed.{IsCommanded}
-use Rattle.radio_parts.specs.Sessions.{Session, session_of}
-use Rattle.radio_core.specs.Step.{world_after}
-use Rattle.radio_house.specs.World.{World}
+use Rattle.radio_parts.specs.Allowed.{IsCommanded}
+use Rattle.radio_parts_mount.specs.Sessions.{Session, session_of}
+use Rattle.radio_parts.specs.Step.{world_after}
+use Rattle.radio_parts_station.specs.World.{World}
 
 -- one text of what a stream shows: that of the settings, where they give one, else the source's
 pub data IsShownAs (given : Option (List ℕ)) (own : List ℕ) : List ℕ → Type 0 where
@@ -33,11 +33,11 @@ pub record HasBegun (w : World) (mount : List ℕ) (number : ℕ) (shown : Shown
   pub has_no_data : session.stream.bytes ≡ []
   pub has_no_blocks : session.stream.starts ≡ []
   pub has_no_title : session.title ≡ None
-  pub from_now : session.last_block ≡ w.house.time
+  pub from_now : session.last_block ≡ w.station.time
   pub shows_type : session.shown.content_type ≡ shown.content_type
-  pub shows_name : IsShownAs (options_for w.house.settings mount).stream.stream_name shown.name session.shown.name
-  pub shows_genre : IsShownAs (options_for w.house.settings mount).stream.genre shown.genre session.shown.genre
-  pub shows_about : IsSaidAs (options_for w.house.settings mount).stream.about shown.about session.shown.about
+  pub shows_name : IsShownAs (options_for w.station.settings mount).stream.stream_name shown.name session.shown.name
+  pub shows_genre : IsShownAs (options_for w.station.settings mount).stream.genre shown.genre session.shown.genre
+  pub shows_about : IsSaidAs (options_for w.station.settings mount).stream.about shown.about session.shown.about
 
 -- all that an event can do to the session of a mount
 pub data SessionStep (w : World) (event : Event) (mount : List ℕ) : Option Session → Option Session → Type 0 where
@@ -47,12 +47,12 @@ pub data SessionStep (w : World) (event : Event) (mount : List ℕ) : Option Ses
   Begins : (asked : SourceRequest) (session : Session) → event ≡ Source asked → asked.mount ≡ mount → HasBegun w mount asked.id asked.shown session
       → SessionStep w event mount None (Some session)
   -- or for a relay, which has the next number
-  BeginsForRelay : (shown : Shown) (session : Session) → event ≡ RelayUp mount shown → HasBegun w mount (w.house.last_id + 1) shown session
+  BeginsForRelay : (shown : Shown) (session : Session) → event ≡ RelayUp mount shown → HasBegun w mount (w.station.last_id + 1) shown session
       → SessionStep w event mount None (Some session)
   -- its source delivers a block, which starts where the data ended before; it is the last one now
   Grows : (session : Session) (block : List ℕ) → event ≡ Push session.number block → SessionStep w event mount (Some session) (Some (record session {
     stream = record { bytes = session.stream.bytes ++ block; starts = session.stream.starts ++ length session.stream.bytes ∷ [] };
-    last_block = w.house.time;
+    last_block = w.station.time;
   }))
   -- its source sets its title
   IsTitled : (session : Session) (text : List ℕ) → event ≡ Title session.number text
@@ -62,15 +62,15 @@ pub data SessionStep (w : World) (event : Event) (mount : List ℕ) : Option Ses
       → SessionStep w event mount (Some session) (Some (record session { title = Some text }))
   -- it ends: its source's data have ended, or it has left, or its relay has gone down, or it was sent nothing in the time that there is for it
   Ends : (session : Session) → (event ≡ SourceEnd session.number) ⊎ (event ≡ Leave session.number) ⊎ (event ≡ RelayDown session.number)
-      ⊎ ((ms : ℕ) × (event ≡ Clock ms) × (1000 * w.house.settings.limits.source_timeout ≤ ms - session.last_block)) → SessionStep w event mount (Some session) None
+      ⊎ ((ms : ℕ) × (event ≡ Clock ms) × (1000 * w.station.settings.limits.source_timeout ≤ ms - session.last_block)) → SessionStep w event mount (Some session) None
   -- a command ends it
   IsKilled : (session : Session) → IsCommanded w event (KillSource mount) → SessionStep w event mount (Some session) None
 
 -- rule: Session; Relay feeds
 abbrev pub SessionsStep : World → Event → Type 0
-SessionsStep w event = (mount : List ℕ) → SessionStep w event mount (session_of w.house.live mount) (session_of (world_after w event).house.live mount)
+SessionsStep w event = (mount : List ℕ) → SessionStep w event mount (session_of w.station.live mount) (session_of (world_after w event).station.live mount)
 
 -- no event changes the settings
 -- rule: Change of users
 abbrev pub KeepsSettings : World → Event → Type 0
-KeepsSettings w event = (world_after w event).house.settings ≡ w.house.settings
+KeepsSettings w event = (world_after w event).station.settings ≡ w.station.settings

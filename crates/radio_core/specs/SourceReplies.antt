@@ -3,18 +3,18 @@ use Rattle.std.specs.Prelude.{◌≡◌, ◌⊎◌, ℕ, ◌+◌, nat_lt, Bool, 
 use Rattle.radio_blocks.specs.Block.{IsBlock}
 use Rattle.radio_policy.specs.declared.rule.Rule.TheVariants.{NumbersSpent}
 use Rattle.radio_events.specs.declared.event.Event.TheVariants.{Push, SourceEnd}
-use Rattle.radio_house.specs.House.{House}
+use Rattle.radio_parts_station.specs.StationState.{StationState}
 use Rattle.radio_events.specs.declared.reply.Reply.{Reply}
 use Rattle.radio_events.specs.declared.reply.Reply.TheVariants.{Noted, Deny, Stray}
 use Rattle.radio_events.specs.Replies.{IsQuiet, EndsByRule}
-use Rattle.radio_house.specs.declared.standing.Standing.{Standing}
-use Rattle.radio_house.specs.declared.standing.Standing.TheVariants.{Feeds}
-use Rattle.radio_house.specs.Facts.{largest_number}
-use Rattle.radio_core.specs.Outcomes.{out_of_place}
-use Rattle.radio_parts.specs.Sessions.{Session, session_of}
-use Rattle.radio_core.specs.Step.{reply_to, world_after}
-use Rattle.radio_parts.specs.Stream.{end_of}
-use Rattle.radio_house.specs.World.{World, standing_of, has_relay}
+use Rattle.radio_parts_station.specs.declared.standing.Standing.{Standing}
+use Rattle.radio_parts_station.specs.declared.standing.Standing.TheVariants.{Feeds}
+use Rattle.radio_parts_station.specs.Facts.{largest_number}
+use Rattle.radio_parts.specs.Outcomes.{out_of_place}
+use Rattle.radio_parts_mount.specs.Sessions.{Session, session_of}
+use Rattle.radio_parts.specs.Step.{reply_to, world_after}
+use Rattle.radio_parts_mount.specs.Stream.{end_of}
+use Rattle.radio_parts_station.specs.World.{World, standing_of, has_relay}
 
 -- whether there are too many for the numbers of a stream
 abbrev pub unless_spent : Bool → Reply
@@ -26,9 +26,9 @@ abbrev pub to_session : Option Session → List ℕ → Reply
 to_session None bytes = Noted
 to_session (Some session) bytes = unless_spent (nat_lt largest_number (end_of session.stream + length bytes))
 
-abbrev pub to_data_from : Standing → House → List ℕ → Reply
-to_data_from (Feeds mount) house bytes = to_session (session_of house.live mount) bytes
-to_data_from standing house bytes = (out_of_place standing).reply
+abbrev pub to_data_from : Standing → StationState → List ℕ → Reply
+to_data_from (Feeds mount) station bytes = to_session (session_of station.live mount) bytes
+to_data_from standing station bytes = (out_of_place standing).reply
 
 -- a relay's data end with its connection, so their end is out of place
 abbrev pub to_feeders_end : Bool → Reply
@@ -41,7 +41,7 @@ to_end_from relayed standing = (out_of_place standing).reply
 
 -- the reply to data from this client, and to their end
 unfoldable pub to_data : World → ℕ → List ℕ → Reply
-to_data w id bytes = to_data_from (standing_of w id) w.house bytes
+to_data w id bytes = to_data_from (standing_of w id) w.station bytes
 
 unfoldable pub to_end : World → ℕ → Reply
 to_end w id = to_end_from (has_relay w id) (standing_of w id)

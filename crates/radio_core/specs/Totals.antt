@@ -7,8 +7,8 @@ use Rattle.radio_events.specs.declared.event.Event.{Event}
 use Rattle.radio_events.specs.declared.event.Event.TheVariants.{Arrive, Leave, RelayUp, RelayDown}
 use Rattle.radio_events.specs.declared.reply.Reply.{Reply}
 use Rattle.radio_events.specs.declared.reply.Reply.TheVariants.{Arrived, Seated, Noted}
-use Rattle.radio_core.specs.Step.{reply_to, world_after}
-use Rattle.radio_house.specs.World.{World}
+use Rattle.radio_parts.specs.Step.{reply_to, world_after}
+use Rattle.radio_parts_station.specs.World.{World}
 
 -- a number was given
 abbrev pub numbers_given : Reply → ℕ
@@ -54,11 +54,11 @@ has_seat listener = is_some (seat_held listener.seating)
 
 -- how many clients are there
 abbrev pub clients_there : World → ℕ
-clients_there w = length w.house.clients
+clients_there w = length w.station.clients
 
 -- how many relays are there
 abbrev pub relays_there : World → ℕ
-relays_there w = length w.house.relays
+relays_there w = length w.station.relays
 
 -- how many listeners sit, and how many are there who have lost their seats
 abbrev pub seats_there : World → ℕ
@@ -70,7 +70,7 @@ seats_lost w = length (filter (λ listener. not (has_seat listener)) w.seats)
 -- who is there after an event was there before it or came by it, and did not leave by it
 pub record AddsUp (w : World) (event : Event) : Type 0 where
   -- numbers are given one after another, to clients and to relays
-  pub numbers : (world_after w event).house.last_id ≡ w.house.last_id + numbers_given (reply_to w event)
+  pub numbers : (world_after w event).station.last_id ≡ w.station.last_id + numbers_given (reply_to w event)
   pub clients : clients_there (world_after w event) + departures (reply_to w event) event ≡ clients_there w + arrivals (reply_to w event) event
   pub relays : relays_there (world_after w event) + relays_down (reply_to w event) event ≡ relays_there w + relays_up (reply_to w event) event
   pub seats : seats_there (world_after w event) + seats_lost (world_after w event) + listeners_leaving w (reply_to w event) event

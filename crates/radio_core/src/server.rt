@@ -5,36 +5,20 @@ ghost use Rattle.std.specs.Prelude.{◌≡◌, [], ◌∷◌, IsOk, IfOk, OnOk, 
 ghost use Rattle.radio_events.specs.declared.reply.Reply.{Reply as ReplyOf};
 ghost use Rattle.std.specs.Option.{option_copied};
 ghost use Rattle.radio_seats_rows.specs.Seats.{last_mount_of};
-ghost use Rattle.radio_facts.specs.Wanted.{wanted};
-ghost use Rattle.radio_house.specs.World.{World, opening};
-ghost use Rattle.radio_core.specs.Step.{Step, Represents, StandsForSome};
+ghost use Rattle.radio_parts_facts.specs.Wanted.{wanted};
+ghost use Rattle.radio_parts_station.specs.World.{World, opening};
+ghost use Rattle.radio_parts.specs.Step.{Step};
+ghost use Rattle.radio_core.specs.Represents.{Represents, StandsForSome};
 ghost use Rattle.radio_events.specs.Events.{EventTakesNoMemory};
 
 use crate::OutOfMemory;
-pub use control::Control;
 use radio_access::Lists;
 use radio_events::{Event, Reply, Server};
+use radio_parts::Control;
 use radio_settings_values::Settings;
 use radio_values::MountName;
 use std::alloc::Global;
 use std::marker::Model;
-
-mod arrive;
-mod clock;
-mod command;
-mod control;
-mod draw;
-mod leave;
-mod lending;
-mod listen;
-mod pages;
-mod push;
-mod relay;
-mod replies;
-mod source;
-mod source_end;
-mod telling;
-mod title;
 
 /// The server's state. Contracts see a `World` that has only the last blocks of each stream; a core always represents
 /// some state that has whole streams.
@@ -50,8 +34,8 @@ impl Drop for Core {
 }
 
 impl Model for Core {
-    ghost use Rattle.radio_house.specs.World.{World};
-    ghost use Rattle.radio_core.specs.Step.{StandsForSome};
+    ghost use Rattle.radio_parts_station.specs.World.{World};
+    ghost use Rattle.radio_core.specs.Represents.{StandsForSome};
     ghost use Rattle.std.specs.Coded.{codes};
     ghost use Rattle.radio_creds.specs.contracts.user_list.Users as creds_users;
 
@@ -87,7 +71,7 @@ impl Core {
     /// Returns the settings that it was given.
     pub fn settings(&self) -> &Settings
         // they are those of whatever state it represents
-        ensures { (w : World) → Represents self.now w → result.now ≡ w.house.settings }
+        ensures { (w : World) → Represents self.now w → result.now ≡ w.station.settings }
     {
         self.control.settings()
     }
@@ -144,7 +128,7 @@ impl Core {
 
 impl Server for Core {
     ghost use Rattle.radio_events.specs.Events.{EventTakesNoMemory};
-    ghost use Rattle.radio_core.specs.Step.{core_steps};
+    ghost use Rattle.radio_core.specs.Represents.{core_steps};
 
     ghost steps = { core_steps };
 

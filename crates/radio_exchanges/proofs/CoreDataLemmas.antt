@@ -6,8 +6,9 @@ use Rattle.radio_events.specs.declared.reply.Reply.{Reply}
 use Rattle.radio_events.specs.Replies.{IsQuiet, EndsByRule}
 use Rattle.radio_core.specs.CoreReplies.{CoresGoByTheirStates}
 use Rattle.radio_core.specs.SourceReplies.{to_data, to_end, SourcesAreToldByTheirData, EndsAreTold}
-use Rattle.radio_core.specs.Step.{Represents, StandsForSome, core_steps, reply_to, world_after}
-use Rattle.radio_house.specs.World.{World}
+use Rattle.radio_core.specs.Represents.{Represents, StandsForSome, core_steps}
+use Rattle.radio_parts.specs.Step.{reply_to, world_after}
+use Rattle.radio_parts_station.specs.World.{World}
 use Rattle.radio_session.specs.DataServers.{HasOneReply}
 use Rattle.radio_exchanges.specs.Laws.{CoresGoByData}
 

@@ -1,8 +1,8 @@
 -- What comes to a pull comes to one thing.
 use Rattle.std.proofs.Common.{◌≡◌, ℕ, List, [], ◌∷◌, ◌++◌, Option, None, Some, sym, ap, subst, ◌∙◌}
 use Rattle.radio_events.specs.declared.event.Event.{Event}
-use Rattle.radio_house.specs.World.{World}
-use Rattle.radio_core.specs.Step.{Step}
+use Rattle.radio_parts_station.specs.World.{World}
+use Rattle.radio_parts.specs.Step.{Step}
 use Rattle.radio_relay.specs.declared.items.PullItem.{PullItem}
 use Rattle.radio_relay.specs.declared.pull.PullStage.{PullStage}
 use Rattle.radio_relay.specs.declared.pull.PullStage.TheVariants.{Head, Behind, Over}

@@ -3,8 +3,9 @@ use Rattle.std.proofs.Common.{◌≡◌, ℕ, List, [], ◌∷◌, Option, None,
 use Rattle.radio_events.specs.declared.event.Event.{Event}
 use Rattle.radio_events.specs.declared.event.Event.TheVariants.{RelayDown}
 use Rattle.radio_events.specs.declared.reply.Reply.{Reply}
-use Rattle.radio_house.specs.World.{World}
-use Rattle.radio_core.specs.Step.{Represents, Step, core_steps}
+use Rattle.radio_parts_station.specs.World.{World}
+use Rattle.radio_core.specs.Represents.{Represents, core_steps}
+use Rattle.radio_parts.specs.Step.{Step}
 use Rattle.radio_relay.specs.declared.items.PullItem.{PullItem}
 use Rattle.radio_relay.specs.Items.{items_of}
 use Rattle.radio_relay.specs.Pulled.{GoesOn, Standing as AnswerStanding, Stops}

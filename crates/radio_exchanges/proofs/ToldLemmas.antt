@@ -1,8 +1,8 @@
 -- what goes out for events of the server
 use Rattle.std.proofs.Common.{◌≡◌, ℕ, List, [], ◌∷◌, ◌++◌, refl, ap, sym, append-nil}
 use Rattle.radio_events.specs.declared.event.Event.{Event}
-use Rattle.radio_house.specs.World.{World}
-use Rattle.radio_core.specs.Step.{reply_to, world_after}
+use Rattle.radio_parts_station.specs.World.{World}
+use Rattle.radio_parts.specs.Step.{reply_to, world_after}
 use Rattle.radio_events.specs.declared.state.State.{State}
 use Rattle.radio_events.specs.declared.state.State.TheVariants.{Running, Shut}
 use Rattle.radio_session.specs.Saying.{Said, said}

@@ -3,8 +3,9 @@ use Rattle.std.specs.Prelude.{◌≡◌, ℕ, if◌then◌else◌, List, [], ◌
 use Rattle.radio_events.specs.declared.event.Event.{Event}
 use Rattle.radio_events.specs.declared.event.Event.TheVariants.{Leave}
 use Rattle.radio_events.specs.declared.reply.Reply.{Reply}
-use Rattle.radio_house.specs.World.{World}
-use Rattle.radio_core.specs.Step.{Represents, reply_to, world_after}
+use Rattle.radio_parts_station.specs.World.{World}
+use Rattle.radio_core.specs.Represents.{Represents}
+use Rattle.radio_parts.specs.Step.{reply_to, world_after}
 use Rattle.radio_session.specs.declared.session.Says.{Says}
 use Rattle.radio_events.specs.declared.state.State.{State}
 use Rattle.radio_events.specs.declared.state.State.TheVariants.{Running, Shut}

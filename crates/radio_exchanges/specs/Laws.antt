@@ -1,8 +1,8 @@
 -- Laws on exchanges with a core, for callers.
 use Rattle.std.specs.Prelude.{◌≡◌, ℕ, List}
 use Rattle.radio_events.specs.declared.event.Event.{Event}
-use Rattle.radio_house.specs.World.{World}
-use Rattle.radio_core.specs.Step.{Represents, core_steps}
+use Rattle.radio_parts_station.specs.World.{World}
+use Rattle.radio_core.specs.Represents.{Represents, core_steps}
 use Rattle.radio_session.specs.declared.session.Says.{Says}
 use Rattle.radio_session.specs.DataServers.{GoesByData}
 use Rattle.radio_session.specs.Exchanges.{Exchange, Exchanges}

@@ -1,8 +1,9 @@
 -- Laws on pulls over a core, for callers.
 use Rattle.std.specs.Prelude.{◌≡◌, ℕ, List, Option}
 use Rattle.radio_events.specs.declared.event.Event.{Event}
-use Rattle.radio_house.specs.World.{World}
-use Rattle.radio_core.specs.Step.{Represents, Step, core_steps}
+use Rattle.radio_parts_station.specs.World.{World}
+use Rattle.radio_core.specs.Represents.{Represents, core_steps}
+use Rattle.radio_parts.specs.Step.{Step}
 use Rattle.radio_events.specs.declared.state.State.{State}
 use Rattle.radio_pull.specs.Pulling.{Pulling, Standing}
 use Rattle.radio_pull.specs.Course.{AsksIf, GoesDown, Takes}

@@ -2,8 +2,8 @@
 
 ghost use Rattle.std.specs.Prelude.{◌≡◌, ℕ, Bool, true, List, Option};
 ghost use Rattle.radio_fallback.specs.Heard.{OthersStay, IsAt, GoesOver, GoesOff};
-ghost use Rattle.radio_parts.specs.Parts.{ends_in};
-ghost use Rattle.radio_parts.specs.Sessions.{Session};
+ghost use Rattle.radio_parts_mount.specs.StatePart.{ends_in};
+ghost use Rattle.radio_parts_mount.specs.Sessions.{Session};
 
 use radio_blocks::Place;
 use radio_values::MountName;

@@ -1,12 +1,12 @@
 //! How a move carries listeners along.
 
 ghost use Rattle.std.specs.Prelude.{◌≡◌, ◌+◌, ◌<◌, ◌^◌, true, IsSome, Some};
-ghost use Rattle.radio_seats_rows.specs.Board.{is_prepared};
+ghost use Rattle.radio_seats_rows.specs.SeatTable.{is_prepared};
 ghost use Rattle.radio_seats_rows.specs.Seats.{AreByNumber, listener_of, last_mount_of};
 ghost use Rattle.radio_fallback.specs.Carry.{turn_of, after_turn, carried};
 ghost use Rattle.radio_fallback.specs.Heard.{heard, OthersStay, IsAt, Fits, GoesOver, GoesOff};
 ghost use Rattle.radio_fallback.specs.Walk.{with_ends};
-ghost use Rattle.radio_parts.specs.Parts.{ends_in};
+ghost use Rattle.radio_parts_mount.specs.StatePart.{ends_in};
 
 use crate::moves::MoveEffect;
 use crate::walker::Walker;
@@ -18,7 +18,7 @@ use radio_values::MountName;
 /// Moves the listeners that the move concerns, one after another in the order of their numbers.
 /// Each goes by the state that the earlier ones left, in which its own seat does not count against
 /// it. A listener that goes to a mount goes on at the end of its stream. It takes no memory. It
-/// looks at each listener of the house once.
+/// looks at each listener of the station once.
 // rule: Refused memory; End of a session; Turns of a move; Move clients
 pub fn carry<V: View, A: Attachments>(
     view: &V,

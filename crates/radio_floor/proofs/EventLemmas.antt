@@ -13,8 +13,8 @@ use Rattle.radio_policy.specs.declared.rule.Rule.TheVariants.{BadMethod}
 use Rattle.radio_events.specs.declared.event.Event.{Event}
 use Rattle.radio_events.specs.declared.event.Event.TheVariants.{Arrive, Draw, Title, Leave, Clock}
 use Rattle.radio_core.specs.Run.{world_after_all}
-use Rattle.radio_core.specs.Step.{reply_to, world_after}
-use Rattle.radio_house.specs.World.{World}
+use Rattle.radio_parts.specs.Step.{reply_to, world_after}
+use Rattle.radio_parts_station.specs.World.{World}
 use Rattle.radio_values.specs.Cleaning.{cleaned}
 use Rattle.radio_values.specs.Limits.{max_title}
 use Rattle.radio_session.specs.declared.session.Hears.{Hears}

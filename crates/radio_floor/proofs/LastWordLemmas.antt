@@ -5,7 +5,7 @@ use Rattle.radio_answers.specs.declared.web_answers.WebAnswers.{WebAnswers}
 use Rattle.radio_events.specs.declared.event.Event.{Event}
 use Rattle.radio_events.specs.declared.event.Event.TheVariants.{Arrive}
 use Rattle.radio_events.specs.declared.reply.Reply.{Reply}
-use Rattle.radio_core.specs.Step.{reply_to, world_after}
+use Rattle.radio_parts.specs.Step.{reply_to, world_after}
 use Rattle.radio_deliveries.specs.TranscriptLines.{answer_lines}
 use Rattle.radio_events.specs.declared.state.State.{State}
 use Rattle.radio_events.specs.Endings.{ending_word}

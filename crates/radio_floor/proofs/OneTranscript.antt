@@ -11,7 +11,7 @@ use Rattle.radio_session.specs.Laws.{HearingIsOne}
 use Rattle.radio_events.specs.declared.state.State.{State}
 use Rattle.radio_events.specs.declared.state.State.TheVariants.{Shut}
 use Rattle.radio_events.specs.declared.state.Ending.TheVariants.{Done}
-use Rattle.radio_house.specs.World.{World}
+use Rattle.radio_parts_station.specs.World.{World}
 use Rattle.radio_events.specs.declared.event.Event.{Event}
 use Rattle.radio_pull.specs.Pulling.{Pulling, Standing}
 use Rattle.radio_exchanges.specs.Pulls.{AskingIsOne, GoingDownIsOne, TakingIsOne}

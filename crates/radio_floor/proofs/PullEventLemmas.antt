@@ -7,8 +7,8 @@ use Rattle.radio_events.specs.declared.event.Event.TheVariants.{RelayDown}
 use Rattle.radio_events.specs.declared.reply.Reply.{Reply}
 use Rattle.radio_events.specs.declared.reply.Reply.TheVariants.{Arrived, Feeding, Seated, Drawn, Noted, Text, Deny, Finished, Stray}
 use Rattle.radio_core.specs.Run.{world_after_all}
-use Rattle.radio_core.specs.Step.{Step, world_after}
-use Rattle.radio_house.specs.World.{World}
+use Rattle.radio_parts.specs.Step.{Step, world_after}
+use Rattle.radio_parts_station.specs.World.{World}
 use Rattle.radio_relay.specs.declared.items.PullItem.{PullItem}
 use Rattle.radio_relay.specs.declared.items.PullItem.TheVariants.{Up, Sound, Title as Named}
 use Rattle.radio_relay.specs.Pulled.{GoesOn, Standing as AnswerStanding, Stops}

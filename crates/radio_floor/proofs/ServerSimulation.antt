@@ -1,7 +1,7 @@
 -- The server does what the state does, whatever state its core stands for.
 use Rattle.std.proofs.Common.{◌≡◌, ℕ, List, [], Option, Result, refl, sym, ap, subst, ◌∙◌}
-use Rattle.radio_house.specs.World.{World, opening}
-use Rattle.radio_core.specs.Step.{Represents}
+use Rattle.radio_parts_station.specs.World.{World, opening}
+use Rattle.radio_core.specs.Represents.{Represents}
 use Rattle.radio_settings_values.specs.declared.settings.Settings.{Settings}
 use Rattle.radio_access.specs.Lists.{Lists}
 use Rattle.radio_deliveries.specs.declared.delivery.Delivery.{Delivery}

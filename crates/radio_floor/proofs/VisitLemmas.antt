@@ -2,8 +2,8 @@
 use Rattle.std.proofs.Common.{◌≡◌, ℕ, List, [], ◌++◌, Option, None, Some, Result, Ok, Err, refl, sym, ap, subst, ◌∙◌}
 use Rattle.std.specs.Prelude.{find, MatchResult}
 use Rattle.std.specs.Option.{option_map}
-use Rattle.radio_house.specs.World.{World}
-use Rattle.radio_core.specs.Step.{Represents}
+use Rattle.radio_parts_station.specs.World.{World}
+use Rattle.radio_core.specs.Represents.{Represents}
 use Rattle.radio_deliveries.specs.declared.delivery.Delivery.{Delivery}
 use Rattle.radio_deliveries.specs.declared.delivery.Input.{Input}
 use Rattle.radio_deliveries.specs.declared.faults.PerformFault.{PerformFault}

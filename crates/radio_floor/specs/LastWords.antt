@@ -9,7 +9,7 @@ use Rattle.radio_events.specs.declared.event.Event.{Event}
 use Rattle.radio_events.specs.declared.event.Event.TheVariants.{Arrive}
 use Rattle.radio_events.specs.declared.reply.Reply.TheVariants.{Noted, Text, Deny, Finished}
 use Rattle.radio_events.specs.declared.text.ReplyText.{ReplyText as CommandText}
-use Rattle.radio_core.specs.Step.{reply_to}
+use Rattle.radio_parts.specs.Step.{reply_to}
 use Rattle.radio_deliveries.specs.TranscriptLines.{answer_lines}
 use Rattle.radio_session.specs.Conversation.{Conversation}
 use Rattle.radio_answers.specs.Answers.{text_answer}

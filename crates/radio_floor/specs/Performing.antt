@@ -1,7 +1,7 @@
 -- The server as the performer of a script's deliveries.
 use Rattle.std.specs.Prelude.{◌≡◌, ℕ, List, ◌++◌, Option, None, Some, Result, Ok, Err, ⊤}
-use Rattle.radio_house.specs.World.{World}
-use Rattle.radio_core.specs.Step.{Represents}
+use Rattle.radio_parts_station.specs.World.{World}
+use Rattle.radio_core.specs.Represents.{Represents}
 use Rattle.radio_deliveries.specs.declared.delivery.Delivery.{Delivery}
 use Rattle.radio_deliveries.specs.declared.faults.PerformFault.{PerformFault}
 use Rattle.radio_deliveries.specs.declared.faults.PerformFault.TheVariants.{Label, OutOfMemory}

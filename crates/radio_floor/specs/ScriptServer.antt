@@ -2,8 +2,8 @@
 use Rattle.std.specs.Prelude.{◌≡◌, ℕ, List, ◌++◌, Option, None, Some, Result, Ok, IfOk}
 use Rattle.std.specs.declared.alloc.AllocError.{AllocError}
 use Rattle.radio_addr.specs.declared.peer.Peer.{Peer}
-use Rattle.radio_house.specs.World.{World}
-use Rattle.radio_core.specs.Step.{Represents}
+use Rattle.radio_parts_station.specs.World.{World}
+use Rattle.radio_core.specs.Represents.{Represents}
 use Rattle.radio_deliveries.specs.declared.delivery.Input.{Input}
 use Rattle.radio_events.specs.declared.state.State.{State}
 use Rattle.radio_pull.specs.Pulling.{Pulling}

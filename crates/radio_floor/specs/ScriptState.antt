@@ -16,11 +16,11 @@ use Rattle.radio_relay.specs.Request.{request_text}
 use Rattle.radio_pull.specs.Pulling.{Pulling, Standing, begun}
 use Rattle.radio_pull.specs.Course.{AsksIf, GoesDown, Takes}
 use Rattle.radio_access.specs.Lists.{Lists}
-use Rattle.radio_house.specs.World.{World, opening}
+use Rattle.radio_parts_station.specs.World.{World, opening}
 use Rattle.radio_tables.specs.Lists.{update_first, placed}
 use Rattle.std.specs.declared.cmp.Ordering.{Ordering}
 use Rattle.std.specs.Ordering.{nat_cmp}
-use Rattle.radio_core.specs.Step.{Step, reply_to, world_after}
+use Rattle.radio_parts.specs.Step.{Step, reply_to, world_after}
 use Rattle.radio_events.specs.declared.state.State.{State}
 use Rattle.radio_events.specs.declared.state.State.TheVariants.{Running, Shut}
 use Rattle.radio_events.specs.declared.state.Ending.TheVariants.{Done}
@@ -120,7 +120,7 @@ kept_unless connection state = connection_unless (Some connection) state
 -- the relay that feeds the mount of this name
 abbrev pub relay_named : World → List ℕ → Option RelaySetting
 relay_named w mount =
-    if is_mount_name mount then find (λ relay. bytes_eq relay.local_mount mount) w.house.settings.relays else None
+    if is_mount_name mount then find (λ relay. bytes_eq relay.local_mount mount) w.station.settings.relays else None
 
 -- the relay connects to its master under a new label: its request goes out; with no such relay the label is at fault
 -- rule: Relay goes down

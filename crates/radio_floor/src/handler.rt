@@ -3,9 +3,10 @@
 ghost use Rattle.std.specs.Prelude.{◌≡◌, ℕ, List, [], ◌∷◌, ◌++◌, IfOk, OnOk};
 ghost use Rattle.radio_values.specs.Cleaning.{cleaned};
 ghost use Rattle.radio_values.specs.Limits.{max_title};
-ghost use Rattle.radio_house.specs.World.{World};
+ghost use Rattle.radio_parts_station.specs.World.{World};
 ghost use Rattle.radio_events.specs.declared.event.Event.TheVariants.{Leave, Clock};
-ghost use Rattle.radio_core.specs.Step.{Represents, world_after};
+ghost use Rattle.radio_core.specs.Represents.{Represents};
+ghost use Rattle.radio_parts.specs.Step.{world_after};
 ghost use Rattle.radio_session.specs.Hearing.{Heard, IsHeard};
 ghost use Rattle.radio_floor.specs.ScriptState.{exchanges, closes, connection_unless, ComesTo, ComesToClient};
 ghost use Rattle.radio_floor.specs.ScriptServer.{AnswersAs};

@@ -2,9 +2,10 @@
 
 ghost use Rattle.std.specs.Prelude.{◌≡◌, ℕ, List, [], ◌++◌, true, false, Ok, IfOk, OnOk, Some, None};
 ghost use Rattle.std.specs.Option.{option_copied};
-ghost use Rattle.radio_house.specs.World.{World, opening};
+ghost use Rattle.radio_parts_station.specs.World.{World, opening};
 ghost use Rattle.radio_events.specs.declared.event.Event.TheVariants.{Arrive};
-ghost use Rattle.radio_core.specs.Step.{Represents, reply_to, world_after};
+ghost use Rattle.radio_core.specs.Represents.{Represents};
+ghost use Rattle.radio_parts.specs.Step.{reply_to, world_after};
 ghost use Rattle.radio_session.specs.Conversation.{asking};
 ghost use Rattle.radio_session.specs.Saying.{said};
 ghost use Rattle.radio_floor.specs.ScriptState.{connects, relay_named, taken_in, told_lines};

@@ -1,9 +1,10 @@
 //! The server for threads, under one name: the hall, the queue of new connections, and the workers that serve them.
 //!
-//! - [`Hall`] has a lock for each mount and one for the control, and threads call it, each through its [`Pass`]; [`settle`] holds the passes against it in the end.
+//! - [`Hall`] has a lock for each mount and one for the control. Threads call it, each through its [`Pass`]. In the end
+//!   [`settle`] compares the passes with what it has stored.
 //! - [`Intake`] is the queue from the acceptor to the workers, and [`Accepts`] says when the acceptor accepts.
 //! - [`Conn`] is a connection over a [`Line`]. A [`Worker`] admits and serves connections; [`run_workers`] runs one in each
-//!   thread. A [`Gate`] is told of each write.
+//!   thread. It calls a [`Gate`] before and after each write.
 //!
 //! Each of these has its contracts in the crate that it comes from.
 #![tactic(auto)]

@@ -8,8 +8,8 @@ use Rattle.radio_events.specs.declared.event.Event.TheVariants.{Leave}
 use Rattle.radio_events.specs.declared.reply.Reply.{Reply}
 use Rattle.radio_events.specs.declared.reply.Reply.TheVariants.{Arrived, Feeding, Seated, Drawn, Noted, Text, Deny, Finished, Stray}
 use Rattle.radio_core.specs.Run.{world_after_all}
-use Rattle.radio_core.specs.Step.{reply_to, world_after}
-use Rattle.radio_house.specs.World.{World}
+use Rattle.radio_parts.specs.Step.{reply_to, world_after}
+use Rattle.radio_parts_station.specs.World.{World}
 use Rattle.radio_session.specs.declared.session.Says.{Says}
 use Rattle.radio_events.specs.declared.state.State.{State}
 use Rattle.radio_events.specs.declared.state.State.TheVariants.{Running, Shut}

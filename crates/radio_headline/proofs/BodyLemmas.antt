@@ -18,9 +18,9 @@ use Rattle.radio_core.specs.ClientSteps.{ClientsStep}
 use Rattle.radio_core.specs.Handing.{delivered}
 use Rattle.radio_core.specs.Others.{RepliesFit}
 use Rattle.radio_core.specs.Run.{run_after}
-use Rattle.radio_core.specs.Step.{reply_to, world_after}
+use Rattle.radio_parts.specs.Step.{reply_to, world_after}
 use Rattle.radio_core.specs.Totals.{AddsUp}
-use Rattle.radio_house.specs.World.{World, opening}
+use Rattle.radio_parts_station.specs.World.{World, opening}
 use Rattle.radio_heads.specs.declared.outcome.Progress.TheVariants.{Whole}
 use Rattle.radio_heads.specs.Head.{RequestParts, ShowsRequest}
 use Rattle.radio_heads.specs.Laws.{IsSettled, HeadsLieWithin}

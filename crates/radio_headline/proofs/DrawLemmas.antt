@@ -8,11 +8,11 @@ use Rattle.radio_events.specs.declared.event.Event.{Event}
 use Rattle.radio_events.specs.declared.reply.Reply.{Reply}
 use Rattle.radio_events.specs.declared.reply.Reply.TheVariants.{Arrived, Feeding, Seated, Drawn, Noted, Text, Deny, Finished, Stray}
 use Rattle.radio_core.specs.Handing.{data_in, is_number, of_client, handed, handed_at, delivered}
-use Rattle.radio_core.specs.Step.{reply_to, world_after}
+use Rattle.radio_parts.specs.Step.{reply_to, world_after}
 use Rattle.radio_seats_rows.specs.Seats.{seat_of}
 use Rattle.radio_laws.specs.Stretches.{AreSlices, AreStretches, Cut, Sitting, StretchesAreCut, StretchesAreWhole, begun_sittings, cut_at_sittings, cut_behind, sittings}
 use Rattle.radio_events.specs.Events.{client_in}
-use Rattle.radio_house.specs.World.{World, opening}
+use Rattle.radio_parts_station.specs.World.{World, opening}
 use Rattle.radio_icy.specs.Weaving.{Call}
 use Rattle.radio_icy.specs.Stream.{sound_of_calls}
 use Rattle.radio_session.specs.Told.{draws_of}

@@ -7,8 +7,8 @@ use Rattle.radio_events.specs.declared.entry.Entry.{Entry}
 use Rattle.radio_events.specs.declared.event.Event.{Event}
 use Rattle.radio_events.specs.Events.{client_in}
 use Rattle.radio_core.specs.Handing.{is_number}
-use Rattle.radio_core.specs.Step.{world_after}
-use Rattle.radio_house.specs.World.{World}
+use Rattle.radio_parts.specs.Step.{world_after}
+use Rattle.radio_parts_station.specs.World.{World}
 use Rattle.radio_headline.specs.Course.{Happening, entry, log_on}
 use Rattle.radio_headline.proofs.Logs.{Each, itself}
 

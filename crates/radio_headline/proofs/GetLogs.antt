@@ -13,8 +13,8 @@ use Rattle.radio_events.specs.declared.reply.StreamHead.{StreamHead}
 use Rattle.radio_events.specs.Events.{client_in}
 use Rattle.radio_icy.specs.Weaving.{Call}
 use Rattle.radio_core.specs.Handing.{is_number}
-use Rattle.radio_core.specs.Step.{world_after}
-use Rattle.radio_house.specs.World.{World}
+use Rattle.radio_parts.specs.Step.{world_after}
+use Rattle.radio_parts_station.specs.World.{World}
 use Rattle.radio_heads.specs.Head.{RequestParts}
 use Rattle.radio_session.specs.Asking.{asks_by_get, asks_to_hear, gives_command, is_for_commands, path_in}
 use Rattle.radio_session.specs.Conversation.{asking}

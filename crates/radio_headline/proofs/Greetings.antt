@@ -5,8 +5,8 @@ use Rattle.radio_events.specs.declared.entry.Entry.{Entry}
 use Rattle.radio_events.specs.declared.event.Event.{Event}
 use Rattle.radio_events.specs.declared.reply.Reply.{Reply}
 use Rattle.radio_events.specs.declared.reply.Reply.TheVariants.{Arrived}
-use Rattle.radio_core.specs.Step.{reply_to, world_after}
-use Rattle.radio_house.specs.World.{World}
+use Rattle.radio_parts.specs.Step.{reply_to, world_after}
+use Rattle.radio_parts_station.specs.World.{World}
 use Rattle.radio_heads.specs.Head.{RequestParts}
 use Rattle.radio_session.specs.declared.session.Closing.{Closing}
 use Rattle.radio_session.specs.declared.session.Says.{Says}

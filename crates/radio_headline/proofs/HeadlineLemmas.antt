@@ -10,14 +10,14 @@ use Rattle.radio_events.specs.declared.event.Event.{Event}
 use Rattle.radio_events.specs.declared.event.Event.TheVariants.{Source, Listen, RelayUp}
 use Rattle.radio_events.specs.declared.event.ListenRequest.{ListenRequest}
 use Rattle.radio_events.specs.declared.reply.StreamHead.{StreamHead}
-use Rattle.radio_parts.specs.Sessions.{Session}
+use Rattle.radio_parts_mount.specs.Sessions.{Session}
 use Rattle.radio_core.specs.Run.{run_after, world_after_all}
 use Rattle.radio_core.specs.SessionSteps.{HasBegun, SessionsStep, KeepsSettings}
-use Rattle.radio_house.specs.House.{House}
-use Rattle.radio_house.specs.Streams.{shown_for}
-use Rattle.radio_house.specs.Waiting.{is_on_demand, shown_by_nobody, silence_at, silence_of, heard_at}
-use Rattle.radio_house.specs.World.{World, opening}
-use Rattle.radio_core.proofs.HeardLemmas.{heard_cases}
+use Rattle.radio_parts_station.specs.StationState.{StationState}
+use Rattle.radio_parts_station.specs.Streams.{shown_for}
+use Rattle.radio_parts_station.specs.Waiting.{is_on_demand, shown_by_nobody, silence_at, silence_of, heard_at}
+use Rattle.radio_parts_station.specs.World.{World, opening}
+use Rattle.radio_parts.proofs.HeardLemmas.{heard_cases}
 use Rattle.radio_laws.specs.Admission.{IsSeated}
 use Rattle.radio_laws.specs.Stretches.{SeatsKeepTheirMounts, sittings}
 use Rattle.radio_headline.specs.Course.{Happening, events_in, on}
@@ -73,37 +73,37 @@ module _ (settings : Settings) (lists : Lists)
       }))
 
   -- the settings are those of the opening
-  settings_along : (past more : List Event) → (run_after settings lists past).house.settings ≡ settings
-      → (world_after_all (run_after settings lists past) more).house.settings ≡ settings
+  settings_along : (past more : List Event) → (run_after settings lists past).station.settings ≡ settings
+      → (world_after_all (run_after settings lists past) more).station.settings ≡ settings
   settings_along past [] e = e
   settings_along past (event ∷ more) e =
       let then_one = after_joined (opening settings lists) past (event ∷ []) in
-      subst (λ (x : World). (world_after_all x more).house.settings ≡ settings) then_one
-      (settings_along (past ++ event ∷ []) more (ap (λ (x : World). x.house.settings) then_one ∙ keeps past event ∙ e))
+      subst (λ (x : World). (world_after_all x more).station.settings ≡ settings) then_one
+      (settings_along (past ++ event ∷ []) more (ap (λ (x : World). x.station.settings) then_one ∙ keeps past event ∙ e))
 
   -- what is heard where nobody feeds is awaited
-  is_awaited : (house : House) → house.settings ≡ settings → (mount : List ℕ) (session : Session) → silence_of house mount ≡ Some session
+  is_awaited : (station : StationState) → station.settings ≡ settings → (mount : List ℕ) (session : Session) → silence_of station mount ≡ Some session
       → IsAwaited settings lists brought course mount session.number session.shown
-  is_awaited house same mount session = by_flag (is_on_demand house.settings mount) refl where
-    by_flag : (b : Bool) → is_on_demand house.settings mount ≡ b → (if b then Some (silence_at house mount) else None) ≡ Some session
+  is_awaited station same mount session = by_flag (is_on_demand station.settings mount) refl where
+    by_flag : (b : Bool) → is_on_demand station.settings mount ≡ b → (if b then Some (silence_at station mount) else None) ≡ Some session
         → IsAwaited settings lists brought course mount session.number session.shown
     by_flag false e silent = cc
     by_flag true e silent =
-        let it : silence_at house mount ≡ session = cc in
+        let it : silence_at station mount ≡ session = cc in
         record {
           on_demand = ap (λ (s : Settings). is_on_demand s mount) (sym same) ∙ e;
-          shows = ap (λ (x : Session). x.shown) (sym it) ∙ ap (λ (s : Settings). shown_for (record house { settings = s }) mount shown_by_nobody) same;
+          shows = ap (λ (x : Session). x.shown) (sym it) ∙ ap (λ (s : Settings). shown_for (record station { settings = s }) mount shown_by_nobody) same;
           of_nobody = ap (λ (x : Session). x.number) (sym it);
           delivers_nothing = nobody (events_in course);
         }
 
   of_heard : (past later : List Happening) (mount : List ℕ) (session : Session) → course ≡ past ++ later → AreFed settings lists sessions mounts past
-      → heard_at (run_after settings lists (events_in past)).house mount ≡ Some session → ItsSource mount session
+      → heard_at (run_after settings lists (events_in past)).station mount ≡ Some session → ItsSource mount session
   of_heard past later mount session parts fed hears =
-      let house = (run_after settings lists (events_in past)).house in
-      heard_cases house mount session hears (λ live. of_fed past later mount session parts (fed mount session live))
-      (λ none silent. inr (inr (is_awaited house (settings_along [] (events_in past) refl) mount session
-      (ap (λ (found : Option Session). option_or found (silence_of house mount)) (sym none) ∙ hears))))
+      let station = (run_after settings lists (events_in past)).station in
+      heard_cases station mount session hears (λ live. of_fed past later mount session parts (fed mount session live))
+      (λ none silent. inr (inr (is_awaited station (settings_along [] (events_in past) refl) mount session
+      (ap (λ (found : Option Session). option_or found (silence_of station mount)) (sym none) ∙ hears))))
 
   nowhere_first : (past later : List Happening) → AllNowhere (λ h. IsMoment h.event) (past ++ later) → AllNowhere (λ h. IsMoment h.event) past
   nowhere_first [] later h = tt

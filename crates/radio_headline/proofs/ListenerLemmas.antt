@@ -17,7 +17,7 @@ use Rattle.radio_policy.specs.Verdicts.{Allows, verdict_in}
 use Rattle.radio_events.specs.declared.entry.Entry.{Entry}
 use Rattle.radio_events.specs.declared.event.Event.{Event}
 use Rattle.radio_events.specs.declared.event.Event.TheVariants.{Listen, Draw, Command, Leave}
-use Rattle.radio_core.specs.Ways.{rows_for}
+use Rattle.radio_parts.specs.Ways.{rows_for}
 use Rattle.radio_policy.specs.Verdicts.{Denies}
 use Rattle.radio_events.specs.declared.command.CommandRequest.{CommandRequest}
 use Rattle.radio_events.specs.declared.text.ReplyText.{ReplyText as CommandText}
@@ -27,21 +27,21 @@ use Rattle.radio_events.specs.declared.reply.Reply.TheVariants.{Arrived, Feeding
 use Rattle.radio_events.specs.declared.reply.StreamHead.{StreamHead}
 use Rattle.radio_events.specs.Events.{client_in}
 use Rattle.radio_icy.specs.Weaving.{Call}
-use Rattle.radio_house.specs.declared.standing.Standing.{Standing}
-use Rattle.radio_house.specs.declared.standing.Standing.TheVariants.{Unknown, Undecided, Feeds, Sits, Answered as IsAnswered, Finished as HasFinished}
+use Rattle.radio_parts_station.specs.declared.standing.Standing.{Standing}
+use Rattle.radio_parts_station.specs.declared.standing.Standing.TheVariants.{Unknown, Undecided, Feeds, Sits, Answered as IsAnswered, Finished as HasFinished}
 use Rattle.radio_core.specs.ClientSteps.{ClientsStep}
 use Rattle.radio_core.specs.Handing.{is_number}
 use Rattle.radio_core.specs.Others.{RepliesFit}
-use Rattle.radio_changes.specs.declared.change.Change.TheVariants.{Answer}
-use Rattle.radio_core.specs.declared.outcome.Outcome.{Outcome}
-use Rattle.radio_core.specs.Listen.{sits_where}
-use Rattle.radio_core.specs.Outcomes.{if_undecided, on_verdict}
-use Rattle.radio_core.specs.Pages.{asks_by, shows_page}
-use Rattle.radio_house.specs.Facts.{rows_to_listen, walks_to}
+use Rattle.radio_parts_changes.specs.declared.change.Change.TheVariants.{Answer}
+use Rattle.radio_parts.specs.declared.outcome.Outcome.{Outcome}
+use Rattle.radio_parts.specs.Listen.{sits_where}
+use Rattle.radio_parts.specs.Outcomes.{if_undecided, on_verdict}
+use Rattle.radio_parts.specs.Pages.{asks_by, shows_page}
+use Rattle.radio_parts_station.specs.Facts.{rows_to_listen, walks_to}
 use Rattle.radio_core.specs.Run.{run_after}
-use Rattle.radio_core.specs.Step.{outcome, reply_to, world_after}
+use Rattle.radio_parts.specs.Step.{outcome, reply_to, world_after}
 use Rattle.radio_core.specs.Totals.{AddsUp}
-use Rattle.radio_house.specs.World.{World, opening, standing_of}
+use Rattle.radio_parts_station.specs.World.{World, opening, standing_of}
 use Rattle.radio_laws.specs.Access.{AccessIsKept}
 use Rattle.radio_laws.specs.Admission.{BeginsAtABlock, IsSeated}
 use Rattle.radio_laws.specs.Stretches.{sittings}
@@ -105,7 +105,7 @@ module _ (w : World) (asked : ListenRequest)
       let d = sym (ap (λ (t : Standing). (if_undecided t (λ _. shows_page w asked path)).reply) e) ∙ h in cc
 
   abbrev asks_then : Verdict → Peer → Outcome
-  asks_then v peer = on_verdict v (Answer asked.id) (sits_where w.house asked peer (walks_to w.house w.seats asked.mount asked.pair))
+  asks_then v peer = on_verdict v (Answer asked.id) (sits_where w.station asked peer (walks_to w.station w.seats asked.mount asked.pair))
 
   at_mount : (s : Standing) → IsNew s → standing_of w asked.id ≡ s → (asks_by w asked None).reply ≡ Stray → ⊥
   at_mount Unknown n d h = elim n [ ]
@@ -129,7 +129,7 @@ module _ (w : World) (asked : ListenRequest)
 
   never_stray : (s : Standing) → IsNew s → standing_of w asked.id ≡ s → reply_to w (Listen asked) ≡ Stray → ⊥
   unfolding reply_to outcome
-  never_stray s n e h = by_path (web_path w.house.settings.web asked.mount) s n e h
+  never_stray s n e h = by_path (web_path w.station.settings.web asked.mount) s n e h
 
 -- with a bare name of the law
 module _ (web : WebAnswers) (settings : Settings) (lists : Lists)

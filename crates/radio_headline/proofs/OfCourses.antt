@@ -17,7 +17,7 @@ use Rattle.radio_core.specs.Others.{RepliesFit}
 use Rattle.radio_core.specs.Run.{run_after}
 use Rattle.radio_core.specs.SessionSteps.{KeepsSettings, SessionsStep}
 use Rattle.radio_core.specs.Totals.{AddsUp}
-use Rattle.radio_house.specs.World.{opening}
+use Rattle.radio_parts_station.specs.World.{opening}
 use Rattle.radio_laws.specs.Access.{AccessIsKept}
 use Rattle.radio_laws.specs.Admission.{BeginsAtABlock}
 use Rattle.radio_laws.specs.Denials.{DenialsAreThePolicys}

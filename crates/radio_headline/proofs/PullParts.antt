@@ -11,7 +11,7 @@ use Rattle.radio_icy.specs.Titles.{title_of}
 use Rattle.radio_events.specs.declared.entry.Entry.{Entry}
 use Rattle.radio_events.specs.declared.event.Event.{Event}
 use Rattle.radio_events.specs.declared.event.Event.TheVariants.{Arrive, Source, Push, SourceEnd, Title, Listen, Draw, Command, Leave, RelayUp, RelayDown, Clock}
-use Rattle.radio_house.specs.World.{World}
+use Rattle.radio_parts_station.specs.World.{World}
 use Rattle.radio_heads.specs.declared.outcome.Progress.TheVariants.{Whole}
 use Rattle.radio_heads.specs.Laws.{IsSettled, HeadsLieWithin}
 use Rattle.radio_heads.specs.Reading.{IsReading}

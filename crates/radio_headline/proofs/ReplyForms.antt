@@ -11,23 +11,23 @@ use Rattle.radio_events.specs.declared.text.ReplyText.{ReplyText as CommandText}
 use Rattle.radio_policy.specs.declared.judgement.Verdict.{Verdict}
 use Rattle.radio_policy.specs.declared.judgement.Verdict.TheVariants.{Allow, Deny as Denied}
 use Rattle.radio_policy.specs.Verdicts.{verdict_in}
-use Rattle.radio_changes.specs.declared.change.Change.TheVariants.{Nothing}
-use Rattle.radio_core.specs.declared.outcome.Outcome.{Outcome}
-use Rattle.radio_house.specs.declared.standing.Standing.{Standing}
-use Rattle.radio_house.specs.Facts.{rows_to_push}
-use Rattle.radio_core.specs.Outcomes.{if_feeding, on_verdict}
-use Rattle.radio_core.specs.Push.{takes_in}
-use Rattle.radio_house.specs.declared.standing.Standing.TheVariants.{Feeds, Sits}
-use Rattle.radio_core.specs.Closing.{OfClient, OfRelay}
+use Rattle.radio_parts_changes.specs.declared.change.Change.TheVariants.{Nothing}
+use Rattle.radio_parts.specs.declared.outcome.Outcome.{Outcome}
+use Rattle.radio_parts_station.specs.declared.standing.Standing.{Standing}
+use Rattle.radio_parts_station.specs.Facts.{rows_to_push}
+use Rattle.radio_parts.specs.Outcomes.{if_feeding, on_verdict}
+use Rattle.radio_parts.specs.Push.{takes_in}
+use Rattle.radio_parts_station.specs.declared.standing.Standing.TheVariants.{Feeds, Sits}
+use Rattle.radio_parts.specs.Closing.{OfClient, OfRelay}
 use Rattle.radio_core.specs.Handing.{block_in}
-use Rattle.radio_core.specs.Pages.{IsListing, IsAtPath}
-use Rattle.radio_changes.specs.Changes.{changed}
-use Rattle.radio_core.specs.Step.{outcome, reply_to, world_after}
+use Rattle.radio_parts.specs.Pages.{IsListing, IsAtPath}
+use Rattle.radio_parts_changes.specs.Changes.{changed}
+use Rattle.radio_parts.specs.Step.{outcome, reply_to, world_after}
 use Rattle.radio_values.specs.declared.field.Shown.{Shown}
-use Rattle.radio_core.specs.Ways.{Way, Misplaced, IsFinished, IsDenied, IsRefused, IsAdmitted, Begins, ComesUp, Receives, SetsTitle, TakesSeat, HandsOut, Ends}
-use Rattle.radio_core.specs.Ways.{EndsAndLeaves, Leaves, GoesDown, Obeys, Shows, HasPassed, Ticks}
-use Rattle.radio_house.specs.World.{World, standing_of}
-use Rattle.radio_core.proofs.Ways.{way_of}
+use Rattle.radio_parts.specs.Ways.{Way, Misplaced, IsFinished, IsDenied, IsRefused, IsAdmitted, Begins, ComesUp, Receives, SetsTitle, TakesSeat, HandsOut, Ends}
+use Rattle.radio_parts.specs.Ways.{EndsAndLeaves, Leaves, GoesDown, Obeys, Shows, HasPassed, Ticks}
+use Rattle.radio_parts_station.specs.World.{World, standing_of}
+use Rattle.radio_parts.proofs.Ways.{way_of}
 use Rattle.radio_headline.specs.Sources.{pushed_by}
 
 -- the block that was noted
@@ -36,7 +36,7 @@ noted_block Noted event = pushed_by event
 noted_block reply event = []
 
 record Forms (w : World) (event : Event) (o : Outcome) : Type 0 where
-  pub next : (id : ℕ) → o.reply ≡ Arrived id → w.house.last_id + 1 ≡ id
+  pub next : (id : ℕ) → o.reply ≡ Arrived id → w.station.last_id + 1 ≡ id
   pub brings : block_in o.change ≡ noted_block o.reply event
 
 forms_by : (w : World) (event : Event) (o : Outcome) → Way w event o → Forms w event o
@@ -62,7 +62,7 @@ forms_by w event o (Leaves him no_relay other) = record { next = λ id d. cc; br
 forms_by w event o (GoesDown him rule relay told) = record { next = λ id d. cc; brings = refl }
 
 -- numbers are given one after another
-pub next_number : (w : World) (event : Event) (id : ℕ) → reply_to w event ≡ Arrived id → w.house.last_id + 1 ≡ id
+pub next_number : (w : World) (event : Event) (id : ℕ) → reply_to w event ≡ Arrived id → w.station.last_id + 1 ≡ id
 unfolding reply_to
 next_number w event id d = (forms_by w event (outcome w event) (way_of w event)).next id d
 
@@ -211,13 +211,13 @@ feeds_push_by w id block mount (Denied rule) e = cc
 pub feeds_push : (w : World) (id : ℕ) (block mount : List ℕ) → standing_of w id ≡ Feeds mount → reply_to w (Push id block) ≡ Stray → ⊥
 unfolding reply_to outcome
 feeds_push w id block mount e h =
-    feeds_push_by w id block mount (verdict_in (rows_to_push w.house mount block))
+    feeds_push_by w id block mount (verdict_in (rows_to_push w.station mount block))
     (sym (ap (λ (s : Standing). (if_feeding s (λ place.
-    on_verdict (verdict_in (rows_to_push w.house place block)) Nothing (takes_in place block))).reply) e) ∙ h)
+    on_verdict (verdict_in (rows_to_push w.station place block)) Nothing (takes_in place block))).reply) e) ∙ h)
 
 -- a relay that comes up has the next number, or nothing changes
 up_by : (w : World) (mount : List ℕ) (shown : Shown) (o : Outcome) → Way w (RelayUp mount shown) o
-    → (o.reply ≡ Arrived (w.house.last_id + 1)) ⊎ (o.change ≡ Nothing)
+    → (o.reply ≡ Arrived (w.station.last_id + 1)) ⊎ (o.change ≡ Nothing)
 up_by w mount shown o (Misplaced _) = inr refl
 up_by w mount shown o (IsFinished _ him by its known) = inr refl
 up_by w mount shown o (IsDenied _ by v nobody) = inr refl
@@ -228,7 +228,7 @@ up_by w mount shown o (EndsAndLeaves _ him place closes feeding) = elim closes [
 up_by w mount shown o (ComesUp _ _ none allowed) = inl refl
 
 pub comes_up : (w : World) (mount : List ℕ) (shown : Shown)
-    → (reply_to w (RelayUp mount shown) ≡ Arrived (w.house.last_id + 1)) ⊎ (world_after w (RelayUp mount shown) ≡ w)
+    → (reply_to w (RelayUp mount shown) ≡ Arrived (w.station.last_id + 1)) ⊎ (world_after w (RelayUp mount shown) ≡ w)
 unfolding reply_to world_after
 comes_up w mount shown = elim (up_by w mount shown (outcome w (RelayUp mount shown)) (way_of w (RelayUp mount shown))) [
   | inl e ↦ inl e

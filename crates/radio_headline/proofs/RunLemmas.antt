@@ -13,19 +13,19 @@ use Rattle.radio_events.specs.declared.event.Event.TheVariants.{Arrive, Source, 
 use Rattle.radio_events.specs.declared.reply.Reply.{Reply}
 use Rattle.radio_events.specs.declared.reply.Reply.TheVariants.{Arrived, Feeding, Seated, Drawn, Noted, Text, Deny, Finished, Stray}
 use Rattle.radio_events.specs.Events.{client_in}
-use Rattle.radio_house.specs.declared.standing.Standing.{Standing}
-use Rattle.radio_house.specs.declared.standing.Standing.TheVariants.{Unknown, Undecided, Feeds, Sits, Answered, Finished as HasFinished}
+use Rattle.radio_parts_station.specs.declared.standing.Standing.{Standing}
+use Rattle.radio_parts_station.specs.declared.standing.Standing.TheVariants.{Unknown, Undecided, Feeds, Sits, Answered, Finished as HasFinished}
 use Rattle.radio_core.specs.ClientSteps.{ClientStep, ClientsStep}
 use Rattle.radio_core.specs.ClientSteps.{Stays, Arrives, IsAnswered, IsObeyed, IsShown, BeginsToFeed, SitsDown, StopsFeeding, Leaves, ComesUp, GoesDown, IsFinished}
 use Rattle.radio_core.specs.Finishes.{Finishes}
 use Rattle.radio_core.specs.Handing.{is_number}
-use Rattle.radio_core.specs.Pages.{IsShownBy, IsListing, IsAtPath}
+use Rattle.radio_parts.specs.Pages.{IsShownBy, IsListing, IsAtPath}
 use Rattle.radio_events.specs.declared.text.ReplyText.{ReplyText as CommandText}
 use Rattle.radio_core.specs.Others.{RepliesFit, HasCome, AsClient}
 use Rattle.radio_core.specs.Run.{run_after, world_after_all}
-use Rattle.radio_core.specs.Step.{reply_to, world_after}
+use Rattle.radio_parts.specs.Step.{reply_to, world_after}
 use Rattle.radio_core.specs.Totals.{AddsUp, numbers_given}
-use Rattle.radio_house.specs.World.{World, opening, standing_of}
+use Rattle.radio_parts_station.specs.World.{World, opening, standing_of}
 use Rattle.radio_headline.specs.Course.{Happening, on, events_in, entry, entry_on, log_on}
 use Rattle.radio_headline.proofs.Logs.{Each, each_second, itself, after_joined}
 use Rattle.radio_headline.proofs.ReplyForms.{next_number, IsIdle, IdleReply, IsStray, WasFinished, Sitting, Sourcing, idle_reply}
@@ -124,28 +124,28 @@ module _ (settings : Settings) (lists : Lists)
   steps_at w event (events, e) = subst (λ (x : World). ClientsStep x event) (sym e) (steps events event)
 
   -- the last number does not go back
-  pub last_stays : (w : World) (event : Event) (id : ℕ) → Reached w → id ≤ w.house.last_id → id ≤ (world_after w event).house.last_id
+  pub last_stays : (w : World) (event : Event) (id : ℕ) → Reached w → id ≤ w.station.last_id → id ≤ (world_after w event).station.last_id
   last_stays w event id r below = let sum = (adds_at w event r).numbers in omega (arith, sum)
 
   -- a number that is given later is larger
-  pub later_numbers : (w : World) (past : List Happening) (label id : ℕ) → Reached w → HasNumber id (log_on w past label) → w.house.last_id < id
+  pub later_numbers : (w : World) (past : List Happening) (label id : ℕ) → Reached w → HasNumber id (log_on w past label) → w.station.last_id < id
   later_numbers w [] label id r has = elim has [ ]
   later_numbers w (h ∷ past) label id r has =
       by_label (later_numbers (world_after w h.event) past label id (reached_after w h.event r)) (is_number label h.label) has where
-        tail : (HasNumber id (log_on (world_after w h.event) past label) → (world_after w h.event).house.last_id < id)
-            → HasNumber id (log_on (world_after w h.event) past label) → w.house.last_id < id
+        tail : (HasNumber id (log_on (world_after w h.event) past label) → (world_after w h.event).station.last_id < id)
+            → HasNumber id (log_on (world_after w h.event) past label) → w.station.last_id < id
         tail ih t =
             let later = ih t in
             let sum = (adds_at w h.event r).numbers in
             omega (arith, later, sum)
 
-        by_label : (HasNumber id (log_on (world_after w h.event) past label) → (world_after w h.event).house.last_id < id) → (b : Bool)
-            → HasNumber id ((if b then entry w h.event ∷ [] else []) ++ log_on (world_after w h.event) past label) → w.house.last_id < id
+        by_label : (HasNumber id (log_on (world_after w h.event) past label) → (world_after w h.event).station.last_id < id) → (b : Bool)
+            → HasNumber id ((if b then entry w h.event ∷ [] else []) ++ log_on (world_after w h.event) past label) → w.station.last_id < id
         by_label ih true (inl e) = ((fits_at w h.event r).arrived id e).1
         by_label ih true (inr t) = tail ih t
         by_label ih false t = tail ih t
 
-  pub given_here : (w : World) (event : Event) (id : ℕ) → Reached w → reply_to w event ≡ Arrived id → id ≤ (world_after w event).house.last_id
+  pub given_here : (w : World) (event : Event) (id : ℕ) → Reached w → reply_to w event ≡ Arrived id → id ≤ (world_after w event).station.last_id
   given_here w event id r e =
       let sum = (adds_at w event r).numbers in
       let one : numbers_given (reply_to w event) ≡ 1 = ap numbers_given e in

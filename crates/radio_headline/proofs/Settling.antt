@@ -4,7 +4,7 @@ use Rattle.radio_addr.specs.declared.peer.Peer.{Peer}
 use Rattle.radio_events.specs.declared.entry.Entry.{Entry}
 use Rattle.radio_events.specs.declared.event.Event.{Event}
 use Rattle.radio_events.specs.Events.{client_in}
-use Rattle.radio_house.specs.World.{World}
+use Rattle.radio_parts_station.specs.World.{World}
 use Rattle.radio_events.specs.declared.state.State.TheVariants.{Running}
 use Rattle.radio_session.specs.Conversation.{Conversation, saying_now}
 use Rattle.radio_exchanges.specs.Exchanges.{exchanged}

@@ -12,13 +12,13 @@ use Rattle.radio_events.specs.declared.event.SourceRequest.{SourceRequest}
 use Rattle.radio_events.specs.declared.reply.Reply.TheVariants.{Arrived}
 use Rattle.radio_seats_rows.specs.declared.seat.Seat.{Seat}
 use Rattle.radio_seats_rows.specs.Seats.{seat_of}
-use Rattle.radio_parts.specs.Sessions.{Session, session_of}
+use Rattle.radio_parts_mount.specs.Sessions.{Session, session_of}
 use Rattle.radio_core.specs.Run.{run_after}
 use Rattle.radio_core.specs.SessionSteps.{HasBegun, SessionStep, SessionsStep}
 use Rattle.radio_core.specs.SessionSteps.{Stays, Begins, BeginsForRelay, Grows, IsTitled, IsRetitled, Ends, IsKilled}
-use Rattle.radio_core.specs.Step.{reply_to, world_after}
-use Rattle.radio_house.specs.Waiting.{heard_at}
-use Rattle.radio_house.specs.World.{World, opening}
+use Rattle.radio_parts.specs.Step.{reply_to, world_after}
+use Rattle.radio_parts_station.specs.Waiting.{heard_at}
+use Rattle.radio_parts_station.specs.World.{World, opening}
 use Rattle.radio_laws.specs.Stretches.{SeatsKeepTheirMounts, Sitting, begun_sittings, sitting_in, sittings}
 use Rattle.radio_headline.specs.Course.{Happening, events_in, on}
 use Rattle.radio_headline.proofs.Logs.{after_joined, events_joined}
@@ -44,7 +44,7 @@ module _ (settings : Settings) (lists : Lists)
         → session.shown ≡ begun.shown → IsFed past mount session
 
   abbrev pub AreFed : List Happening → Type 0
-  AreFed past = (mount : List ℕ) (session : Session) → session_of (server_at past).house.live mount ≡ Some session → IsFed past mount session
+  AreFed past = (mount : List ℕ) (session : Session) → session_of (server_at past).station.live mount ≡ Some session → IsFed past mount session
 
   then_more : (past : List Happening) (h : Happening) → server_at (past ++ h ∷ []) ≡ world_after (server_at past) h.event
   then_more past h = ap (run_after settings lists) (events_joined past (h ∷ [])) ∙ after_joined (opening settings lists) (events_in past) (h.event ∷ [])
@@ -71,8 +71,8 @@ module _ (settings : Settings) (lists : Lists)
     here label event l e =
         ap (λ (o : Option ℕ). past ++ record { label = o; event = h.event } ∷ []) l ∙ ap (λ (x : Event). past ++ on label x ∷ []) e
 
-    by_step : (old new : Option Session) → SessionStep (server_at past) h.event mount old new → session_of (server_at past).house.live mount ≡ old
-        → session_of (world_after (server_at past) h.event).house.live mount ≡ new → (session : Session) → new ≡ Some session
+    by_step : (old new : Option Session) → SessionStep (server_at past) h.event mount old new → session_of (server_at past).station.live mount ≡ old
+        → session_of (world_after (server_at past) h.event).station.live mount ≡ new → (session : Session) → new ≡ Some session
         → IsFed (past ++ h ∷ []) mount session
     by_step old new (Stays _) before after session e = still_fed past h mount session session refl refl (fed mount session (before ∙ e))
     by_step old new (Begins asked begun e m b) before after session same =
@@ -83,13 +83,13 @@ module _ (settings : Settings) (lists : Lists)
     by_step old new (BeginsForRelay shown begun e b) before after session same =
         let l = its_label h none (λ k. subst IsMoment e k) in
         let it : begun ≡ session = cc in
-        let number : (server_at past).house.last_id + 1 ≡ session.number = sym b.its_source ∙ ap (λ (x : Session). x.number) it in
+        let number : (server_at past).station.last_id + 1 ≡ session.number = sym b.its_source ∙ ap (λ (x : Session). x.number) it in
         ByRelay l.0 shown past [] begun (here l.0 (RelayUp mount shown) l.1 e)
         (elim (comes_up (server_at past) mount shown) [
           | inl r ↦ r ∙ ap (λ (m : ℕ). Arrived m) number
           | inr stays ↦
-              let now : session_of (server_at past).house.live mount ≡ Some begun =
-              ap (λ (x : World). session_of x.house.live mount) (sym (ap (world_after (server_at past)) e ∙ stays)) ∙ after in
+              let now : session_of (server_at past).station.live mount ≡ Some begun =
+              ap (λ (x : World). session_of x.station.live mount) (sym (ap (world_after (server_at past)) e ∙ stays)) ∙ after in
               let both : None ≡ Some begun = sym before ∙ now in
               absurd (cc)
         ])
@@ -108,8 +108,8 @@ module _ (settings : Settings) (lists : Lists)
 
   fed_more : (past : List Happening) (h : Happening) → (h.label ≡ None → IsMoment h.event) → AreFed past → AreFed (past ++ h ∷ [])
   fed_more past h none fed mount session e =
-      by_step past h none fed mount (session_of (server_at past).house.live mount) (session_of (world_after (server_at past) h.event).house.live mount)
-      (sessions (events_in past) h.event mount) refl refl session (ap (λ (x : World). session_of x.house.live mount) (sym (then_more past h)) ∙ e)
+      by_step past h none fed mount (session_of (server_at past).station.live mount) (session_of (world_after (server_at past) h.event).station.live mount)
+      (sessions (events_in past) h.event mount) refl refl session (ap (λ (x : World). session_of x.station.live mount) (sym (then_more past h)) ∙ e)
 
   pub none_fed : AreFed []
   none_fed mount session e = cc
@@ -122,7 +122,7 @@ module _ (settings : Settings) (lists : Lists)
   -- each of them sits in what is heard at the mount, and its session is fed
   abbrev pub SitsWith : List Happening → (Sitting → Type 0) → Type 0
   SitsWith course P = (past later : List Happening) (mount : List ℕ) (session : Session) (start : ℕ) → course ≡ past ++ later → AreFed past
-      → heard_at (server_at past).house mount ≡ Some session → P (record { mount = mount; source = session.number; start = start })
+      → heard_at (server_at past).station mount ≡ Some session → P (record { mount = mount; source = session.number; start = start })
 
   all_joined : (P : Sitting → Type 0) (xs ys : List Sitting) → AllByRecursion P xs → AllByRecursion P ys → AllByRecursion P (xs ++ ys)
   all_joined P [] ys h k = k
@@ -150,6 +150,6 @@ module _ (settings : Settings) (lists : Lists)
       let kept = mounts (events_in past) h.event id seat has in
       subst (λ (n : ℕ). P (record { mount = seat.mount; source = n; start = seat.place })) (sym kept.in_the_session)
       (make (past ++ h ∷ []) rest seat.mount kept.session seat.place parts more
-      (ap (λ (x : World). heard_at x.house seat.mount) (then_more past h) ∙ kept.is_heard))))
+      (ap (λ (x : World). heard_at x.station seat.mount) (then_more past h) ∙ kept.is_heard))))
       (subst (λ (x : World). AllByRecursion P (sittings x (events_in rest) id)) (then_more past h)
       (sits_with course P make (past ++ h ∷ []) rest parts none.1 more id))

@@ -11,17 +11,17 @@ use Rattle.radio_events.specs.declared.event.Event.TheVariants.{Arrive, Source, 
 use Rattle.radio_events.specs.declared.reply.Reply.{Reply}
 use Rattle.radio_events.specs.declared.reply.Reply.TheVariants.{Arrived, Feeding, Seated, Drawn, Noted, Text, Deny, Finished, Stray}
 use Rattle.radio_events.specs.Events.{client_in}
-use Rattle.radio_house.specs.declared.standing.Standing.{Standing}
-use Rattle.radio_house.specs.declared.standing.Standing.TheVariants.{Unknown, Undecided, Feeds, Sits, Answered, Finished as HasFinished}
+use Rattle.radio_parts_station.specs.declared.standing.Standing.{Standing}
+use Rattle.radio_parts_station.specs.declared.standing.Standing.TheVariants.{Unknown, Undecided, Feeds, Sits, Answered, Finished as HasFinished}
 use Rattle.radio_core.specs.ClientSteps.{ClientStep, ClientsStep}
 use Rattle.radio_core.specs.ClientSteps.{Stays, Arrives, IsAnswered, IsObeyed, IsShown, BeginsToFeed, SitsDown, StopsFeeding, Leaves, ComesUp, GoesDown, IsFinished}
 use Rattle.radio_core.specs.Finishes.{Finishes}
 use Rattle.radio_core.specs.Handing.{is_number, delivered}
 use Rattle.radio_core.specs.Others.{RepliesFit}
 use Rattle.radio_core.specs.Run.{run_after, world_after_all}
-use Rattle.radio_core.specs.Step.{reply_to, world_after}
+use Rattle.radio_parts.specs.Step.{reply_to, world_after}
 use Rattle.radio_core.specs.Totals.{AddsUp}
-use Rattle.radio_house.specs.World.{World, standing_of}
+use Rattle.radio_parts_station.specs.World.{World, standing_of}
 use Rattle.radio_headline.specs.Course.{Happening, events_in, on, entry, log_on}
 use Rattle.radio_headline.specs.Sources.{pushed, pushed_by}
 use Rattle.radio_headline.proofs.Logs.{Each}
@@ -125,7 +125,7 @@ module _ (settings : Settings) (lists : Lists)
   abbrev IsReached : World → Type 0
   IsReached w = Reached settings lists fits adds steps w
 
-  still_nothing : (w : World) (event : Event) (id : ℕ) → id ≤ w.house.last_id → (client_in event ≡ Some id → IsBehindRequest id event)
+  still_nothing : (w : World) (event : Event) (id : ℕ) → id ≤ w.station.last_id → (client_in event ≡ Some id → IsBehindRequest id event)
       → (Cause : Rule → Type 0) (s later : Standing) → ClientStep w Cause event id s later → FeedsNothing s → FeedsNothing later
   still_nothing w event id below his Cause s later (Stays _) n = n
   still_nothing w event id below his Cause s later (Arrives peer e p l) n = tt
@@ -142,7 +142,7 @@ module _ (settings : Settings) (lists : Lists)
   still_nothing w event id below his Cause s later (GoesDown _ e relay) n = tt
   still_nothing w event id below his Cause s later (IsFinished _ rule c) n = tt
 
-  step_nothing : (w : World) (event : Event) (id : ℕ) → IsReached w → id ≤ w.house.last_id → (client_in event ≡ Some id → IsBehindRequest id event)
+  step_nothing : (w : World) (event : Event) (id : ℕ) → IsReached w → id ≤ w.station.last_id → (client_in event ≡ Some id → IsBehindRequest id event)
       → FeedsNothing (standing_of w id) → FeedsNothing (standing_of (world_after w event) id)
   step_nothing w event id r below his n =
       still_nothing w event id below his (Finishes w event id) (standing_of w id) (standing_of (world_after w event) id)
@@ -175,7 +175,7 @@ module _ (settings : Settings) (lists : Lists)
   behind_notes w id (Leave him) his n = no_block (Leave him) (reply_to w (Leave him)) refl
 
   -- who feeds nothing, and does not ask to, brings nothing
-  brings_nothing : (w : World) (past : List Happening) (label id : ℕ) → IsReached w → id ≤ w.house.last_id → AllByRecursion (IsOnIt label id) past
+  brings_nothing : (w : World) (past : List Happening) (label id : ℕ) → IsReached w → id ≤ w.station.last_id → AllByRecursion (IsOnIt label id) past
       → Each (IsNoRequest id) (log_on w past label) → FeedsNothing (standing_of w id) → Each NotesNothing (log_on w past label)
   brings_nothing w [] label id r below on h n = tt
   brings_nothing w (x ∷ past) label id r below on h n =
@@ -250,7 +250,7 @@ module _ (settings : Settings) (lists : Lists)
   one_more w (Leave him) id log his orderly silent later =
       goes_on_so w (Leave him) id log his orderly silent later (no_block (Leave him) (reply_to w (Leave him)) refl)
 
-  pub brings_front : (w : World) (past : List Happening) (label id : ℕ) → IsReached w → id ≤ w.house.last_id → AllByRecursion (IsOnIt label id) past
+  pub brings_front : (w : World) (past : List Happening) (label id : ℕ) → IsReached w → id ≤ w.station.last_id → AllByRecursion (IsOnIt label id) past
       → Each (IsNoRequest id) (log_on w past label) → IsCut (log_on w past label) → Front (log_on w past label)
   brings_front w [] label id r below on h o = record { rest = []; is_front = refl }
   brings_front w (x ∷ past) label id r below on h o =
@@ -269,20 +269,20 @@ module _ (settings : Settings) (lists : Lists)
         by_label ih false k p = ih k p
 
   -- a number that was given is at most the last
-  last_stays_all : (w : World) (events : List Event) (id : ℕ) → IsReached w → id ≤ w.house.last_id → id ≤ (world_after_all w events).house.last_id
+  last_stays_all : (w : World) (events : List Event) (id : ℕ) → IsReached w → id ≤ w.station.last_id → id ≤ (world_after_all w events).station.last_id
   last_stays_all w [] id r below = below
   last_stays_all w (event ∷ events) id r below =
       last_stays_all (world_after w event) events id (reached_after settings lists fits adds steps w event r)
       (last_stays settings lists fits adds steps w event id r below)
 
   pub given_before : (w : World) (past : List Happening) (label id : ℕ) → IsReached w → HasNumber id (log_on w past label)
-      → id ≤ (world_after_all w (events_in past)).house.last_id
+      → id ≤ (world_after_all w (events_in past)).station.last_id
   given_before w [] label id r h = elim h [ ]
   given_before w (x ∷ past) label id r h =
       by_label (given_before (world_after w x.event) past label id (reached_after settings lists fits adds steps w x.event r)) (is_number label x.label) h where
-        by_label : (HasNumber id (log_on (world_after w x.event) past label) → id ≤ (world_after_all (world_after w x.event) (events_in past)).house.last_id)
+        by_label : (HasNumber id (log_on (world_after w x.event) past label) → id ≤ (world_after_all (world_after w x.event) (events_in past)).station.last_id)
             → (b : Bool) → HasNumber id ((if b then entry w x.event ∷ [] else []) ++ log_on (world_after w x.event) past label)
-            → id ≤ (world_after_all (world_after w x.event) (events_in past)).house.last_id
+            → id ≤ (world_after_all (world_after w x.event) (events_in past)).station.last_id
         by_label ih true (inl e) =
             last_stays_all (world_after w x.event) (events_in past) id (reached_after settings lists fits adds steps w x.event r)
             (given_here settings lists fits adds steps w x.event id r e)

@@ -8,7 +8,7 @@ use Rattle.radio_access.specs.Lists.{Lists}
 use Rattle.radio_events.specs.declared.entry.Entry.{Entry}
 use Rattle.radio_events.specs.declared.event.Event.{Event}
 use Rattle.radio_core.specs.Run.{run_after, world_after_all}
-use Rattle.radio_house.specs.World.{World, opening}
+use Rattle.radio_parts_station.specs.World.{World, opening}
 use Rattle.radio_deliveries.specs.declared.delivery.Delivery.{Delivery}
 use Rattle.radio_deliveries.specs.declared.delivery.Delivery.TheVariants.{To}
 use Rattle.radio_deliveries.specs.declared.delivery.Input.{Input}

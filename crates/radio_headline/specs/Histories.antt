@@ -7,8 +7,8 @@ use Rattle.radio_icy.specs.Weaving.{Call}
 use Rattle.radio_icy.specs.Stream.{sound_of_calls}
 use Rattle.radio_core.specs.Handing.{of_client, delivered}
 use Rattle.radio_core.specs.Run.{run_after}
-use Rattle.radio_core.specs.Step.{reply_to}
-use Rattle.radio_house.specs.World.{opening}
+use Rattle.radio_parts.specs.Step.{reply_to}
+use Rattle.radio_parts_station.specs.World.{opening}
 use Rattle.radio_laws.specs.Stretches.{sittings, AreStretches}
 use Rattle.radio_session.specs.Told.{draws_of}
 use Rattle.radio_events.specs.declared.entry.Entry.{Entry}

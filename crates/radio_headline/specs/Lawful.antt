@@ -6,7 +6,7 @@ use Rattle.radio_events.specs.declared.event.Event.{Event}
 use Rattle.radio_events.specs.declared.event.ListenRequest.{ListenRequest}
 use Rattle.radio_core.specs.Lagging.{NobodyLags}
 use Rattle.radio_core.specs.Run.{run_after}
-use Rattle.radio_core.specs.Step.{world_after}
+use Rattle.radio_parts.specs.Step.{world_after}
 use Rattle.radio_laws.specs.Access.{AccessIsKept}
 use Rattle.radio_laws.specs.Admission.{BeginsAtABlock}
 use Rattle.radio_laws.specs.Commanded.{CommandsAreKept, FallbacksStay, KilledHearNothing, OnlyWhoMayCommands, WhoMayIsServed}

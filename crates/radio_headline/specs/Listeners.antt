@@ -20,9 +20,9 @@ use Rattle.radio_icy.specs.Bare.{sound_in}
 use Rattle.radio_icy.specs.Stream.{IsWoven, sound_of_calls}
 use Rattle.radio_core.specs.Handing.{of_client, delivered}
 use Rattle.radio_core.specs.Run.{run_after}
-use Rattle.radio_core.specs.Step.{reply_to, world_after}
-use Rattle.radio_core.specs.Ways.{rows_for}
-use Rattle.radio_house.specs.World.{World, opening}
+use Rattle.radio_parts.specs.Step.{reply_to, world_after}
+use Rattle.radio_parts.specs.Ways.{rows_for}
+use Rattle.radio_parts_station.specs.World.{World, opening}
 use Rattle.radio_laws.specs.Admission.{IsSeated}
 use Rattle.radio_laws.specs.Stretches.{AreSlices, AreStretches, Sitting, cut_at_sittings, sittings}
 use Rattle.radio_pull.specs.Laws.{ItemsAreOfTheirRelay}

@@ -11,12 +11,12 @@ use Rattle.radio_events.specs.declared.event.SourceRequest.{SourceRequest}
 use Rattle.radio_core.specs.Handing.{delivered}
 use Rattle.radio_core.specs.Run.{run_after}
 use Rattle.radio_core.specs.SessionSteps.{HasBegun}
-use Rattle.radio_core.specs.Step.{reply_to}
-use Rattle.radio_house.specs.Streams.{shown_for}
-use Rattle.radio_house.specs.Waiting.{is_on_demand, shown_by_nobody}
-use Rattle.radio_house.specs.World.{opening}
+use Rattle.radio_parts.specs.Step.{reply_to}
+use Rattle.radio_parts_station.specs.Streams.{shown_for}
+use Rattle.radio_parts_station.specs.Waiting.{is_on_demand, shown_by_nobody}
+use Rattle.radio_parts_station.specs.World.{opening}
 use Rattle.radio_events.specs.declared.reply.Reply.TheVariants.{Arrived}
-use Rattle.radio_parts.specs.Sessions.{Session}
+use Rattle.radio_parts_mount.specs.Sessions.{Session}
 use Rattle.radio_relay.specs.Laws.{sound_in}
 use Rattle.radio_relay.specs.Pulled.{IsPulled, Part, Pulled, ShownPart}
 use Rattle.radio_answers.specs.declared.web_answers.WebAnswers.{WebAnswers}
@@ -95,7 +95,7 @@ module _ (settings : Settings) (lists : Lists) (brought : ℕ → List ℕ) (cou
   -- the settings say
   pub record IsAwaited (shown_now : Shown) : Type 0 where
     pub on_demand : is_on_demand settings mount ≡ true
-    pub shows : shown_now ≡ shown_for (opening settings lists).house mount shown_by_nobody
+    pub shows : shown_now ≡ shown_for (opening settings lists).station mount shown_by_nobody
     pub of_nobody : number ≡ 0
     pub delivers_nothing : NobodyDelivers settings lists (events_in course)
 

@@ -6,28 +6,28 @@ use Rattle.radio_events.specs.declared.reply.StreamHead.{StreamHead}
 use Rattle.radio_tables.specs.Lists.{Each, Has}
 use Rattle.radio_tables.proofs.FindLaws.{find_here, find_later}
 use Rattle.radio_events.specs.declared.event.Event.{Event}
-use Rattle.radio_core.specs.declared.outcome.Outcome.{Outcome}
+use Rattle.radio_parts.specs.declared.outcome.Outcome.{Outcome}
 use Rattle.radio_events.specs.declared.reply.Reply.TheVariants.{Drawn, Seated}
-use Rattle.radio_house.specs.World.{World}
+use Rattle.radio_parts_station.specs.World.{World}
 use Rattle.radio_laws.specs.Access.{IsHis, AccessIsKept}
 use Rattle.radio_laws.specs.Admission.{IsBlockStart, IsEarliestStart, IsSeated, BeginsAtABlock}
-use Rattle.radio_changes.specs.Changes.{changed}
-use Rattle.radio_house.specs.House.{House}
+use Rattle.radio_parts_changes.specs.Changes.{changed}
+use Rattle.radio_parts_station.specs.StationState.{StationState}
 use Rattle.radio_settings_values.specs.Options.{options_for}
-use Rattle.radio_core.specs.Listen.{first_seat}
-use Rattle.radio_facts.specs.Streams.{burst_of, interval_for}
+use Rattle.radio_parts.specs.Listen.{first_seat}
+use Rattle.radio_parts_facts.specs.Streams.{burst_of, interval_for}
 use Rattle.radio_seats_rows.specs.Seats.{seat_of, seat_in}
-use Rattle.radio_parts.specs.Sessions.{Session}
-use Rattle.radio_parts.specs.Stream.{AreRising, WholeStream, end_of, burst_start}
+use Rattle.radio_parts_mount.specs.Sessions.{Session}
+use Rattle.radio_parts_mount.specs.Stream.{AreRising, WholeStream, end_of, burst_start}
 use Rattle.radio_core.specs.Sound.{IsSound}
-use Rattle.radio_core.specs.Step.{outcome, reply_to, world_after}
+use Rattle.radio_parts.specs.Step.{outcome, reply_to, world_after}
 use Rattle.radio_seats_rows.proofs.SeatLaws.{has_sat_down}
 use Rattle.std.proofs.lemmas.Bool.{and_parts}
 use Rattle.radio_access.specs.Lists.{lets_in}
 use Rattle.radio_fallback.proofs.TurnLemmas.{lands_where_he_fits}
-use Rattle.radio_house.specs.Facts.{sight_of}
+use Rattle.radio_parts_station.specs.Facts.{sight_of}
 use Rattle.radio_laws.proofs.WalkLemmas.{lands_on_his_way}
-use Rattle.radio_parts.proofs.RisingLemmas.{burst_within}
+use Rattle.radio_parts_mount.proofs.RisingLemmas.{burst_within}
 use Rattle.radio_laws.proofs.LimitLemmas.{Within, sits_as, sent_as}
 use Rattle.radio_laws.proofs.ListsLemmas.{KeepsLists}
 use Rattle.radio_laws.proofs.GrantedLemmas.{Granted, AdmitsClient, AdmitsSource, AdmitsRelay, AdmitsListener, HandsData, TellsText, GrantsNothing, grants, granted}
@@ -170,28 +170,28 @@ within_both stream burst queue place within = record {
 }
 
 -- the interval is that of the mount, where metadata were asked for
-interval_asked : (house : House) (mount : List ℕ) (wants : Bool) → wants ≡ true
-    → interval_for house mount wants ≡ Some (options_for house.settings mount).stream.mp3_metadata_interval
-interval_asked house mount wants e = rw e refl
+interval_asked : (station : StationState) (mount : List ℕ) (wants : Bool) → wants ≡ true
+    → interval_for station mount wants ≡ Some (options_for station.settings mount).stream.mp3_metadata_interval
+interval_asked station mount wants e = rw e refl
 
-no_interval : (house : House) (mount : List ℕ) (wants : Bool) → wants ≡ false → interval_for house mount wants ≡ None
-no_interval house mount wants e = rw e refl
+no_interval : (station : StationState) (mount : List ℕ) (wants : Bool) → wants ≡ false → interval_for station mount wants ≡ None
+no_interval station mount wants e = rw e refl
 
 module _ (w : World) (s : IsSound w) where
   seated_by : (event : Event) (o : Outcome) → Granted w event o → (interval : Option ℕ) (head : StreamHead) → o.reply ≡ Seated interval head
       → ((id : ℕ) → seat_of (changed w o.change).seats id ≡ seat_of (world_after w event).seats id) → IsSeated w event interval head
   seated_by event o (AdmitsListener asked peer session is undecided lands live) interval head d after =
       let itself : (asked.id == asked.id) ≡ true = grind (arith, nat_tests) in
-      let seat = first_seat w.house asked peer session in
-      let here : interval ≡ interval_for w.house asked.mount asked.wants_metadata = sym (seated_interval d) in
+      let seat = first_seat w.station asked peer session in
+      let here : interval ≡ interval_for w.station asked.mount asked.wants_metadata = sym (seated_interval d) in
       let way = lands_on_his_way w asked session.mount lands in
-      let fits = lands_where_he_fits (sight_of w.house) w.seats asked.pair asked.mount session.mount lands in
+      let fits = lands_where_he_fits (sight_of w.station) w.seats asked.pair asked.mount session.mount lands in
       record {
         asked = asked;
         listens = is;
         session = session;
         is_heard = live;
-        is_awaited = awaited_there w.house session.mount session live;
+        is_awaited = awaited_there w.station session.mount session live;
         shows = ap (λ (h : StreamHead). h.shown) (sym (seated_head d));
         readers = ap (λ (h : StreamHead). h.allow_origin) (sym (seated_head d));
         seat = seat;
@@ -199,7 +199,7 @@ module _ (w : World) (s : IsSound w) where
         steps = way.0;
         not_too_far = way.1;
         on_his_way = way.2;
-        lets_him_in = (and_parts (lets_in w.house.lists session.mount asked.pair) _ fits.is_open).0;
+        lets_him_in = (and_parts (lets_in w.station.lists session.mount asked.pair) _ fits.is_open).0;
         at_the_mount = refl;
         his_home = refl;
         in_the_session = refl;
@@ -207,10 +207,10 @@ module _ (w : World) (s : IsSound w) where
         his_pair = refl;
         from_now = refl;
         his_interval = sym here;
-        with_metadata = λ wants. here ∙ interval_asked w.house asked.mount asked.wants_metadata wants;
-        without_metadata = λ wants. here ∙ no_interval w.house asked.mount asked.wants_metadata wants;
-        starts = within_both session.stream (options_for w.house.settings session.mount).stream.burst_size w.house.settings.limits.queue_size seat.place
-            (earliest_start session (burst_of w.house session.mount) (rising_heard w s session.mount session live));
+        with_metadata = λ wants. here ∙ interval_asked w.station asked.mount asked.wants_metadata wants;
+        without_metadata = λ wants. here ∙ no_interval w.station asked.mount asked.wants_metadata wants;
+        starts = within_both session.stream (options_for w.station.settings session.mount).stream.burst_size w.station.settings.limits.queue_size seat.place
+            (earliest_start session (burst_of w.station session.mount) (rising_heard w s session.mount session live));
       } where
         seated_head : {a b : Option ℕ} {t u : StreamHead} → Seated a t ≡ Seated b u → t ≡ u
         seated_head e = cc

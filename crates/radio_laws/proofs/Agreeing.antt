@@ -16,15 +16,15 @@ use Rattle.radio_seats_rows.specs.Seats.{is_listener, listener_of, seat_of, seat
 use Rattle.radio_seats_rows.specs.Seats.{with_move, loses, with_end, hears_session, in_session_at, with_session_at}
 use Rattle.radio_seats_rows.specs.Seats.{lost_by, ended_if, heard_to, finished_if, with_ended, is_seat_at, without_listener, seats_at, count_at, is_user_at, sits_there, last_mount, last_mount_of}
 use Rattle.radio_seats.specs.Listed.{guest_at, guests_at}
-use Rattle.radio_parts.specs.Sessions.{Session, is_of, session_of, by_mount, with_session, longer, fed, with_title, titled, without_session}
+use Rattle.radio_parts_mount.specs.Sessions.{Session, is_of, session_of, by_mount, with_session, longer, fed, with_title, titled, without_session}
 use Rattle.radio_laws.specs.Locality.{SessionsAgree, SameSession, FedBeyond, ListenersAgree, SameListener, LastBeyond, IsAll}
-use Rattle.radio_mounts.specs.Agree.{AllAgree}
+use Rattle.radio_parts_table.specs.Agree.{AllAgree}
 use Rattle.radio_laws.proofs.AgreeingLists.{FoundAgree, NoneFound, BothFound, agree_length, agree_equal, agree_mapped, agree_kept, agree_any, agree_filtered, agree_found}
 use Rattle.radio_laws.proofs.AgreeingLists.{agree_updated, agree_picked, agree_each, agree_placed}
 use Rattle.radio_access.specs.Lists.{Lists}
 use Rattle.radio_seats_rows.specs.Rests.{how_many}
 use Rattle.radio_seats_rows.specs.Seats.{holds_of}
-use Rattle.radio_house.specs.Outsiders.{is_shut_out}
+use Rattle.radio_parts_station.specs.Outsiders.{is_shut_out}
 
 module _ (within : List ℕ → Bool) where
   -- what is beyond reach is at no mount within it

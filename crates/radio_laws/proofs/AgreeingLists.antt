@@ -7,7 +7,7 @@ use Rattle.std.specs.declared.cmp.Ordering.TheVariants.{Less, Equal, Greater}
 use Rattle.std.specs.Ordering.{match_ordering}
 use Rattle.radio_tables.specs.Lists.{update_first, placed}
 use Rattle.radio_tables.proofs.FindLaws.{find_here, find_later}
-use Rattle.radio_mounts.specs.Agree.{AllAgree}
+use Rattle.radio_parts_table.specs.Agree.{AllAgree}
 
 -- what is found in both agrees, or nothing is found in either
 pub data FoundAgree {X : Type 0} (R : X → X → Type 0) : Option X → Option X → Type 0 where

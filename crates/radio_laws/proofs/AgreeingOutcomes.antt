@@ -12,7 +12,7 @@ use Rattle.radio_seats_rows.specs.declared.seat.Listener.{Listener}
 use Rattle.radio_seats_rows.specs.declared.seat.Seat.{Seat}
 use Rattle.radio_seats_rows.specs.Seats.{seat_in, seat_of}
 use Rattle.radio_fallback.proofs.FitsLemmas.{sits_last}
-use Rattle.radio_parts.specs.Sessions.{Session}
+use Rattle.radio_parts_mount.specs.Sessions.{Session}
 use Rattle.radio_fallback.specs.declared.walking.WalkFinding.{WalkFinding}
 use Rattle.radio_fallback.specs.declared.walking.Landing.{Landing}
 use Rattle.radio_fallback.specs.declared.walking.Landing.TheVariants.{Lands, Stops}
@@ -26,21 +26,21 @@ use Rattle.radio_events.specs.declared.event.Event.{Event}
 use Rattle.radio_events.specs.declared.event.Event.TheVariants.{Arrive, Source, Push, SourceEnd, Title, Listen, Draw, Command, Leave}
 use Rattle.radio_events.specs.declared.event.Event.TheVariants.{RelayUp, RelayDown, Clock}
 use Rattle.radio_events.specs.declared.event.ListenRequest.{ListenRequest}
-use Rattle.radio_changes.specs.declared.change.Change.TheVariants.{Nothing, Answer}
-use Rattle.radio_house.specs.declared.standing.Standing.{Standing}
-use Rattle.radio_house.specs.declared.standing.Standing.TheVariants.{Unknown, Undecided as IsUndecided, Feeds as IsFeeding, Sits, Answered as IsAnswered, Finished}
-use Rattle.radio_house.specs.Clients.{client_of}
-use Rattle.radio_core.specs.Command.{does_asked}
-use Rattle.radio_facts.specs.CommandFacts.{facts_asked, needs_of, sits_at}
-use Rattle.radio_core.proofs.DrawLemmas.{hands_out_at, draws_so}
-use Rattle.radio_house.specs.Facts.{rows_to_push, rows_to_listen, walks_to}
-use Rattle.radio_core.specs.Listen.{asks_to_hear, sits_where}
-use Rattle.radio_core.specs.Outcomes.{if_undecided, if_feeding, if_sitting, on_verdict}
-use Rattle.radio_core.specs.Pages.{asks_by, asks_by_path}
-use Rattle.radio_core.specs.Push.{takes_in}
-use Rattle.radio_house.specs.Relays.{relay_of}
-use Rattle.radio_core.specs.Step.{outcome}
-use Rattle.radio_house.specs.World.{World, standing_of, standing_in}
+use Rattle.radio_parts_changes.specs.declared.change.Change.TheVariants.{Nothing, Answer}
+use Rattle.radio_parts_station.specs.declared.standing.Standing.{Standing}
+use Rattle.radio_parts_station.specs.declared.standing.Standing.TheVariants.{Unknown, Undecided as IsUndecided, Feeds as IsFeeding, Sits, Answered as IsAnswered, Finished}
+use Rattle.radio_parts_station.specs.Clients.{client_of}
+use Rattle.radio_parts.specs.Command.{does_asked}
+use Rattle.radio_parts_facts.specs.CommandFacts.{facts_asked, needs_of, sits_at}
+use Rattle.radio_parts.proofs.DrawLemmas.{hands_out_at, draws_so}
+use Rattle.radio_parts_station.specs.Facts.{rows_to_push, rows_to_listen, walks_to}
+use Rattle.radio_parts.specs.Listen.{asks_to_hear, sits_where}
+use Rattle.radio_parts.specs.Outcomes.{if_undecided, if_feeding, if_sitting, on_verdict}
+use Rattle.radio_parts.specs.Pages.{asks_by, asks_by_path}
+use Rattle.radio_parts.specs.Push.{takes_in}
+use Rattle.radio_parts_station.specs.Relays.{relay_of}
+use Rattle.radio_parts.specs.Step.{outcome}
+use Rattle.radio_parts_station.specs.World.{World, standing_of, standing_in}
 use Rattle.radio_laws.specs.Locality.{IsAll, IsWithin, LastWithin, AsksWithin, HearsWithin, FallBackWithin, WalksWithin}
 use Rattle.radio_laws.proofs.Agreeing.{beyond, SessionsDo, as_many_live, live_alike, session_alike, all_sessions, ListenersDo, SeatsAgree, SameSeat, BothBeyond}
 use Rattle.radio_laws.proofs.Agreeing.{listener_same, seat_alike, guests_alike, all_listeners, IsBeyond}
@@ -49,37 +49,37 @@ use Rattle.radio_laws.proofs.WalkLemmas.{falls_back}
 use Rattle.radio_laws.proofs.WebLaws.{is_path}
 use Rattle.radio_access.specs.Lists.{Lists, with_user_at, without_user_at}
 use Rattle.radio_seats_rows.specs.Rests.{how_many}
-use Rattle.radio_house.specs.Outsiders.{is_shut_out}
+use Rattle.radio_parts_station.specs.Outsiders.{is_shut_out}
 use Rattle.radio_laws.proofs.Agreeing.{none_out, how_many_alike}
 
 -- the state with these sessions and listeners in place of its own
 abbrev pub in_place : World → List Session → List Listener → World
-in_place w live seats = record { house = record w.house { live = live }; seats = seats }
+in_place w live seats = record { station = record w.station { live = live }; seats = seats }
 
 -- a mount within reach falls back to one within reach
-pub onward_by : (within : List ℕ → Bool) (w : World) → FallBackWithin w within → (live : List Session) (r : SessionsDo within live w.house.live) → Onward within w live r
+pub onward_by : (within : List ℕ → Bool) (w : World) → FallBackWithin w within → (live : List Session) (r : SessionsDo within live w.station.live) → Onward within w live r
 onward_by within w closed live r mount next near e = closed mount next near (falls_back w mount next e)
 
-module _ (within : List ℕ → Bool) (w : World) (live : List Session) (seats : List Listener) (r : SessionsDo within live w.house.live) (s : ListenersDo within seats w.seats) where
+module _ (within : List ℕ → Bool) (w : World) (live : List Session) (seats : List Listener) (r : SessionsDo within live w.station.live) (s : ListenersDo within seats w.seats) where
   abbrev v : World
   v = in_place w live seats
 
   -- where all is within reach, the states are one
   pub all_one : IsAll within → v ≡ w
-  all_one all = by_parts live seats (all_sessions within live w.house.live r all) (all_listeners within seats w.seats s all) where
-    by_parts : (l : List Session) (t : List Listener) → l ≡ w.house.live → t ≡ w.seats → in_place w l t ≡ w
+  all_one all = by_parts live seats (all_sessions within live w.station.live r all) (all_listeners within seats w.seats s all) where
+    by_parts : (l : List Session) (t : List Listener) → l ≡ w.station.live → t ≡ w.seats → in_place w l t ≡ w
     by_parts l t e f = rw (e, f) refl
 
   -- how a client stands
 
   pub standing_alike : (id : ℕ) → LastWithin w within id → standing_of v id ≡ standing_of w id
-  standing_alike id near = ap (λ (found : Option Listener). standing_in (relay_of w.house.relays id) found (client_of w.house.clients id)) (listener_same within seats w.seats s id near)
+  standing_alike id near = ap (λ (found : Option Listener). standing_in (relay_of w.station.relays id) found (client_of w.station.clients id)) (listener_same within seats w.seats s id near)
 
   -- a block
   pushes : (id : ℕ) (block : List ℕ) (now : Standing) → standing_of w id ≡ now → ((mount : List ℕ) → standing_of w id ≡ IsFeeding mount → within mount ≡ true)
-      → if_feeding now (λ mount. on_verdict (verdict_in (rows_to_push v.house mount block)) Nothing (takes_in mount block))
-      ≡ if_feeding now (λ mount. on_verdict (verdict_in (rows_to_push w.house mount block)) Nothing (takes_in mount block))
-  pushes id block (IsFeeding mount) e near = rw (session_alike within live w.house.live r mount (near mount e)) refl
+      → if_feeding now (λ mount. on_verdict (verdict_in (rows_to_push v.station mount block)) Nothing (takes_in mount block))
+      ≡ if_feeding now (λ mount. on_verdict (verdict_in (rows_to_push w.station mount block)) Nothing (takes_in mount block))
+  pushes id block (IsFeeding mount) e near = rw (session_alike within live w.station.live r mount (near mount e)) refl
   pushes id block Unknown e near = refl
   pushes id block (IsUndecided peer) e near = refl
   pushes id block Sits e near = refl
@@ -87,45 +87,45 @@ module _ (within : List ℕ → Bool) (w : World) (live : List Session) (seats :
   pushes id block (Finished rule) e near = refl
 
   -- a draw
-  draws_at : (id room : ℕ) (has : Option Seat) → ((seat : Seat) → has ≡ Some seat → within seat.mount ≡ true) → hands_out_at v.house id room has ≡ hands_out_at w.house id room has
+  draws_at : (id room : ℕ) (has : Option Seat) → ((seat : Seat) → has ≡ Some seat → within seat.mount ≡ true) → hands_out_at v.station id room has ≡ hands_out_at w.station id room has
   draws_at id room None near = refl
-  draws_at id room (Some seat) near = rw (session_alike within live w.house.live r seat.mount (near seat refl)) refl
+  draws_at id room (Some seat) near = rw (session_alike within live w.station.live r seat.mount (near seat refl)) refl
 
-  draws_by : (id room : ℕ) → LastWithin w within id → hands_out_at v.house id room (seat_of seats id) ≡ hands_out_at w.house id room (seat_of w.seats id)
+  draws_by : (id room : ℕ) → LastWithin w within id → hands_out_at v.station id room (seat_of seats id) ≡ hands_out_at w.station id room (seat_of w.seats id)
   draws_by id room near =
-      ap (λ (found : Option Listener). hands_out_at v.house id room (seat_in found)) (listener_same within seats w.seats s id near)
+      ap (λ (found : Option Listener). hands_out_at v.station id room (seat_in found)) (listener_same within seats w.seats s id near)
       ∙ draws_at id room (seat_of w.seats id) (λ seat has. near seat.mount (sits_last w.seats id seat has))
 
   -- a listener's request
   module _ (asked : ListenRequest) (walks : WalksWithin w within asked.mount) (his : LastWithin w within asked.id) where
-    walk_same : walks_to v.house v.seats asked.mount asked.pair ≡ walks_to w.house w.seats asked.mount asked.pair
+    walk_same : walks_to v.station v.seats asked.mount asked.pair ≡ walks_to w.station w.seats asked.mount asked.pair
     walk_same = landing_alike within w live r seats w.seats s (onward_by within w walks.onward live r) asked.mount asked.pair walks.there
 
     rows_same : rows_to_listen v asked ≡ rows_to_listen w asked
     rows_same =
-        let is_live = live_alike within live w.house.live r asked.mount in
+        let is_live = live_alike within live w.station.live r asked.mount in
         let found = found_alike within w live r seats w.seats s asked.mount asked.pair walks.there in
         let twice = ap (λ (f : WalkFinding). f.user_is_twice) found in
         rw (is_live, twice, walk_same) refl
 
-    sits_alike : (peer : Peer) (where_he_lands : Landing) → walks_to w.house w.seats asked.mount asked.pair ≡ where_he_lands
-        → sits_where v.house asked peer where_he_lands ≡ sits_where w.house asked peer where_he_lands
+    sits_alike : (peer : Peer) (where_he_lands : Landing) → walks_to w.station w.seats asked.mount asked.pair ≡ where_he_lands
+        → sits_where v.station asked peer where_he_lands ≡ sits_where w.station asked peer where_he_lands
     sits_alike peer (Stops rule) e = refl
     sits_alike peer (Lands mount) e =
         let near = lands_within within w live r seats w.seats s (onward_by within w walks.onward live r) asked.mount mount asked.pair walks.there e in
-        rw (session_alike within live w.house.live r mount near) refl
+        rw (session_alike within live w.station.live r mount near) refl
 
     hears : asks_to_hear v asked ≡ asks_to_hear w asked
     hears =
         rw (standing_alike asked.id his, rows_same, walk_same) (by_standing (standing_of w asked.id)) where
           by_standing : (now : Standing)
               → if_undecided now (λ peer. on_verdict (verdict_in (rows_to_listen w asked)) (Answer asked.id)
-              (sits_where v.house asked peer (walks_to w.house w.seats asked.mount asked.pair)))
+              (sits_where v.station asked peer (walks_to w.station w.seats asked.mount asked.pair)))
               ≡ if_undecided now (λ peer. on_verdict (verdict_in (rows_to_listen w asked)) (Answer asked.id)
-              (sits_where w.house asked peer (walks_to w.house w.seats asked.mount asked.pair)))
+              (sits_where w.station asked peer (walks_to w.station w.seats asked.mount asked.pair)))
           by_standing (IsUndecided peer) =
               ap (on_verdict (verdict_in (rows_to_listen w asked)) (Answer asked.id))
-              (sits_alike peer (walks_to w.house w.seats asked.mount asked.pair) refl)
+              (sits_alike peer (walks_to w.station w.seats asked.mount asked.pair) refl)
           by_standing Unknown = refl
           by_standing (IsFeeding mount) = refl
           by_standing Sits = refl
@@ -133,8 +133,8 @@ module _ (within : List ℕ → Bool) (w : World) (live : List Session) (seats :
           by_standing (Finished rule) = refl
 
   listens : (asked : ListenRequest) → HearsWithin w within asked.mount → LastWithin w within asked.id → asks_by_path v asked ≡ asks_by_path w asked
-  listens asked near his = by_path (web_path w.house.settings.web asked.mount) refl where
-    by_path : (path : Option WebPath) → web_path w.house.settings.web asked.mount ≡ path → asks_by v asked path ≡ asks_by w asked path
+  listens asked near his = by_path (web_path w.station.settings.web asked.mount) refl where
+    by_path : (path : Option WebPath) → web_path w.station.settings.web asked.mount ≡ path → asks_by v asked path ≡ asks_by w asked path
     by_path None e = hears asked near.walks his
     by_path (Some IcecastStatus) e = ap (λ (x : World). asks_by x asked (Some IcecastStatus)) (all_one (near.status (is_path w asked.mount IcecastStatus e)))
     by_path (Some AtPage) e = rw (standing_alike asked.id his) refl
@@ -154,18 +154,18 @@ module _ (within : List ℕ → Bool) (w : World) (live : List Session) (seats :
 
   needs_alike : (command : TheCommand) → AsksWithin w within (Asks command) → needs_of v command ≡ needs_of w command
   needs_alike (MoveClients mount destination) near =
-      rw (live_alike within live w.house.live r mount, live_alike within live w.house.live r destination) refl
-  needs_alike (KillClient mount listener) near = rw (live_alike within live w.house.live r mount, sits_same mount listener near) refl
-  needs_alike (KillSource mount) near = rw (live_alike within live w.house.live r mount) refl
-  needs_alike (SetTitle mount title) near = rw (live_alike within live w.house.live r mount) refl
-  needs_alike (SetFallback mount fallback) near = rw (live_alike within live w.house.live r mount) refl
+      rw (live_alike within live w.station.live r mount, live_alike within live w.station.live r destination) refl
+  needs_alike (KillClient mount listener) near = rw (live_alike within live w.station.live r mount, sits_same mount listener near) refl
+  needs_alike (KillSource mount) near = rw (live_alike within live w.station.live r mount) refl
+  needs_alike (SetTitle mount title) near = rw (live_alike within live w.station.live r mount) refl
+  needs_alike (SetFallback mount fallback) near = rw (live_alike within live w.station.live r mount) refl
   needs_alike (AddUser mount user password) near = refl
   needs_alike (DeleteUser mount user) near = refl
 
   facts_alike : (asked : Asked) (pair : Option Credentials) → AsksWithin w within asked → facts_asked v asked pair ≡ facts_asked w asked pair
   facts_alike NoCommand pair near = refl
   facts_alike (MissingArgument by) pair near = refl
-  facts_alike (AsksFor (Clients mount)) pair near = rw (live_alike within live w.house.live r mount) refl
+  facts_alike (AsksFor (Clients mount)) pair near = rw (live_alike within live w.station.live r mount) refl
   facts_alike (AsksFor Status) pair near = refl
   facts_alike (AsksFor Stats) pair near = refl
   facts_alike (AsksFor Mounts) pair near = refl
@@ -191,14 +191,14 @@ module _ (within : List ℕ → Bool) (w : World) (live : List Session) (seats :
   does_alike (Asks (SetTitle mount title)) id near = refl
   does_alike (Asks (SetFallback mount fallback)) id near = refl
   does_alike (Asks (AddUser mount user password)) id near =
-      rw (out_alike (with_user_at w.house.lists mount user password) mount near) refl
-  does_alike (Asks (DeleteUser mount user)) id near = rw (out_alike (without_user_at w.house.lists mount user) mount near) refl
+      rw (out_alike (with_user_at w.station.lists mount user password) mount near) refl
+  does_alike (Asks (DeleteUser mount user)) id near = rw (out_alike (without_user_at w.station.lists mount user) mount near) refl
 
   pub outcome_alike : (event : Event) → IsWithin w within event → outcome v event ≡ outcome w event
   unfolding outcome
   outcome_alike (Arrive peer) near = refl
   outcome_alike (Source asked) near =
-      rw (standing_alike asked.id (near.client asked.id refl), as_many_live within live w.house.live r, live_alike within live w.house.live r asked.mount) refl
+      rw (standing_alike asked.id (near.client asked.id refl), as_many_live within live w.station.live r, live_alike within live w.station.live r asked.mount) refl
   outcome_alike (Push id block) near = rw (standing_alike id (near.client id refl)) (pushes id block (standing_of w id) refl near.reached)
   outcome_alike (SourceEnd id) near = rw (standing_alike id (near.client id refl)) refl
   outcome_alike (Title id text) near = rw (standing_alike id (near.client id refl)) refl
@@ -211,6 +211,6 @@ module _ (within : List ℕ → Bool) (w : World) (live : List Session) (seats :
       rw (standing_alike asked.id (near.client asked.id refl), facts_alike asked.asked asked.pair near.reached, does_alike asked.asked asked.id near.reached) refl
   outcome_alike (Leave id) near = rw (standing_alike id (near.client id refl)) refl
   outcome_alike (RelayUp mount shown) near =
-      rw (as_many_live within live w.house.live r, live_alike within live w.house.live r mount) refl
+      rw (as_many_live within live w.station.live r, live_alike within live w.station.live r mount) refl
   outcome_alike (RelayDown id) near = rw (standing_alike id (near.client id refl)) refl
   outcome_alike (Clock ms) near = refl

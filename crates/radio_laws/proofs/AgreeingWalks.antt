@@ -7,7 +7,7 @@ use Rattle.radio_policy.specs.declared.rule.Rule.{Rule}
 use Rattle.radio_seats_rows.specs.declared.seat.Listener.{Listener}
 use Rattle.radio_seats_rows.specs.declared.seat.Seat.{Seat}
 use Rattle.radio_seats_rows.specs.Seats.{seat_of, without_listener}
-use Rattle.radio_parts.specs.Sessions.{Session, session_of}
+use Rattle.radio_parts_mount.specs.Sessions.{Session, session_of}
 use Rattle.radio_fallback.specs.declared.walking.Landing.{Landing}
 use Rattle.radio_fallback.specs.declared.walking.Landing.TheVariants.{Lands, Stops}
 use Rattle.radio_fallback.specs.declared.moves.Carried.{Carried}
@@ -19,40 +19,40 @@ use Rattle.radio_fallback.specs.Walk.{Sight, is_full, sits_already, is_full_for,
 use Rattle.radio_fallback.specs.Carry.{concerns, walks_on, is_asked, turn_by, turn_in, turn_of, Carry, after_turn, turns, numbers_of, at_first, carried}
 use Rattle.radio_fallback.proofs.FitsLemmas.{is_out}
 use Rattle.radio_fallback.proofs.WalkLaws.{walks_ten}
-use Rattle.radio_house.specs.Facts.{sight_of, fallback_of}
-use Rattle.radio_house.specs.World.{World}
+use Rattle.radio_parts_station.specs.Facts.{sight_of, fallback_of}
+use Rattle.radio_parts_station.specs.World.{World}
 use Rattle.radio_laws.specs.Locality.{ListenersAgree, SameListener}
 use Rattle.radio_laws.proofs.AgreeingLists.{agree_all}
 use Rattle.radio_laws.proofs.Agreeing.{beyond, SessionsDo, live_alike, session_alike, ListenersDo, IsBeyond, SeatsAgree, SameSeat, BothBeyond, numbers_alike, seat_alike, count_alike, sits_alike}
 use Rattle.radio_laws.proofs.Agreeing.{without_alike, with_move_alike, with_end_alike}
-use Rattle.radio_house.specs.Waiting.{heard_at, silence_of}
+use Rattle.radio_parts_station.specs.Waiting.{heard_at, silence_of}
 use Rattle.std.specs.Option.{option_or}
 
 -- the state with these sessions in place of its own
 abbrev pub with_live : World → List Session → World
-with_live w live = record w { house = record w.house { live = live } }
+with_live w live = record w { station = record w.station { live = live } }
 
-module _ (within : List ℕ → Bool) (w : World) (live : List Session) (r : SessionsDo within live w.house.live) where
+module _ (within : List ℕ → Bool) (w : World) (live : List Session) (r : SessionsDo within live w.station.live) where
   abbrev one : Sight
-  one = sight_of (with_live w live).house
+  one = sight_of (with_live w live).station
 
   abbrev other : Sight
-  other = sight_of w.house
+  other = sight_of w.station
 
   open_or : (found : Option Session) (silence : Option Session) → is_some (option_or found silence) ≡ (is_some found || is_some silence)
   open_or None silence = refl
   open_or (Some session) silence = refl
 
   -- the same mounts are live or wait for a session
-  pub open_alike : (mount : List ℕ) → is_some (heard_at (with_live w live).house mount) ≡ is_some (heard_at w.house mount)
+  pub open_alike : (mount : List ℕ) → is_some (heard_at (with_live w live).station mount) ≡ is_some (heard_at w.station mount)
   open_alike mount =
-      open_or (session_of live mount) (silence_of w.house mount)
-      ∙ ap (λ (b : Bool). b || is_some (silence_of w.house mount)) (live_alike within live w.house.live r mount)
-      ∙ sym (open_or (session_of w.house.live mount) (silence_of w.house mount))
+      open_or (session_of live mount) (silence_of w.station mount)
+      ∙ ap (λ (b : Bool). b || is_some (silence_of w.station mount)) (live_alike within live w.station.live r mount)
+      ∙ sym (open_or (session_of w.station.live mount) (silence_of w.station mount))
 
   -- a mount within reach falls back to one within reach
   abbrev pub Onward : Type 0
-  Onward = (mount next : List ℕ) → within mount ≡ true → fallback_of w.house mount ≡ Some next → within next ≡ true
+  Onward = (mount next : List ℕ) → within mount ≡ true → fallback_of w.station mount ≡ Some next → within next ≡ true
 
   -- what a walk finds at a mount within reach, where these are the others in both states
   module _ (here there : List Listener) (s : ListenersDo within here there) where
@@ -81,7 +81,7 @@ module _ (within : List ℕ → Bool) (w : World) (live : List Session) (r : Ses
       -- a walk goes on within reach
       next_within : (mount next : List ℕ) → within mount ≡ true → next_mount other there mount ≡ Some next → within next ≡ true
       next_within mount next near goes = by_test (hands_on other there mount) goes where
-        by_test : (b : Bool) → (if b then fallback_of w.house mount else None) ≡ Some next → within next ≡ true
+        by_test : (b : Bool) → (if b then fallback_of w.station mount else None) ≡ Some next → within next ≡ true
         by_test true e = closed mount next near e
         by_test false e = cc
 
@@ -206,7 +206,7 @@ module _ (within : List ℕ → Bool) (w : World) (live : List Session) (r : Ses
     one_turn a b both id Stays e = both
     one_turn a b both id (GoesTo to) e =
         let goes = goes_in a.seats b.seats both.seats id (seat_of b.seats id) to e in
-        let its = session_alike within live w.house.live r to goes.0 in
+        let its = session_alike within live w.station.live r to goes.0 in
         record {
           seats = rw its (with_move_alike within a.seats b.seats both.seats id goes.1 to (other.stream_end to).session (other.stream_end to).place);
           counts = ap (λ (c : Carried). record c { moved = c.moved + 1 }) both.counts;

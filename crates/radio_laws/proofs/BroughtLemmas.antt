@@ -1,7 +1,7 @@
 -- what an outcome brings to sessions: blocks, titles, and sessions that begin
 use Rattle.std.proofs.Common.{◌≡◌, ◌⊎◌, inl, inr, ℕ, ◌<◌, Some, None, List, [], refl, arith}
 use Rattle.radio_addr.specs.declared.peer.Peer.{Peer}
-use Rattle.radio_parts.specs.Sessions.{Session, session_of, without_session}
+use Rattle.radio_parts_mount.specs.Sessions.{Session, session_of, without_session}
 use Rattle.radio_events.specs.declared.command.Command.{Command as TheCommand}
 use Rattle.radio_events.specs.declared.event.Event.{Event}
 use Rattle.radio_events.specs.declared.event.Event.TheVariants.{Push, Title}
@@ -9,26 +9,26 @@ use Rattle.radio_events.specs.declared.reply.Reply.TheVariants.{Noted, Text as S
 use Rattle.radio_events.specs.declared.text.ReplyText.{ReplyText}
 use Rattle.radio_events.specs.declared.text.ReplyText.TheVariants.{Done, Moved, Json, Streams, Public, Page, Ended as ListenersEnded}
 use Rattle.radio_events.specs.Texts.{IsShort}
-use Rattle.radio_house.specs.declared.standing.Standing.TheVariants.{Undecided, Feeds}
-use Rattle.radio_house.specs.World.{World, standing_of}
-use Rattle.radio_changes.specs.Changes.{changed}
-use Rattle.radio_changes.specs.declared.change.Change.TheVariants.{Answer, Receive, SetTitle}
-use Rattle.radio_core.specs.declared.outcome.Outcome.{Outcome}
-use Rattle.radio_core.specs.Allowed.{IsCommanded}
-use Rattle.radio_core.specs.Closing.{Closes, OfClient, OfRelay}
-use Rattle.radio_core.specs.Command.{obeys}
+use Rattle.radio_parts_station.specs.declared.standing.Standing.TheVariants.{Undecided, Feeds}
+use Rattle.radio_parts_station.specs.World.{World, standing_of}
+use Rattle.radio_parts_changes.specs.Changes.{changed}
+use Rattle.radio_parts_changes.specs.declared.change.Change.TheVariants.{Answer, Receive, SetTitle}
+use Rattle.radio_parts.specs.declared.outcome.Outcome.{Outcome}
+use Rattle.radio_parts.specs.Allowed.{IsCommanded}
+use Rattle.radio_parts.specs.Closing.{Closes, OfClient, OfRelay}
+use Rattle.radio_parts.specs.Command.{obeys}
 use Rattle.radio_core.specs.Handing.{block_in, of_client}
-use Rattle.radio_core.specs.Outcomes.{says}
-use Rattle.radio_core.specs.Pages.{IsShownBy}
+use Rattle.radio_parts.specs.Outcomes.{says}
+use Rattle.radio_parts.specs.Pages.{IsShownBy}
 use Rattle.radio_core.specs.Sound.{IsSound}
-use Rattle.radio_core.specs.Step.{outcome}
-use Rattle.radio_core.specs.Ways.{Way, Misplaced, IsFinished, IsDenied, IsRefused, IsAdmitted, Begins, ComesUp, Receives, SetsTitle, TakesSeat, HandsOut, Ends}
-use Rattle.radio_core.specs.Ways.{EndsAndLeaves, Leaves, GoesDown, Obeys, Shows, HasPassed, Ticks}
-use Rattle.radio_core.proofs.ListingLemmas.{shown_long}
+use Rattle.radio_parts.specs.Step.{outcome}
+use Rattle.radio_parts.specs.Ways.{Way, Misplaced, IsFinished, IsDenied, IsRefused, IsAdmitted, Begins, ComesUp, Receives, SetsTitle, TakesSeat, HandsOut, Ends}
+use Rattle.radio_parts.specs.Ways.{EndsAndLeaves, Leaves, GoesDown, Obeys, Shows, HasPassed, Ticks}
+use Rattle.radio_parts.proofs.ListingLemmas.{shown_long}
 use Rattle.radio_core.proofs.OwnLemmas.{nothing_of}
 use Rattle.radio_core.proofs.SoundEnds.{was_live}
 use Rattle.radio_core.proofs.TickLemmas.{ticked_fates}
-use Rattle.radio_core.proofs.Ways.{way_of}
+use Rattle.radio_parts.proofs.Ways.{way_of}
 use Rattle.radio_laws.specs.TitlesTold.{title_in, set_by}
 use Rattle.radio_laws.proofs.BegunLemmas.{source_begins, relay_begins}
 
@@ -38,11 +38,11 @@ sets w event o id = set_by w event o.reply id
 
 -- it has asked for nothing yet, or nobody has had this number
 abbrev pub IsNewcomer : World → ℕ → Type 0
-IsNewcomer w id = ((peer : Peer) × (standing_of w id ≡ Undecided peer)) ⊎ (w.house.last_id < id)
+IsNewcomer w id = ((peer : Peer) × (standing_of w id ≡ Undecided peer)) ⊎ (w.station.last_id < id)
 
 -- a session was live on some mount just as it is, or it is empty, and a newcomer feeds it
 pub data IsOldOrEmpty (w : World) (session : Session) : Type 0 where
-  IsOld : (mount : List ℕ) → session_of w.house.live mount ≡ Some session → IsOldOrEmpty w session
+  IsOld : (mount : List ℕ) → session_of w.station.live mount ≡ Some session → IsOldOrEmpty w session
   IsEmpty : session.stream.bytes ≡ [] → session.title ≡ None → IsNewcomer w session.number → IsOldOrEmpty w session
 
 -- a block or a title by the source of a mount, or what a command does, or neither data nor a title, and each session then is old or empty
@@ -51,15 +51,15 @@ pub data Brought (w : World) : Event → Outcome → Type 0 where
   BringsTitle : (id : ℕ) (mount text : List ℕ) → standing_of w id ≡ Feeds mount → Brought w (Title id text) (says Noted (SetTitle mount text))
   ByCommand : (event : Event) (command : TheCommand) (c : IsCommanded w event command) → Brought w event (obeys w c.asked.id command)
   BringsNothing : (event : Event) (o : Outcome) → block_in o.change ≡ [] → ((id : ℕ) → sets w event o id ≡ [])
-      → ((mount : List ℕ) (session : Session) → session_of (changed w o.change).house.live mount ≡ Some session → IsOldOrEmpty w session)
+      → ((mount : List ℕ) (session : Session) → session_of (changed w o.change).station.live mount ≡ Some session → IsOldOrEmpty w session)
       → Brought w event o
 
 module _ (w : World) (s : IsSound w) where
-  as_it_was : (mount : List ℕ) (session : Session) → session_of w.house.live mount ≡ Some session → IsOldOrEmpty w session
+  as_it_was : (mount : List ℕ) (session : Session) → session_of w.station.live mount ≡ Some session → IsOldOrEmpty w session
   as_it_was mount session live = IsOld mount live
 
   -- what is live beside a session that has ended
-  left_over : (ended mount : List ℕ) (session : Session) → session_of (without_session w.house.live ended) mount ≡ Some session → IsOldOrEmpty w session
+  left_over : (ended mount : List ℕ) (session : Session) → session_of (without_session w.station.live ended) mount ≡ Some session → IsOldOrEmpty w session
   left_over ended mount session live = IsOld mount (was_live w ended mount session live)
 
   untitled : (event : Event) (id : ℕ) → of_client {A = List ℕ} event id [] ≡ []

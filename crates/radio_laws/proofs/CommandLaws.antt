@@ -17,11 +17,11 @@ use Rattle.radio_fallback.proofs.MovedCounts.{moved_as_counted}
 use Rattle.radio_events.specs.declared.command.Command.{Command as TheCommand}
 use Rattle.radio_events.specs.declared.command.Command.TheVariants.{MoveClients, KillClient, KillSource, SetTitle, SetFallback, AddUser, DeleteUser}
 use Rattle.radio_events.specs.declared.event.Event.{Event}
-use Rattle.radio_changes.specs.declared.change.Change.TheVariants.{Obey}
-use Rattle.radio_house.specs.declared.standing.Standing.TheVariants.{Answered, Finished}
-use Rattle.radio_changes.specs.Changes.{answered, carried_along, changed, session_over}
-use Rattle.radio_core.specs.Allowed.{IsCommanded}
-use Rattle.radio_facts.specs.CommandFacts.{opened_by, opens_as_source, is_live, sits_at}
+use Rattle.radio_parts_changes.specs.declared.change.Change.TheVariants.{Obey}
+use Rattle.radio_parts_station.specs.declared.standing.Standing.TheVariants.{Answered, Finished}
+use Rattle.radio_parts_changes.specs.Changes.{answered, carried_along, changed, session_over}
+use Rattle.radio_parts.specs.Allowed.{IsCommanded}
+use Rattle.radio_parts_facts.specs.CommandFacts.{opened_by, opens_as_source, is_live, sits_at}
 use Rattle.radio_policy.specs.declared.rule.Rule.TheVariants.{NoMount, NoDestination, SameMount, NoClient, Killed}
 use Rattle.radio_seats_rows.specs.declared.seat.Seat.{Seat}
 use Rattle.radio_seats_rows.specs.Seats.{seat_in, seat_of, count_at, AreByNumber}
@@ -30,22 +30,22 @@ use Rattle.radio_fallback.specs.declared.moves.Move.{Move}
 use Rattle.radio_fallback.specs.declared.moves.Move.TheVariants.{Ended, To}
 use Rattle.radio_fallback.specs.Carry.{concerns}
 use Rattle.radio_fallback.proofs.Faring.{Faring, HasStayed, HasGone, HasLost, fares}
-use Rattle.radio_changes.specs.Counts.{counts_by}
-use Rattle.radio_house.specs.Facts.{sight_of}
-use Rattle.radio_house.specs.Fallbacks.{Fallback, set_for}
-use Rattle.radio_parts.specs.Sessions.{Session, session_of, without_session}
-use Rattle.radio_parts.proofs.ApartLemmas.{bytes_apart}
-use Rattle.radio_parts.proofs.SessionLookups.{is_over, beside_ended}
-use Rattle.radio_changes.proofs.PartChanges.{on_air_there, on_air_beside}
+use Rattle.radio_parts_changes.specs.Counts.{counts_by}
+use Rattle.radio_parts_station.specs.Facts.{sight_of}
+use Rattle.radio_parts_station.specs.Fallbacks.{Fallback, set_for}
+use Rattle.radio_parts_mount.specs.Sessions.{Session, session_of, without_session}
+use Rattle.radio_parts_mount.proofs.ApartLemmas.{bytes_apart}
+use Rattle.radio_parts_mount.proofs.SessionLookups.{is_over, beside_ended}
+use Rattle.radio_parts_changes.proofs.PartChanges.{on_air_there, on_air_beside}
 use Rattle.radio_core.proofs.AllowedCommands.{is_opened, may_act, may_add, may_delete, needs_hold}
-use Rattle.radio_core.proofs.ListingLemmas.{shown_long}
-use Rattle.radio_house.proofs.Lookups.{is_set, beside_set}
+use Rattle.radio_parts.proofs.ListingLemmas.{shown_long}
+use Rattle.radio_parts_station.proofs.Lookups.{is_set, beside_set}
 use Rattle.radio_laws.proofs.GrantedLemmas.{IsToldFor, ByShowing, ByDoing}
 use Rattle.radio_laws.proofs.ToldTexts.{told_for}
 use Rattle.radio_laws.specs.Walks.{FallsBack, ByTheSettings, ByACommand}
 use Rattle.radio_core.specs.Sound.{IsSound}
-use Rattle.radio_core.specs.Step.{world_after}
-use Rattle.radio_house.specs.World.{World, standing_of}
+use Rattle.radio_parts.specs.Step.{world_after}
+use Rattle.radio_parts_station.specs.World.{World, standing_of}
 use Rattle.radio_core.proofs.Obeyed.{is_another, his_seat, has_been_killed, sits_no_more, beside_him, live, is_cut, named, turned, title_live, is_answered}
 use Rattle.radio_core.proofs.SoundRuns.{sound_after}
 use Rattle.radio_laws.proofs.GoneLemmas.{given_number, last_rises}
@@ -53,7 +53,7 @@ use Rattle.radio_laws.proofs.KilledLemmas.{IsOver, hears_no_more}
 use Rattle.radio_laws.specs.Commanded.{MayGive, IsLive, IsThere, AsTheAdmin, ItsTitle, ItsFallback, IsGivenByRight, OnlyWhoMayCommands, IsSourceKilled, HasDone, mount_of, StaysBeside, CommandsAreKept, KilledHearNothing}
 use Rattle.radio_creds.specs.UserList.{UserList, with_user, without_user}
 use Rattle.radio_access.specs.Lists.{has_users, has_user_at, with_user_at, without_user_at}
-use Rattle.radio_core.specs.Allowed.{Adds, Deletes}
+use Rattle.radio_parts.specs.Allowed.{Adds, Deletes}
 use Rattle.radio_laws.specs.Commanded.{HasPassword, IsNoUser}
 use Rattle.radio_laws.proofs.CommandSteps.{later_so, told_so, after}
 use Rattle.radio_laws.proofs.UserChanges.{have_changed, password_set, user_gone, deleted_has_users, users_beside}
@@ -102,14 +102,14 @@ is_found : (found : Option Session) → is_some found ≡ true → (session : Se
 is_found None e = cc
 is_found (Some session) e = (session, refl)
 
-pub lives_by : (w : World) (mount : List ℕ) → is_live w.house mount ≡ true → IsLive w mount
-lives_by w mount e = is_found (session_of w.house.live mount) e
+pub lives_by : (w : World) (mount : List ℕ) → is_live w.station mount ≡ true → IsLive w mount
+lives_by w mount e = is_found (session_of w.station.live mount) e
 
 module _ (w : World) (s : IsSound w) (event : Event) where
   -- what it needs was there
   was_there : (command : TheCommand) (c : IsCommanded w event command) → IsThere w command
   was_there (MoveClients mount destination) c =
-      let both = may_go (is_live w.house mount) (is_live w.house destination) (bytes_eq mount destination) (needs_hold w event c) in (
+      let both = may_go (is_live w.station mount) (is_live w.station destination) (bytes_eq mount destination) (needs_hold w event c) in (
         lives_by w mount both.0,
         lives_by w destination both.1,
         λ same.
@@ -119,13 +119,13 @@ module _ (w : World) (s : IsSound w) (event : Event) where
       )
   was_there (KillClient mount listener) c =
       let his = his_seat w s event mount listener c in
-      let live = lives_by w mount (may_end (is_live w.house mount) (sits_at w.seats mount listener) (needs_hold w event c)) in
+      let live = lives_by w mount (may_end (is_live w.station mount) (sits_at w.seats mount listener) (needs_hold w event c)) in
       (live, his.0, his.1, his.2)
-  was_there (KillSource mount) c = lives_by w mount (may_act (is_live w.house mount) (needs_hold w event c))
-  was_there (SetTitle mount text) c = lives_by w mount (may_act (is_live w.house mount) (needs_hold w event c))
-  was_there (SetFallback mount fallback) c = lives_by w mount (may_act (is_live w.house mount) (needs_hold w event c))
-  was_there (AddUser mount user password) c = may_add (has_users w.house.lists mount) (needs_hold w event c)
-  was_there (DeleteUser mount user) c = may_delete (has_users w.house.lists mount) (has_user_at w.house.lists mount user) (needs_hold w event c)
+  was_there (KillSource mount) c = lives_by w mount (may_act (is_live w.station mount) (needs_hold w event c))
+  was_there (SetTitle mount text) c = lives_by w mount (may_act (is_live w.station mount) (needs_hold w event c))
+  was_there (SetFallback mount fallback) c = lives_by w mount (may_act (is_live w.station mount) (needs_hold w event c))
+  was_there (AddUser mount user password) c = may_add (has_users w.station.lists mount) (needs_hold w event c)
+  was_there (DeleteUser mount user) c = may_delete (has_users w.station.lists mount) (has_user_at w.station.lists mount user) (needs_hold w event c)
 
   -- so who sent a login that may give it gave it by right
   given : (command : TheCommand) (c : IsCommanded w event command) (login : Login) (has : HasLogin login c.asked.pair) → MayGive w has.pair command
@@ -141,11 +141,11 @@ module _ (w : World) (s : IsSound w) (event : Event) where
     there = was_there command c;
   }
 
-  its_sources : (mount : List ℕ) (sent : Option Credentials) → opens_as_source w.house.settings (Source (Some mount)) sent ≡ true
-      → HasLogin (options_for w.house.settings mount).source sent
-  its_sources mount sent e = login_sent (options_for w.house.settings mount).source sent (source_sent w.house.settings mount sent e)
+  its_sources : (mount : List ℕ) (sent : Option Credentials) → opens_as_source w.station.settings (Source (Some mount)) sent ≡ true
+      → HasLogin (options_for w.station.settings mount).source sent
+  its_sources mount sent e = login_sent (options_for w.station.settings mount).source sent (source_sent w.station.settings mount sent e)
 
-  by_source : (command : TheCommand) (c : IsCommanded w event command) → opens_as_source w.house.settings (opened_by command) c.asked.pair ≡ true
+  by_source : (command : TheCommand) (c : IsCommanded w event command) → opens_as_source w.station.settings (opened_by command) c.asked.pair ≡ true
       → IsGivenByRight w event
   by_source (MoveClients mount destination) c e = cc
   by_source (KillClient mount listener) c e = cc
@@ -154,17 +154,17 @@ module _ (w : World) (s : IsSound w) (event : Event) where
   by_source (DeleteUser mount user) c e = cc
   by_source (SetTitle mount text) c e =
       let has = its_sources mount c.asked.pair e in
-      given (SetTitle mount text) c (options_for w.house.settings mount).source has (ItsTitle mount text (record { user = has.user; password = has.password }))
+      given (SetTitle mount text) c (options_for w.station.settings mount).source has (ItsTitle mount text (record { user = has.user; password = has.password }))
   by_source (SetFallback mount fallback) c e =
       let has = its_sources mount c.asked.pair e in
-      given (SetFallback mount fallback) c (options_for w.house.settings mount).source has
+      given (SetFallback mount fallback) c (options_for w.station.settings mount).source has
       (ItsFallback mount fallback (record { user = has.user; password = has.password }))
 
-  by_right : (command : TheCommand) (c : IsCommanded w event command) → (is_admin_pair w.house.settings c.asked.pair ≡ true)
-      ⊎ (opens_as_source w.house.settings (opened_by command) c.asked.pair ≡ true) → IsGivenByRight w event
+  by_right : (command : TheCommand) (c : IsCommanded w event command) → (is_admin_pair w.station.settings c.asked.pair ≡ true)
+      ⊎ (opens_as_source w.station.settings (opened_by command) c.asked.pair ≡ true) → IsGivenByRight w event
   by_right command c (inl admin) =
-      let has = login_sent w.house.settings.access.admin c.asked.pair admin in
-      given command c w.house.settings.access.admin has (AsTheAdmin command (record { user = has.user; password = has.password }))
+      let has = login_sent w.station.settings.access.admin c.asked.pair admin in
+      given command c w.station.settings.access.admin has (AsTheAdmin command (record { user = has.user; password = has.password }))
   by_right command c (inr source) = by_source command c source
 
 pub only_who_may : (w : World) → IsSound w → (event : Event) → OnlyWhoMayCommands w event
@@ -172,11 +172,11 @@ only_who_may w s event text d short = by_cause (told_for w event text d) where
   by_cause : IsToldFor w event text → IsGivenByRight w event
   by_cause (ByShowing asker peer its undecided what) = absurd (shown_long w event text what short)
   by_cause (ByDoing command c said) =
-      by_right w s event command c (one_of (is_admin_pair w.house.settings c.asked.pair) (opens_as_source w.house.settings (opened_by command) c.asked.pair)
+      by_right w s event command c (one_of (is_admin_pair w.station.settings c.asked.pair) (opens_as_source w.station.settings (opened_by command) c.asked.pair)
       (is_opened w event c))
 
 module _ (w : World) (s : IsSound w) (event : Event) where
-  is_live_still : (mount : List ℕ) (fallback : Option (List ℕ)) (later : World) → set_for later.house.fallbacks mount ≡ Some (record { mount = mount; fallback = fallback })
+  is_live_still : (mount : List ℕ) (fallback : Option (List ℕ)) (later : World) → set_for later.station.fallbacks mount ≡ Some (record { mount = mount; fallback = fallback })
       → (next : List ℕ) → FallsBack later mount next ↔ (fallback ≡ Some next)
   is_live_still mount fallback later set next = (by_fall, λ e. ByACommand (record { mount = mount; fallback = fallback }) set e) where
     by_fall : FallsBack later mount next → fallback ≡ Some next
@@ -190,7 +190,7 @@ module _ (w : World) (s : IsSound w) (event : Event) where
   has_done (MoveClients mount destination) c = (
     (counts_by w (MoveClients mount destination)).moved,
     told_so w event c,
-    moved_as_counted (sight_of w.house) mount destination (is_another w s event mount destination c) w.seats
+    moved_as_counted (sight_of w.station) mount destination (is_another w s event mount destination c) w.seats
         ∙ sym (ap (λ (x : World). count_at x.seats destination) (later_so w event c)),
   )
   has_done (KillClient mount listener) c = (
@@ -206,8 +206,8 @@ module _ (w : World) (s : IsSound w) (event : Event) where
     killed = record {
       session = cut;
       was_live = (live w s event mount c).1;
-      is_over = ap (λ (x : World). session_of x.house.live mount) (is_cut w s event mount c)
-          ∙ ap (session_of (without_session w.house.live cut.mount)) (sym (named w s event mount c)) ∙ is_over w.house.live cut.mount;
+      is_over = ap (λ (x : World). session_of x.station.live mount) (is_cut w s event mount c)
+          ∙ ap (session_of (without_session w.station.live cut.mount)) (sym (named w s event mount c)) ∙ is_over w.station.live cut.mount;
       has_finished = ap (λ (x : World). standing_of x cut.number) (is_cut w s event mount c) ∙ (turned w s event mount c).his;
     }
   has_done (SetTitle mount text) c =
@@ -215,29 +215,29 @@ module _ (w : World) (s : IsSound w) (event : Event) where
         told_so w event c,
         there.0,
         there.1,
-        after w event c (λ later. session_of later.house.live mount ≡ Some (record there.0 { title = Some text })) (on_air_there w mount text there.0 there.1),
+        after w event c (λ later. session_of later.station.live mount ≡ Some (record there.0 { title = Some text })) (on_air_there w mount text there.0 there.1),
       )
   has_done (SetFallback mount fallback) c = (
     told_so w event c,
     after w event c (λ later. (next : List ℕ) → FallsBack later mount next ↔ (fallback ≡ Some next))
         (is_live_still mount fallback (changed w (Obey c.asked.id (SetFallback mount fallback)))
-        (is_set w.house.fallbacks mount mount fallback ((bytes_eq-Decides mount mount).1 refl))),
+        (is_set w.station.fallbacks mount mount fallback ((bytes_eq-Decides mount mount).1 refl))),
   )
   has_done (AddUser mount user password) c = (
-    have_changed w s event c mount (Adds user password c) (with_user_at w.house.lists mount user password) (later_so w event c) (told_so w event c),
+    have_changed w s event c mount (Adds user password c) (with_user_at w.station.lists mount user password) (later_so w event c) (told_so w event c),
     after w event c (λ later. HasPassword later mount user password)
-        (λ pair his. password_set w.house.lists mount user (may_add (has_users w.house.lists mount) (needs_hold w event c)) pair his password),
+        (λ pair his. password_set w.station.lists mount user (may_add (has_users w.station.lists mount) (needs_hold w event c)) pair his password),
   )
   has_done (DeleteUser mount user) c = (
-    have_changed w s event c mount (Deletes user c) (without_user_at w.house.lists mount user) (later_so w event c) (told_so w event c),
-    after w event c (λ later. IsNoUser later mount user) (user_gone w.house.lists mount user (deleted_has_users w event c)),
+    have_changed w s event c mount (Deletes user c) (without_user_at w.station.lists mount user) (later_so w event c) (told_so w event c),
+    after w event c (λ later. IsNoUser later mount user) (user_gone w.station.lists mount user (deleted_has_users w event c)),
   )
 
   -- whoever sits elsewhere keeps its seat
   keeps_away : (v : World) (move : Move) (mount : List ℕ) → AreByNumber v.seats
       → ((seat : Seat) → concerns move seat.mount seat.home ≡ true → bytes_eq seat.mount mount ≡ true) → (id : ℕ) (seat : Seat)
       → seat_of v.seats id ≡ Some seat → bytes_eq mount seat.mount ≡ false → seat_of (carried_along v move).seats id ≡ Some seat
-  keeps_away v move mount order theirs id seat has away = by_fare (fares (sight_of v.house) move v.seats order id) where
+  keeps_away v move mount order theirs id seat has away = by_fare (fares (sight_of v.station) move v.seats order id) where
     not_concerned : (old : Seat) → seat_of v.seats id ≡ Some old → concerns move old.mount old.home ≡ true → ⊥
     not_concerned old had concerned =
         let both : Some seat ≡ Some old = sym has ∙ had in
@@ -246,7 +246,7 @@ module _ (w : World) (s : IsSound w) (event : Event) where
         let back : bytes_eq seat.mount mount ≡ false = bytes_apart mount seat.mount away in
         cc
 
-    by_fare : Faring (sight_of v.house) move v.seats id → seat_of (carried_along v move).seats id ≡ Some seat
+    by_fare : Faring (sight_of v.station) move v.seats id → seat_of (carried_along v move).seats id ≡ Some seat
     by_fare (HasStayed same turn) = ap seat_in same ∙ has
     by_fare (HasGone old to turn had concerned fits now) = absurd (not_concerned old had concerned)
     by_fare (HasLost old rule turn had concerned now) = absurd (not_concerned old had concerned)
@@ -279,7 +279,7 @@ module _ (w : World) (s : IsSound w) (event : Event) where
     time = refl;
   }
   stays_beside (KillSource mount) c = subst (λ (x : World). StaysBeside w x mount) (sym (is_cut w s event mount c)) (record {
-    sessions = λ other apart. beside_ended w.house.live cut.mount other (ap (λ (m : List ℕ). bytes_eq m other) is_named ∙ apart);
+    sessions = λ other apart. beside_ended w.station.live cut.mount other (ap (λ (m : List ℕ). bytes_eq m other) is_named ∙ apart);
     seats = λ id seat has away.
         keeps_away (session_over (answered w c.asked.id) cut.mount) (Ended cut.mount) mount s.by_number
         (λ x there. ap (bytes_eq x.mount) (sym is_named) ∙ there) id seat has away;
@@ -306,7 +306,7 @@ module _ (w : World) (s : IsSound w) (event : Event) where
   stays_beside (SetFallback mount fallback) c = record {
     sessions = λ other apart. refl;
     seats = λ id seat has away. has;
-    fallbacks = λ other apart. beside_set w.house.fallbacks mount other fallback apart;
+    fallbacks = λ other apart. beside_set w.station.fallbacks mount other fallback apart;
     settings = refl;
     users = λ other pair apart. refl;
     addresses = λ peer. refl;

@@ -19,13 +19,13 @@ use Rattle.radio_events.specs.declared.command.Asked.{Asked}
 use Rattle.radio_events.specs.declared.command.Command.{Command as TheCommand}
 use Rattle.radio_events.specs.declared.command.Command.TheVariants.{MoveClients, KillClient, KillSource, SetTitle, SetFallback, AddUser, DeleteUser}
 use Rattle.radio_events.specs.declared.event.Event.TheVariants.{Command}
-use Rattle.radio_core.specs.Command.{said_of}
-use Rattle.radio_facts.specs.CommandFacts.{opened_by, opener_in, opens, opens_as_source, is_live, sits_at, needs_of, facts_asked}
-use Rattle.radio_changes.specs.Counts.{counts_by}
+use Rattle.radio_parts.specs.Command.{said_of}
+use Rattle.radio_parts_facts.specs.CommandFacts.{opened_by, opener_in, opens, opens_as_source, is_live, sits_at, needs_of, facts_asked}
+use Rattle.radio_parts_changes.specs.Counts.{counts_by}
 use Rattle.radio_fallback.specs.declared.moves.Carried.{Carried}
 use Rattle.radio_events.specs.Texts.{IsShort}
 use Rattle.radio_core.specs.Sound.{IsSound}
-use Rattle.radio_house.specs.World.{World}
+use Rattle.radio_parts_station.specs.World.{World}
 use Rattle.radio_laws.specs.Commanded.{IsLive, IsThere, MayGive, AsTheAdmin, ItsTitle, ItsFallback, WhoMayIsServed}
 use Rattle.radio_laws.proofs.CommandSteps.{told_so}
 use Rattle.radio_creds.specs.UserList.{has_user}
@@ -53,18 +53,18 @@ or_true true = refl
 or_true false = refl
 
 module _ (w : World) where
-  opens_by : (command : TheCommand) (pair : Credentials) → MayGive w pair command → opens w.house.settings (opened_by command) (Some pair) ≡ true
+  opens_by : (command : TheCommand) (pair : Credentials) → MayGive w pair command → opens w.station.settings (opened_by command) (Some pair) ≡ true
   opens_by command pair (AsTheAdmin _ admin) =
-      ap (λ (b : Bool). b || opens_as_source w.house.settings (opened_by command) (Some pair))
-      (is_its w.house.settings.access.admin pair admin.user admin.password)
+      ap (λ (b : Bool). b || opens_as_source w.station.settings (opened_by command) (Some pair))
+      (is_its w.station.settings.access.admin pair admin.user admin.password)
   opens_by command pair (ItsTitle mount text source) =
-      ap (λ (b : Bool). is_admin_pair w.house.settings (Some pair) || b) (is_its _ pair source.user source.password)
-      ∙ or_true (is_admin_pair w.house.settings (Some pair))
+      ap (λ (b : Bool). is_admin_pair w.station.settings (Some pair) || b) (is_its _ pair source.user source.password)
+      ∙ or_true (is_admin_pair w.station.settings (Some pair))
   opens_by command pair (ItsFallback mount fallback source) =
-      ap (λ (b : Bool). is_admin_pair w.house.settings (Some pair) || b) (is_its _ pair source.user source.password)
-      ∙ or_true (is_admin_pair w.house.settings (Some pair))
+      ap (λ (b : Bool). is_admin_pair w.station.settings (Some pair) || b) (is_its _ pair source.user source.password)
+      ∙ or_true (is_admin_pair w.station.settings (Some pair))
 
-  pub lives : (mount : List ℕ) → IsLive w mount → is_live w.house mount ≡ true
+  pub lives : (mount : List ℕ) → IsLive w mount → is_live w.station mount ≡ true
   lives mount live = ap is_some live.1
 
   pub with_mount : (live : Bool) → live ≡ true → verdict_in (row NoMount (not live) ∷ []) ≡ Allow
@@ -95,17 +95,17 @@ module _ (w : World) where
 
   needs_are_there : (command : TheCommand) → IsThere w command → verdict_in (needs_rows (needs_of w command)) ≡ Allow
   needs_are_there (MoveClients mount destination) there =
-      with_destination (is_live w.house mount) (is_live w.house destination) (bytes_eq mount destination) (lives mount there.0) (lives destination there.1)
+      with_destination (is_live w.station mount) (is_live w.station destination) (bytes_eq mount destination) (lives mount there.0) (lives destination there.1)
       (by_name mount destination (λ same. absurd (there.2 same)) (λ apart. apart))
   needs_are_there (KillClient mount listener) there =
-      with_client (is_live w.house mount) (sits_at w.seats mount listener) (lives mount there.0)
+      with_client (is_live w.station mount) (sits_at w.seats mount listener) (lives mount there.0)
       (ap (λ (found : Option Seat). option_map_or (λ (seat : Seat). bytes_eq seat.mount mount) found false) there.2
       ∙ (bytes_eq-Decides there.1.mount mount).1 there.3)
-  needs_are_there (KillSource mount) there = with_mount (is_live w.house mount) (lives mount there)
-  needs_are_there (SetTitle mount text) there = with_mount (is_live w.house mount) (lives mount there)
-  needs_are_there (SetFallback mount fallback) there = with_mount (is_live w.house mount) (lives mount there)
-  needs_are_there (AddUser mount user password) there = with_users (has_users w.house.lists mount) there
-  needs_are_there (DeleteUser mount user) there = with_user (users_at w.house.lists mount) user there
+  needs_are_there (KillSource mount) there = with_mount (is_live w.station mount) (lives mount there)
+  needs_are_there (SetTitle mount text) there = with_mount (is_live w.station mount) (lives mount there)
+  needs_are_there (SetFallback mount fallback) there = with_mount (is_live w.station mount) (lives mount there)
+  needs_are_there (AddUser mount user password) there = with_users (has_users w.station.lists mount) there
+  needs_are_there (DeleteUser mount user) there = with_user (users_at w.station.lists mount) user there
 
   -- an open command is judged by what it needs
   pub judged : (rule : Rule) (opened : Bool) (rows : List Row) → opened ≡ true → verdict_in rows ≡ Allow → verdict_in (row rule (not opened) ∷ rows) ≡ Allow
@@ -118,11 +118,11 @@ module _ (w : World) where
     told_so w (Command asked) (record { asked = asked; is_event = refl; is_asked = is_asked; peer = peer; undecided = undecided; allowed = allowed }),
     said_short command (counts_by w command),
   ) where
-    opened : opens w.house.settings (opened_by command) asked.pair ≡ true
-    opened = ap (opens w.house.settings (opened_by command)) sent ∙ opens_by command pair may
+    opened : opens w.station.settings (opened_by command) asked.pair ≡ true
+    opened = ap (opens w.station.settings (opened_by command)) sent ∙ opens_by command pair may
 
     allowed : verdict_in (command_rows (facts_asked w asked.asked asked.pair)) ≡ Allow
     allowed =
         ap (λ (a : Asked). verdict_in (command_rows (facts_asked w a asked.pair))) is_asked
-        ∙ judged (password_rule (opener_in (opened_by command))) (opens w.house.settings (opened_by command) asked.pair) (needs_rows (needs_of w command)) opened
+        ∙ judged (password_rule (opener_in (opened_by command))) (opens w.station.settings (opened_by command) asked.pair) (needs_rows (needs_of w command)) opened
         (needs_are_there command there)

@@ -25,26 +25,26 @@ use Rattle.radio_events.specs.declared.event.SourceRequest.{SourceRequest}
 use Rattle.radio_events.specs.declared.event.ListenRequest.{ListenRequest}
 use Rattle.radio_events.specs.declared.reply.Reply.TheVariants.{Feeding, Deny}
 use Rattle.radio_events.specs.Events.{client_in}
-use Rattle.radio_house.specs.declared.clients.ClientState.TheVariants.{Undecided as IsNew, Answered as HasHisAnswer}
-use Rattle.radio_changes.specs.declared.change.Change.TheVariants.{Nothing, Answer}
-use Rattle.radio_core.specs.declared.outcome.Outcome.{Outcome}
-use Rattle.radio_house.specs.declared.standing.Standing.TheVariants.{Undecided}
-use Rattle.radio_changes.specs.Changes.{changed}
-use Rattle.radio_house.specs.Clients.{Client, client_of, in_state}
-use Rattle.radio_house.specs.Relays.{Relay, relay_of}
+use Rattle.radio_parts_station.specs.declared.clients.ClientState.TheVariants.{Undecided as IsNew, Answered as HasHisAnswer}
+use Rattle.radio_parts_changes.specs.declared.change.Change.TheVariants.{Nothing, Answer}
+use Rattle.radio_parts.specs.declared.outcome.Outcome.{Outcome}
+use Rattle.radio_parts_station.specs.declared.standing.Standing.TheVariants.{Undecided}
+use Rattle.radio_parts_changes.specs.Changes.{changed}
+use Rattle.radio_parts_station.specs.Clients.{Client, client_of, in_state}
+use Rattle.radio_parts_station.specs.Relays.{Relay, relay_of}
 use Rattle.radio_laws.specs.Denials.{IsOnlyAnswered, DenialsAreThePolicys, AddressesAreDenied, FeedsAsItsSource, OnlySourcesFeed}
 use Rattle.radio_laws.specs.Denials.{KnownMountsAreKnown}
-use Rattle.radio_house.specs.Facts.{is_known, arrive_facts, rows_to_arrive}
-use Rattle.radio_core.specs.Arrive.{admits_client}
-use Rattle.radio_core.specs.Outcomes.{on_verdict}
-use Rattle.radio_parts.specs.Sessions.{session_of}
-use Rattle.radio_core.specs.Step.{outcome, reply_to, world_after}
-use Rattle.radio_core.specs.Ways.{rows_for, IsUndecided}
-use Rattle.radio_house.specs.World.{World, standing_of, standing_in}
+use Rattle.radio_parts_station.specs.Facts.{is_known, arrive_facts, rows_to_arrive}
+use Rattle.radio_parts.specs.Arrive.{admits_client}
+use Rattle.radio_parts.specs.Outcomes.{on_verdict}
+use Rattle.radio_parts_mount.specs.Sessions.{session_of}
+use Rattle.radio_parts.specs.Step.{outcome, reply_to, world_after}
+use Rattle.radio_parts.specs.Ways.{rows_for, IsUndecided}
+use Rattle.radio_parts_station.specs.World.{World, standing_of, standing_in}
 use Rattle.radio_laws.proofs.LimitDenials.{denied_by}
 use Rattle.radio_laws.proofs.ListenerDenials.{why_denied, unknown_where}
-use Rattle.radio_house.proofs.Lookups.{does, beside_state}
-use Rattle.radio_core.proofs.Ways.{may_feed}
+use Rattle.radio_parts_station.proofs.Lookups.{does, beside_state}
+use Rattle.radio_parts.proofs.Ways.{may_feed}
 use Rattle.radio_laws.proofs.GrantedLemmas.{Granted, AdmitsClient, AdmitsSource, AdmitsRelay, AdmitsListener, HandsData, TellsText, GrantsNothing, grants, granted}
 use Rattle.radio_core.proofs.NamedRules.{RuleNamed, DeniesIt, RefusesHim, TellsHisRule, NamesNoRule, rule_in, rule_named}
 
@@ -61,10 +61,10 @@ module _ (denies : (rows : List Row) (rule : Rule) → (verdict_in rows ≡ Deni
 
   -- the list of clients alone is another
   among_clients : (client : Option ℕ) (clients : List Client)
-      → ((id : ℕ) (him : Client) → client ≡ Some id → client_of w.house.clients id ≡ Some him → him.state ≡ IsNew
+      → ((id : ℕ) (him : Client) → client ≡ Some id → client_of w.station.clients id ≡ Some him → him.state ≡ IsNew
       → client_of clients id ≡ Some (record him { state = HasHisAnswer }))
-      → ((id : ℕ) → (client ≡ Some id → IsUndecided w id → ⊥) → client_of clients id ≡ client_of w.house.clients id)
-      → IsOnlyAnswered w (record w { house = record w.house { clients = clients } }) client
+      → ((id : ℕ) → (client ≡ Some id → IsUndecided w id → ⊥) → client_of clients id ≡ client_of w.station.clients id)
+      → IsOnlyAnswered w (record w { station = record w.station { clients = clients } }) client
   among_clients client clients answered others = record {
     time = refl;
     settings = refl;
@@ -80,8 +80,8 @@ module _ (denies : (rows : List Row) (rule : Rule) → (verdict_in rows ≡ Deni
 
   nobody_answered : (client : Option ℕ) → ((id : ℕ) → client ≡ Some id → IsUndecided w id → ⊥) → IsOnlyAnswered w w client
   nobody_answered client not =
-      among_clients client w.house.clients
-      (λ id him his there new. absurd (not id his (him.peer, is_undecided (relay_of w.house.relays id) (listener_of w.seats id) (client_of w.house.clients id) him there new)))
+      among_clients client w.station.clients
+      (λ id him his there new. absurd (not id his (him.peer, is_undecided (relay_of w.station.relays id) (listener_of w.seats id) (client_of w.station.clients id) him there new)))
       (λ id other. refl)
 
   named : (event : Event) (by rule : Rule) → verdict_in (rows_for w event) ≡ Denied by → Deny by ≡ Deny rule → Denies (rows_for w event) rule
@@ -89,16 +89,16 @@ module _ (denies : (rows : List Row) (rule : Rule) → (verdict_in rows ≡ Deni
 
   is_answered : (id : ℕ) (client : Option ℕ) → client ≡ Some id → IsUndecided w id → IsOnlyAnswered w (changed w (Answer id)) client
   is_answered id client e undecided =
-      among_clients client (in_state w.house.clients id HasHisAnswer)
+      among_clients client (in_state w.station.clients id HasHisAnswer)
       (λ other him his there new.
       let both : Some id ≡ Some other = sym e ∙ his in
       let same : id ≡ other = cc in
-      ap (client_of (in_state w.house.clients id HasHisAnswer)) (sym same)
-      ∙ does w.house.clients id HasHisAnswer him (ap (client_of w.house.clients) same ∙ there))
+      ap (client_of (in_state w.station.clients id HasHisAnswer)) (sym same)
+      ∙ does w.station.clients id HasHisAnswer him (ap (client_of w.station.clients) same ∙ there))
       (λ other not.
       by_number id other
       (λ same. absurd (not (e ∙ ap (λ (n : ℕ). Some n) same) (undecided.0, ap (standing_of w) (sym same) ∙ undecided.1)))
-      (λ apart. beside_state w.house.clients id other apart HasHisAnswer))
+      (λ apart. beside_state w.station.clients id other apart HasHisAnswer))
 
   denial_by : (event : Event) (o : Outcome) → RuleNamed w event o → Denial event o
   denial_by event o (DeniesIt by v not) = λ rule d. (named event by rule v d, nobody_answered (client_in event) not)
@@ -122,18 +122,18 @@ address_not_allowed : (denied allowed full spent : Bool) → denied ≡ false �
 address_not_allowed denied allowed full spent e f = rw (e, f) refl
 
 module _ (w : World) (peer : Peer) where
-  denied_at_once : (rule : Rule) → verdict_in (rows_to_arrive w.house peer) ≡ Denied rule → reply_to w (Arrive peer) ≡ Deny rule
+  denied_at_once : (rule : Rule) → verdict_in (rows_to_arrive w.station peer) ≡ Denied rule → reply_to w (Arrive peer) ≡ Deny rule
   unfolding reply_to outcome
   denied_at_once rule v = ap (λ (x : Verdict). (on_verdict x Nothing (admits_client w peer)).reply) v
 
 pub addresses_hold : (w : World) → AddressesAreDenied w
 addresses_hold w = record {
   denied = λ peer e.
-      let facts = arrive_facts w.house peer in
+      let facts = arrive_facts w.station peer in
       denied_at_once w peer AddressDenied
       (address_denied facts.address_is_denied facts.address_is_allowed facts.clients_are_full facts.number_is_spent e);
   not_allowed = λ peer e f.
-      let facts = arrive_facts w.house peer in
+      let facts = arrive_facts w.station peer in
       denied_at_once w peer AddressNotAllowed
       (address_not_allowed facts.address_is_denied facts.address_is_allowed facts.clients_are_full facts.number_is_spent e f);
 }
@@ -150,13 +150,13 @@ is_his_login login pair e = by_parts (bytes_eq login.username pair.user) (bytes_
 
 module _ (w : World) where
   feeds_by : (asked : SourceRequest) (sent : Option Credentials) → asked.pair ≡ sent → verdict_in (rows_for w (Source asked)) ≡ Allow → FeedsAsItsSource w (Source asked)
-  feeds_by asked None e v = let none = (may_feed w.house asked v).sent in absurd (no_pair e none) where
-    no_pair : asked.pair ≡ None → is_source_pair w.house.settings asked.mount asked.pair ≡ true → ⊥
-    no_pair none its = let not : is_source_pair w.house.settings asked.mount asked.pair ≡ false = ap (is_source_pair w.house.settings asked.mount) none in cc
+  feeds_by asked None e v = let none = (may_feed w.station asked v).sent in absurd (no_pair e none) where
+    no_pair : asked.pair ≡ None → is_source_pair w.station.settings asked.mount asked.pair ≡ true → ⊥
+    no_pair none its = let not : is_source_pair w.station.settings asked.mount asked.pair ≡ false = ap (is_source_pair w.station.settings asked.mount) none in cc
   feeds_by asked (Some pair) e v =
-      let may = may_feed w.house asked v in
-      let its : is_source_pair w.house.settings asked.mount (Some pair) ≡ true = ap (is_source_pair w.house.settings asked.mount) (sym e) ∙ may.sent in
-      let login = is_his_login (options_for w.house.settings asked.mount).source pair its in
+      let may = may_feed w.station asked v in
+      let its : is_source_pair w.station.settings asked.mount (Some pair) ≡ true = ap (is_source_pair w.station.settings asked.mount) (sym e) ∙ may.sent in
+      let login = is_his_login (options_for w.station.settings asked.mount).source pair its in
       record { asked = asked; wants = refl; pair = pair; sent = e; user = login.0; password = login.1; is_carried = may.is_carried }
 
   source_by : (event : Event) (o : Outcome) → Granted w event o → o.reply ≡ Feeding → FeedsAsItsSource w event
@@ -183,7 +183,7 @@ found_one p x (y ∷ ys) has e = by_test (λ later. found_one p x ys later e) (p
   by_test rest false t (inr later) = rw t (rest later)
 
 module _ (w : World) (asked : ListenRequest) where
-  is_unknown : reply_to w (Listen asked) ≡ Deny NoMount → is_known w.house asked.mount ≡ false
+  is_unknown : reply_to w (Listen asked) ≡ Deny NoMount → is_known w.station asked.mount ≡ false
   unfolding reply_to
   is_unknown d =
       denied_by w NoMount (Listen asked) (outcome w (Listen asked)) (rule_named w (Listen asked)) d
@@ -200,19 +200,19 @@ module _ (w : World) (asked : ListenRequest) where
   known_mounts = record {
     in_settings = λ mount has name d.
         let not = (none d).0 in
-        let is = found_one (λ set. bytes_eq set.name asked.mount) mount w.house.settings.mounts has ((bytes_eq-Decides mount.name asked.mount).1 name) in
+        let is = found_one (λ set. bytes_eq set.name asked.mount) mount w.station.settings.mounts has ((bytes_eq-Decides mount.name asked.mount).1 name) in
         cc;
     relayed = λ relay has name d.
         let not = (none d).1 in
-        let is = found_one (λ relay. bytes_eq relay.local_mount asked.mount) relay w.house.settings.relays has
+        let is = found_one (λ relay. bytes_eq relay.local_mount asked.mount) relay w.station.settings.relays has
         ((bytes_eq-Decides relay.local_mount asked.mount).1 name) in
         cc;
     live = λ session here d.
         let not = (none d).2 in
-        let is : is_some (session_of w.house.live asked.mount) ≡ true = ap is_some here in
+        let is : is_some (session_of w.station.live asked.mount) ≡ true = ap is_some here in
         cc;
   } where
-    none : reply_to w (Listen asked) ≡ Deny NoMount → (is_some (find (λ set. bytes_eq set.name asked.mount) w.house.settings.mounts) ≡ false)
-        × (is_some (find (λ relay. bytes_eq relay.local_mount asked.mount) w.house.settings.relays) ≡ false)
-        × (is_some (session_of w.house.live asked.mount) ≡ false)
+    none : reply_to w (Listen asked) ≡ Deny NoMount → (is_some (find (λ set. bytes_eq set.name asked.mount) w.station.settings.mounts) ≡ false)
+        × (is_some (find (λ relay. bytes_eq relay.local_mount asked.mount) w.station.settings.relays) ≡ false)
+        × (is_some (session_of w.station.live asked.mount) ≡ false)
     none d = known_by _ _ _ (is_unknown d)

@@ -10,29 +10,29 @@ use Rattle.radio_seats_rows.specs.Seats.{seat_of}
 use Rattle.radio_events.specs.declared.event.Event.{Event}
 use Rattle.radio_events.specs.declared.event.Event.TheVariants.{Arrive, Source, Push, SourceEnd, Title, Listen, Draw, Command, Leave}
 use Rattle.radio_events.specs.declared.event.Event.TheVariants.{RelayUp, RelayDown, Clock}
-use Rattle.radio_changes.specs.declared.change.Change.TheVariants.{Nothing}
+use Rattle.radio_parts_changes.specs.declared.change.Change.TheVariants.{Nothing}
 use Rattle.radio_events.specs.declared.reply.Reply.TheVariants.{Noted, Stray}
-use Rattle.radio_core.specs.Outcomes.{says, unless_relayed}
-use Rattle.radio_core.specs.RelayDown.{goes_down_from}
-use Rattle.radio_core.specs.declared.outcome.Outcome.{Outcome}
-use Rattle.radio_house.specs.declared.standing.Standing.{Standing}
-use Rattle.radio_house.specs.declared.standing.Standing.TheVariants.{Unknown, Undecided, Feeds, Sits, Answered, Finished}
-use Rattle.radio_house.specs.World.{World, standing_of, has_relay}
-use Rattle.radio_changes.specs.Changes.{changed, session_ended}
-use Rattle.radio_house.specs.House.{House}
+use Rattle.radio_parts.specs.Outcomes.{says, unless_relayed}
+use Rattle.radio_parts.specs.RelayDown.{goes_down_from}
+use Rattle.radio_parts.specs.declared.outcome.Outcome.{Outcome}
+use Rattle.radio_parts_station.specs.declared.standing.Standing.{Standing}
+use Rattle.radio_parts_station.specs.declared.standing.Standing.TheVariants.{Unknown, Undecided, Feeds, Sits, Answered, Finished}
+use Rattle.radio_parts_station.specs.World.{World, standing_of, has_relay}
+use Rattle.radio_parts_changes.specs.Changes.{changed, session_ended}
+use Rattle.radio_parts_station.specs.StationState.{StationState}
 use Rattle.radio_laws.specs.Gone.{Leaving, AsClient, AsRelay, HasLeft, IsOutOfPlace, StaysGone}
 use Rattle.radio_core.specs.Handing.{data_in, block_in, handed_at, handed, delivered_at, delivered}
-use Rattle.radio_core.specs.Leave.{leaves_from}
+use Rattle.radio_parts.specs.Leave.{leaves_from}
 use Rattle.radio_core.specs.Others.{StandsOn}
 use Rattle.radio_core.specs.Run.{world_after_all, run_after}
 use Rattle.radio_core.specs.Sound.{IsSound}
-use Rattle.radio_core.specs.Step.{outcome, reply_to, world_after}
+use Rattle.radio_parts.specs.Step.{outcome, reply_to, world_after}
 use Rattle.radio_settings_values.specs.Web.{web_path}
 use Rattle.radio_settings_values.specs.declared.web.WebPath.{WebPath}
 use Rattle.radio_events.specs.declared.event.ListenRequest.{ListenRequest}
-use Rattle.radio_changes.specs.declared.change.Change.TheVariants.{Nothing}
-use Rattle.radio_core.specs.Outcomes.{says}
-use Rattle.radio_core.specs.Pages.{asks_by}
+use Rattle.radio_parts_changes.specs.declared.change.Change.TheVariants.{Nothing}
+use Rattle.radio_parts.specs.Outcomes.{says}
+use Rattle.radio_parts.specs.Pages.{asks_by}
 use Rattle.radio_events.specs.declared.reply.Reply.TheVariants.{Stray}
 use Rattle.radio_events.specs.Events.{client_in}
 use Rattle.radio_core.proofs.FinishLemmas.{others_hold, known_before}
@@ -40,7 +40,7 @@ use Rattle.radio_core.proofs.ReplyLemmas.{replies_fit}
 use Rattle.radio_core.proofs.SoundRuns.{sound_after}
 use Rattle.radio_core.proofs.Standings.{turns_forgotten}
 use Rattle.radio_core.proofs.OwnLemmas.{by_own, not_of, nothing_of}
-use Rattle.radio_laws.proofs.HouseSteps.{HouseStep, IsAlike, GivesNumber, SetsFallback, house_step}
+use Rattle.radio_laws.proofs.StationSteps.{StationStep, IsAlike, GivesNumber, SetsFallback, station_step}
 
 -- runs are joined
 after_joined : (w : World) (events more : List Event) → world_after_all w (events ++ more) ≡ world_after_all (world_after_all w events) more
@@ -48,18 +48,18 @@ after_joined w [] more = refl
 after_joined w (event ∷ events) more = after_joined (world_after w event) events more
 
 -- who has a seat has a number that was given
-pub given_number : (w : World) → IsSound w → (id : ℕ) (seat : Seat) → seat_of w.seats id ≡ Some seat → id ≤ w.house.last_id
-given_number w s id seat has = by_order (nat_lt w.house.last_id id) refl where
-  by_order : (above : Bool) → nat_lt w.house.last_id id ≡ above → id ≤ w.house.last_id
+pub given_number : (w : World) → IsSound w → (id : ℕ) (seat : Seat) → seat_of w.seats id ≡ Some seat → id ≤ w.station.last_id
+given_number w s id seat has = by_order (nat_lt w.station.last_id id) refl where
+  by_order : (above : Bool) → nat_lt w.station.last_id id ≡ above → id ≤ w.station.last_id
   by_order true above =
-      let high : w.house.last_id < id = grind (arith, nat_tests) in
+      let high : w.station.last_id < id = grind (arith, nat_tests) in
       let unknown : standing_of w id ≡ Unknown = s.numbered id high in
       let sat : standing_of w id ≡ Sits = s.sitting id seat has in
       cc
   by_order false above = grind (arith, nat_tests)
 
 -- who leaves is gone
-left_by : (w : World) (id : ℕ) → id ≤ w.house.last_id → (s : Standing) → standing_of w id ≡ s → HasLeft (changed w (leaves_from id s).change) id
+left_by : (w : World) (id : ℕ) → id ≤ w.station.last_id → (s : Standing) → standing_of w id ≡ s → HasLeft (changed w (leaves_from id s).change) id
 left_by w id given Unknown e = (given, e)
 left_by w id given (Feeds mount) e = (given, (turns_forgotten (session_ended w mount) id).his)
 left_by w id given (Undecided peer) e = (given, (turns_forgotten w id).his)
@@ -68,7 +68,7 @@ left_by w id given Answered e = (given, (turns_forgotten w id).his)
 left_by w id given (Finished rule) e = (given, (turns_forgotten w id).his)
 
 -- and a relay that has gone down
-down_by : (w : World) (id : ℕ) → id ≤ w.house.last_id → (s : Standing) → standing_of w id ≡ s → (goes_down_from id s).reply ≡ Noted
+down_by : (w : World) (id : ℕ) → id ≤ w.station.last_id → (s : Standing) → standing_of w id ≡ s → (goes_down_from id s).reply ≡ Noted
     → HasLeft (changed w (goes_down_from id s).change) id
 down_by w id given Unknown e noted = cc
 down_by w id given (Feeds mount) e noted = (given, (turns_forgotten (session_ended w mount) id).his)
@@ -77,7 +77,7 @@ down_by w id given Sits e noted = cc
 down_by w id given Answered e noted = cc
 down_by w id given (Finished rule) e noted = (given, (turns_forgotten w id).his)
 
-module _ (w : World) (id : ℕ) (given : id ≤ w.house.last_id) where
+module _ (w : World) (id : ℕ) (given : id ≤ w.station.last_id) where
   client_at_once : (b : Bool) → b ≡ false → HasLeft (changed w (unless_relayed b (leaves_from id (standing_of w id))).change) id
   client_at_once true e = cc
   client_at_once false e = left_by w id given (standing_of w id) refl
@@ -87,12 +87,12 @@ module _ (w : World) (id : ℕ) (given : id ≤ w.house.last_id) where
   relay_at_once true noted = down_by w id given (standing_of w id) refl noted
   relay_at_once false noted = cc
 
-pub left_at_once : (w : World) (id : ℕ) → id ≤ w.house.last_id → (event : Event) → Leaving w id event → HasLeft (world_after w event) id
+pub left_at_once : (w : World) (id : ℕ) → id ≤ w.station.last_id → (event : Event) → Leaving w id event → HasLeft (world_after w event) id
 unfolding world_after reply_to outcome
 left_at_once w id given event (AsClient no_relay) = client_at_once w id given (has_relay w id) no_relay
 left_at_once w id given event (AsRelay noted) = relay_at_once w id given (has_relay w id) noted
 
-pub has_left : (settings : Settings) (lists : Lists) (events : List Event) (id : ℕ) → id ≤ (run_after settings lists events).house.last_id
+pub has_left : (settings : Settings) (lists : Lists) (events : List Event) (id : ℕ) → id ≤ (run_after settings lists events).station.last_id
     → (event : Event) → Leaving (run_after settings lists events) id event → HasLeft (run_after settings lists (events ++ event ∷ [])) id
 has_left settings lists events id given event leaving =
     subst (λ (x : World). HasLeft x id) (sym (after_joined _ events (event ∷ []))) (left_at_once (run_after settings lists events) id given event leaving)
@@ -122,7 +122,7 @@ module _ (w : World) (id : ℕ) (unknown : standing_of w id ≡ Unknown) where
   strays (Push him block) e = rw (his_standing him e) refl
   strays (SourceEnd him) e = rw (his_standing him e) refl
   strays (Title him text) e = rw (his_standing him e) refl
-  strays (Listen asked) e = asks_out_of_place asked (his_standing asked.id e) (web_path w.house.settings.web asked.mount)
+  strays (Listen asked) e = asks_out_of_place asked (his_standing asked.id e) (web_path w.station.settings.web asked.mount)
   strays (Draw him room) e = rw (his_standing him e) refl
   strays (Command asked) e = rw (his_standing asked.id e) refl
   strays (Leave him) e = rw (his_standing him e) (either_stray (has_relay w him))
@@ -131,13 +131,13 @@ module _ (w : World) (id : ℕ) (unknown : standing_of w id ≡ Unknown) where
   strays (Clock ms) e = cc
 
 -- numbers are not taken back
-low_by : (w : World) (event : Event) (house : House) → HouseStep w event house → w.house.last_id ≤ house.last_id
-low_by w event house (IsAlike sets same) = omega (arith, same)
-low_by w event house (GivesNumber sets next) = omega (arith, next)
-low_by w event house (SetsFallback mount fallback c sets same) = omega (arith, same)
+low_by : (w : World) (event : Event) (station : StationState) → StationStep w event station → w.station.last_id ≤ station.last_id
+low_by w event station (IsAlike sets same) = omega (arith, same)
+low_by w event station (GivesNumber sets next) = omega (arith, next)
+low_by w event station (SetsFallback mount fallback c sets same) = omega (arith, same)
 
-pub last_rises : (w : World) → IsSound w → (event : Event) → w.house.last_id ≤ (world_after w event).house.last_id
-last_rises w s event = low_by w event (world_after w event).house (house_step w event)
+pub last_rises : (w : World) → IsSound w → (event : Event) → w.station.last_id ≤ (world_after w event).station.last_id
+last_rises w s event = low_by w event (world_after w event).station (station_step w event)
 
 -- what is of nobody else, and what brings nothing
 pub his_own : {A : Type 0} (b : Bool) (brought : List A) → b ≡ true → brought ≡ (if b then brought else [])

@@ -7,8 +7,8 @@ use Rattle.radio_values.specs.declared.field.Shown.{Shown}
 use Rattle.radio_seats_rows.specs.declared.seat.Seat.{Seat}
 use Rattle.radio_seats_rows.specs.Seats.{seat_of}
 use Rattle.radio_fallback.specs.declared.walking.Landing.TheVariants.{Lands}
-use Rattle.radio_parts.specs.Sessions.{Session}
-use Rattle.radio_parts.specs.Stream.{data_at}
+use Rattle.radio_parts_mount.specs.Sessions.{Session}
+use Rattle.radio_parts_mount.specs.Stream.{data_at}
 use Rattle.radio_events.specs.declared.command.Command.{Command as TheCommand}
 use Rattle.radio_events.specs.declared.event.Event.{Event}
 use Rattle.radio_events.specs.declared.event.Event.TheVariants.{Arrive, Source, Listen, Draw, RelayUp}
@@ -18,24 +18,24 @@ use Rattle.radio_events.specs.declared.reply.Reply.{Reply}
 use Rattle.radio_events.specs.declared.reply.Reply.TheVariants.{Arrived, Feeding, Seated, Drawn, Text as SaysText, Stray, Finished}
 use Rattle.radio_events.specs.declared.text.ReplyText.{ReplyText}
 use Rattle.radio_events.specs.Events.{client_in}
-use Rattle.radio_house.specs.declared.standing.Standing.TheVariants.{Undecided, Sits}
-use Rattle.radio_house.specs.Facts.{rows_to_arrive, rows_to_feed, rows_to_raise, walks_to}
-use Rattle.radio_house.specs.Waiting.{heard_at}
-use Rattle.radio_house.specs.World.{World, standing_of}
-use Rattle.radio_facts.specs.Streams.{interval_for, head_of}
-use Rattle.radio_changes.specs.Counts.{counts_by}
-use Rattle.radio_changes.specs.declared.change.Change.{Change}
-use Rattle.radio_changes.specs.declared.change.Change.TheVariants.{Nothing, TakeSeat}
-use Rattle.radio_core.specs.declared.outcome.Outcome.{Outcome}
-use Rattle.radio_core.specs.Allowed.{IsCommanded}
-use Rattle.radio_core.specs.Command.{said_of}
-use Rattle.radio_core.specs.Listen.{first_seat}
-use Rattle.radio_core.specs.Outcomes.{says}
-use Rattle.radio_core.specs.Pages.{IsShownBy}
-use Rattle.radio_core.specs.Step.{outcome}
-use Rattle.radio_core.specs.Ways.{Way, Misplaced, IsFinished, IsDenied, IsRefused, IsAdmitted, Begins, ComesUp, Receives, SetsTitle, TakesSeat, HandsOut, Ends}
-use Rattle.radio_core.specs.Ways.{EndsAndLeaves, Leaves, GoesDown, Obeys, Shows, HasPassed, Ticks}
-use Rattle.radio_core.proofs.Ways.{way_of}
+use Rattle.radio_parts_station.specs.declared.standing.Standing.TheVariants.{Undecided, Sits}
+use Rattle.radio_parts_station.specs.Facts.{rows_to_arrive, rows_to_feed, rows_to_raise, walks_to}
+use Rattle.radio_parts_station.specs.Waiting.{heard_at}
+use Rattle.radio_parts_station.specs.World.{World, standing_of}
+use Rattle.radio_parts_facts.specs.Streams.{interval_for, head_of}
+use Rattle.radio_parts_changes.specs.Counts.{counts_by}
+use Rattle.radio_parts_changes.specs.declared.change.Change.{Change}
+use Rattle.radio_parts_changes.specs.declared.change.Change.TheVariants.{Nothing, TakeSeat}
+use Rattle.radio_parts.specs.declared.outcome.Outcome.{Outcome}
+use Rattle.radio_parts.specs.Allowed.{IsCommanded}
+use Rattle.radio_parts.specs.Command.{said_of}
+use Rattle.radio_parts.specs.Listen.{first_seat}
+use Rattle.radio_parts.specs.Outcomes.{says}
+use Rattle.radio_parts.specs.Pages.{IsShownBy}
+use Rattle.radio_parts.specs.Step.{outcome}
+use Rattle.radio_parts.specs.Ways.{Way, Misplaced, IsFinished, IsDenied, IsRefused, IsAdmitted, Begins, ComesUp, Receives, SetsTitle, TakesSeat, HandsOut, Ends}
+use Rattle.radio_parts.specs.Ways.{EndsAndLeaves, Leaves, GoesDown, Obeys, Shows, HasPassed, Ticks}
+use Rattle.radio_parts.proofs.Ways.{way_of}
 
 -- the reply grants something
 abbrev pub grants : Reply → Bool
@@ -59,18 +59,18 @@ pub data IsToldFor (w : World) (event : Event) (text : ReplyText) : Type 0 where
 
 -- by which event, and why
 pub data Granted (w : World) (event : Event) : Outcome → Type 0 where
-  AdmitsClient : (peer : Peer) (change : Change) → event ≡ Arrive peer → verdict_in (rows_to_arrive w.house peer) ≡ Allow
-      → Granted w event (says (Arrived (w.house.last_id + 1)) change)
-  AdmitsSource : (asked : SourceRequest) (change : Change) → event ≡ Source asked → verdict_in (rows_to_feed w.house asked) ≡ Allow
+  AdmitsClient : (peer : Peer) (change : Change) → event ≡ Arrive peer → verdict_in (rows_to_arrive w.station peer) ≡ Allow
+      → Granted w event (says (Arrived (w.station.last_id + 1)) change)
+  AdmitsSource : (asked : SourceRequest) (change : Change) → event ≡ Source asked → verdict_in (rows_to_feed w.station asked) ≡ Allow
       → Granted w event (says Feeding change)
-  AdmitsRelay : (mount : List ℕ) (shown : Shown) (change : Change) → event ≡ RelayUp mount shown → verdict_in (rows_to_raise w.house mount shown) ≡ Allow
-      → Granted w event (says (Arrived (w.house.last_id + 1)) change)
+  AdmitsRelay : (mount : List ℕ) (shown : Shown) (change : Change) → event ≡ RelayUp mount shown → verdict_in (rows_to_raise w.station mount shown) ≡ Allow
+      → Granted w event (says (Arrived (w.station.last_id + 1)) change)
   AdmitsListener : (asked : ListenRequest) (peer : Peer) (session : Session) → event ≡ Listen asked → standing_of w asked.id ≡ Undecided peer
-      → walks_to w.house w.seats asked.mount asked.pair ≡ Lands session.mount → heard_at w.house session.mount ≡ Some session
-      → Granted w event (says (Seated (interval_for w.house asked.mount asked.wants_metadata) (head_of w.house session.shown))
-      (TakeSeat asked.id (first_seat w.house asked peer session)))
+      → walks_to w.station w.seats asked.mount asked.pair ≡ Lands session.mount → heard_at w.station session.mount ≡ Some session
+      → Granted w event (says (Seated (interval_for w.station asked.mount asked.wants_metadata) (head_of w.station session.shown))
+      (TakeSeat asked.id (first_seat w.station asked peer session)))
   HandsData : (id room : ℕ) (seat : Seat) (session : Session) (change : Change) → event ≡ Draw id room → standing_of w id ≡ Sits
-      → seat_of w.seats id ≡ Some seat → heard_at w.house seat.mount ≡ Some session
+      → seat_of w.seats id ≡ Some seat → heard_at w.station seat.mount ≡ Some session
       → Granted w event (says (Drawn (data_at session.stream seat.place room) session.title) change)
   TellsText : (text : ReplyText) (change : Change) → IsToldFor w event text → Granted w event (says (SaysText text) change)
   GrantsNothing : (o : Outcome) → grants o.reply ≡ false → (is_idle o.reply ≡ true → o.change ≡ Nothing) → Granted w event o

@@ -2,38 +2,38 @@
 use Rattle.std.proofs.Common.{◌≡◌, true, false, Bool, Option, Some, None, is_some, refl, List, ℕ, ap, subst, ◌∙◌}
 use Rattle.std.specs.Prelude.{if◌then◌else◌}
 use Rattle.std.specs.Option.{option_or}
-use Rattle.radio_house.specs.House.{House}
-use Rattle.radio_house.specs.Waiting.{heard_at, is_on_demand, silence_at, silence_of}
-use Rattle.radio_house.specs.World.{World}
-use Rattle.radio_parts.proofs.NumberOrder.{same_order}
-use Rattle.radio_parts.specs.Sessions.{Session, session_of}
-use Rattle.radio_parts.specs.Stream.{AreRising, end_of}
+use Rattle.radio_parts_station.specs.StationState.{StationState}
+use Rattle.radio_parts_station.specs.Waiting.{heard_at, is_on_demand, silence_at, silence_of}
+use Rattle.radio_parts_station.specs.World.{World}
+use Rattle.radio_parts_mount.proofs.NumberOrder.{same_order}
+use Rattle.radio_parts_mount.specs.Sessions.{Session, session_of}
+use Rattle.radio_parts_mount.specs.Stream.{AreRising, end_of}
 use Rattle.radio_seats_rows.specs.declared.seat.Listener.{Listener}
 use Rattle.radio_seats_rows.specs.Seats.{AreByNumber, with_session_at}
 use Rattle.radio_seats_rows.proofs.GivenLaws.{numbers_hearing}
 use Rattle.radio_core.specs.Sound.{IsSound}
-use Rattle.radio_core.proofs.HeardLemmas.{heard_cases}
+use Rattle.radio_parts.proofs.HeardLemmas.{heard_cases}
 
 -- its blocks start in order, and none behind the end
-pub rising_heard : (w : World) → IsSound w → (mount : List ℕ) (session : Session) → heard_at w.house mount ≡ Some session
+pub rising_heard : (w : World) → IsSound w → (mount : List ℕ) (session : Session) → heard_at w.station mount ≡ Some session
     → AreRising session.stream.starts (end_of session.stream)
 rising_heard w s mount session hears =
-    heard_cases w.house mount session hears (s.starts mount session)
+    heard_cases w.station mount session hears (s.starts mount session)
     (λ none silent. subst (λ (x : Session). AreRising x.stream.starts (end_of x.stream)) silent tt)
 
 -- where no relay feeds the mount on demand, nothing is heard without a session
-pub nothing_heard : (house : House) (mount : List ℕ) → is_on_demand house.settings mount ≡ false → session_of house.live mount ≡ None
-    → heard_at house mount ≡ None
-nothing_heard house mount never none =
-    ap (λ (found : Option Session). option_or found (silence_of house mount)) none
-    ∙ ap (λ (b : Bool). if b then Some (silence_at house mount) else None) never
+pub nothing_heard : (station : StationState) (mount : List ℕ) → is_on_demand station.settings mount ≡ false → session_of station.live mount ≡ None
+    → heard_at station mount ≡ None
+nothing_heard station mount never none =
+    ap (λ (found : Option Session). option_or found (silence_of station mount)) none
+    ∙ ap (λ (b : Bool). if b then Some (silence_at station mount) else None) never
 
 -- where one does, there is something to be heard
-pub heard_on_demand : (house : House) (mount : List ℕ) → is_on_demand house.settings mount ≡ true → is_some (heard_at house mount) ≡ true
-heard_on_demand house mount waits = by_found (session_of house.live mount) where
-  by_found : (found : Option Session) → is_some (option_or found (silence_of house mount)) ≡ true
+pub heard_on_demand : (station : StationState) (mount : List ℕ) → is_on_demand station.settings mount ≡ true → is_some (heard_at station mount) ≡ true
+heard_on_demand station mount waits = by_found (session_of station.live mount) where
+  by_found : (found : Option Session) → is_some (option_or found (silence_of station mount)) ≡ true
   by_found (Some session) = refl
-  by_found None = ap (λ (b : Bool). is_some (if b then Some (silence_at house mount) else None)) waits
+  by_found None = ap (λ (b : Bool). is_some (if b then Some (silence_at station mount) else None)) waits
 
 -- listeners who are given a session stand in the order of their numbers still
 pub order_given : (mount : List ℕ) (session : ℕ) (seats : List Listener) → AreByNumber seats → AreByNumber (with_session_at seats mount session)

@@ -6,17 +6,17 @@ use Rattle.std.specs.Option.{option_map}
 use Rattle.radio_policy.specs.declared.rule.Rule.TheVariants.{TimeOver, HeaderTimeout}
 use Rattle.radio_tables.proofs.FindLaws.{found_has}
 use Rattle.radio_seats_rows.proofs.EndLaws.{kept_seat}
-use Rattle.radio_house.specs.declared.clients.ClientState.TheVariants.{Ended}
-use Rattle.radio_changes.specs.Changes.{before_silence, session_silenced, silent_in, ticked}
-use Rattle.radio_house.specs.Clients.{Client, client_of, with_state}
+use Rattle.radio_parts_station.specs.declared.clients.ClientState.TheVariants.{Ended}
+use Rattle.radio_parts_changes.specs.Changes.{before_silence, session_silenced, silent_in, ticked}
+use Rattle.radio_parts_station.specs.Clients.{Client, client_of, with_state}
 use Rattle.radio_laws.specs.Outstaying.{IsInTime}
-use Rattle.radio_parts.specs.Sessions.{Session, is_of, session_of, AreApart}
+use Rattle.radio_parts_mount.specs.Sessions.{Session, is_of, session_of, AreApart}
 use Rattle.radio_core.specs.Sound.{IsSound}
-use Rattle.radio_parts.specs.Timeouts.{has_sat_out, is_silent}
-use Rattle.radio_house.specs.Timeouts.{asks_too_late, timed_out}
-use Rattle.radio_house.specs.World.{World}
-use Rattle.radio_parts.proofs.ApartLemmas.{kept_apart}
-use Rattle.radio_parts.proofs.SilentSessions.{no_pass}
+use Rattle.radio_parts_mount.specs.Timeouts.{has_sat_out, is_silent}
+use Rattle.radio_parts_station.specs.Timeouts.{asks_too_late, timed_out}
+use Rattle.radio_parts_station.specs.World.{World}
+use Rattle.radio_parts_mount.proofs.ApartLemmas.{kept_apart}
+use Rattle.radio_parts_mount.proofs.SilentSessions.{no_pass}
 use Rattle.radio_core.proofs.SilentLemmas.{silent_then}
 use Rattle.radio_seats_rows.specs.declared.seat.Seat.{Seat}
 use Rattle.radio_seats_rows.specs.Seats.{seat_of}
@@ -37,15 +37,15 @@ module _ (seconds ms : ℕ) where
       let one : timed_out seconds ms old ≡ client = cc in
       ap (λ (x : Client). asks_too_late seconds ms x) (sym one) ∙ in_time_at old (asks_too_late seconds ms old) refl
 
-silence_time : (sessions : List Session) (w : World) → (fold session_silenced w sessions).house.time ≡ w.house.time
+silence_time : (sessions : List Session) (w : World) → (fold session_silenced w sessions).station.time ≡ w.station.time
 silence_time [] w = refl
 silence_time (session ∷ sessions) w = silence_time sessions (session_silenced w session)
 
 -- when all silent sessions have ended, none is silent
-none_silent : (sessions : List Session) (w : World) → AreApart w.house.live → silent_in w ≡ sessions → silent_in (fold session_silenced w sessions) ≡ []
+none_silent : (sessions : List Session) (w : World) → AreApart w.station.live → silent_in w ≡ sessions → silent_in (fold session_silenced w sessions) ≡ []
 none_silent [] w apart are = are
 none_silent (session ∷ sessions) w apart are =
-    none_silent sessions (session_silenced w session) (kept_apart (λ x. not (is_of session.mount x)) w.house.live apart)
+    none_silent sessions (session_silenced w session) (kept_apart (λ x. not (is_of session.mount x)) w.station.live apart)
     (silent_then w session apart sessions are)
 
 module _ (w : World) (s : IsSound w) (ms : ℕ) where
@@ -58,35 +58,35 @@ module _ (w : World) (s : IsSound w) (ms : ℕ) where
     sources = λ mount session e. sources mount session e;
   } where
     still_sits : (id : ℕ) (seat : Seat) → seat_of (ticked w ms).seats id ≡ Some seat
-        → Fate (ClockCause w s ms) (ClockCarries w s ms) Nobody HasEnded (before_silence w ms) (ticked w ms) id → has_sat_out w.house.settings ms seat ≡ false
-    still_sits id seat e (GoesOn same seats feeds sits) = kept_seat (has_sat_out w.house.settings ms) TimeOver w.seats id seat (sym seats ∙ e)
+        → Fate (ClockCause w s ms) (ClockCarries w s ms) Nobody HasEnded (before_silence w ms) (ticked w ms) id → has_sat_out w.station.settings ms seat ≡ false
+    still_sits id seat e (GoesOn same seats feeds sits) = kept_seat (has_sat_out w.station.settings ms) TimeOver w.seats id seat (sym seats ∙ e)
     still_sits id seat e (IsEnded rule cause active ended none over) = cc
     still_sits id seat e (HasStopped mount why feeding done none over) = cc
     still_sits id seat e (IsMoved old session carries left had has same live opens) =
         let both : Some (moved_into session old) ≡ Some seat = sym has ∙ e in
         let one : moved_into session old ≡ seat = cc in
-        ap (has_sat_out w.house.settings ms) (sym one) ∙ kept_seat (has_sat_out w.house.settings ms) TimeOver w.seats id old had
+        ap (has_sat_out w.station.settings ms) (sym one) ∙ kept_seat (has_sat_out w.station.settings ms) TimeOver w.seats id old had
 
-    clients : (id : ℕ) (client : Client) → client_of (ticked w ms).house.clients id ≡ Some client
-        → asks_too_late (ticked w ms).house.settings.limits.header_timeout ms client ≡ false
-    clients id client e = by_test (asks_too_late (ticked w ms).house.settings.limits.header_timeout ms client) refl where
-      by_test : (b : Bool) → asks_too_late (ticked w ms).house.settings.limits.header_timeout ms client ≡ b
-          → asks_too_late (ticked w ms).house.settings.limits.header_timeout ms client ≡ false
+    clients : (id : ℕ) (client : Client) → client_of (ticked w ms).station.clients id ≡ Some client
+        → asks_too_late (ticked w ms).station.settings.limits.header_timeout ms client ≡ false
+    clients id client e = by_test (asks_too_late (ticked w ms).station.settings.limits.header_timeout ms client) refl where
+      by_test : (b : Bool) → asks_too_late (ticked w ms).station.settings.limits.header_timeout ms client ≡ b
+          → asks_too_late (ticked w ms).station.settings.limits.header_timeout ms client ≡ false
       by_test false h = h
       by_test true h =
-          let before = (fates_silence w s ms).late id client (ticked w ms).house.settings.limits.header_timeout ms e h in
-          let found : option_map (timed_out w.house.settings.limits.header_timeout ms) (client_of w.house.clients id) ≡ Some client =
-          sym (clients_after w.house.settings.limits.header_timeout ms w.house.clients id) ∙ before in
+          let before = (fates_silence w s ms).late id client (ticked w ms).station.settings.limits.header_timeout ms e h in
+          let found : option_map (timed_out w.station.settings.limits.header_timeout ms) (client_of w.station.clients id) ≡ Some client =
+          sym (clients_after w.station.settings.limits.header_timeout ms w.station.clients id) ∙ before in
           ap (λ settings. asks_too_late settings.limits.header_timeout ms client) (fates_silence w s ms).settings
-          ∙ in_time_in w.house.settings.limits.header_timeout ms (client_of w.house.clients id) client found
+          ∙ in_time_in w.station.settings.limits.header_timeout ms (client_of w.station.clients id) client found
 
-    sources : (mount : List ℕ) (session : Session) → session_of (ticked w ms).house.live mount ≡ Some session
-        → is_silent (ticked w ms).house.settings.limits.source_timeout ms session ≡ false
+    sources : (mount : List ℕ) (session : Session) → session_of (ticked w ms).station.live mount ≡ Some session
+        → is_silent (ticked w ms).station.settings.limits.source_timeout ms session ≡ false
     sources mount session e =
         let later = ticked w ms in
         let none = none_silent (silent_in (before_silence w ms)) (before_silence w ms) (sound_sat_out w s ms).apart refl in
-        let all = no_pass (is_silent later.house.settings.limits.source_timeout later.house.time) later.house.live none in
-        let not_silent = found_has (is_of mount) (λ (x : Session). is_silent later.house.settings.limits.source_timeout later.house.time x ≡ false)
-        later.house.live session all e in
-        ap (λ (moment : ℕ). is_silent later.house.settings.limits.source_timeout moment session) (sym (silence_time (silent_in (before_silence w ms)) (before_silence w ms)))
+        let all = no_pass (is_silent later.station.settings.limits.source_timeout later.station.time) later.station.live none in
+        let not_silent = found_has (is_of mount) (λ (x : Session). is_silent later.station.settings.limits.source_timeout later.station.time x ≡ false)
+        later.station.live session all e in
+        ap (λ (moment : ℕ). is_silent later.station.settings.limits.source_timeout moment session) (sym (silence_time (silent_in (before_silence w ms)) (before_silence w ms)))
         ∙ not_silent

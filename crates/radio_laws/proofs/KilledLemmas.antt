@@ -4,15 +4,15 @@ use Rattle.radio_policy.specs.declared.rule.Rule.{Rule}
 use Rattle.radio_seats_rows.specs.declared.seat.Seat.{Seat}
 use Rattle.radio_seats_rows.specs.Seats.{seat_of}
 use Rattle.radio_events.specs.declared.event.Event.{Event}
-use Rattle.radio_house.specs.declared.standing.Standing.{Standing}
-use Rattle.radio_house.specs.declared.standing.Standing.TheVariants.{Unknown, Undecided, Feeds, Sits, Answered, Finished}
+use Rattle.radio_parts_station.specs.declared.standing.Standing.{Standing}
+use Rattle.radio_parts_station.specs.declared.standing.Standing.TheVariants.{Unknown, Undecided, Feeds, Sits, Answered, Finished}
 use Rattle.radio_core.specs.ClientSteps.{ClientStep, Stays, Arrives, IsAnswered, IsObeyed, IsShown, BeginsToFeed, SitsDown, StopsFeeding, Leaves, IsFinished, ComesUp, GoesDown}
 use Rattle.radio_core.specs.Finishes.{Finishes}
 use Rattle.radio_core.specs.Handing.{handed_at, handed}
 use Rattle.radio_core.specs.SeatSteps.{SeatStep, Stays as SeatStays, IsHanded, SitsDown as SeatsDown, IsMoved, Leaves as SeatLeaves, IsEnded, IsGiven}
 use Rattle.radio_core.specs.Sound.{IsSound}
-use Rattle.radio_core.specs.Step.{world_after}
-use Rattle.radio_house.specs.World.{World, standing_of}
+use Rattle.radio_parts.specs.Step.{world_after}
+use Rattle.radio_parts_station.specs.World.{World, standing_of}
 use Rattle.radio_core.proofs.ClientSteps.{clients_step}
 use Rattle.radio_core.proofs.SeatSteps.{seats_step}
 use Rattle.radio_core.proofs.SoundRuns.{sound_after}
@@ -25,11 +25,11 @@ IsOver (Finished rule) = Unit {0}
 IsOver Unknown = Unit {0}
 IsOver standing = ⊥
 
-over_then : (w : World) (C : Rule → Type 0) (event : Event) (id : ℕ) (before later : Standing) → ClientStep w C event id before later → id ≤ w.house.last_id
+over_then : (w : World) (C : Rule → Type 0) (event : Event) (id : ℕ) (before later : Standing) → ClientStep w C event id before later → id ≤ w.station.last_id
     → IsOver before → IsOver later
 over_then w C event id before later (Stays standing) given over = over
 over_then w C event id before later (Arrives peer is passing new) given over = absurd (above given new) where
-  above : id ≤ w.house.last_id → w.house.last_id < id → ⊥
+  above : id ≤ w.station.last_id → w.station.last_id < id → ⊥
   above low high = omega (arith, low, high)
 over_then w C event id before later (IsAnswered peer rule his told) given over = absurd over
 over_then w C event id before later (IsObeyed peer command his c) given over = absurd over
@@ -40,7 +40,7 @@ over_then w C event id before later (StopsFeeding mount is no_relay) given over 
 over_then w C event id before later (Leaves standing is no_relay) given over = tt
 over_then w C event id before later (GoesDown standing is relay) given over = tt
 over_then w C event id before later (ComesUp mount shown is new allowed) given over = absurd (above given new) where
-  above : id ≤ w.house.last_id → w.house.last_id < id → ⊥
+  above : id ≤ w.station.last_id → w.station.last_id < id → ⊥
   above low high = omega (arith, low, high)
 over_then w C event id before later (IsFinished standing rule why) given over = tt
 
@@ -62,7 +62,7 @@ not_sitting (Undecided peer) e over = over
 not_sitting (Feeds mount) e over = over
 not_sitting Answered e over = over
 
-pub hears_no_more : (w : World) → IsSound w → (id : ℕ) → id ≤ w.house.last_id → IsOver (standing_of w id) → (events : List Event) → handed w events id ≡ []
+pub hears_no_more : (w : World) → IsSound w → (id : ℕ) → id ≤ w.station.last_id → IsOver (standing_of w id) → (events : List Event) → handed w events id ≡ []
 hears_no_more w s id given over [] = refl
 hears_no_more w s id given over (event ∷ events) =
     ap (λ xs. xs ++ handed (world_after w event) events id)
@@ -70,5 +70,5 @@ hears_no_more w s id given over (event ∷ events) =
     (seatless w s id (λ sits. not_sitting (standing_of w id) sits over)))
     ∙ hears_no_more (world_after w event) (sound_after w s event) id given_then
     (over_then w (Finishes w event id) event id (standing_of w id) (standing_of (world_after w event) id) (clients_step w s event id) given over) events where
-      given_then : id ≤ (world_after w event).house.last_id
+      given_then : id ≤ (world_after w event).station.last_id
       given_then = let more = last_rises w s event in omega (arith, given, more)

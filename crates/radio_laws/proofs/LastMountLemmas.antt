@@ -15,22 +15,22 @@ use Rattle.radio_seats_rows.proofs.EndLaws.{had_seat, kept_seat}
 use Rattle.radio_seats_rows.proofs.SeatLaws.{beside_left, beside_seated, listener_seated}
 use Rattle.radio_fallback.specs.declared.moves.Move.{Move}
 use Rattle.radio_fallback.specs.declared.moves.Move.TheVariants.{Ended, Up}
-use Rattle.radio_parts.specs.Sessions.{Session}
-use Rattle.radio_parts.proofs.NumberOrder.{order_ended}
-use Rattle.radio_parts.specs.Timeouts.{has_sat_out}
-use Rattle.radio_house.specs.House.{House}
-use Rattle.radio_house.specs.Facts.{sight_of}
-use Rattle.radio_house.specs.declared.standing.Standing.TheVariants.{Undecided, Sits}
-use Rattle.radio_house.specs.World.{World, world, standing_of}
+use Rattle.radio_parts_mount.specs.Sessions.{Session}
+use Rattle.radio_parts_mount.proofs.NumberOrder.{order_ended}
+use Rattle.radio_parts_mount.specs.Timeouts.{has_sat_out}
+use Rattle.radio_parts_station.specs.StationState.{StationState}
+use Rattle.radio_parts_station.specs.Facts.{sight_of}
+use Rattle.radio_parts_station.specs.declared.standing.Standing.TheVariants.{Undecided, Sits}
+use Rattle.radio_parts_station.specs.World.{World, world, standing_of}
 use Rattle.radio_addr.specs.declared.peer.Peer.{Peer}
 use Rattle.radio_events.specs.declared.event.Event.{Event}
 use Rattle.radio_events.specs.declared.event.Event.TheVariants.{Clock}
-use Rattle.radio_changes.specs.declared.change.Change.TheVariants.{Nothing, Tick}
-use Rattle.radio_changes.specs.Changes.{changed, carried_along, session_over, session_ended, called_home, before_silence, silent_in, session_silenced, ticked}
-use Rattle.radio_core.specs.Listen.{first_seat}
+use Rattle.radio_parts_changes.specs.declared.change.Change.TheVariants.{Nothing, Tick}
+use Rattle.radio_parts_changes.specs.Changes.{changed, carried_along, session_over, session_ended, called_home, before_silence, silent_in, session_silenced, ticked}
+use Rattle.radio_parts.specs.Listen.{first_seat}
 use Rattle.radio_core.specs.Moves.{Brings, ByItsEnd, ByItsLeaving, BySilence, ByComingUp, ByRelayUp, ByKilling, ByMoving}
 use Rattle.radio_core.specs.Sound.{IsSound}
-use Rattle.radio_core.specs.Step.{outcome, world_after}
+use Rattle.radio_parts.specs.Step.{outcome, world_after}
 use Rattle.radio_core.proofs.CarriedFates.{order_carried}
 use Rattle.radio_core.proofs.SoundRuns.{sound_after}
 use Rattle.radio_laws.specs.Gone.{Leaving}
@@ -48,7 +48,7 @@ none_silenced : (sessions : List Session) (during : World) → AreByNumber durin
 none_silenced [] during order id none = refl
 none_silenced (session ∷ sessions) during order id none =
     let over = session_over during session.mount in
-    let same = none_changed _ _ (step_carried during.seats id (sight_of over.house) (Ended session.mount) order) none in
+    let same = none_changed _ _ (step_carried during.seats id (sight_of over.station) (Ended session.mount) order) none in
     none_silenced sessions (session_silenced during session) (order_carried over (Ended session.mount) order) id (ap seat_in same ∙ none) ∙ same
 
 -- who does not sit has no seat
@@ -72,14 +72,14 @@ module _ (w : World) (s : IsSound w) (id : ℕ) (asks : (peer : Peer) → standi
   another : (him : ℕ) (peer : Peer) → standing_of w him ≡ Undecided peer → (him == id) ≡ false
   another him peer undecided = by_number him id (λ same. absurd (asks peer (ap (standing_of w) (sym same) ∙ undecided))) (λ apart. apart)
 
-  home : (house : House) (mount : List ℕ) (session : ℕ) → StepsTo (called_home (world house (with_session_at w.seats mount session)) mount).seats
-  home house mount session = step_given w.seats id mount session _ (by_setting (options_for house.settings mount).listeners.fallback_override) where
+  home : (station : StationState) (mount : List ℕ) (session : ℕ) → StepsTo (called_home (world station (with_session_at w.seats mount session)) mount).seats
+  home station mount session = step_given w.seats id mount session _ (by_setting (options_for station.settings mount).listeners.fallback_override) where
     given : List Listener
     given = with_session_at w.seats mount session
 
     by_setting : (calls : Bool)
-        → RowStep (listener_of given id) (listener_of (if calls then carried_along (world house given) (Up mount) else world house given).seats id)
-    by_setting true = step_carried given id (sight_of house) (Up mount) (order_given mount session w.seats s.by_number)
+        → RowStep (listener_of given id) (listener_of (if calls then carried_along (world station given) (Up mount) else world station given).seats id)
+    by_setting true = step_carried given id (sight_of station) (Up mount) (order_given mount session w.seats s.by_number)
     by_setting false = IsSame refl
 
   unless_gone : (event : Event) (him : ℕ) (seats : List Listener) → Leaving w him event → StepsTo seats → EventStep w event id (without_listener seats him)
@@ -92,15 +92,15 @@ module _ (w : World) (s : IsSound w) (id : ℕ) (asks : (peer : Peer) → standi
   by_table event later IsUntouched = AtOnce (IsSame refl)
   by_table event later (AreEnded p rule) = AtOnce (step_ended w.seats id p rule)
   by_table event later (IsEnded him rule) = AtOnce (step_lost w.seats id him rule)
-  by_table event later (AreCarried house move same) = AtOnce (step_carried w.seats id (sight_of house) move s.by_number)
-  by_table event later (AreGiven house mount session same) = AtOnce (home house mount session)
+  by_table event later (AreCarried station move same) = AtOnce (step_carried w.seats id (sight_of station) move s.by_number)
+  by_table event later (AreGiven station mount session same) = AtOnce (home station mount session)
   by_table event later (SitsDown asked peer session undecided lands live) =
-      AtOnce (IsSame (beside_seated w.seats asked.id id (another asked.id peer undecided) (first_seat w.house asked peer session)))
+      AtOnce (IsSame (beside_seated w.seats asked.id id (another asked.id peer undecided) (first_seat w.station asked peer session)))
   by_table event later (IsHanded him place seat has) = AtOnce (step_heard w.seats id him place seat has)
   by_table event later (IsGone him leaving) = unless_gone event him w.seats leaving (IsSame refl)
   by_table event later (SourceIsGone him mount leaving) =
       unless_gone event him (session_ended w mount).seats leaving
-      (step_carried w.seats id (sight_of (session_over w mount).house) (Ended mount) s.by_number)
+      (step_carried w.seats id (sight_of (session_over w mount).station) (Ended mount) s.by_number)
   by_table event later (HasTicked ms e) = AtAMoment ms e refl
 
   event_step : (event : Event) → EventStep w event id (world_after w event).seats
@@ -127,7 +127,7 @@ finished_where_he_sat w s event no_clock id seat rule has over =
 -- and by the clock
 module _ (w : World) (s : IsSound w) (ms : ℕ) where
   abbrev ends_by_time : Seat → Bool
-  ends_by_time = has_sat_out w.house.settings ms
+  ends_by_time = has_sat_out w.station.settings ms
 
   first_step : (id : ℕ) → RowStep (listener_of w.seats id) (listener_of (before_silence w ms).seats id)
   first_step id = step_ended w.seats id ends_by_time TimeOver
@@ -169,10 +169,10 @@ module _ (w : World) (s : IsSound w) (ms : ℕ) where
         ∙ ap (λ (later : World). last_mount_of later.seats id) (fold-append session_silenced (before_silence w ms) before (session ∷ others))
         ∙ ap (option_map (λ listener. last_mount listener.seating))
         (none_silenced others (session_silenced during session) (order_carried over (Ended session.mount) order) id none)
-        ∙ last_at _ _ (step_carried during.seats id (sight_of over.house) (Ended session.mount) order) seat has none
+        ∙ last_at _ _ (step_carried during.seats id (sight_of over.station) (Ended session.mount) order) seat has none
 
 -- it is no past moment
-ticks : (w : World) (ms : ℕ) → nat_lt ms w.house.time ≡ false → world_after w (Clock ms) ≡ ticked w ms
+ticks : (w : World) (ms : ℕ) → nat_lt ms w.station.time ≡ false → world_after w (Clock ms) ≡ ticked w ms
 unfolding world_after outcome
 ticks w ms e = ap (λ (b : Bool). changed w (if b then Nothing else Tick ms)) e
 

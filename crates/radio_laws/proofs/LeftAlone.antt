@@ -5,32 +5,32 @@ use Rattle.radio_policy.specs.declared.rule.Rule.{Rule}
 use Rattle.radio_seats_rows.specs.declared.seat.Listener.{Listener}
 use Rattle.radio_seats_rows.specs.declared.seat.Seat.{Seat}
 use Rattle.radio_seats_rows.specs.Seats.{seat_in, seat_of}
-use Rattle.radio_parts.specs.Sessions.{Session, session_of}
+use Rattle.radio_parts_mount.specs.Sessions.{Session, session_of}
 use Rattle.radio_fallback.specs.declared.moves.Move.{Move}
 use Rattle.radio_events.specs.declared.command.Command.TheVariants.{MoveClients, KillClient, KillSource, SetTitle, AddUser, DeleteUser}
 use Rattle.radio_events.specs.Events.{client_in}
 use Rattle.radio_fallback.proofs.FitsLemmas.{sits_last}
 use Rattle.radio_events.specs.declared.event.Event.{Event}
 use Rattle.radio_events.specs.declared.event.Event.TheVariants.{Source, Push, SourceEnd, Title, Listen, Draw, Leave, RelayUp, RelayDown, Clock}
-use Rattle.radio_house.specs.declared.standing.Standing.TheVariants.{Feeds}
+use Rattle.radio_parts_station.specs.declared.standing.Standing.TheVariants.{Feeds}
 use Rattle.radio_core.specs.Finishes.{Cause, Finishes, SessionIsOver, IsFarBehind, HasSatOut, HasAskedNothing, HasSentNothing, IsKilled as ByACommand, HisSessionIsKilled, IsNotAccepted}
 use Rattle.radio_core.specs.Moves.{Brings, ByItsEnd, ByItsLeaving, BySilence, ByComingUp, ByRelayUp, ByKilling, ByMoving, TakesTo, LeavesOut}
 use Rattle.radio_core.specs.SeatSteps.{SeatStep, Stays as SeatStays, IsHanded, SitsDown, IsMoved, Leaves, IsEnded, ComesUpOn, ASource, ARelay, IsGiven}
 use Rattle.radio_core.specs.SeatSteps.{IsSent, HisSessionIsOver, HeIsCalledHome, IsCommandedThere}
 use Rattle.radio_core.specs.SessionSteps.{SessionStep, Stays, Begins, BeginsForRelay, Grows, IsTitled, IsRetitled, Ends, IsKilled}
 use Rattle.radio_core.specs.Sound.{IsSound}
-use Rattle.radio_core.specs.Step.{world_after}
-use Rattle.radio_house.specs.World.{World, standing_of}
+use Rattle.radio_parts.specs.Step.{world_after}
+use Rattle.radio_parts_station.specs.World.{World, standing_of}
 use Rattle.radio_core.proofs.SeatSteps.{seats_step}
 use Rattle.radio_core.proofs.SessionSteps.{sessions_step}
 use Rattle.std.specs.Prelude.{◌+◌, length}
-use Rattle.radio_parts.specs.Stream.{data_at}
+use Rattle.radio_parts_mount.specs.Stream.{data_at}
 use Rattle.radio_fallback.specs.Carry.{at_his_turn}
 use Rattle.radio_fallback.proofs.Faring.{sits_as_before}
-use Rattle.radio_core.specs.Closing.{Closes, OfClient, OfRelay}
-use Rattle.radio_house.specs.Facts.{sight_of}
+use Rattle.radio_parts.specs.Closing.{Closes, OfClient, OfRelay}
+use Rattle.radio_parts_station.specs.Facts.{sight_of}
 use Rattle.radio_core.specs.Handing.{handed_at}
-use Rattle.radio_core.specs.Listen.{first_seat}
+use Rattle.radio_parts.specs.Listen.{first_seat}
 use Rattle.radio_core.specs.Moves.{moved_into}
 use Rattle.radio_laws.specs.Locality.{SessionsAgree, SameSession}
 use Rattle.radio_laws.proofs.AgreeingLists.{agree_all}
@@ -39,8 +39,8 @@ use Rattle.radio_laws.proofs.AgreeingWalks.{Onward, MovesWithin, lands_within, g
 use Rattle.radio_laws.proofs.AgreeingOutcomes.{onward_by}
 use Rattle.radio_laws.specs.Locality.{ReachesWithin, EndsWithin, WalksWithin, IsAll, IsLeftAlone, LeavesAlone}
 use Rattle.radio_laws.proofs.LocalityLemmas.{agrees, asks_within}
-use Rattle.radio_core.specs.Allowed.{ChangesUsers, Adds, Deletes}
-use Rattle.radio_core.proofs.HeardLemmas.{heard_cases}
+use Rattle.radio_parts.specs.Allowed.{ChangesUsers, Adds, Deletes}
+use Rattle.radio_parts.proofs.HeardLemmas.{heard_cases}
 
 -- the mount where the event's client sits is within reach
 abbrev pub ClientSitsWithin : (List ℕ → Bool) → World → Event → Type 0
@@ -59,18 +59,18 @@ module _ (within : List ℕ → Bool) (w : World) (s : IsSound w) (event : Event
   sits_near other e id his seat has = sits id seat (ap client_in e ∙ his) has
 
   -- the source of the session feeds its mount
-  fed_near : (mount : List ℕ) (session : Session) → session_of w.house.live mount ≡ Some session → EndsWithin w within session.number → WalksWithin w within mount
+  fed_near : (mount : List ℕ) (session : Session) → session_of w.station.live mount ≡ Some session → EndsWithin w within session.number → WalksWithin w within mount
   fed_near mount session is_live ends = ends mount (s.fed mount session is_live)
 
-  ends_near : (mount : List ℕ) (session : Session) → session_of w.house.live mount ≡ Some session
-      → (event ≡ SourceEnd session.number) ⊎ (event ≡ Leave session.number) ⊎ (event ≡ RelayDown session.number) ⊎ ((ms : ℕ) × (event ≡ Clock ms) × (1000 * w.house.settings.limits.source_timeout ≤ ms - session.last_block))
+  ends_near : (mount : List ℕ) (session : Session) → session_of w.station.live mount ≡ Some session
+      → (event ≡ SourceEnd session.number) ⊎ (event ≡ Leave session.number) ⊎ (event ≡ RelayDown session.number) ⊎ ((ms : ℕ) × (event ≡ Clock ms) × (1000 * w.station.settings.limits.source_timeout ≤ ms - session.last_block))
       → Near mount
   ends_near mount session is_live (inl e) = (fed_near mount session is_live (so_near (SourceEnd session.number) e)).there
   ends_near mount session is_live (inr (inl e)) = (fed_near mount session is_live (so_near (Leave session.number) e)).there
   ends_near mount session is_live (inr (inr (inl e))) = (fed_near mount session is_live (so_near (RelayDown session.number) e)).there
   ends_near mount session is_live (inr (inr (inr e))) = (so_near (Clock e.0) e.1) mount
 
-  session_kept : (mount : List ℕ) (before later : Option Session) → SessionStep w event mount before later → session_of w.house.live mount ≡ before
+  session_kept : (mount : List ℕ) (before later : Option Session) → SessionStep w event mount before later → session_of w.station.live mount ≡ before
       → within mount ≡ false → later ≡ before
   session_kept mount _ _ (Stays session) e out = refl
   session_kept mount _ _ (Begins asked session is_event same begun) e out =
@@ -85,14 +85,14 @@ module _ (within : List ℕ → Bool) (w : World) (s : IsSound w) (event : Event
   session_kept mount _ _ (IsKilled session c) e out = let there : Near mount = (asks_within within w event (KillSource mount) c near).there in cc
 
   -- a move that the event brings goes by mounts within reach, where not all are
-  live_itself : (x : World) → SessionsDo within x.house.live x.house.live
-  live_itself x = agree_all (SessionsAgree within) (λ a. SameSession refl) x.house.live
+  live_itself : (x : World) → SessionsDo within x.station.live x.station.live
+  live_itself x = agree_all (SessionsAgree within) (λ a. SameSession refl) x.station.live
 
   abbrev Moves : World → Move → Type 0
-  Moves during move = MovesWithin within during during.house.live (live_itself during) move
+  Moves during move = MovesWithin within during during.station.live (live_itself during) move
 
-  onward : {mount : List ℕ} → WalksWithin w within mount → Onward within w w.house.live (live_itself w)
-  onward walks = onward_by within w walks.onward w.house.live (live_itself w)
+  onward : {mount : List ℕ} → WalksWithin w within mount → Onward within w w.station.live (live_itself w)
+  onward walks = onward_by within w walks.onward w.station.live (live_itself w)
 
   closes : (e : Event) (him : ℕ) (mount : List ℕ) → Closes w him e → standing_of w him ≡ Feeds mount → ReachesWithin w within e → WalksWithin w within mount
   closes _ him mount (OfClient no_relay) feeding its = its mount feeding
@@ -113,17 +113,17 @@ module _ (within : List ℕ → Bool) (w : World) (s : IsSound w) (event : Event
     by_side : IsAll within ⊎ (Moves takes.1 takes.0 × (takes.1.seats ≡ w.seats)) → Near mount
     by_side (inl all) = all mount
     by_side (inr its) =
-        goes_within within takes.1 takes.1.house.live (live_itself takes.1) takes.0 its.0
-        (at_his_turn (sight_of takes.1.house) takes.0 takes.1.seats id) id mount takes.3
+        goes_within within takes.1 takes.1.station.live (live_itself takes.1) takes.0 its.0
+        (at_his_turn (sight_of takes.1.station) takes.0 takes.1.seats id) id mount takes.3
 
   left_near : (id : ℕ) (rule : Rule) (seat : Seat) → LeavesOut w event id rule → seat_of w.seats id ≡ Some seat → Near seat.mount
   left_near id rule seat out has = by_side (moves_near event out.0 out.1 out.2 near) where
     by_side : IsAll within ⊎ (Moves out.1 out.0 × (out.1.seats ≡ w.seats)) → Near seat.mount
     by_side (inl all) = all seat.mount
     by_side (inr its) =
-        out_within within out.1 out.1.house.live (live_itself out.1) out.0 its.0
-        (at_his_turn (sight_of out.1.house) out.0 out.1.seats id) id rule seat out.3
-        (ap seat_in (sits_as_before (sight_of out.1.house) out.0 out.1.seats id) ∙ ap (λ (l : List Listener). seat_of l id) its.1 ∙ has)
+        out_within within out.1 out.1.station.live (live_itself out.1) out.0 its.0
+        (at_his_turn (sight_of out.1.station) out.0 out.1.seats id) id rule seat out.3
+        (ap seat_in (sits_as_before (sight_of out.1.station) out.0 out.1.seats id) ∙ ap (λ (l : List Listener). seat_of l id) its.1 ∙ has)
 
   -- seats beyond reach
   module _ (id : ℕ) where
@@ -133,9 +133,9 @@ module _ (within : List ℕ → Bool) (w : World) (s : IsSound w) (event : Event
       by_reach true e = e
       by_reach false e =
           let seated = s.seated id seat has in
-          let kept = session_kept seat.mount (session_of w.house.live seat.mount) (session_of (world_after w event).house.live seat.mount)
+          let kept = session_kept seat.mount (session_of w.station.live seat.mount) (session_of (world_after w event).station.live seat.mount)
           (sessions_step w s event seat.mount) refl e in
-          heard_cases w.house seat.mount seated.session seated.is_heard
+          heard_cases w.station seat.mount seated.session seated.is_heard
           (λ there. let none = sym over ∙ kept ∙ there in cc)
           (λ idle silent.
           let waits : seat.session ≡ 0 = sym seated.his_session ∙ sym (ap (λ (x : Session). x.number) silent) in
@@ -188,9 +188,9 @@ module _ (within : List ℕ → Bool) (w : World) (s : IsSound w) (event : Event
         )
     seat_kept _ _ _ (SitsDown asked peer session is_event his undecided lands is_live allowed) has seat out =
         let walks = (so_near (Listen asked) is_event).walks in
-        let there = lands_within within w w.house.live (live_itself w) w.seats w.seats (agrees within w).listeners (onward walks) asked.mount session.mount asked.pair
+        let there = lands_within within w w.station.live (live_itself w) w.seats w.seats (agrees within w).listeners (onward walks) asked.mount session.mount asked.pair
         walks.there lands in
-        (not_it seat (first_seat w.house asked peer session) out there, λ e. cc)
+        (not_it seat (first_seat w.station asked peer session) out there, λ e. cc)
     seat_kept _ _ _ (IsMoved old session takes sent is_live lets other) has seat out =
         (not_it seat (moved_into session old) out (taken_near id session.mount takes), not_it seat old out (sent_near old session.mount has sent))
     seat_kept _ _ _ (IsGiven old session coming idle live empty waits start past) has seat out =
@@ -202,7 +202,7 @@ module _ (within : List ℕ → Bool) (w : World) (s : IsSound w) (event : Event
 pub left_alone : (within : List ℕ → Bool) (w : World) → IsSound w → (event : Event) → ReachesWithin w within event → ClientSitsWithin within w event
     → IsLeftAlone within w (world_after w event)
 left_alone within w s event near sits = record {
-  sessions = λ mount. session_kept within w s event near sits mount (session_of w.house.live mount) (session_of (world_after w event).house.live mount)
+  sessions = λ mount. session_kept within w s event near sits mount (session_of w.station.live mount) (session_of (world_after w event).station.live mount)
       (sessions_step w s event mount) refl;
   seats = λ id seat out. seat_kept within w s event near sits id (seat_of w.seats id) (seat_of (world_after w event).seats id) (handed_at w event id)
       (seats_step w s event id) refl seat out;

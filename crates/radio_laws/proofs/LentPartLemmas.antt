@@ -4,14 +4,14 @@ use Rattle.std.specs.Str.{bytes_eq}
 use Rattle.std.proofs.lemmas.Bool.{eqb-true}
 use Rattle.std.proofs.lemmas.Slice.Eq.{bytes_eq-Decides}
 use Rattle.radio_tables.proofs.FindLaws.{found_passes}
-use Rattle.radio_attached.specs.Lent.{AsBefore, HeardTo, LaggedOut, IsSeenAfter}
-use Rattle.radio_changes.specs.Lent.{IsLentTo}
-use Rattle.radio_house.specs.House.{House}
-use Rattle.radio_house.specs.World.{World}
-use Rattle.radio_mounts.specs.Agree.{AllAgree}
-use Rattle.radio_mounts.specs.Exchange.{Comes, Stays, first_true, second_true, IsInPlace}
-use Rattle.radio_mount_part.specs.declared.part.MountPart.{MountPart}
-use Rattle.radio_parts.specs.Sessions.{Session, is_of}
+use Rattle.radio_parts_table.specs.Lent.{AsBefore, HeardTo, LaggedOut, IsSeenAfter}
+use Rattle.radio_parts_changes.specs.Lent.{IsLentTo}
+use Rattle.radio_parts_station.specs.StationState.{StationState}
+use Rattle.radio_parts_station.specs.World.{World}
+use Rattle.radio_parts_table.specs.Agree.{AllAgree}
+use Rattle.radio_parts_table.specs.Exchange.{Comes, Stays, first_true, second_true, IsInPlace}
+use Rattle.radio_parts_mount.specs.declared.part.MountPart.{MountPart}
+use Rattle.radio_parts_mount.specs.Sessions.{Session, is_of}
 use Rattle.radio_policy.specs.declared.rule.Rule.TheVariants.{Lagged}
 use Rattle.radio_seats_rows.specs.declared.seat.Listener.{Listener}
 use Rattle.radio_seats_rows.specs.declared.seat.Seating.{Seating}
@@ -62,8 +62,8 @@ module _ (mount : List ℕ) where
 
 pub lent_agree : (part there : MountPart) (before after : World) → IsLentTo part there before after → AgreeWithin (all_but part.mount) before after
 lent_agree part there before after lent = record {
-  house = sym (ap (λ (h : House). record h { live = before.house.live }) lent.house);
+  station = sym (ap (λ (h : StationState). record h { live = before.station.live }) lent.station);
   sessions = sessions_agree part.mount part.session
-      (λ b is. found_passes (is_of part.mount) after.house.live b (lent.session ∙ is)) before.house.live after.house.live lent.sessions;
+      (λ b is. found_passes (is_of part.mount) after.station.live b (lent.session ∙ is)) before.station.live after.station.live lent.sessions;
   listeners = listeners_agree part.mount before.seats after.seats lent.listeners;
 }

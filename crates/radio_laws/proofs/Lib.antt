@@ -15,7 +15,7 @@ mod FallbackLemmas
 mod GoneLemmas
 mod GrantedLemmas
 mod HeardLaws
-mod HouseSteps
+mod StationSteps
 mod InTime
 mod KilledLemmas
 mod LastMountLemmas

@@ -17,20 +17,20 @@ use Rattle.radio_values.specs.declared.field.Shown.{Shown}
 use Rattle.radio_events.specs.declared.reply.Reply.{Reply}
 use Rattle.radio_events.specs.declared.event.SourceRequest.{SourceRequest}
 use Rattle.radio_events.specs.declared.event.ListenRequest.{ListenRequest}
-use Rattle.radio_core.specs.declared.outcome.Outcome.{Outcome}
+use Rattle.radio_parts.specs.declared.outcome.Outcome.{Outcome}
 use Rattle.radio_events.specs.declared.reply.Reply.TheVariants.{Arrived, Feeding, Deny}
-use Rattle.radio_house.specs.declared.standing.Standing.{Standing}
-use Rattle.radio_house.specs.declared.standing.Standing.TheVariants.{Unknown, Undecided, Feeds, Sits, Answered, Finished}
-use Rattle.radio_facts.specs.CommandFacts.{facts_asked, rows_to_command}
+use Rattle.radio_parts_station.specs.declared.standing.Standing.{Standing}
+use Rattle.radio_parts_station.specs.declared.standing.Standing.TheVariants.{Unknown, Undecided, Feeds, Sits, Answered, Finished}
+use Rattle.radio_parts_facts.specs.CommandFacts.{facts_asked, rows_to_command}
 use Rattle.radio_policy.specs.declared.facts.CommandFacts.{CommandFacts}
-use Rattle.radio_house.specs.Facts.{is_full as is_too_many, arrive_facts, source_facts_at, relay_facts_at, rows_to_raise, names_mount}
+use Rattle.radio_parts_station.specs.Facts.{is_full as is_too_many, arrive_facts, source_facts_at, relay_facts_at, rows_to_raise, names_mount}
 use Rattle.radio_laws.specs.Limits.{IsFullAt, AdmitsByLimits}
 use Rattle.radio_laws.specs.LimitDenials.{HasUserAt, ByAMount, DeniesByLimits}
 use Rattle.radio_laws.specs.Walks.{ComesBy}
-use Rattle.radio_core.specs.Step.{outcome, reply_to}
-use Rattle.radio_core.specs.Ways.{rows_for, rows_from}
-use Rattle.radio_house.specs.World.{World, standing_of}
-use Rattle.radio_core.proofs.Ways.{may_feed, may_come_up, has_room_left}
+use Rattle.radio_parts.specs.Step.{outcome, reply_to}
+use Rattle.radio_parts.specs.Ways.{rows_for, rows_from}
+use Rattle.radio_parts_station.specs.World.{World, standing_of}
+use Rattle.radio_parts.proofs.Ways.{may_feed, may_come_up, has_room_left}
 use Rattle.radio_laws.proofs.GrantedLemmas.{Granted, AdmitsClient, AdmitsSource, AdmitsRelay, AdmitsListener, HandsData, TellsText, GrantsNothing, grants, granted}
 use Rattle.radio_laws.proofs.CommandRows.{of_no_command}
 use Rattle.radio_core.proofs.NamedRules.{RuleNamed, DeniesIt, RefusesHim, TellsHisRule, NamesNoRule, rule_in, rule_named}
@@ -95,10 +95,10 @@ sources_by true true false false false v = cc
 
 -- what is admitted finds room
 record Admits (w : World) (event : Event) (reply : Reply) : Type 0 where
-  clients : (peer : Peer) (id : ℕ) → event ≡ Arrive peer → reply ≡ Arrived id → length w.house.clients < w.house.settings.limits.clients
-  sources : reply ≡ Feeding → length w.house.live < w.house.settings.limits.sources
+  clients : (peer : Peer) (id : ℕ) → event ≡ Arrive peer → reply ≡ Arrived id → length w.station.clients < w.station.settings.limits.clients
+  sources : reply ≡ Feeding → length w.station.live < w.station.settings.limits.sources
   relays : (mount : List ℕ) (shown : Shown) (id : ℕ) → event ≡ RelayUp mount shown → reply ≡ Arrived id
-      → length w.house.live < w.house.settings.limits.sources
+      → length w.station.live < w.station.settings.limits.sources
 
 relays_by : (named full live refused spent : Bool)
     → verdict_in (relay_rows (if named then Some (record { sources_are_full = full; mount_is_live = live; type_is_refused = refused; number_is_spent = spent })
@@ -113,7 +113,7 @@ relays_by true false false false false v = cc
 module _ (w : World) where
   -- a source is denied its blocks by the rule of numbers alone
   only_numbers : (meant : Rule → Bool) → meant NumbersSpent ≡ false → (block : List ℕ) (s : Standing)
-      → Each (λ row. meant row.rule ≡ false) (rows_from w.house block s)
+      → Each (λ row. meant row.rule ≡ false) (rows_from w.station block s)
   only_numbers meant not block (Feeds mount) = (not, tt)
   only_numbers meant not block Unknown = tt
   only_numbers meant not block (Undecided peer) = tt
@@ -123,14 +123,14 @@ module _ (w : World) where
 
   -- nor what it asks for
   no_limit_to_feed : (asked : SourceRequest) (named : Bool)
-      → Each (λ row. is_limit row.rule ≡ false) (source_rows (if named then Some (source_facts_at w.house asked.mount asked) else None))
+      → Each (λ row. is_limit row.rule ≡ false) (source_rows (if named then Some (source_facts_at w.station asked.mount asked) else None))
   no_limit_to_feed asked true = (refl, (refl, (refl, (refl, tt))))
   no_limit_to_feed asked false = (refl, tt)
 
   -- nor a relay
   no_limit_to_raise : (meant : Rule → Bool) → meant BadMount ≡ false → meant TooManySources ≡ false → meant MountInUse ≡ false → meant ContentType ≡ false
       → meant NumbersSpent ≡ false → (mount : List ℕ) (shown : Shown) (named : Bool)
-      → Each (λ row. meant row.rule ≡ false) (relay_rows (if named then Some (relay_facts_at w.house mount shown) else None))
+      → Each (λ row. meant row.rule ≡ false) (relay_rows (if named then Some (relay_facts_at w.station mount shown) else None))
   no_limit_to_raise meant bad many used type spent mount shown true = (many, (used, (type, (spent, tt))))
   no_limit_to_raise meant bad many used type spent mount shown false = (bad, tt)
 
@@ -145,7 +145,7 @@ module _ (w : World) where
   by_asking meant rule is no_number no_command (Listen asked) v arrives feeds hears rises = hears asked refl v
   by_asking meant rule is no_number no_command (RelayUp mount shown) v arrives feeds hears rises = rises mount shown v
   by_asking meant rule is no_number no_command (Push id block) v arrives feeds hears rises =
-      absurd (no_limit meant (rows_from w.house block (standing_of w id)) (only_numbers meant no_number block (standing_of w id)) rule v is)
+      absurd (no_limit meant (rows_from w.station block (standing_of w id)) (only_numbers meant no_number block (standing_of w id)) rule v is)
   by_asking meant rule is no_number no_command (Command asked) v arrives feeds hears rises =
       absurd (no_limit meant (rows_to_command w asked) (no_command (facts_asked w asked.asked asked.pair)) rule v is)
   by_asking meant rule is no_number no_command (SourceEnd id) v arrives feeds hears rises = cc
@@ -162,10 +162,10 @@ module _ (w : World) where
       by_asking is_limit rule limit refl (of_no_command is_limit refl refl refl refl refl refl refl refl refl refl refl) event v
       (λ peer denied. absurd (no_limit is_limit (rows_for w (Arrive peer)) (refl, (refl, (refl, (refl, tt)))) rule denied limit))
       (λ asked denied.
-      absurd (no_limit is_limit (rows_for w (Source asked)) (no_limit_to_feed asked (names_mount w.house.settings asked.mount)) rule denied limit))
+      absurd (no_limit is_limit (rows_for w (Source asked)) (no_limit_to_feed asked (names_mount w.station.settings asked.mount)) rule denied limit))
       goes
-      (λ mount shown denied. absurd (no_limit is_limit (rows_to_raise w.house mount shown)
-      (no_limit_to_raise is_limit refl refl refl refl refl mount shown (names_mount w.house.settings mount)) rule denied limit))
+      (λ mount shown denied. absurd (no_limit is_limit (rows_to_raise w.station mount shown)
+      (no_limit_to_raise is_limit refl refl refl refl refl mount shown (names_mount w.station.settings mount)) rule denied limit))
 
   full_there : (event : Event) → verdict_in (rows_for w event) ≡ Denied MountFull → ByAMount w event (λ asked mount. IsFullAt w mount)
   full_there event v =
@@ -184,35 +184,35 @@ module _ (w : World) where
       (asked, same, at.0, at.1))
 
   -- whoever may not arrive since there are as many clients as may be, or not feed since there are as many sources
-  many_clients : (event : Event) → verdict_in (rows_for w event) ≡ Denied TooManyClients → w.house.settings.limits.clients ≤ length w.house.clients
+  many_clients : (event : Event) → verdict_in (rows_for w event) ≡ Denied TooManyClients → w.station.settings.limits.clients ≤ length w.station.clients
   many_clients event v =
       by_asking is_of_clients TooManyClients refl refl (of_no_command is_of_clients refl refl refl refl refl refl refl refl refl refl refl) event v
-      (λ peer denied. let facts = arrive_facts w.house peer in
-      reached (length w.house.clients) w.house.settings.limits.clients
+      (λ peer denied. let facts = arrive_facts w.station peer in
+      reached (length w.station.clients) w.station.settings.limits.clients
       (clients_by facts.address_is_denied facts.address_is_allowed facts.clients_are_full facts.number_is_spent denied))
       (λ asked denied.
-      absurd (no_limit is_of_clients (rows_for w (Source asked)) (to_feed asked (names_mount w.house.settings asked.mount)) TooManyClients denied refl))
+      absurd (no_limit is_of_clients (rows_for w (Source asked)) (to_feed asked (names_mount w.station.settings asked.mount)) TooManyClients denied refl))
       (λ asked same denied.
       absurd (denies_none w asked TooManyClients (why_denied w asked TooManyClients denied) is_of_clients refl refl refl refl refl refl refl refl))
-      (λ mount shown denied. absurd (no_limit is_of_clients (rows_to_raise w.house mount shown)
-      (no_limit_to_raise is_of_clients refl refl refl refl refl mount shown (names_mount w.house.settings mount)) TooManyClients denied refl)) where
+      (λ mount shown denied. absurd (no_limit is_of_clients (rows_to_raise w.station mount shown)
+      (no_limit_to_raise is_of_clients refl refl refl refl refl mount shown (names_mount w.station.settings mount)) TooManyClients denied refl)) where
         to_feed : (asked : SourceRequest) (named : Bool)
-            → Each (λ row. is_of_clients row.rule ≡ false) (source_rows (if named then Some (source_facts_at w.house asked.mount asked) else None))
+            → Each (λ row. is_of_clients row.rule ≡ false) (source_rows (if named then Some (source_facts_at w.station asked.mount asked) else None))
         to_feed asked true = (refl, (refl, (refl, (refl, tt))))
         to_feed asked false = (refl, tt)
 
-  many_sources : (event : Event) → verdict_in (rows_for w event) ≡ Denied TooManySources → w.house.settings.limits.sources ≤ length w.house.live
+  many_sources : (event : Event) → verdict_in (rows_for w event) ≡ Denied TooManySources → w.station.settings.limits.sources ≤ length w.station.live
   many_sources event v =
       by_asking is_of_sources TooManySources refl refl (of_no_command is_of_sources refl refl refl refl refl refl refl refl refl refl refl) event v
       (λ peer denied. absurd (no_limit is_of_sources (rows_for w (Arrive peer)) (refl, (refl, (refl, (refl, tt)))) TooManySources denied refl))
-      (λ asked denied. let facts = source_facts_at w.house asked.mount asked in
-      reached (length w.house.live) w.house.settings.limits.sources
-      (sources_by (names_mount w.house.settings asked.mount) facts.is_source_pair facts.sources_are_full facts.mount_is_live facts.type_is_refused denied))
+      (λ asked denied. let facts = source_facts_at w.station asked.mount asked in
+      reached (length w.station.live) w.station.settings.limits.sources
+      (sources_by (names_mount w.station.settings asked.mount) facts.is_source_pair facts.sources_are_full facts.mount_is_live facts.type_is_refused denied))
       (λ asked same denied.
       absurd (denies_none w asked TooManySources (why_denied w asked TooManySources denied) is_of_sources refl refl refl refl refl refl refl refl))
-      (λ mount shown denied. let facts = relay_facts_at w.house mount shown in
-      reached (length w.house.live) w.house.settings.limits.sources
-      (relays_by (names_mount w.house.settings mount) facts.sources_are_full facts.mount_is_live facts.type_is_refused facts.number_is_spent denied))
+      (λ mount shown denied. let facts = relay_facts_at w.station mount shown in
+      reached (length w.station.live) w.station.settings.limits.sources
+      (relays_by (names_mount w.station.settings mount) facts.sources_are_full facts.mount_is_live facts.type_is_refused facts.number_is_spent denied))
 
   -- only a verdict of the policy denies
   pub denied_by : {A : Type 0} (rule : Rule) (event : Event) (o : Outcome) → RuleNamed w event o → o.reply ≡ Deny rule
@@ -236,21 +236,21 @@ module _ (w : World) where
   admits_by : (event : Event) (o : Outcome) → Granted w event o → Admits w event o.reply
   admits_by event o (AdmitsClient peer change is allowed) =
       record {
-        clients = λ him id is d. below (length w.house.clients) w.house.settings.limits.clients (has_room_left w.house peer allowed);
+        clients = λ him id is d. below (length w.station.clients) w.station.settings.limits.clients (has_room_left w.station peer allowed);
         sources = λ d. cc;
         relays = λ mount shown id other d. let both : Arrive peer ≡ RelayUp mount shown = sym is ∙ other in cc;
       }
   admits_by event o (AdmitsSource asked change is allowed) =
       record {
         clients = λ him id is d. cc;
-        sources = λ d. below (length w.house.live) w.house.settings.limits.sources (may_feed w.house asked allowed).has_room;
+        sources = λ d. below (length w.station.live) w.station.settings.limits.sources (may_feed w.station asked allowed).has_room;
         relays = λ mount shown id is d. cc;
       }
   admits_by event o (AdmitsRelay mount shown change is allowed) =
       record {
         clients = λ him id other d. let both : RelayUp mount shown ≡ Arrive him = sym is ∙ other in cc;
         sources = λ d. cc;
-        relays = λ at sees id other d. below (length w.house.live) w.house.settings.limits.sources (may_come_up w.house mount shown allowed).has_room;
+        relays = λ at sees id other d. below (length w.station.live) w.station.settings.limits.sources (may_come_up w.station mount shown allowed).has_room;
       }
   admits_by event o (AdmitsListener asked peer session is undecided lands live) = record { clients = λ him id is d. cc; sources = λ d. cc; relays = λ mount shown id is d. cc }
   admits_by event o (HandsData him room seat session change is sits has live) = record { clients = λ him id is d. cc; sources = λ d. cc; relays = λ mount shown id is d. cc }

@@ -16,8 +16,8 @@ use Rattle.radio_seats_rows.proofs.CountLaws.{one_more_at, no_more_elsewhere, no
 use Rattle.radio_fallback.specs.Walk.{MaySit, is_full, is_twice_for, sits_already}
 use Rattle.radio_events.specs.declared.event.Event.{Event}
 use Rattle.radio_events.specs.declared.event.ListenRequest.{ListenRequest}
-use Rattle.radio_changes.specs.declared.change.Change.TheVariants.{TakeSeat}
-use Rattle.radio_house.specs.declared.standing.Standing.TheVariants.{Undecided}
+use Rattle.radio_parts_changes.specs.declared.change.Change.TheVariants.{TakeSeat}
+use Rattle.radio_parts_station.specs.declared.standing.Standing.TheVariants.{Undecided}
 use Rattle.std.specs.Prelude.{if◌then◌else◌, fold}
 use Rattle.std.proofs.lemmas.Bool.{and_parts}
 use Rattle.radio_access.specs.Lists.{lets_in}
@@ -26,29 +26,29 @@ use Rattle.radio_fallback.specs.declared.moves.Move.{Move}
 use Rattle.radio_fallback.specs.declared.moves.Move.TheVariants.{Ended as SessionEnds, Up}
 use Rattle.radio_fallback.proofs.FaresLemmas.{keeps_limit, sit_once}
 use Rattle.radio_fallback.proofs.TurnLemmas.{lands_where_he_fits}
-use Rattle.radio_changes.specs.Changes.{changed, carried_along, session_over, session_ended, called_home}
-use Rattle.radio_changes.specs.Changes.{before_silence, session_silenced, silent_in, ticked}
+use Rattle.radio_parts_changes.specs.Changes.{changed, carried_along, session_over, session_ended, called_home}
+use Rattle.radio_parts_changes.specs.Changes.{before_silence, session_silenced, silent_in, ticked}
 use Rattle.radio_laws.specs.Limits.{IsWithinLimits, SentUser, SitsThereAs, most_at, allows_duplicates_at}
-use Rattle.radio_core.specs.Listen.{first_seat}
+use Rattle.radio_parts.specs.Listen.{first_seat}
 use Rattle.radio_core.specs.Run.{world_after_all, run_after}
-use Rattle.radio_parts.specs.Sessions.{Session}
+use Rattle.radio_parts_mount.specs.Sessions.{Session}
 use Rattle.radio_core.specs.Sound.{IsSound}
-use Rattle.radio_core.specs.Step.{world_after}
-use Rattle.radio_house.specs.House.{House}
-use Rattle.radio_house.specs.World.{World, world, opening, standing_of}
+use Rattle.radio_parts.specs.Step.{world_after}
+use Rattle.radio_parts_station.specs.StationState.{StationState}
+use Rattle.radio_parts_station.specs.World.{World, world, opening, standing_of}
 use Rattle.radio_core.proofs.CarriedFates.{order_carried}
 use Rattle.radio_core.proofs.SoundRuns.{sound_after, sound_opening}
 use Rattle.radio_core.proofs.TickLemmas.{sound_sat_out, ticked_fates}
 use Rattle.radio_policy.specs.declared.rule.Rule.TheVariants.{TimeOver}
 use Rattle.radio_laws.proofs.ObeyLemmas.{nobody_came_losing}
 use Rattle.radio_seats_rows.proofs.EndLaws.{nobody_came_ending}
-use Rattle.radio_house.specs.Facts.{sight_of}
-use Rattle.radio_parts.specs.Timeouts.{has_sat_out}
+use Rattle.radio_parts_station.specs.Facts.{sight_of}
+use Rattle.radio_parts_mount.specs.Timeouts.{has_sat_out}
 use Rattle.radio_core.proofs.Soundness.{has_new_seat, beside_new_seat}
-use Rattle.radio_core.proofs.CalledHome.{house_called}
+use Rattle.radio_parts.proofs.CalledStation.{station_called}
 use Rattle.radio_core.proofs.SessionSteps.{keeps_settings}
 use Rattle.radio_core.proofs.GivenSeats.{nobody_came_given}
-use Rattle.radio_house.specs.Waiting.{heard_at}
+use Rattle.radio_parts_station.specs.Waiting.{heard_at}
 use Rattle.radio_laws.proofs.HeardLaws.{order_given}
 use Rattle.radio_laws.proofs.TableSteps.{TableStep, IsUntouched, AreEnded, IsEnded, AreCarried, AreGiven, SitsDown, IsHanded}
 use Rattle.radio_laws.proofs.TableSteps.{IsGone, SourceIsGone, HasTicked, table_step}
@@ -94,15 +94,15 @@ not_there false seats mount user (Some sent) once none his =
 module _ (w : World) (move : Move) (order : AreByNumber w.seats) (l : Within w) where
   pub within_carried : Within (carried_along w move)
   within_carried = record {
-    not_too_many = λ mount most e. keeps_limit (sight_of w.house) move w.seats mount order (λ other limited. l.not_too_many mount other limited) most e;
+    not_too_many = λ mount most e. keeps_limit (sight_of w.station) move w.seats mount order (λ other limited. l.not_too_many mount other limited) most e;
     none_twice = λ mount user id other once his theirs.
-        sit_once (sight_of w.house) move w.seats mount (λ alone one his_id their_id mine yours. l.none_twice mount one his_id their_id alone mine yours)
+        sit_once (sight_of w.station) move w.seats mount (λ alone one his_id their_id mine yours. l.none_twice mount one his_id their_id alone mine yours)
         once user id other his theirs;
   }
 
--- the limits hold of the house's settings and of who sits, whatever else there is
-pub other_house : (w later : World) → later.house.settings ≡ w.house.settings → later.seats ≡ w.seats → Within w → Within later
-other_house w later settings seats l = record {
+-- the limits hold of the station's settings and of who sits, whatever else there is
+pub other_station : (w later : World) → later.station.settings ≡ w.station.settings → later.seats ≡ w.seats → Within w → Within later
+other_station w later settings seats l = record {
   not_too_many = λ mount most e.
       subst (λ (xs : List Listener). length (seats_at xs mount) ≤ most) (sym seats) (l.not_too_many mount most (ap (λ (x : Settings). most_of x mount) (sym settings) ∙ e));
   none_twice = λ mount user id other once his theirs.
@@ -117,10 +117,10 @@ other_house w later settings seats l = record {
 
 within_ended : (w : World) (mount : List ℕ) → AreByNumber w.seats → Within w → Within (session_ended w mount)
 within_ended w mount order l =
-    within_carried (session_over w mount) (SessionEnds mount) order (other_house w (session_over w mount) refl refl l)
+    within_carried (session_over w mount) (SessionEnds mount) order (other_station w (session_over w mount) refl refl l)
 
 within_called : (w : World) (mount : List ℕ) → AreByNumber w.seats → Within w → Within (called_home w mount)
-within_called w mount order l = by_test (options_for w.house.settings mount).listeners.fallback_override where
+within_called w mount order l = by_test (options_for w.station.settings mount).listeners.fallback_override where
   by_test : (b : Bool) → Within (if b then carried_along w (Up mount) else w)
   by_test true = within_carried w (Up mount) order l
   by_test false = l
@@ -130,10 +130,10 @@ within_silence [] w order l = l
 within_silence (session ∷ sessions) w order l =
     let ended = session_ended w session.mount in
     within_silence sessions (session_silenced w session) (order_carried (session_over w session.mount) (SessionEnds session.mount) order)
-    (other_house ended (session_silenced w session) refl refl (within_ended w session.mount order l))
+    (other_station ended (session_silenced w session) refl refl (within_ended w session.mount order l))
 
 -- where nobody has come, the limits hold still
-within_kept : (w later : World) → Within w → later.house.settings ≡ w.house.settings → NobodyCame w.seats later.seats → Within later
+within_kept : (w later : World) → Within w → later.station.settings ≡ w.station.settings → NobodyCame w.seats later.seats → Within later
 within_kept w later l same came = record {
   not_too_many = λ mount most e.
       let before = l.not_too_many mount most (ap (λ (x : Settings). most_of x mount) (sym same) ∙ e) in omega (arith, came.no_more mount, before);
@@ -148,18 +148,18 @@ within_kept w later l same came = record {
   allows_of settings mount = (options_for settings mount).users.allow_duplicate_users
 
 module _ (w : World) (s : IsSound w) (l : Within w) where
-  within_still : (later : World) → later.house.settings ≡ w.house.settings → NobodyCame w.seats later.seats → Within later
+  within_still : (later : World) → later.station.settings ≡ w.station.settings → NobodyCame w.seats later.seats → Within later
   within_still later same came = within_kept w later l same came
 
   -- nor do they come who have sat out their time
   pub within_sat_out : (ms : ℕ) → Within (before_silence w ms)
-  within_sat_out ms = within_still (before_silence w ms) refl (nobody_came_ending (has_sat_out w.house.settings ms) TimeOver w.seats)
+  within_sat_out ms = within_still (before_silence w ms) refl (nobody_came_ending (has_sat_out w.station.settings ms) TimeOver w.seats)
 
   -- a listener sits down where it is welcome
   module _ (asked : ListenRequest) (peer : Peer) (session : Session) (e : standing_of w asked.id ≡ Undecided peer)
-      (live : heard_at w.house session.mount ≡ Some session) (welcome : MaySit (sight_of w.house) w.seats asked.pair session.mount) where
+      (live : heard_at w.station session.mount ≡ Some session) (welcome : MaySit (sight_of w.station) w.seats asked.pair session.mount) where
     abbrev new : Seat
-    new = first_seat w.house asked peer session
+    new = first_seat w.station asked peer session
 
     abbrev later : World
     later = changed w (TakeSeat asked.id new)
@@ -182,8 +182,8 @@ module _ (w : World) (s : IsSound w) (l : Within w) where
         let here : session.mount ≡ mount = ap (λ (x : Seat). x.mount) one ∙ his.2 in
         let sent : has_user user asked.pair ≡ true = ap (λ (x : Seat). has_user user x.pair) one ∙ his.3 in
         let off : allows_duplicates_at w session.mount ≡ false = ap (allows_duplicates_at w) here ∙ once in
-        let alone = not_true_at (is_twice_for (sight_of w.house) w.seats asked.pair session.mount)
-        (and_parts (lets_in w.house.lists session.mount asked.pair) _ welcome.is_open).1 in
+        let alone = not_true_at (is_twice_for (sight_of w.station) w.seats asked.pair session.mount)
+        (and_parts (lets_in w.station.lists session.mount asked.pair) _ welcome.is_open).1 in
         let none = not_there (allows_duplicates_at w session.mount) w.seats session.mount user asked.pair off alone sent in
         nobody_sits_as w.seats other mount user (subst (λ (m : List ℕ). sits_there w.seats m user ≡ false) here none) theirs
 
@@ -206,37 +206,37 @@ module _ (w : World) (s : IsSound w) (l : Within w) where
     within_seated : Within later
     within_seated = record { not_too_many = still_room; none_twice = one_each }
 
-  -- whatever an outcome makes of the table, the limits hold of it, in the house as it was
-  within_here : (seats : List Listener) → NobodyCame w.seats seats → Within (world w.house seats)
-  within_here seats came = within_still (world w.house seats) refl came
+  -- whatever an outcome makes of the table, the limits hold of it, in the station as it was
+  within_here : (seats : List Listener) → NobodyCame w.seats seats → Within (world w.station seats)
+  within_here seats came = within_still (world w.station seats) refl came
 
-  within_by : (event : Event) (seats : List Listener) → TableStep w event seats → Within (world w.house seats)
+  within_by : (event : Event) (seats : List Listener) → TableStep w event seats → Within (world w.station seats)
   within_by event seats IsUntouched = within_here seats (nobody_came w.seats)
   within_by event seats (AreEnded p rule) = within_here seats (nobody_came_ending p rule w.seats)
   within_by event seats (IsEnded him rule) = within_here seats (nobody_came_losing w him rule)
-  within_by event seats (AreCarried house move same) =
-      let seen = world house w.seats in
-      other_house (carried_along seen move) (world w.house seats) (sym same) refl (within_carried seen move s.by_number (other_house w seen same refl l))
-  within_by event seats (AreGiven house mount session same) =
-      let given = world house (with_session_at w.seats mount session) in
+  within_by event seats (AreCarried station move same) =
+      let seen = world station w.seats in
+      other_station (carried_along seen move) (world w.station seats) (sym same) refl (within_carried seen move s.by_number (other_station w seen same refl l))
+  within_by event seats (AreGiven station mount session same) =
+      let given = world station (with_session_at w.seats mount session) in
       let heard = within_still given same (nobody_came_given mount session w.seats) in
-      other_house (called_home given mount) (world w.house seats) (sym (ap (λ (h : House). h.settings) (house_called given mount) ∙ same)) refl
+      other_station (called_home given mount) (world w.station seats) (sym (ap (λ (h : StationState). h.settings) (station_called given mount) ∙ same)) refl
       (within_called given mount (order_given mount session w.seats s.by_number) heard)
   within_by event seats (SitsDown asked peer session undecided lands live) =
-      other_house (changed w (TakeSeat asked.id (first_seat w.house asked peer session))) (world w.house seats) refl refl
-      (within_seated asked peer session undecided live (lands_where_he_fits (sight_of w.house) w.seats asked.pair asked.mount session.mount lands))
+      other_station (changed w (TakeSeat asked.id (first_seat w.station asked peer session))) (world w.station seats) refl refl
+      (within_seated asked peer session undecided live (lands_where_he_fits (sight_of w.station) w.seats asked.pair asked.mount session.mount lands))
   within_by event seats (IsHanded him place seat has) = within_here seats (nobody_came_hearing w.seats him place seat has)
   within_by event seats (IsGone him leaving) = within_here seats (nobody_came_leaving w.seats him)
   within_by event seats (SourceIsGone him mount leaving) =
-      within_kept (session_ended w mount) (world w.house seats) (within_ended w mount s.by_number l) refl
+      within_kept (session_ended w mount) (world w.station seats) (within_ended w mount s.by_number l) refl
       (nobody_came_leaving (session_ended w mount).seats him)
   within_by event seats (HasTicked ms e) =
-      other_house (ticked w ms) (world w.house seats) (sym (ticked_fates w s ms).settings) refl
+      other_station (ticked w ms) (world w.station seats) (sym (ticked_fates w s ms).settings) refl
       (within_silence (silent_in (before_silence w ms)) (before_silence w ms) (sound_sat_out w s ms).by_number (within_sat_out ms))
 
   pub within_after : (event : Event) → Within (world_after w event)
   within_after event =
-      other_house (world w.house (world_after w event).seats) (world_after w event) (keeps_settings w s event) refl
+      other_station (world w.station (world_after w event).seats) (world_after w event) (keeps_settings w s event) refl
       (within_by event (world_after w event).seats (table_step w event))
 
 within_after_all : (w : World) → IsSound w → Within w → (events : List Event) → Within (world_after_all w events)

@@ -20,12 +20,12 @@ use Rattle.radio_seats_rows.specs.Seats.{has_user, is_user_at}
 use Rattle.radio_fallback.specs.declared.walking.Landing.{Landing}
 use Rattle.radio_fallback.specs.Walk.{found_at, stop_of, stop_in, sits_already}
 use Rattle.radio_events.specs.declared.event.ListenRequest.{ListenRequest}
-use Rattle.radio_house.specs.Facts.{is_known, names_mount, rows_to_listen, sight_of, walks_to, walk_stops}
+use Rattle.radio_parts_station.specs.Facts.{is_known, names_mount, rows_to_listen, sight_of, walks_to, walk_stops}
 use Rattle.radio_laws.specs.Limits.{IsFullAt, SentUser, most_at, allows_duplicates_at}
 use Rattle.radio_laws.specs.LimitDenials.{HasUserAt}
 use Rattle.radio_laws.specs.Walks.{ComesBy, AtFirst}
-use Rattle.radio_house.specs.World.{World}
-use Rattle.radio_core.proofs.Ways.{found_by}
+use Rattle.radio_parts_station.specs.World.{World}
+use Rattle.radio_parts.proofs.Ways.{found_by}
 use Rattle.radio_laws.proofs.WalkLemmas.{full_at, both, WalkEnds, LandsThere, StopsThere, GoesTooFar, walk_ends}
 
 -- the rule of names that are not known
@@ -134,13 +134,13 @@ module _ (w : World) (asked : ListenRequest) where
   found_first = found_by w asked
 
   abbrev Why : Rule → Type 0
-  Why rule = IsDeniedBy (is_known w.house asked.mount) found_first.users_accept found_first.user_is_twice
-      (walk_stops w.house w.seats asked.mount asked.pair) rule
+  Why rule = IsDeniedBy (is_known w.station asked.mount) found_first.users_accept found_first.user_is_twice
+      (walk_stops w.station w.seats asked.mount asked.pair) rule
 
   pub why_denied : (rule : Rule) → verdict_in (rows_to_listen w asked) ≡ Denied rule → Why rule
   why_denied rule v =
-      denied_listener (names_mount w.house.settings asked.mount) (is_known w.house asked.mount) found_first.users_accept found_first.user_is_twice
-      (walk_stops w.house w.seats asked.mount asked.pair) rule v
+      denied_listener (names_mount w.station.settings asked.mount) (is_known w.station asked.mount) found_first.users_accept found_first.user_is_twice
+      (walk_stops w.station w.seats asked.mount asked.pair) rule v
 
   -- a rule that stops neither a walk nor a listener denies none
   not_by_walk : (l : Landing) → WalkEnds w asked.pair asked.mount 10 l → (rule : Rule) → stop_in l ≡ Some rule → (meant : Rule → Bool)
@@ -149,7 +149,7 @@ module _ (w : World) (asked : ListenRequest) where
   not_by_walk l (LandsThere steps to low comes none) rule e meant a b c d f is = cc
   not_by_walk l (StopsThere steps mount by low comes stops) rule e meant a b c d f is =
       let same : by ≡ rule = cc in
-      not_a_stop (found_at (sight_of w.house) w.seats mount asked.pair) by (why_it_stops (found_at (sight_of w.house) w.seats mount asked.pair) by stops)
+      not_a_stop (found_at (sight_of w.station) w.seats mount asked.pair) by (why_it_stops (found_at (sight_of w.station) w.seats mount asked.pair) by stops)
       meant a b c d (ap meant same ∙ is)
   not_by_walk l (GoesTooFar mount comes) rule e meant a b c d f is = let same : FallbackDepth ≡ rule = cc in let also : meant rule ≡ false = ap meant (sym same) ∙ f in cc
 
@@ -160,7 +160,7 @@ module _ (w : World) (asked : ListenRequest) where
   denies_none rule (ByPair e) meant p n a b c d f is = cc
   denies_none rule (ByUser e) meant p n a b c d f is = cc
   denies_none rule (ByWalk by e) meant p n a b c d f is =
-      not_by_walk (walks_to w.house w.seats asked.mount asked.pair) (walk_ends w asked.pair asked.mount) by e meant a b c d f is
+      not_by_walk (walks_to w.station w.seats asked.mount asked.pair) (walk_ends w asked.pair asked.mount) by e meant a b c d f is
 
   -- a mount of the walk that is such
   abbrev AtAMount : (List ℕ → Type 0) → Type 0
@@ -170,8 +170,8 @@ module _ (w : World) (asked : ListenRequest) where
   full_by_walk l (LandsThere steps to low comes none) e = cc
   full_by_walk l (StopsThere steps mount by low comes stops) e =
       let same : by ≡ MountFull = cc in
-      (steps, mount, low, comes, is_filled mount by (why_it_stops (found_at (sight_of w.house) w.seats mount asked.pair) by stops) same) where
-        is_filled : (mount : List ℕ) (by : Rule) → StopsBy (found_at (sight_of w.house) w.seats mount asked.pair) by → by ≡ MountFull → IsFullAt w mount
+      (steps, mount, low, comes, is_filled mount by (why_it_stops (found_at (sight_of w.station) w.seats mount asked.pair) by stops) same) where
+        is_filled : (mount : List ℕ) (by : Rule) → StopsBy (found_at (sight_of w.station) w.seats mount asked.pair) by → by ≡ MountFull → IsFullAt w mount
         is_filled mount by (IsFilled f) same = full_at w mount (most_at w mount) refl f
         is_filled mount by (IsIdle f) same = cc
         is_filled mount by (IsClosed f) same = cc
@@ -182,8 +182,8 @@ module _ (w : World) (asked : ListenRequest) where
   twice_by_walk l (LandsThere steps to low comes none) e = cc
   twice_by_walk l (StopsThere steps mount by low comes stops) e =
       let same : by ≡ UserTwice = cc in
-      (steps, mount, low, comes, is_taken mount by (why_it_stops (found_at (sight_of w.house) w.seats mount asked.pair) by stops) same) where
-        is_taken : (mount : List ℕ) (by : Rule) → StopsBy (found_at (sight_of w.house) w.seats mount asked.pair) by → by ≡ UserTwice
+      (steps, mount, low, comes, is_taken mount by (why_it_stops (found_at (sight_of w.station) w.seats mount asked.pair) by stops) same) where
+        is_taken : (mount : List ℕ) (by : Rule) → StopsBy (found_at (sight_of w.station) w.seats mount asked.pair) by → by ≡ UserTwice
             → HasUserAt w mount asked.pair
         is_taken mount by (IsTaken t) same = there_already w mount asked.pair (allows_duplicates_at w mount) refl t
         is_taken mount by (IsIdle t) same = cc
@@ -195,7 +195,7 @@ module _ (w : World) (asked : ListenRequest) where
   deep_by_walk l (LandsThere steps to low comes none) e = cc
   deep_by_walk l (StopsThere steps mount by low comes stops) e =
       let same : by ≡ FallbackDepth = cc in
-      absurd (never_deep (found_at (sight_of w.house) w.seats mount asked.pair) by (why_it_stops (found_at (sight_of w.house) w.seats mount asked.pair) by stops) same) where
+      absurd (never_deep (found_at (sight_of w.station) w.seats mount asked.pair) by (why_it_stops (found_at (sight_of w.station) w.seats mount asked.pair) by stops) same) where
         never_deep : (found : WalkFinding) (by : Rule) → StopsBy found by → by ≡ FallbackDepth → ⊥
         never_deep found by (IsIdle t) same = cc
         never_deep found by (IsFilled t) same = cc
@@ -203,15 +203,15 @@ module _ (w : World) (asked : ListenRequest) where
         never_deep found by (IsTaken t) same = cc
   deep_by_walk l (GoesTooFar mount comes) e = (mount, comes)
 
-  pub unknown_where : Why NoMount → is_known w.house asked.mount ≡ false
+  pub unknown_where : Why NoMount → is_known w.station asked.mount ≡ false
   unknown_where why = by_why NoMount why refl where
-    by_why : (rule : Rule) → Why rule → rule ≡ NoMount → is_known w.house asked.mount ≡ false
+    by_why : (rule : Rule) → Why rule → rule ≡ NoMount → is_known w.station asked.mount ≡ false
     by_why rule ByPath same = cc
     by_why rule (ByName e) same = e
     by_why rule (ByPair e) same = cc
     by_why rule (ByUser e) same = cc
     by_why rule (ByWalk by e) same =
-        absurd (not_by_walk (walks_to w.house w.seats asked.mount asked.pair) (walk_ends w asked.pair asked.mount) by e is_of_names refl refl refl refl refl
+        absurd (not_by_walk (walks_to w.station w.seats asked.mount asked.pair) (walk_ends w asked.pair asked.mount) by e is_of_names refl refl refl refl refl
         (ap is_of_names same))
 
   pub full_where : Why MountFull → AtAMount (IsFullAt w)
@@ -222,7 +222,7 @@ module _ (w : World) (asked : ListenRequest) where
     by_why rule (ByPair e) same = cc
     by_why rule (ByUser e) same = cc
     by_why rule (ByWalk by e) same =
-        full_by_walk (walks_to w.house w.seats asked.mount asked.pair) (walk_ends w asked.pair asked.mount) (e ∙ ap (λ (r : Rule). Some r) same)
+        full_by_walk (walks_to w.station w.seats asked.mount asked.pair) (walk_ends w asked.pair asked.mount) (e ∙ ap (λ (r : Rule). Some r) same)
 
   pub twice_where : Why UserTwice → AtAMount (λ mount. HasUserAt w mount asked.pair)
   twice_where why = by_why UserTwice why refl where
@@ -233,7 +233,7 @@ module _ (w : World) (asked : ListenRequest) where
     by_why rule (ByUser e) same =
         (0, asked.mount, omega arith, AtFirst, there_already w asked.mount asked.pair (allows_duplicates_at w asked.mount) refl e)
     by_why rule (ByWalk by e) same =
-        twice_by_walk (walks_to w.house w.seats asked.mount asked.pair) (walk_ends w asked.pair asked.mount) (e ∙ ap (λ (r : Rule). Some r) same)
+        twice_by_walk (walks_to w.station w.seats asked.mount asked.pair) (walk_ends w asked.pair asked.mount) (e ∙ ap (λ (r : Rule). Some r) same)
 
   pub deep_where : Why FallbackDepth → (mount : List ℕ) × ComesBy w asked.mount 10 mount
   deep_where why = by_why FallbackDepth why refl where
@@ -243,4 +243,4 @@ module _ (w : World) (asked : ListenRequest) where
     by_why rule (ByPair e) same = cc
     by_why rule (ByUser e) same = cc
     by_why rule (ByWalk by e) same =
-        deep_by_walk (walks_to w.house w.seats asked.mount asked.pair) (walk_ends w asked.pair asked.mount) (e ∙ ap (λ (r : Rule). Some r) same)
+        deep_by_walk (walks_to w.station w.seats asked.mount asked.pair) (walk_ends w asked.pair asked.mount) (e ∙ ap (λ (r : Rule). Some r) same)

@@ -23,22 +23,22 @@ use Rattle.radio_events.specs.declared.event.Event.TheVariants.{Command}
 use Rattle.radio_events.specs.declared.reply.Reply.TheVariants.{Text as SaysText}
 use Rattle.radio_events.specs.declared.text.ReplyText.{ReplyText}
 use Rattle.radio_events.specs.Texts.{IsShort}
-use Rattle.radio_changes.specs.declared.change.Change.TheVariants.{Answer}
-use Rattle.radio_core.specs.declared.outcome.Outcome.{Outcome}
-use Rattle.radio_house.specs.declared.standing.Standing.{Standing}
-use Rattle.radio_house.specs.declared.standing.Standing.TheVariants.{Undecided, Answered}
-use Rattle.radio_changes.specs.Changes.{changed}
-use Rattle.radio_core.specs.Command.{does_asked, shows}
-use Rattle.radio_core.specs.Allowed.{IsListed}
-use Rattle.radio_facts.specs.CommandFacts.{is_live, facts_asked, rows_to_command}
-use Rattle.radio_changes.specs.Counts.{counts_by}
-use Rattle.radio_status.specs.Listings.{shown}
-use Rattle.radio_core.specs.Pages.{IsShownBy, IsListing, IsAtPath}
-use Rattle.radio_status.specs.Pages.{page_at}
+use Rattle.radio_parts_changes.specs.declared.change.Change.TheVariants.{Answer}
+use Rattle.radio_parts.specs.declared.outcome.Outcome.{Outcome}
+use Rattle.radio_parts_station.specs.declared.standing.Standing.{Standing}
+use Rattle.radio_parts_station.specs.declared.standing.Standing.TheVariants.{Undecided, Answered}
+use Rattle.radio_parts_changes.specs.Changes.{changed}
+use Rattle.radio_parts.specs.Command.{does_asked, shows}
+use Rattle.radio_parts.specs.Allowed.{IsListed}
+use Rattle.radio_parts_facts.specs.CommandFacts.{is_live, facts_asked, rows_to_command}
+use Rattle.radio_parts_changes.specs.Counts.{counts_by}
+use Rattle.radio_parts_facts.specs.Listings.{shown}
+use Rattle.radio_parts.specs.Pages.{IsShownBy, IsListing, IsAtPath}
+use Rattle.radio_parts_facts.specs.Pages.{page_at}
 use Rattle.radio_events.specs.Events.{client_in}
-use Rattle.radio_core.specs.Outcomes.{if_undecided, on_verdict}
-use Rattle.radio_core.specs.Step.{outcome, reply_to, world_after}
-use Rattle.radio_house.specs.World.{World, standing_of}
+use Rattle.radio_parts.specs.Outcomes.{if_undecided, on_verdict}
+use Rattle.radio_parts.specs.Step.{outcome, reply_to, world_after}
+use Rattle.radio_parts_station.specs.World.{World, standing_of}
 use Rattle.radio_core.proofs.Standings.{asks, turns_answered}
 use Rattle.radio_core.proofs.AllowedCommands.{may_act, past_sent}
 use Rattle.radio_laws.proofs.GrantedLemmas.{IsToldFor, ByShowing, ByDoing}
@@ -73,17 +73,17 @@ relays_sent relays (Some pair) e = by_password relays.password refl e where
       }
 
 module _ (w : World) where
-  as_admin : (listing : Listing) (sent : Option Credentials) → is_admin_pair w.house.settings sent ≡ true → MaySee w listing sent
+  as_admin : (listing : Listing) (sent : Option Credentials) → is_admin_pair w.station.settings sent ≡ true → MaySee w listing sent
   as_admin listing sent e =
-      let has = login_sent w.house.settings.access.admin sent e in
+      let has = login_sent w.station.settings.access.admin sent e in
       subst (MaySee w listing) (sym has.is_sent) (AsTheAdmin listing has.pair (record { user = has.user; password = has.password }))
 
-  as_relay : (sent : Option Credentials) → is_relay_pair w.house.settings sent ≡ true → MaySee w Streams sent
+  as_relay : (sent : Option Credentials) → is_relay_pair w.station.settings sent ≡ true → MaySee w Streams sent
   as_relay sent e =
-      let has = relays_sent w.house.settings.access.relays sent e in
+      let has = relays_sent w.station.settings.access.relays sent e in
       subst (MaySee w Streams) (sym has.is_sent) (AsARelay has.pair (record { user = has.user; password = has.password }))
 
-  as_either : (sent : Option Credentials) → (is_admin_pair w.house.settings sent ≡ true) ⊎ (is_relay_pair w.house.settings sent ≡ true) → MaySee w Streams sent
+  as_either : (sent : Option Credentials) → (is_admin_pair w.station.settings sent ≡ true) ⊎ (is_relay_pair w.station.settings sent ≡ true) → MaySee w Streams sent
   as_either sent (inl admin) = as_admin Streams sent admin
   as_either sent (inr relay) = as_relay sent relay
 
@@ -91,47 +91,47 @@ module _ (w : World) where
   may_see : (listing : Listing) (sent : Option Credentials) → verdict_in (command_rows (facts_asked w (AsksFor listing) sent)) ≡ Allow
       → MaySee w listing sent × IsThereToSee w listing
   may_see Status sent e = (AsAnybody sent, tt)
-  may_see Stats sent e = (as_admin Stats sent (past_sent AdminPassword (is_admin_pair w.house.settings sent) [] e).0, tt)
-  may_see Mounts sent e = (as_admin Mounts sent (past_sent AdminPassword (is_admin_pair w.house.settings sent) [] e).0, tt)
+  may_see Stats sent e = (as_admin Stats sent (past_sent AdminPassword (is_admin_pair w.station.settings sent) [] e).0, tt)
+  may_see Mounts sent e = (as_admin Mounts sent (past_sent AdminPassword (is_admin_pair w.station.settings sent) [] e).0, tt)
   may_see (Clients mount) sent e =
-      let parts = past_sent AdminPassword (is_admin_pair w.house.settings sent) (row NoMount (not (is_live w.house mount)) ∷ []) e in
-      (as_admin (Clients mount) sent parts.0, lives_by w mount (may_act (is_live w.house mount) parts.1))
+      let parts = past_sent AdminPassword (is_admin_pair w.station.settings sent) (row NoMount (not (is_live w.station mount)) ∷ []) e in
+      (as_admin (Clients mount) sent parts.0, lives_by w mount (may_act (is_live w.station mount) parts.1))
   may_see Streams sent e = (
     as_either sent
-        (one_of (is_admin_pair w.house.settings sent) (is_relay_pair w.house.settings sent)
-        (past_sent RelayPassword (is_admin_pair w.house.settings sent || is_relay_pair w.house.settings sent) [] e).0),
+        (one_of (is_admin_pair w.station.settings sent) (is_relay_pair w.station.settings sent)
+        (past_sent RelayPassword (is_admin_pair w.station.settings sent || is_relay_pair w.station.settings sent) [] e).0),
     tt,
   )
 
   -- and whoever may is allowed it
-  is_admins : (pair : Credentials) (listing : Listing) → (user : pair.user ≡ w.house.settings.access.admin.username)
-      → pair.password ≡ w.house.settings.access.admin.password → is_admin_pair w.house.settings (Some pair) ≡ true
-  is_admins pair listing user password = is_its w.house.settings.access.admin pair user password
+  is_admins : (pair : Credentials) (listing : Listing) → (user : pair.user ≡ w.station.settings.access.admin.username)
+      → pair.password ≡ w.station.settings.access.admin.password → is_admin_pair w.station.settings (Some pair) ≡ true
+  is_admins pair listing user password = is_its w.station.settings.access.admin pair user password
 
-  is_a_relays : (pair : Credentials) → IsTheRelays w pair → is_relay_pair w.house.settings (Some pair) ≡ true
+  is_a_relays : (pair : Credentials) → IsTheRelays w pair → is_relay_pair w.station.settings (Some pair) ≡ true
   is_a_relays pair relay =
-      ap (λ (set : Option (List ℕ)). option_map_or (λ password. is_user_with w.house.settings.access.relays.username password pair) set false) relay.password
-      ∙ ap (λ (b : Bool). b && bytes_eq pair.password pair.password) ((bytes_eq-Decides w.house.settings.access.relays.username pair.user).1 (sym relay.user))
+      ap (λ (set : Option (List ℕ)). option_map_or (λ password. is_user_with w.station.settings.access.relays.username password pair) set false) relay.password
+      ∙ ap (λ (b : Bool). b && bytes_eq pair.password pair.password) ((bytes_eq-Decides w.station.settings.access.relays.username pair.user).1 (sym relay.user))
       ∙ (bytes_eq-Decides pair.password pair.password).1 refl
 
-  allowed_all : (listing : Listing) (sent : Option Credentials) → is_admin_pair w.house.settings sent ≡ true → IsThereToSee w listing
+  allowed_all : (listing : Listing) (sent : Option Credentials) → is_admin_pair w.station.settings sent ≡ true → IsThereToSee w listing
       → verdict_in (command_rows (facts_asked w (AsksFor listing) sent)) ≡ Allow
   allowed_all Status sent e there = refl
-  allowed_all Stats sent e there = judged w AdminPassword (is_admin_pair w.house.settings sent) [] e refl
-  allowed_all Mounts sent e there = judged w AdminPassword (is_admin_pair w.house.settings sent) [] e refl
+  allowed_all Stats sent e there = judged w AdminPassword (is_admin_pair w.station.settings sent) [] e refl
+  allowed_all Mounts sent e there = judged w AdminPassword (is_admin_pair w.station.settings sent) [] e refl
   allowed_all (Clients mount) sent e there =
-      judged w AdminPassword (is_admin_pair w.house.settings sent) (row NoMount (not (is_live w.house mount)) ∷ []) e
-      (with_mount w (is_live w.house mount) (lives w mount there))
+      judged w AdminPassword (is_admin_pair w.station.settings sent) (row NoMount (not (is_live w.station mount)) ∷ []) e
+      (with_mount w (is_live w.station mount) (lives w mount there))
   allowed_all Streams sent e there =
-      judged w RelayPassword (is_admin_pair w.house.settings sent || is_relay_pair w.house.settings sent) []
-      (ap (λ (b : Bool). b || is_relay_pair w.house.settings sent) e) refl
+      judged w RelayPassword (is_admin_pair w.station.settings sent || is_relay_pair w.station.settings sent) []
+      (ap (λ (b : Bool). b || is_relay_pair w.station.settings sent) e) refl
 
   is_allowed : (listing : Listing) (sent : Option Credentials) → MaySee w listing sent → IsThereToSee w listing
       → verdict_in (command_rows (facts_asked w (AsksFor listing) sent)) ≡ Allow
   is_allowed listing sent (AsAnybody _) there = refl
   is_allowed listing sent (AsARelay pair relay) there =
-      judged w RelayPassword (is_admin_pair w.house.settings (Some pair) || is_relay_pair w.house.settings (Some pair)) []
-      (ap (λ (b : Bool). is_admin_pair w.house.settings (Some pair) || b) (is_a_relays pair relay) ∙ or_true (is_admin_pair w.house.settings (Some pair)))
+      judged w RelayPassword (is_admin_pair w.station.settings (Some pair) || is_relay_pair w.station.settings (Some pair)) []
+      (ap (λ (b : Bool). is_admin_pair w.station.settings (Some pair) || b) (is_a_relays pair relay) ∙ or_true (is_admin_pair w.station.settings (Some pair)))
       refl
   is_allowed listing sent (AsTheAdmin _ pair admin) there = allowed_all listing (Some pair) (is_admins pair listing admin.user admin.password) there
 
@@ -170,7 +170,7 @@ module _ (w : World) (event : Event) (listing : Listing) (c : IsListed w event l
         answered =
             subst (λ (later : World). standing_of later c.asked.id ≡ Answered) (sym later_so)
             (turns_answered w c.asked.id (asks w c.asked.id c.peer c.undecided)).his;
-        sessions = ap (λ (later : World). later.house.live) later_so;
+        sessions = ap (λ (later : World). later.station.live) later_so;
         seats = ap (λ (later : World). later.seats) later_so;
       }
 

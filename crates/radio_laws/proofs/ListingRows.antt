@@ -14,23 +14,23 @@ use Rattle.radio_seats_rows.specs.Seats.{seats_at}
 use Rattle.radio_listing.specs.declared.rows.ListedListener.{ListedListener}
 use Rattle.radio_events.specs.declared.command.Listing.{Listing}
 use Rattle.radio_events.specs.declared.command.Listing.TheVariants.{Status, Stats, Mounts, Clients, Streams}
-use Rattle.radio_house.specs.Facts.{fallback_of}
-use Rattle.radio_house.specs.Fallbacks.{Fallback}
-use Rattle.radio_status.specs.Listings.{shown, mount_row, mount_rows, listener_row, listener_rows, seconds_since, user_of}
-use Rattle.radio_parts.specs.Sessions.{Session}
-use Rattle.radio_house.specs.World.{World}
+use Rattle.radio_parts_station.specs.Facts.{fallback_of}
+use Rattle.radio_parts_station.specs.Fallbacks.{Fallback}
+use Rattle.radio_parts_facts.specs.Listings.{shown, mount_row, mount_rows, listener_row, listener_rows, seconds_since, user_of}
+use Rattle.radio_parts_mount.specs.Sessions.{Session}
+use Rattle.radio_parts_station.specs.World.{World}
 use Rattle.radio_laws.specs.Shown.{TellsOf, TellOf, TellsOfListener, TellOfListeners, Tells}
 use Rattle.radio_laws.specs.Walks.{FallsBack, ByTheSettings, ByACommand}
 use Rattle.radio_laws.proofs.WalkLemmas.{falls_back}
 
 module _ (w : World) where
   -- where listeners of a mount fall back to another, that is the one
-  falls_to : (mount next : List ℕ) → FallsBack w mount next → fallback_of w.house mount ≡ Some next
+  falls_to : (mount next : List ℕ) → FallsBack w mount next → fallback_of w.station mount ≡ Some next
   falls_to mount next (ByTheSettings goes none) =
-      ap (λ (found : Option Fallback). option_map_or (λ (set : Fallback). set.fallback) found (options_for w.house.settings mount).listeners.fallback_mount) none
+      ap (λ (found : Option Fallback). option_map_or (λ (set : Fallback). set.fallback) found (options_for w.station.settings mount).listeners.fallback_mount) none
       ∙ goes
   falls_to mount next (ByACommand set found goes) =
-      ap (λ (found : Option Fallback). option_map_or (λ (set : Fallback). set.fallback) found (options_for w.house.settings mount).listeners.fallback_mount) found
+      ap (λ (found : Option Fallback). option_map_or (λ (set : Fallback). set.fallback) found (options_for w.station.settings mount).listeners.fallback_mount) found
       ∙ goes
 
   tells_of : (fed : Session) → TellsOf w fed (mount_row w fed)
@@ -60,7 +60,7 @@ module _ (w : World) where
         home = seat.home;
         id = id;
         peer = seat.peer;
-        seconds = seconds_since seat.since w.house.time;
+        seconds = seconds_since seat.since w.station.time;
         user = option_map user_of seat.pair;
       })
   tells_listener id seat = record {
@@ -76,7 +76,7 @@ module _ (w : World) where
   }
 
   abbrev rows_at : List Listener → List ℕ → List ListedListener
-  rows_at seats mount = map (listener_row w.house.time) (guests_at seats mount)
+  rows_at seats mount = map (listener_row w.station.time) (guests_at seats mount)
 
   -- whoever sits there has its row
   module _ (mount : List ℕ) (listener : Listener) (seats : List Listener) (rest : TellOfListeners w (seats_at seats mount) (rows_at seats mount)) where
@@ -94,8 +94,8 @@ module _ (w : World) where
   tell_listeners mount [] = tt
   tell_listeners mount (listener ∷ seats) = tell_first mount listener seats (tell_listeners mount seats) listener.seating refl
 
-  pub rows_tell : TellOf w w.house.live (mount_rows w)
-  rows_tell = tell_of w.house.live
+  pub rows_tell : TellOf w w.station.live (mount_rows w)
+  rows_tell = tell_of w.station.live
 
   -- what is shown tells what is there
   pub tells : (listing : Listing) → Tells w listing (shown w listing)

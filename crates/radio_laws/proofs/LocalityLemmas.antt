@@ -8,35 +8,35 @@ use Rattle.radio_settings_values.specs.Options.{options_for}
 use Rattle.radio_policy.specs.declared.rule.Rule.TheVariants.{Lagged, Killed}
 use Rattle.radio_seats_rows.specs.declared.seat.Listener.{Listener}
 use Rattle.radio_seats_rows.specs.declared.seat.Seat.{Seat}
-use Rattle.radio_parts.specs.Sessions.{Session, is_of, session_of, opened, with_session, fed, titled}
-use Rattle.radio_parts.specs.Timeouts.{lags_behind}
+use Rattle.radio_parts_mount.specs.Sessions.{Session, is_of, session_of, opened, with_session, fed, titled}
+use Rattle.radio_parts_mount.specs.Timeouts.{lags_behind}
 use Rattle.radio_fallback.specs.declared.moves.Move.TheVariants.{Ended as HasEnded, To}
 use Rattle.radio_events.specs.declared.command.Asked.TheVariants.{Command as Asks}
 use Rattle.radio_events.specs.declared.command.Command.{Command as TheCommand}
 use Rattle.radio_events.specs.declared.command.Command.TheVariants.{MoveClients, KillClient, KillSource, SetTitle as NewTitle, SetFallback, AddUser, DeleteUser}
 use Rattle.radio_events.specs.declared.event.Event.{Event}
 use Rattle.radio_events.specs.declared.event.Event.TheVariants.{Command}
-use Rattle.radio_changes.specs.declared.change.Change.{Change}
-use Rattle.radio_changes.specs.declared.change.Change.TheVariants.{Nothing, Begin, Raise, Receive, End}
-use Rattle.radio_changes.specs.declared.change.Change.TheVariants.{EndAndLeave, Tick, Obey}
-use Rattle.radio_core.specs.declared.outcome.Outcome.{Outcome}
-use Rattle.radio_house.specs.declared.standing.Standing.TheVariants.{Feeds}
-use Rattle.radio_changes.specs.Changes.{changed, session_over, session_ended, session_killed, answered, laggards_ended, taken_in, on_air}
-use Rattle.radio_changes.proofs.PartChanges.{is_taken_in, is_on_air}
-use Rattle.radio_house.specs.HouseChanges.{received, retitled}
-use Rattle.radio_core.specs.Closing.{Closes, OfClient, OfRelay}
-use Rattle.radio_core.specs.Allowed.{IsCommanded}
-use Rattle.radio_house.specs.Facts.{live_end}
-use Rattle.radio_core.specs.Listen.{first_seat}
-use Rattle.radio_house.specs.Streams.{shown_for}
-use Rattle.radio_parts.specs.Stream.{data_at}
-use Rattle.radio_house.specs.House.{House}
-use Rattle.radio_core.specs.Step.{outcome, reply_to, world_after}
-use Rattle.radio_core.specs.Ways.{Way, Misplaced, IsFinished, IsDenied, IsRefused, IsAdmitted, Begins, ComesUp, Receives, SetsTitle, TakesSeat, HandsOut, Ends}
-use Rattle.radio_core.specs.Ways.{EndsAndLeaves, Leaves, GoesDown, Obeys, Shows, HasPassed, Ticks}
-use Rattle.radio_house.specs.World.{World, standing_of}
+use Rattle.radio_parts_changes.specs.declared.change.Change.{Change}
+use Rattle.radio_parts_changes.specs.declared.change.Change.TheVariants.{Nothing, Begin, Raise, Receive, End}
+use Rattle.radio_parts_changes.specs.declared.change.Change.TheVariants.{EndAndLeave, Tick, Obey}
+use Rattle.radio_parts.specs.declared.outcome.Outcome.{Outcome}
+use Rattle.radio_parts_station.specs.declared.standing.Standing.TheVariants.{Feeds}
+use Rattle.radio_parts_changes.specs.Changes.{changed, session_over, session_ended, session_killed, answered, laggards_ended, taken_in, on_air}
+use Rattle.radio_parts_changes.proofs.PartChanges.{is_taken_in, is_on_air}
+use Rattle.radio_parts_station.specs.StationChanges.{received, retitled}
+use Rattle.radio_parts.specs.Closing.{Closes, OfClient, OfRelay}
+use Rattle.radio_parts.specs.Allowed.{IsCommanded}
+use Rattle.radio_parts_station.specs.Facts.{live_end}
+use Rattle.radio_parts.specs.Listen.{first_seat}
+use Rattle.radio_parts_station.specs.Streams.{shown_for}
+use Rattle.radio_parts_mount.specs.Stream.{data_at}
+use Rattle.radio_parts_station.specs.StationState.{StationState}
+use Rattle.radio_parts.specs.Step.{outcome, reply_to, world_after}
+use Rattle.radio_parts.specs.Ways.{Way, Misplaced, IsFinished, IsDenied, IsRefused, IsAdmitted, Begins, ComesUp, Receives, SetsTitle, TakesSeat, HandsOut, Ends}
+use Rattle.radio_parts.specs.Ways.{EndsAndLeaves, Leaves, GoesDown, Obeys, Shows, HasPassed, Ticks}
+use Rattle.radio_parts_station.specs.World.{World, standing_of}
 use Rattle.radio_core.proofs.CommandedSeats.{killed_seat}
-use Rattle.radio_core.proofs.Ways.{way_of}
+use Rattle.radio_parts.proofs.Ways.{way_of}
 use Rattle.radio_laws.specs.Locality.{AgreeWithin, SessionsAgree, SameSession, ListenersAgree, SameListener, IsAll, IsWithin, ReachesWithin, AsksWithin, ComesUpWithin, WalksWithin}
 use Rattle.radio_laws.specs.Locality.{AnswersAlike}
 use Rattle.radio_laws.proofs.AgreeingLists.{agree_all}
@@ -47,14 +47,14 @@ use Rattle.radio_laws.proofs.AgreeingOutcomes.{in_place, onward_by, all_one, out
 use Rattle.radio_access.specs.Lists.{Lists, with_user_at, without_user_at}
 use Rattle.radio_policy.specs.declared.rule.Rule.TheVariants.{ListenerPassword}
 use Rattle.radio_seats_rows.specs.Seats.{with_ended, with_session_at}
-use Rattle.radio_house.specs.Outsiders.{is_shut_out}
+use Rattle.radio_parts_station.specs.Outsiders.{is_shut_out}
 use Rattle.radio_laws.proofs.Agreeing.{none_out}
 
 -- a state agrees with itself
 pub agrees : (within : List ℕ → Bool) (w : World) → AgreeWithin within w w
 agrees within w = record {
-  house = refl;
-  sessions = agree_all (SessionsAgree within) (λ a. SameSession refl) w.house.live;
+  station = refl;
+  sessions = agree_all (SessionsAgree within) (λ a. SameSession refl) w.station.live;
   listeners = agree_all (ListenersAgree within) (λ a. SameListener refl) w.seats;
 }
 
@@ -75,14 +75,14 @@ on_air_alike : (within : List ℕ → Bool) (x y : World) (mount title : List �
     → AgreeWithin within (on_air x mount title) (on_air y mount title)
 on_air_alike within x y mount title agree =
     comes_alike within (on_air x mount title) (on_air y mount title)
-    (record x { house = retitled x.house mount title }) (record y { house = retitled y.house mount title }) (is_on_air x mount title) (is_on_air y mount title)
+    (record x { station = retitled x.station mount title }) (record y { station = retitled y.station mount title }) (is_on_air x mount title) (is_on_air y mount title)
     (record {
-      house = ap (λ (house : House). record house { live = titled x.house.live mount title }) agree.house;
-      sessions = titled_alike within x.house.live y.house.live agree.sessions mount title;
+      station = ap (λ (station : StationState). record station { live = titled x.station.live mount title }) agree.station;
+      sessions = titled_alike within x.station.live y.station.live agree.sessions mount title;
       listeners = agree.listeners;
     })
 
-module _ (within : List ℕ → Bool) (w : World) (live : List Session) (seats : List Listener) (r : SessionsDo within live w.house.live) (s : ListenersDo within seats w.seats) where
+module _ (within : List ℕ → Bool) (w : World) (live : List Session) (seats : List Listener) (r : SessionsDo within live w.station.live) (s : ListenersDo within seats w.seats) where
   abbrev v : World
   v = in_place w live seats
 
@@ -95,56 +95,56 @@ module _ (within : List ℕ → Bool) (w : World) (live : List Session) (seats :
 
   -- a session begins, and those hear it who wait for one
   heard_by_all : (id : ℕ) (mount : List ℕ) (shown : Shown)
-      → SessionsDo within (with_session live (opened mount id shown w.house.time)) (with_session w.house.live (opened mount id shown w.house.time))
+      → SessionsDo within (with_session live (opened mount id shown w.station.time)) (with_session w.station.live (opened mount id shown w.station.time))
       × ListenersDo within (with_session_at seats mount id) (with_session_at w.seats mount id)
   heard_by_all id mount shown = (
-    with_session_alike within live w.house.live r (opened mount id shown w.house.time),
+    with_session_alike within live w.station.live r (opened mount id shown w.station.time),
     given_alike within seats w.seats s mount id,
   )
 
   -- where its mount calls its listeners home, all is within reach
   begins : (id : ℕ) (mount : List ℕ) (shown : Shown) → ComesUpWithin w within mount → Agree (Begin id mount shown)
-  begins id mount shown near = by_home (options_for w.house.settings mount).listeners.fallback_override refl where
-    by_home : (home : Bool) → (options_for w.house.settings mount).listeners.fallback_override ≡ home → Agree (Begin id mount shown)
+  begins id mount shown near = by_home (options_for w.station.settings mount).listeners.fallback_override refl where
+    by_home : (home : Bool) → (options_for w.station.settings mount).listeners.fallback_override ≡ home → Agree (Begin id mount shown)
     by_home true e = all_agree (near.home e) (Begin id mount shown)
-    by_home false e = let given = heard_by_all id mount shown in rw e (record { house = refl; sessions = given.0; listeners = given.1 })
+    by_home false e = let given = heard_by_all id mount shown in rw e (record { station = refl; sessions = given.0; listeners = given.1 })
 
   raises : (id : ℕ) (mount : List ℕ) (shown : Shown) → ComesUpWithin w within mount → Agree (Raise id mount shown)
-  raises id mount shown near = by_home (options_for w.house.settings mount).listeners.fallback_override refl where
-    by_home : (home : Bool) → (options_for w.house.settings mount).listeners.fallback_override ≡ home → Agree (Raise id mount shown)
+  raises id mount shown near = by_home (options_for w.station.settings mount).listeners.fallback_override refl where
+    by_home : (home : Bool) → (options_for w.station.settings mount).listeners.fallback_override ≡ home → Agree (Raise id mount shown)
     by_home true e = all_agree (near.home e) (Raise id mount shown)
-    by_home false e = let given = heard_by_all id mount shown in rw e (record { house = refl; sessions = given.0; listeners = given.1 })
+    by_home false e = let given = heard_by_all id mount shown in rw e (record { station = refl; sessions = given.0; listeners = given.1 })
 
   -- a block comes, and who is too far behind loses its seat
   receives : (mount block : List ℕ) → within mount ≡ true → Agree (Receive mount block)
   receives mount block near =
-      let longer = fed_alike within live w.house.live r mount block w.house.time in
-      let same = session_alike within (fed live mount block w.house.time) (fed w.house.live mount block w.house.time) longer mount near in
-      comes_alike within (taken_in v mount block) (taken_in w mount block) (laggards_ended (record v { house = received v.house mount block }) mount)
-      (laggards_ended (record w { house = received w.house mount block }) mount) (is_taken_in v mount block) (is_taken_in w mount block) (record {
-        house = refl;
+      let longer = fed_alike within live w.station.live r mount block w.station.time in
+      let same = session_alike within (fed live mount block w.station.time) (fed w.station.live mount block w.station.time) longer mount near in
+      comes_alike within (taken_in v mount block) (taken_in w mount block) (laggards_ended (record v { station = received v.station mount block }) mount)
+      (laggards_ended (record w { station = received w.station mount block }) mount) (is_taken_in v mount block) (is_taken_in w mount block) (record {
+        station = refl;
         sessions = longer;
         listeners = rw same (with_ended_alike within seats w.seats s
-            (lags_behind mount (live_end (received w.house mount block) mount) w.house.settings.limits.queue_size) Lagged (none (live_end (received w.house mount block) mount)));
+            (lags_behind mount (live_end (received w.station mount block) mount) w.station.settings.limits.queue_size) Lagged (none (live_end (received w.station mount block) mount)));
       }) where
-        none : (end : ℕ) (seat : Seat) → within seat.mount ≡ false → lags_behind mount end w.house.settings.limits.queue_size seat ≡ false
+        none : (end : ℕ) (seat : Seat) → within seat.mount ≡ false → lags_behind mount end w.station.settings.limits.queue_size seat ≡ false
         none end seat out = rw (beyond within seat.mount mount out near) refl
 
   -- a session ends, and its listeners walk on
-  over : (mount : List ℕ) → SessionsDo within (session_over v mount).house.live (session_over w mount).house.live
-  over mount = without_session_alike within live w.house.live r mount
+  over : (mount : List ℕ) → SessionsDo within (session_over v mount).station.live (session_over w mount).station.live
+  over mount = without_session_alike within live w.station.live r mount
 
   walked : (mount : List ℕ) → WalksWithin w within mount → ListenersDo within (session_ended v mount).seats (session_ended w mount).seats
   walked mount near =
-      carried_alike within (session_over w mount) (session_over v mount).house.live (over mount) (HasEnded mount)
+      carried_alike within (session_over w mount) (session_over v mount).station.live (over mount) (HasEnded mount)
       (near.there, onward_by within w near.onward live r) seats w.seats s
 
   ends : (id : ℕ) (mount : List ℕ) → WalksWithin w within mount → Agree (End id mount)
-  ends id mount near = record { house = refl; sessions = over mount; listeners = walked mount near }
+  ends id mount near = record { station = refl; sessions = over mount; listeners = walked mount near }
 
   ends_and_leaves : (id : ℕ) (mount : List ℕ) → WalksWithin w within mount → Agree (EndAndLeave id mount)
   ends_and_leaves id mount near = record {
-    house = refl;
+    station = refl;
     sessions = over mount;
     listeners = without_alike within (session_ended v mount).seats (session_ended w mount).seats (walked mount near) id;
   }
@@ -158,46 +158,46 @@ module _ (within : List ℕ → Bool) (w : World) (live : List Session) (seats :
   -- a command is done
   obeys : (event : Event) (id : ℕ) (command : TheCommand) → IsCommanded w event command → AsksWithin w within (Asks command) → Agree (Obey id command)
   obeys event id (MoveClients mount destination) c near = record {
-    house = refl;
+    station = refl;
     sessions = r;
     listeners = carried_alike within (answered w id) live r (To mount destination) near seats w.seats s;
   }
   obeys event id (KillClient mount listener) c near =
       let his = killed_seat w event mount listener c in
       record {
-        house = refl;
+        station = refl;
         sessions = r;
         listeners = with_end_alike within seats w.seats s listener (his.0, his.1, ap within his.2 ∙ near) Killed;
       }
   obeys event id (KillSource mount) c near =
-      rw (session_alike within live w.house.live r mount near.there) (by_session (session_of w.house.live mount) refl) where
-        by_session : (session : Option Session) → session_of w.house.live mount ≡ session
+      rw (session_alike within live w.station.live r mount near.there) (by_session (session_of w.station.live mount) refl) where
+        by_session : (session : Option Session) → session_of w.station.live mount ≡ session
             → AgreeWithin within (session_killed (answered v id) session) (session_killed (answered w id) session)
-        by_session None e = record { house = refl; sessions = r; listeners = s }
+        by_session None e = record { station = refl; sessions = r; listeners = s }
         by_session (Some session) e =
-            let named : session.mount ≡ mount = (bytes_eq-Decides session.mount mount).0 (found_passes (is_of mount) w.house.live session e) in
+            let named : session.mount ≡ mount = (bytes_eq-Decides session.mount mount).0 (found_passes (is_of mount) w.station.live session e) in
             record {
-              house = refl;
+              station = refl;
               sessions = over session.mount;
               listeners = walked session.mount (record { there = ap within named ∙ near.there; onward = near.onward });
             }
   obeys event id (NewTitle mount title) c near =
-      on_air_alike within (answered v id) (answered w id) mount title (record { house = refl; sessions = r; listeners = s })
-  obeys event id (SetFallback mount fallback) c near = record { house = refl; sessions = r; listeners = s }
+      on_air_alike within (answered v id) (answered w id) mount title (record { station = refl; sessions = r; listeners = s })
+  obeys event id (SetFallback mount fallback) c near = record { station = refl; sessions = r; listeners = s }
   obeys event id (AddUser mount user password) c near = record {
-    house = refl;
+    station = refl;
     sessions = r;
-    listeners = outsiders_alike (with_user_at w.house.lists mount user password) mount near;
+    listeners = outsiders_alike (with_user_at w.station.lists mount user password) mount near;
   }
   obeys event id (DeleteUser mount user) c near = record {
-    house = refl;
+    station = refl;
     sessions = r;
-    listeners = outsiders_alike (without_user_at w.house.lists mount user) mount near;
+    listeners = outsiders_alike (without_user_at w.station.lists mount user) mount near;
   }
 
   -- what the event changes
   unchanged : Agree Nothing
-  unchanged = record { house = refl; sessions = r; listeners = s }
+  unchanged = record { station = refl; sessions = r; listeners = s }
 
   closes : (event : Event) (id : ℕ) (mount : List ℕ) → Closes w id event → standing_of w id ≡ Feeds mount → ReachesWithin w within event → WalksWithin w within mount
   closes _ id mount (OfClient no_relay) feeding near = near mount feeding
@@ -207,28 +207,28 @@ module _ (within : List ℕ → Bool) (w : World) (live : List Session) (seats :
   by_way event o (Misplaced _) near = unchanged
   by_way event o (IsFinished _ him by its known) near = unchanged
   by_way event o (IsDenied _ by verdict nobody) near = unchanged
-  by_way event o (IsRefused _ him by verdict its undecided) near = record { house = refl; sessions = r; listeners = s }
-  by_way event o (IsAdmitted peer allowed) near = record { house = refl; sessions = r; listeners = s }
-  by_way event o (Begins asked undecided none allowed) near = begins asked.id asked.mount (shown_for w.house asked.mount asked.shown) near
-  by_way event o (ComesUp mount shown unfed allowed) near = raises (w.house.last_id + 1) mount (shown_for w.house mount shown) near
+  by_way event o (IsRefused _ him by verdict its undecided) near = record { station = refl; sessions = r; listeners = s }
+  by_way event o (IsAdmitted peer allowed) near = record { station = refl; sessions = r; listeners = s }
+  by_way event o (Begins asked undecided none allowed) near = begins asked.id asked.mount (shown_for w.station asked.mount asked.shown) near
+  by_way event o (ComesUp mount shown unfed allowed) near = raises (w.station.last_id + 1) mount (shown_for w.station mount shown) near
   by_way event o (Receives him mount block feeding) near = receives mount block (near mount feeding)
   by_way event o (SetsTitle him mount title feeding) near = on_air_alike within v w mount title unchanged
   by_way event o (TakesSeat asked peer session undecided lands is_live allowed) near = record {
-    house = refl;
+    station = refl;
     sessions = r;
-    listeners = with_seat_alike within seats w.seats s asked.id (first_seat w.house asked peer session);
+    listeners = with_seat_alike within seats w.seats s asked.id (first_seat w.station asked peer session);
   }
   by_way event o (HandsOut him room seat session sits has is_live) near = record {
-    house = refl;
+    station = refl;
     sessions = r;
     listeners = with_place_alike within seats w.seats s him (seat.place + length (data_at session.stream seat.place room));
   }
   by_way event o (Ends him mount feeding no_relay) near = ends him mount (near mount feeding)
   by_way event o (EndsAndLeaves _ him mount closing feeding) near = ends_and_leaves him mount (closes event him mount closing feeding near)
-  by_way event o (Leaves him no_relay other) near = record { house = refl; sessions = r; listeners = without_alike within seats w.seats s him }
-  by_way event o (GoesDown him by relay over_by) near = record { house = refl; sessions = r; listeners = without_alike within seats w.seats s him }
+  by_way event o (Leaves him no_relay other) near = record { station = refl; sessions = r; listeners = without_alike within seats w.seats s him }
+  by_way event o (GoesDown him by relay over_by) near = record { station = refl; sessions = r; listeners = without_alike within seats w.seats s him }
   by_way event o (Obeys _ command c) near = obeys event c.asked.id command c (asks_within within w event command c near)
-  by_way event o (Shows _ him peer text its undecided what) near = record { house = refl; sessions = r; listeners = s }
+  by_way event o (Shows _ him peer text its undecided what) near = record { station = refl; sessions = r; listeners = s }
   by_way event o (HasPassed ms past) near = unchanged
   by_way event o (Ticks ms past) near = all_agree near (Tick ms)
 
@@ -241,6 +241,6 @@ module _ (within : List ℕ → Bool) (w : World) (live : List Session) (seats :
 
 pub answers_alike : (within : List ℕ → Bool) (v w : World) (event : Event) → AnswersAlike within v w event
 answers_alike within v w event agree near =
-    let is : v ≡ in_place w v.house.live v.seats = ap (λ (h : House). record { house = h; seats = v.seats }) agree.house in
+    let is : v ≡ in_place w v.station.live v.seats = ap (λ (h : StationState). record { station = h; seats = v.seats }) agree.station in
     subst (λ (x : World). (reply_to x event ≡ reply_to w event) × AgreeWithin within (world_after x event) (world_after w event)) (sym is)
-    (in_step within w v.house.live v.seats agree.sessions agree.listeners event near)
+    (in_step within w v.station.live v.seats agree.sessions agree.listeners event near)

@@ -3,33 +3,33 @@ use Rattle.std.proofs.Common.{◌≡◌, ◌⊎◌, inl, inr, ℕ, ◌+◌, ◌�
 use Rattle.radio_policy.specs.declared.rule.Rule.{Rule}
 use Rattle.radio_events.specs.declared.event.Event.{Event}
 use Rattle.radio_seats_rows.specs.declared.seat.Seat.{Seat}
-use Rattle.radio_house.specs.World.{World}
+use Rattle.radio_parts_station.specs.World.{World}
 use Rattle.radio_core.specs.Handing.{handed_at}
 use Rattle.radio_core.specs.Finishes.{Finishes}
 use Rattle.radio_core.specs.SeatSteps.{IsSent, SeatStep, Stays, IsHanded, SitsDown, IsMoved, Leaves as HeLeaves, IsEnded as HeIsEnded, ComesUpOn, IsGiven}
 use Rattle.radio_seats_rows.specs.Seats.{seat_of}
 use Rattle.radio_core.specs.Sound.{IsSound}
-use Rattle.radio_core.specs.Step.{world_after}
+use Rattle.radio_parts.specs.Step.{world_after}
 use Rattle.radio_core.specs.Moves.{TakesTo, moved_into}
-use Rattle.radio_parts.specs.Sessions.{Session, session_of}
-use Rattle.radio_parts.specs.Stream.{data_at, end_of}
+use Rattle.radio_parts_mount.specs.Sessions.{Session, session_of}
+use Rattle.radio_parts_mount.specs.Stream.{data_at, end_of}
 use Rattle.radio_laws.specs.Stretches.{SeatsKeepTheirMounts}
 use Rattle.radio_core.proofs.SoundRuns.{sound_after}
 use Rattle.radio_core.proofs.SeatSteps.{seats_step}
-use Rattle.radio_house.specs.Waiting.{heard_at}
-use Rattle.radio_core.proofs.HeardLemmas.{heard_live}
+use Rattle.radio_parts_station.specs.Waiting.{heard_at}
+use Rattle.radio_parts.proofs.HeardLemmas.{heard_live}
 
 -- a seat that is kept is the same but for its place, which does not go back, or a session begins where it waited for one, or a move has taken it to the
 -- end of a stream
 abbrev Kept : World → Event → ℕ → Seat → Seat → Session → Type 0
 Kept w event id old seat session = ((seat ≡ record old { place = seat.place }) × (old.place ≤ seat.place))
-    ⊎ (ComesUpOn event old.mount × (session_of w.house.live old.mount ≡ None) × (session.stream.bytes ≡ [])
+    ⊎ (ComesUpOn event old.mount × (session_of w.station.live old.mount ≡ None) × (session.stream.bytes ≡ [])
     × (seat ≡ record old { session = session.number; place = 0 }))
     ⊎ (TakesTo w event id seat.mount × IsSent w (world_after w event) event old seat.mount
     × (seat ≡ record old { mount = seat.mount; session = session.number; place = end_of session.stream }))
 
 keeps : (w : World) (C : Rule → Type 0) (event : Event) (id : ℕ) (before later : Option Seat) (bytes : List ℕ) → SeatStep w C event id before bytes later
-    → (old seat : Seat) (session : Session) → before ≡ Some old → later ≡ Some seat → heard_at (world_after w event).house seat.mount ≡ Some session
+    → (old seat : Seat) (session : Session) → before ≡ Some old → later ≡ Some seat → heard_at (world_after w event).station seat.mount ≡ Some session
     → Kept w event id old seat session
 keeps w C event id before later bytes (Stays same) old seat now eo es live =
     let both : Some old ≡ Some seat = sym eo ∙ es in
@@ -46,7 +46,7 @@ keeps w C event id before later bytes (SitsDown asked peer session e his undecid
 keeps w C event id before later bytes (IsMoved had session takes sent live opens apart) old seat now eo es lives =
     let one : had ≡ old = cc in
     let there : moved_into session had ≡ seat = cc in
-    let both : Some session ≡ Some now = sym live ∙ ap (λ (x : Seat). heard_at (world_after w event).house x.mount) there ∙ lives in
+    let both : Some session ≡ Some now = sym live ∙ ap (λ (x : Seat). heard_at (world_after w event).station x.mount) there ∙ lives in
     let same : session ≡ now = cc in
     inr (inr (
       subst (λ (x : Seat). TakesTo w event id x.mount) there takes,
@@ -60,11 +60,11 @@ keeps w C event id before later bytes (IsGiven had session coming none live empt
     let one : had ≡ old = cc in
     let there : record had { session = session.number } ≡ seat = cc in
     let both : Some session ≡ Some now
-    = sym (heard_live (world_after w event).house had.mount session live) ∙ ap (λ (x : Seat). heard_at (world_after w event).house x.mount) there ∙ lives in
+    = sym (heard_live (world_after w event).station had.mount session live) ∙ ap (λ (x : Seat). heard_at (world_after w event).station x.mount) there ∙ lives in
     let same : session ≡ now = cc in
     inr (inl (
       subst (λ (x : Seat). ComesUpOn event x.mount) one coming,
-      subst (λ (x : Seat). session_of w.house.live x.mount ≡ None) one none,
+      subst (λ (x : Seat). session_of w.station.live x.mount ≡ None) one none,
       subst (λ (x : Session). x.stream.bytes ≡ []) same empty,
       sym there ∙ ap (λ (n : ℕ). record had { session = session.number; place = n }) start
           ∙ ap (λ (x : Session). record had { session = x.number; place = 0 }) same

@@ -9,13 +9,13 @@ use Rattle.radio_seats_rows.specs.Seats.{is_listener, is_seat_at, lost_by, loses
 use Rattle.radio_seats_rows.proofs.CountLaws.{NobodyCame}
 use Rattle.radio_events.specs.declared.command.Command.{Command as TheCommand}
 use Rattle.radio_events.specs.declared.event.Event.{Event}
-use Rattle.radio_changes.specs.declared.change.Change.TheVariants.{Obey}
-use Rattle.radio_changes.specs.Changes.{changed}
-use Rattle.radio_core.specs.Allowed.{IsCommanded}
-use Rattle.radio_parts.specs.Sessions.{Session, session_of}
+use Rattle.radio_parts_changes.specs.declared.change.Change.TheVariants.{Obey}
+use Rattle.radio_parts_changes.specs.Changes.{changed}
+use Rattle.radio_parts.specs.Allowed.{IsCommanded}
+use Rattle.radio_parts_mount.specs.Sessions.{Session, session_of}
 use Rattle.radio_core.specs.SessionSteps.{SessionStep, Stays, Begins, BeginsForRelay, Grows, IsTitled, IsRetitled, Ends, IsKilled}
 use Rattle.radio_core.specs.Sound.{IsSound}
-use Rattle.radio_house.specs.World.{World}
+use Rattle.radio_parts_station.specs.World.{World}
 use Rattle.radio_core.proofs.KeptSeats.{seat_unless_lost}
 use Rattle.radio_core.proofs.SessionSteps.{obeys}
 
@@ -39,10 +39,10 @@ module _ (w : World) (event : Event) (command : TheCommand) (c : IsCommanded w e
   live_by before after (Ends session by) now e = cc
   live_by before after (IsKilled session by) now e = cc
 
-  pub was_live_then : IsSound w → (now : Session) → session_of (changed w (Obey c.asked.id command)).house.live mount ≡ Some now
-      → WasLive (session_of w.house.live mount) now
+  pub was_live_then : IsSound w → (now : Session) → session_of (changed w (Obey c.asked.id command)).station.live mount ≡ Some now
+      → WasLive (session_of w.station.live mount) now
   was_live_then s now e =
-      live_by (session_of w.house.live mount) (session_of (changed w (Obey c.asked.id command)).house.live mount) (obeys w s mount event command c) now e
+      live_by (session_of w.station.live mount) (session_of (changed w (Obey c.asked.id command)).station.live mount) (obeys w s mount event command c) now e
 
 -- where one has lost its seat, nobody has come
 module _ (him : ℕ) (rule : Rule) (mount : List ℕ) where

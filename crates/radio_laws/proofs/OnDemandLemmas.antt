@@ -15,16 +15,16 @@ use Rattle.std.proofs.lemmas.Slice.Eq.{bytes_eq-Decides}
 use Rattle.radio_tables.specs.Lists.{Has}
 use Rattle.radio_settings_values.specs.declared.settings.RelaySetting.{RelaySetting}
 use Rattle.radio_settings_values.specs.declared.settings.Settings.{Settings}
-use Rattle.radio_parts.specs.Sessions.{Session, session_of}
+use Rattle.radio_parts_mount.specs.Sessions.{Session, session_of}
 use Rattle.radio_seats_rows.specs.declared.seat.Listener.{Listener}
 use Rattle.radio_seats_rows.specs.declared.seat.Seating.{Seating}
 use Rattle.radio_seats_rows.specs.declared.seat.Seating.TheVariants.{Sits, Finished}
 use Rattle.radio_seats_rows.specs.Seats.{is_seat_at, seats_at, count_at}
-use Rattle.radio_house.specs.House.{House}
-use Rattle.radio_house.specs.Waiting.{feeds_on_demand, is_on_demand, heard_at}
-use Rattle.radio_facts.specs.Wanted.{is_wanted, with_wanted, wanted}
-use Rattle.radio_house.specs.World.{World}
-use Rattle.radio_house.proofs.WaitingLemmas.{first_or_other}
+use Rattle.radio_parts_station.specs.StationState.{StationState}
+use Rattle.radio_parts_station.specs.Waiting.{feeds_on_demand, is_on_demand, heard_at}
+use Rattle.radio_parts_facts.specs.Wanted.{is_wanted, with_wanted, wanted}
+use Rattle.radio_parts_station.specs.World.{World}
+use Rattle.radio_parts_station.proofs.WaitingLemmas.{first_or_other}
 use Rattle.radio_laws.specs.OnDemand.{IsFedOnDemand, WaitsOnDemand, IsSatAt, WantedAreSatAt}
 use Rattle.radio_laws.proofs.HeardLaws.{nothing_heard}
 
@@ -63,12 +63,12 @@ waits_on_demand settings mount = record {
 }
 
 -- what is heard at a mount without a session is so since a relay feeds it on demand
-pub awaited_there : (house : House) (mount : List ℕ) (session : Session) → heard_at house mount ≡ Some session → session_of house.live mount ≡ None
-    → IsFedOnDemand house.settings mount
-awaited_there house mount session hears none = by_test (is_on_demand house.settings mount) refl where
-  by_test : (b : Bool) → is_on_demand house.settings mount ≡ b → IsFedOnDemand house.settings mount
-  by_test true waits = (waits_on_demand house.settings mount).only waits
-  by_test false never = let nothing = nothing_heard house mount never none in cc
+pub awaited_there : (station : StationState) (mount : List ℕ) (session : Session) → heard_at station mount ≡ Some session → session_of station.live mount ≡ None
+    → IsFedOnDemand station.settings mount
+awaited_there station mount session hears none = by_test (is_on_demand station.settings mount) refl where
+  by_test : (b : Bool) → is_on_demand station.settings mount ≡ b → IsFedOnDemand station.settings mount
+  by_test true waits = (waits_on_demand station.settings mount).only waits
+  by_test false never = let nothing = nothing_heard station mount never none in cc
 
 -- a name that is put among others is one of them then, and all others were
 has_inserted : (names : List (List ℕ)) (name : List ℕ) → Has name (insert_key (slice_cmp nat_cmp) names name)
@@ -203,14 +203,14 @@ module _ (seats : List Listener) where
 
 pub wanted_are_sat_at : (w : World) → WantedAreSatAt w
 wanted_are_sat_at w = record {
-  only = λ mount has. by_relay mount (wanted_by w.seats w.house.settings.relays [] mount has);
+  only = λ mount has. by_relay mount (wanted_by w.seats w.station.settings.relays [] mount has);
   each = λ mount fed sat.
       let at : count_at w.seats fed.relay.local_mount ≡ count_at w.seats mount = ap (count_at w.seats) fed.its_mount in
       let sits : nat_lt 0 (count_at w.seats fed.relay.local_mount) ≡ true = ap (nat_lt 0) at ∙ counts w.seats mount sat in
       subst (λ (name : List ℕ). Has name (wanted w)) fed.its_mount
-      (is_named w.seats w.house.settings.relays [] fed.relay fed.is_one (rw (fed.on_demand, sits) refl));
+      (is_named w.seats w.station.settings.relays [] fed.relay fed.is_one (rw (fed.on_demand, sits) refl));
 } where
-  by_relay : (mount : List ℕ) → ⊥ ⊎ WantedBy w.seats w.house.settings.relays mount → IsFedOnDemand w.house.settings mount × IsSatAt w.seats mount
+  by_relay : (mount : List ℕ) → ⊥ ⊎ WantedBy w.seats w.station.settings.relays mount → IsFedOnDemand w.station.settings mount × IsSatAt w.seats mount
   by_relay mount (inl none) = absurd none
   by_relay mount (inr by) =
       let both = and_parts by.0.on_demand (nat_lt 0 (count_at w.seats by.0.local_mount)) by.3 in (

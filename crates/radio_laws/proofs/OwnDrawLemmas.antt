@@ -14,31 +14,31 @@ use Rattle.radio_seats_rows.specs.declared.seat.Seat.{Seat}
 use Rattle.radio_seats_rows.specs.Seats.{seat_in, seat_of, with_place}
 use Rattle.radio_seats_rows.proofs.SeatLaws.{beside_moved, has_heard}
 use Rattle.radio_settings_values.specs.declared.settings.Settings.{Settings}
-use Rattle.radio_parts.specs.Kept.{first_start, kept_from, kept_session, kept_stream}
-use Rattle.radio_parts.specs.Parts.{Part}
-use Rattle.radio_parts.specs.Sessions.{Session, is_of, session_of, HasRisingStarts}
-use Rattle.radio_parts.specs.Stream.{no_data, data_at}
-use Rattle.radio_parts.proofs.KeptStreams.{kept_data, kept_end}
-use Rattle.radio_mount_part.specs.Attached.{place_in}
-use Rattle.radio_mount_part.specs.Steps.{IsKept, portion_at, place_after, heard_on, part_after}
-use Rattle.radio_mount_part.specs.declared.drawing.Portion.{Portion}
-use Rattle.radio_mount_part.specs.declared.part.MountPart.{MountPart}
-use Rattle.radio_mount_part.specs.declared.step.PartAnswer.TheVariants.{Replied}
+use Rattle.radio_parts_mount.specs.Kept.{first_start, kept_from, kept_session, kept_stream}
+use Rattle.radio_parts_mount.specs.StatePart.{Part}
+use Rattle.radio_parts_mount.specs.Sessions.{Session, is_of, session_of, HasRisingStarts}
+use Rattle.radio_parts_mount.specs.Stream.{no_data, data_at}
+use Rattle.radio_parts_mount.proofs.KeptStreams.{kept_data, kept_end}
+use Rattle.radio_parts_mount.specs.Attached.{place_in}
+use Rattle.radio_parts_mount.specs.Steps.{IsKept, portion_at, place_after, heard_on, part_after}
+use Rattle.radio_parts_mount.specs.declared.drawing.Portion.{Portion}
+use Rattle.radio_parts_mount.specs.declared.part.MountPart.{MountPart}
+use Rattle.radio_parts_mount.specs.declared.step.PartAnswer.TheVariants.{Replied}
 use Rattle.radio_events.specs.declared.event.Event.{Event}
 use Rattle.radio_events.specs.declared.event.Event.TheVariants.{Draw}
 use Rattle.radio_events.specs.declared.reply.Reply.{Reply}
 use Rattle.radio_events.specs.declared.reply.Reply.TheVariants.{Drawn, Stray}
-use Rattle.radio_house.specs.Waiting.{heard_at, silence_at, silence_of}
-use Rattle.radio_house.specs.World.{World}
-use Rattle.radio_changes.specs.declared.change.Change.TheVariants.{Nothing, Advance}
-use Rattle.radio_changes.specs.Changes.{part_at}
-use Rattle.radio_core.specs.declared.outcome.Outcome.{Outcome}
-use Rattle.radio_core.specs.Draw.{hands_out}
-use Rattle.radio_core.specs.Outcomes.{says}
+use Rattle.radio_parts_station.specs.Waiting.{heard_at, silence_at, silence_of}
+use Rattle.radio_parts_station.specs.World.{World}
+use Rattle.radio_parts_changes.specs.declared.change.Change.TheVariants.{Nothing, Advance}
+use Rattle.radio_parts_changes.specs.Changes.{part_at}
+use Rattle.radio_parts.specs.declared.outcome.Outcome.{Outcome}
+use Rattle.radio_parts.specs.Draw.{hands_out}
+use Rattle.radio_parts.specs.Outcomes.{says}
 use Rattle.radio_core.specs.Sound.{IsSound}
 use Rattle.radio_core.specs.StandsFor.{StandsFor}
-use Rattle.radio_core.specs.Step.{outcome, reply_to, world_after}
-use Rattle.radio_core.proofs.HeardLemmas.{heard_cases}
+use Rattle.radio_parts.specs.Step.{outcome, reply_to, world_after}
+use Rattle.radio_parts.proofs.HeardLemmas.{heard_cases}
 use Rattle.radio_core.proofs.KeptSeats.{settings_stay}
 use Rattle.radio_laws.specs.OwnSteps.{PartStands, IsServersStep}
 use Rattle.radio_laws.specs.Parts.{seat_if, is_at, seat_at, IsPartOf, part_heard}
@@ -58,7 +58,7 @@ no_data_at place room = ap (take room) (nothing_left place) ∙ nothing_taken ro
 
 module _ (core w : World) (for : StandsFor core w) where
   abbrev queue : ℕ
-  queue = w.house.settings.limits.queue_size
+  queue = w.station.settings.limits.queue_size
 
   abbrev s : IsSound w
   s = for.sound
@@ -81,8 +81,8 @@ module _ (core w : World) (for : StandsFor core w) where
   unfolding world_after
   has_then event p later q name of live attached order = record {
     session = live ∙ ap (option_map (kept_session queue)) (sym of.live)
-        ∙ ap (λ (m : List ℕ). option_map (kept_session queue) (session_of (world_after w event).house.live m)) (sym name)
-        ∙ ap (λ (x : Settings). option_map (kept_session x.limits.queue_size) (session_of (world_after w event).house.live later.mount))
+        ∙ ap (λ (m : List ℕ). option_map (kept_session queue) (session_of (world_after w event).station.live m)) (sym name)
+        ∙ ap (λ (x : Settings). option_map (kept_session x.limits.queue_size) (session_of (world_after w event).station.live later.mount))
         (sym (settings_stay w s.by_number event));
     attached = λ id. attached id ∙ ap (option_map place_of) (of.seats id)
         ∙ ap (λ (m : List ℕ). option_map place_of (seat_at m (world_after w event).seats id)) (sym name);
@@ -102,7 +102,7 @@ module _ (core w : World) (for : StandsFor core w) where
       sits = sits_there p.mount w.seats id seat has
 
       abbrev heard_here : Option Session
-      heard_here = option_or (session_of w.house.live p.mount) (silence_of w.house p.mount)
+      heard_here = option_or (session_of w.station.live p.mount) (silence_of w.station p.mount)
 
       drawn : outcome w (Draw id room) ≡ hands_out id seat room heard_here
       drawn = (parts_draw w s (whole p) (of_whole p) id room seat has).by_part
@@ -119,23 +119,23 @@ module _ (core w : World) (for : StandsFor core w) where
           is ∙ sym (ap (λ (x : Portion). says (Drawn x.pieces x.title) (Advance id (row.place + length x.pieces))) portion
           ∙ ap (λ (n : ℕ). says (Drawn pieces title) (Advance id (n + length pieces))) same_place)
 
-      of_stream : (session : Session) → session_of w.house.live p.mount ≡ Some session → Portions
+      of_stream : (session : Session) → session_of w.station.live p.mount ≡ Some session → Portions
       of_stream session live =
           let name = (bytes_eq-Decides seat.mount p.mount).0 sits.1 in
-          let kept = for.kept id seat session sits.0 (ap (session_of w.house.live) name ∙ live) in
+          let kept = for.kept id seat session sits.0 (ap (session_of w.station.live) name ∙ live) in
           let its : p.session ≡ Some (kept_session queue session) = stands.session ∙ ap (option_map (kept_session queue)) live in
           by_portion (data_at session.stream seat.place room) session.title
-          (drawn ∙ ap (λ (found : Option Session). hands_out id seat room (option_or found (silence_of w.house p.mount))) live)
+          (drawn ∙ ap (λ (found : Option Session). hands_out id seat room (option_or found (silence_of w.station p.mount))) live)
           (ap (λ (found : Option Session). portion_at found row.place room) its
           ∙ ap (λ (n : ℕ). portion_at (Some (kept_session queue session)) n room) same_place
           ∙ ap (λ (pieces : List ℕ). record { pieces = pieces; title = session.title }) (kept_data queue session.stream seat.place room kept))
 
-      of_silence : session_of w.house.live p.mount ≡ None → Portions
+      of_silence : session_of w.station.live p.mount ≡ None → Portions
       of_silence none =
           let seated = s.seated id seat sits.0 in
           let name = (bytes_eq-Decides seat.mount p.mount).0 sits.1 in
-          let heard : heard_at w.house p.mount ≡ Some seated.session = ap (heard_at w.house) (sym name) ∙ seated.is_heard in
-          let silent : silence_at w.house p.mount ≡ seated.session = heard_cases w.house p.mount seated.session heard
+          let heard : heard_at w.station p.mount ≡ Some seated.session = ap (heard_at w.station) (sym name) ∙ seated.is_heard in
+          let silent : silence_at w.station p.mount ≡ seated.session = heard_cases w.station p.mount seated.session heard
           (λ live. let clash : Some seated.session ≡ None = sym live ∙ none in cc) (λ other is. is) in
           let nothing = no_data_at seat.place room in
           by_portion [] None
@@ -144,8 +144,8 @@ module _ (core w : World) (for : StandsFor core w) where
           (ap (λ (found : Option Session). portion_at found row.place room) (stands.session ∙ ap (option_map (kept_session queue)) none))
 
       portions : Portions
-      portions = by_session (session_of w.house.live p.mount) refl where
-        by_session : (found : Option Session) → session_of w.house.live p.mount ≡ found → Portions
+      portions = by_session (session_of w.station.live p.mount) refl where
+        by_session : (found : Option Session) → session_of w.station.live p.mount ≡ found → Portions
         by_session (Some session) live = of_stream session live
         by_session None none = of_silence none
 
@@ -187,16 +187,16 @@ module _ (core w : World) (for : StandsFor core w) where
           record {
             can_draw = λ other there. kept_for other (sym found ∙ there);
             replied = sym its ∙ sym (ap (λ (o : Outcome). o.reply) portions);
-            here = has_then (Draw id room) p (part_after queue w.house.time p (Draw id room)) (part_heard (whole p) id after) refl step.here stands.session
+            here = has_then (Draw id room) p (part_after queue w.station.time p (Draw id room)) (part_heard (whole p) id after) refl step.here stands.session
                 attached_then (in_order_updated further (λ x. refl) (is_attached id) p.attachments stands.once);
             there = step.there;
           } where
-            kept_by : (found : Option Session) → session_of w.house.live p.mount ≡ found → IsKept p.session row.place
+            kept_by : (found : Option Session) → session_of w.station.live p.mount ≡ found → IsKept p.session row.place
             kept_by None live = subst (λ (x : Option Session). IsKept x row.place) (sym (stands.session ∙ ap (option_map (kept_session queue)) live)) tt
             kept_by (Some session) live =
                 let name = (bytes_eq-Decides seat.mount p.mount).0 sits.1 in
-                let kept = for.kept id seat session sits.0 (ap (session_of w.house.live) name ∙ live) in
-                let rises = found_has (is_of p.mount) HasRisingStarts w.house.live session for.rise live in
+                let kept = for.kept id seat session sits.0 (ap (session_of w.station.live) name ∙ live) in
+                let rises = found_has (is_of p.mount) HasRisingStarts w.station.live session for.rise live in
                 subst (λ (x : Option Session). IsKept x row.place) (sym (stands.session ∙ ap (option_map (kept_session queue)) live))
                 (subst (λ (n : ℕ). first_start n (kept_stream queue session.stream).starts ≤ row.place) (sym (kept_end queue session.stream rises))
                 (subst (λ (n : ℕ). kept_from queue session.stream ≤ n) (sym same_place) kept))
@@ -204,4 +204,4 @@ module _ (core w : World) (for : StandsFor core w) where
             kept_for : (other : Attachment) → Some row ≡ Some other → IsKept p.session other.place
             kept_for other same =
                 let one : row ≡ other = cc in
-                subst (λ (x : Attachment). IsKept p.session x.place) one (kept_by (session_of w.house.live p.mount) refl)
+                subst (λ (x : Attachment). IsKept p.session x.place) one (kept_by (session_of w.station.live p.mount) refl)

@@ -15,36 +15,37 @@ use Rattle.radio_policy.specs.Verdicts.{verdict_in}
 use Rattle.radio_seats_rows.specs.declared.seat.Seat.{Seat}
 use Rattle.radio_seats_rows.specs.Seats.{with_ended}
 use Rattle.radio_seats_rows.proofs.Lists.{same_number}
-use Rattle.radio_parts.specs.Kept.{kept_session, longer_kept}
-use Rattle.radio_parts.specs.Parts.{Part, end_in, part_received, part_titled}
-use Rattle.radio_parts.specs.Sessions.{Session, is_of, session_of, longer, with_title, HasRisingStarts}
-use Rattle.radio_parts.specs.Stream.{WholeStream, end_of}
-use Rattle.radio_parts.specs.Timeouts.{lags_behind}
-use Rattle.radio_parts.proofs.KeptStreams.{kept_end, kept_more}
-use Rattle.radio_parts.proofs.RisingLemmas.{rising_more}
-use Rattle.radio_mount_part.specs.Attached.{place_in}
-use Rattle.radio_mount_part.specs.Parts.{with_session_changed}
-use Rattle.radio_mount_part.specs.Steps.{portion_at, is_fed_by, is_spent_with, part_answers, part_fed, part_lagged}
-use Rattle.radio_mount_part.specs.declared.drawing.Portion.{Portion}
-use Rattle.radio_mount_part.specs.declared.part.MountPart.{MountPart}
-use Rattle.radio_mount_part.specs.declared.step.PartAnswer.{PartAnswer}
-use Rattle.radio_mount_part.specs.declared.step.PartAnswer.TheVariants.{Replied, Elsewhere}
-use Rattle.radio_mounts.proofs.LaggingLemmas.{far, among_is, rest_is}
+use Rattle.radio_parts_mount.specs.Kept.{kept_session, longer_kept}
+use Rattle.radio_parts_mount.specs.StatePart.{Part, end_in, part_received, part_titled}
+use Rattle.radio_parts_mount.specs.Sessions.{Session, is_of, session_of, longer, with_title, HasRisingStarts}
+use Rattle.radio_parts_mount.specs.Stream.{WholeStream, end_of}
+use Rattle.radio_parts_mount.specs.Timeouts.{lags_behind}
+use Rattle.radio_parts_mount.proofs.KeptStreams.{kept_end, kept_more}
+use Rattle.radio_parts_mount.proofs.RisingLemmas.{rising_more}
+use Rattle.radio_parts_mount.specs.Attached.{place_in}
+use Rattle.radio_parts_mount.specs.Parts.{with_session_changed}
+use Rattle.radio_parts_mount.specs.Steps.{portion_at, is_fed_by, is_spent_with, part_answers, part_fed, part_lagged}
+use Rattle.radio_parts_mount.specs.declared.drawing.Portion.{Portion}
+use Rattle.radio_parts_mount.specs.declared.part.MountPart.{MountPart}
+use Rattle.radio_parts_mount.specs.declared.step.PartAnswer.{PartAnswer}
+use Rattle.radio_parts_mount.specs.declared.step.PartAnswer.TheVariants.{Replied, Elsewhere}
+use Rattle.radio_parts_table.proofs.LaggingLemmas.{far, among_is, rest_is}
 use Rattle.radio_events.specs.declared.event.Event.{Event}
 use Rattle.radio_events.specs.declared.event.Event.TheVariants.{Arrive, Source, Push, SourceEnd, Title, Listen, Draw, Command, Leave, RelayUp, RelayDown, Clock}
 use Rattle.radio_events.specs.declared.reply.Reply.{Reply}
 use Rattle.radio_events.specs.declared.reply.Reply.TheVariants.{Drawn, Noted, Deny}
-use Rattle.radio_house.specs.Facts.{largest_number, rows_to_push}
-use Rattle.radio_house.specs.World.{World, standing_of}
-use Rattle.radio_house.specs.declared.standing.Standing.TheVariants.{Feeds}
-use Rattle.radio_changes.specs.declared.change.Change.TheVariants.{Nothing}
-use Rattle.radio_changes.specs.Changes.{changed, part_at}
-use Rattle.radio_core.specs.declared.outcome.Outcome.{Outcome}
-use Rattle.radio_core.specs.Outcomes.{on_verdict}
-use Rattle.radio_core.specs.Push.{takes_in}
+use Rattle.radio_parts_station.specs.Facts.{largest_number, rows_to_push}
+use Rattle.radio_parts_station.specs.World.{World, standing_of}
+use Rattle.radio_parts_station.specs.declared.standing.Standing.TheVariants.{Feeds}
+use Rattle.radio_parts_changes.specs.declared.change.Change.TheVariants.{Nothing}
+use Rattle.radio_parts_changes.specs.Changes.{changed, part_at}
+use Rattle.radio_parts.specs.declared.outcome.Outcome.{Outcome}
+use Rattle.radio_parts.specs.Outcomes.{on_verdict}
+use Rattle.radio_parts.specs.Push.{takes_in}
 use Rattle.radio_core.specs.Sound.{IsSound}
 use Rattle.radio_core.specs.StandsFor.{StandsFor}
-use Rattle.radio_core.specs.Step.{outcome, reply_to, world_after, Represents}
+use Rattle.radio_parts.specs.Step.{outcome, reply_to, world_after}
+use Rattle.radio_core.specs.Represents.{Represents}
 use Rattle.radio_laws.specs.Locality.{IsLeftAlone}
 use Rattle.radio_laws.specs.OwnSteps.{PartStands, IsServersStep, OwnStepsAreTheServers, IsOwn, OwnStepsAreAnswered}
 use Rattle.radio_laws.specs.Parts.{seat_if, seat_at, IsPartOf, IsPartsStep}
@@ -53,7 +54,7 @@ use Rattle.radio_laws.proofs.OwnDrawLemmas.{of_whole as its_whole, has_then, dra
 
 module _ (core w : World) (for : StandsFor core w) where
   abbrev queue : ℕ
-  queue = w.house.settings.limits.queue_size
+  queue = w.station.settings.limits.queue_size
 
   abbrev s : IsSound w
   s = for.sound
@@ -73,12 +74,12 @@ module _ (core w : World) (for : StandsFor core w) where
     alone = record { sessions = λ mount beyond. refl; seats = λ id seat beyond. (λ e. e, λ e. e) }
 
     -- what the source of the mount's session sends
-    module _ (session : Session) (live : session_of w.house.live p.mount ≡ Some session) where
+    module _ (session : Session) (live : session_of w.station.live p.mount ≡ Some session) where
       its : p.session ≡ Some (kept_session queue session)
       its = stands.session ∙ ap (option_map (kept_session queue)) live
 
       rises : HasRisingStarts session
-      rises = found_has (is_of p.mount) HasRisingStarts w.house.live session for.rise live
+      rises = found_has (is_of p.mount) HasRisingStarts w.station.live session for.rise live
 
       -- a title
       pub titles_as_the_server : (text : List ℕ) (reply : Reply) → Noted ≡ reply → is_fed_by session.number p ≡ true → IsServersStep w p (Title session.number text) reply
@@ -100,7 +101,7 @@ module _ (core w : World) (for : StandsFor core w) where
       -- a block
       module _ (block : List ℕ) where
         abbrev grown : Session
-        grown = longer block w.house.time session
+        grown = longer block w.station.time session
 
         longer_rises : HasRisingStarts grown
         longer_rises = rising_more session.stream.starts (end_of session.stream) (end_of grown.stream) (omega (arith, length-append session.stream.bytes block)) rises
@@ -108,11 +109,11 @@ module _ (core w : World) (for : StandsFor core w) where
         same_end : end_in p.session ≡ end_of session.stream
         same_end = ap end_in its ∙ kept_end queue session.stream rises
 
-        fed_now : (part_fed queue w.house.time block p).session ≡ Some (kept_session queue grown)
-        fed_now = ap (option_map (longer_kept queue block w.house.time)) its
+        fed_now : (part_fed queue w.station.time block p).session ≡ Some (kept_session queue grown)
+        fed_now = ap (option_map (longer_kept queue block w.station.time)) its
             ∙ ap (λ (stream : WholeStream). Some (record grown { stream = stream })) (kept_more queue session.stream block rises)
 
-        ends : end_in (part_fed queue w.house.time block p).session ≡ end_of grown.stream
+        ends : end_in (part_fed queue w.station.time block p).session ≡ end_of grown.stream
         ends = ap end_in fed_now ∙ kept_end queue grown.stream (longer_rises)
 
         attached_later : (id : ℕ) → place_in (find (is_attached id) (filter (λ row. not (lags (end_of grown.stream) queue row)) p.attachments))
@@ -146,7 +147,7 @@ module _ (core w : World) (for : StandsFor core w) where
                     by_test false true e same = cc
 
         -- the policy denies it exactly if the stream would have more bytes than can be counted
-        verdict_is : (b : Bool) → is_spent_with block p ≡ b → verdict_in (rows_to_push w.house p.mount block) ≡ (if b then Denied NumbersSpent else Allow)
+        verdict_is : (b : Bool) → is_spent_with block p ≡ b → verdict_in (rows_to_push w.station p.mount block) ≡ (if b then Denied NumbersSpent else Allow)
         verdict_is b e = ap (λ (x : Bool). if x then Denied NumbersSpent else Allow)
             (ap (λ (found : Option Session). nat_lt largest_number (end_in found + length block)) live
             ∙ sym (ap (λ (n : ℕ). nat_lt largest_number (n + length block)) same_end) ∙ e)
@@ -164,7 +165,7 @@ module _ (core w : World) (for : StandsFor core w) where
           there = subst (λ (later : World). IsLeftAlone (λ mount. bytes_eq mount p.mount) w later) (sym same) alone;
         } where
           lagged : MountPart
-          lagged = part_lagged (end_in (part_fed queue w.house.time block p).session) queue (part_fed queue w.house.time block p)
+          lagged = part_lagged (end_in (part_fed queue w.station.time block p).session) queue (part_fed queue w.station.time block p)
 
           denied : outcome w (Push session.number block) ≡ on_verdict (Denied NumbersSpent) Nothing (takes_in p.mount block)
           denied = judged w s (whole p) (of_whole p) session live block
@@ -182,37 +183,37 @@ module _ (core w : World) (for : StandsFor core w) where
           replied = sym (noted ∙ is);
           here = subst (PartStands (world_after w (Push session.number block)))
               (sym (ap (λ (b : Bool). if b then (if is_spent_with block p then p else lagged) else p) fed ∙ ap (λ (b : Bool). if b then p else lagged) room))
-              (has_then core w for (Push session.number block) p lagged (part_received queue w.house.time block (whole p)) refl step.here
-              (fed_now ∙ sym (ap (λ (found : Option Session). option_map (kept_session queue) (option_map (longer block w.house.time) found)) live))
+              (has_then core w for (Push session.number block) p lagged (part_received queue w.station.time block (whole p)) refl step.here
+              (fed_now ∙ sym (ap (λ (found : Option Session). option_map (kept_session queue) (option_map (longer block w.station.time) found)) live))
               (λ id. ap (λ (n : ℕ). place_in (find (is_attached id) (filter (λ row. not (lags n queue row)) p.attachments))) ends
               ∙ attached_later id
               ∙ sym (ap (λ (found : Option Session). option_map place_of (seat_at p.mount
-              (with_ended w.seats (lags_behind p.mount (end_in (option_map (longer block w.house.time) found)) queue) Lagged) id)) live))
+              (with_ended w.seats (lags_behind p.mount (end_in (option_map (longer block w.station.time) found)) queue) Lagged) id)) live))
               (in_order_filtered _ p.attachments stands.once));
           there = step.there;
         } where
           lagged : MountPart
-          lagged = part_lagged (end_in (part_fed queue w.house.time block p).session) queue (part_fed queue w.house.time block p)
+          lagged = part_lagged (end_in (part_fed queue w.station.time block p).session) queue (part_fed queue w.station.time block p)
 
-          allowed : verdict_in (rows_to_push w.house p.mount block) ≡ Allow
+          allowed : verdict_in (rows_to_push w.station p.mount block) ≡ Allow
           allowed = verdict_is false room
 
           noted : reply_to w (Push session.number block) ≡ Noted
           noted = ap (λ (o : Outcome). o.reply) (judged w s (whole p) (of_whole p) session live block
               ∙ ap (λ (verdict : Verdict). on_verdict verdict Nothing (takes_in p.mount block)) allowed)
 
-          step : IsPartsStep w (world_after w (Push session.number block)) (whole p) (part_received queue w.house.time block (whole p))
+          step : IsPartsStep w (world_after w (Push session.number block)) (whole p) (part_received queue w.station.time block (whole p))
           step = parts_receive w s (whole p) (of_whole p) session live block noted
 
   -- whatever the part answers by itself
   fed_session : (p : MountPart) → PartStands w p → (id : ℕ) → is_fed_by id p ≡ true
-      → (session : Session) × (session_of w.house.live p.mount ≡ Some session) × (session.number ≡ id)
-  fed_session p stands id fed = by_found (session_of w.house.live p.mount) refl (sym (ap fed_in stands.session) ∙ fed) where
+      → (session : Session) × (session_of w.station.live p.mount ≡ Some session) × (session.number ≡ id)
+  fed_session p stands id fed = by_found (session_of w.station.live p.mount) refl (sym (ap fed_in stands.session) ∙ fed) where
     fed_in : Option Session → Bool
     fed_in found = option_map_or (λ (session : Session). session.number == id) found false
 
-    by_found : (found : Option Session) → session_of w.house.live p.mount ≡ found → fed_in (option_map (kept_session queue) found) ≡ true
-        → (session : Session) × (session_of w.house.live p.mount ≡ Some session) × (session.number ≡ id)
+    by_found : (found : Option Session) → session_of w.station.live p.mount ≡ found → fed_in (option_map (kept_session queue) found) ≡ true
+        → (session : Session) × (session_of w.station.live p.mount ≡ Some session) × (session.number ≡ id)
     by_found None none h = cc
     by_found (Some session) live h = (session, live, eqb-true session.number id h)
 

@@ -15,27 +15,27 @@ use Rattle.radio_seats_rows.specs.declared.seat.Seating.TheVariants.{Sits as Has
 use Rattle.radio_seats_rows.specs.Seats.{seat_in, seat_held, seat_of, listener_of, with_place, with_ended, finished_if, ended_if, lost_by}
 use Rattle.radio_seats_rows.proofs.SeatLaws.{beside_moved, has_heard}
 use Rattle.radio_seats_rows.proofs.EndLaws.{have_ended}
-use Rattle.radio_parts.specs.Parts.{Part, end_in, part_received, part_titled}
-use Rattle.radio_parts.specs.Sessions.{Session, session_of, longer, with_title}
-use Rattle.radio_parts.specs.Timeouts.{lags_behind}
-use Rattle.radio_parts.proofs.PartLemmas.{found_changed}
+use Rattle.radio_parts_mount.specs.StatePart.{Part, end_in, part_received, part_titled}
+use Rattle.radio_parts_mount.specs.Sessions.{Session, session_of, longer, with_title}
+use Rattle.radio_parts_mount.specs.Timeouts.{lags_behind}
+use Rattle.radio_parts_mount.proofs.PartLemmas.{found_changed}
 use Rattle.radio_events.specs.declared.event.Event.TheVariants.{Push, Title, Draw}
 use Rattle.radio_events.specs.declared.reply.Reply.TheVariants.{Noted, Stray}
-use Rattle.radio_house.specs.declared.standing.Standing.{Standing}
-use Rattle.radio_house.specs.declared.standing.Standing.TheVariants.{Feeds, Sits as IsSitting}
-use Rattle.radio_house.specs.Facts.{rows_to_push}
-use Rattle.radio_house.specs.Waiting.{heard_at, silence_of}
-use Rattle.radio_house.specs.World.{World, standing_of}
-use Rattle.radio_changes.specs.declared.change.Change.TheVariants.{Nothing, Receive, SetTitle, Advance}
-use Rattle.radio_changes.specs.Changes.{changed}
-use Rattle.radio_changes.proofs.PartChanges.{is_taken_in, is_on_air}
-use Rattle.radio_core.specs.declared.outcome.Outcome.{Outcome}
-use Rattle.radio_core.specs.Draw.{hands_out, as_heard, part_draws}
-use Rattle.radio_core.specs.Outcomes.{says, if_sitting, if_feeding, on_verdict}
-use Rattle.radio_core.specs.Push.{takes_in}
+use Rattle.radio_parts_station.specs.declared.standing.Standing.{Standing}
+use Rattle.radio_parts_station.specs.declared.standing.Standing.TheVariants.{Feeds, Sits as IsSitting}
+use Rattle.radio_parts_station.specs.Facts.{rows_to_push}
+use Rattle.radio_parts_station.specs.Waiting.{heard_at, silence_of}
+use Rattle.radio_parts_station.specs.World.{World, standing_of}
+use Rattle.radio_parts_changes.specs.declared.change.Change.TheVariants.{Nothing, Receive, SetTitle, Advance}
+use Rattle.radio_parts_changes.specs.Changes.{changed}
+use Rattle.radio_parts_changes.proofs.PartChanges.{is_taken_in, is_on_air}
+use Rattle.radio_parts.specs.declared.outcome.Outcome.{Outcome}
+use Rattle.radio_parts.specs.Draw.{hands_out, as_heard, part_draws}
+use Rattle.radio_parts.specs.Outcomes.{says, if_sitting, if_feeding, on_verdict}
+use Rattle.radio_parts.specs.Push.{takes_in}
 use Rattle.radio_core.specs.Sound.{IsSound}
-use Rattle.radio_core.specs.Step.{outcome, reply_to, world_after}
-use Rattle.radio_core.proofs.DrawLemmas.{hands_out_at, draws_so}
+use Rattle.radio_parts.specs.Step.{outcome, reply_to, world_after}
+use Rattle.radio_parts.proofs.DrawLemmas.{hands_out_at, draws_so}
 use Rattle.radio_laws.specs.Parts.{seat_if, is_at, seat_at, IsPartOf, part_heard, is_mount_of, IsPartsStep, DrawsByItsPart}
 use Rattle.radio_laws.proofs.LeftAlone.{left_alone}
 
@@ -98,17 +98,17 @@ module _ (w : World) (s : IsSound w) (p : Part) (of : IsPartOf w p) where
     in_state : (seat_of w.seats id ≡ Some seat) × (is_at p.mount seat ≡ true)
     in_state = sits_there p.mount w.seats id seat (sym (of.seats id) ∙ has)
 
-    heard : heard_at w.house seat.mount ≡ (as_heard w.house p).session
-    heard = ap (heard_at w.house) ((bytes_eq-Decides seat.mount p.mount).0 in_state.1)
-        ∙ ap (λ (found : Option Session). option_or found (silence_of w.house p.mount)) of.live
+    heard : heard_at w.station seat.mount ≡ (as_heard w.station p).session
+    heard = ap (heard_at w.station) ((bytes_eq-Decides seat.mount p.mount).0 in_state.1)
+        ∙ ap (λ (found : Option Session). option_or found (silence_of w.station p.mount)) of.live
 
-    handed : outcome w (Draw id room) ≡ part_draws (as_heard w.house p) id room
+    handed : outcome w (Draw id room) ≡ part_draws (as_heard w.station p) id room
     unfolding outcome
     handed =
-        let session = (as_heard w.house p).session in
+        let session = (as_heard w.station p).session in
         draws_so w id room
-        ∙ ap (λ (standing : Standing). if_sitting standing (hands_out_at w.house id room (seat_of w.seats id))) (s.sitting id seat in_state.0)
-        ∙ ap (hands_out_at w.house id room) in_state.0 ∙ ap (hands_out id seat room) heard
+        ∙ ap (λ (standing : Standing). if_sitting standing (hands_out_at w.station id room (seat_of w.seats id))) (s.sitting id seat in_state.0)
+        ∙ ap (hands_out_at w.station id room) in_state.0 ∙ ap (hands_out id seat room) heard
         ∙ sym (ap (λ (found : Option Seat). option_map_or (λ his. hands_out id his room session) found (says Stray Nothing)) in_part.0)
 
     seat_heard : (place other : ℕ) → seat_at p.mount (with_place p.listeners id place) other ≡ seat_at p.mount (with_place w.seats id place) other
@@ -143,10 +143,10 @@ module _ (w : World) (s : IsSound w) (p : Part) (of : IsPartOf w p) where
   -- a block
   module _ (block : List ℕ) where
     abbrev queue : ℕ
-    queue = w.house.settings.limits.queue_size
+    queue = w.station.settings.limits.queue_size
 
     abbrev longer_now : Option Session → Option Session
-    longer_now session = option_map (longer block w.house.time) session
+    longer_now session = option_map (longer block w.station.time) session
 
     abbrev in_state_at : ℕ → ℕ → Option Seat
     in_state_at end id = seat_at p.mount (with_ended w.seats (lags_behind p.mount end queue) Lagged) id
@@ -157,10 +157,10 @@ module _ (w : World) (s : IsSound w) (p : Part) (of : IsPartOf w p) where
         ∙ ap (seat_if (λ seat. not (lags_behind p.mount end queue seat))) (of.seats id)
         ∙ sym (those_kept p.mount (lags_behind p.mount end queue) w.seats id)
 
-    received : IsPartOf (changed w (Receive p.mount block)) (part_received queue w.house.time block p)
+    received : IsPartOf (changed w (Receive p.mount block)) (part_received queue w.station.time block p)
     received = record {
-      live = ap (λ (later : World). session_of later.house.live p.mount) (is_taken_in w p.mount block)
-          ∙ found_changed w.house.live p.mount (longer block w.house.time) (λ x. refl) ∙ ap longer_now of.live;
+      live = ap (λ (later : World). session_of later.station.live p.mount) (is_taken_in w p.mount block)
+          ∙ found_changed w.station.live p.mount (longer block w.station.time) (λ x. refl) ∙ ap longer_now of.live;
       seats = λ id. kept (end_in (longer_now p.session)) id
           ∙ ap (λ (found : Option Session). in_state_at (end_in (longer_now found)) id) (sym of.live);
     }
@@ -168,8 +168,8 @@ module _ (w : World) (s : IsSound w) (p : Part) (of : IsPartOf w p) where
   -- a title
   on_the_air : (text : List ℕ) → IsPartOf (changed w (SetTitle p.mount text)) (part_titled text p)
   on_the_air text = record {
-    live = ap (λ (later : World). session_of later.house.live p.mount) (is_on_air w p.mount text)
-        ∙ found_changed w.house.live p.mount (with_title (Some text)) (λ x. refl) ∙ ap (option_map (with_title (Some text))) of.live;
+    live = ap (λ (later : World). session_of later.station.live p.mount) (is_on_air w p.mount text)
+        ∙ found_changed w.station.live p.mount (with_title (Some text)) (λ x. refl) ∙ ap (option_map (with_title (Some text))) of.live;
     seats = of.seats;
   }
 
@@ -192,10 +192,10 @@ module _ (w : World) (s : IsSound w) (p : Part) (of : IsPartOf w p) where
         cc
 
     -- what the policy says to its block
-    pub judged : (block : List ℕ) → outcome w (Push session.number block) ≡ on_verdict (verdict_in (rows_to_push w.house p.mount block)) Nothing (takes_in p.mount block)
+    pub judged : (block : List ℕ) → outcome w (Push session.number block) ≡ on_verdict (verdict_in (rows_to_push w.station p.mount block)) Nothing (takes_in p.mount block)
     unfolding outcome
     judged block = ap (λ (standing : Standing).
-        if_feeding standing (λ mount. on_verdict (verdict_in (rows_to_push w.house mount block)) Nothing (takes_in mount block))) feeding
+        if_feeding standing (λ mount. on_verdict (verdict_in (rows_to_push w.station mount block)) Nothing (takes_in mount block))) feeding
 
     -- and its title is noted
     pub noted_title : (text : List ℕ) → outcome w (Title session.number text) ≡ says Noted (SetTitle p.mount text)
@@ -203,16 +203,16 @@ module _ (w : World) (s : IsSound w) (p : Part) (of : IsPartOf w p) where
     noted_title text = ap (λ (standing : Standing). if_feeding standing (λ mount. says Noted (SetTitle mount text))) feeding
 
     pub parts_receive : (block : List ℕ) → reply_to w (Push session.number block) ≡ Noted
-        → IsPartsStep w (world_after w (Push session.number block)) p (part_received w.house.settings.limits.queue_size w.house.time block p)
+        → IsPartsStep w (world_after w (Push session.number block)) p (part_received w.station.settings.limits.queue_size w.station.time block p)
     unfolding outcome reply_to world_after
-    parts_receive block noted = by_verdict (verdict_in (rows_to_push w.house p.mount block)) refl where
-      by_verdict : (verdict : Verdict) → verdict_in (rows_to_push w.house p.mount block) ≡ verdict
-          → IsPartsStep w (world_after w (Push session.number block)) p (part_received w.house.settings.limits.queue_size w.house.time block p)
+    parts_receive block noted = by_verdict (verdict_in (rows_to_push w.station p.mount block)) refl where
+      by_verdict : (verdict : Verdict) → verdict_in (rows_to_push w.station p.mount block) ≡ verdict
+          → IsPartsStep w (world_after w (Push session.number block)) p (part_received w.station.settings.limits.queue_size w.station.time block p)
       by_verdict Allow e =
           let taken : outcome w (Push session.number block) ≡ takes_in p.mount block
           = judged block ∙ ap (λ (verdict : Verdict). on_verdict verdict Nothing (takes_in p.mount block)) e in
           record {
-            here = subst (λ (later : World). IsPartOf later (part_received w.house.settings.limits.queue_size w.house.time block p))
+            here = subst (λ (later : World). IsPartOf later (part_received w.station.settings.limits.queue_size w.station.time block p))
                 (sym (ap (λ (o : Outcome). changed w o.change) taken)) (received block);
             there = left_alone (is_mount_of p) w s (Push session.number block) fed_within nobody_sits;
           }

@@ -22,15 +22,15 @@ use Rattle.radio_settings_values.specs.declared.web.WebPath.{WebPath}
 use Rattle.radio_settings_values.specs.declared.web.WebPath.TheVariants.{IcecastStatus}
 use Rattle.radio_listing.specs.declared.rows.ListedServer.{ListedServer}
 use Rattle.radio_listing.specs.Icecast.{icecast_data, icecast_text}
-use Rattle.radio_core.specs.Pages.{IsShownBy, IsListing, IsAtPath}
-use Rattle.radio_status.specs.Pages.{page_at, server_as}
+use Rattle.radio_parts.specs.Pages.{IsShownBy, IsListing, IsAtPath}
+use Rattle.radio_parts_facts.specs.Pages.{page_at, server_as}
 use Rattle.radio_events.specs.declared.reply.Reply.TheVariants.{Text as SaysText}
 use Rattle.radio_events.specs.declared.text.ReplyText.{ReplyText}
 use Rattle.radio_events.specs.declared.text.ReplyText.TheVariants.{Streams as StreamList}
-use Rattle.radio_status.specs.Listings.{about_row, shown, mount_row, mount_rows, public_row}
-use Rattle.radio_parts.specs.Sessions.{Session}
-use Rattle.radio_core.specs.Step.{reply_to}
-use Rattle.radio_house.specs.World.{World}
+use Rattle.radio_parts_facts.specs.Listings.{about_row, shown, mount_row, mount_rows, public_row}
+use Rattle.radio_parts_mount.specs.Sessions.{Session}
+use Rattle.radio_parts.specs.Step.{reply_to}
+use Rattle.radio_parts_station.specs.World.{World}
 use Rattle.radio_laws.proofs.GrantedLemmas.{IsToldFor, ByShowing, ByDoing}
 use Rattle.radio_laws.proofs.ToldTexts.{told_for}
 use Rattle.radio_laws.specs.Shown.{Seen, seen, is_public, public_live, seen_by_all, body_of, AreAnsweredAlike, AreVisitedAlike, SightIsKept}
@@ -59,13 +59,13 @@ module _ (w : World) (asked : CommandRequest) (listing : Listing) (text : ReplyT
         cc
 
 -- and one for a path of the web site by what is there
-module _ (w : World) (asked : ListenRequest) (path : WebPath) (text : ReplyText) (on : web_path w.house.settings.web asked.mount ≡ Some path) where
+module _ (w : World) (asked : ListenRequest) (path : WebPath) (text : ReplyText) (on : web_path w.station.settings.web asked.mount ≡ Some path) where
   page_so : (event : Event) (told : ReplyText) → IsShownBy w event told → event ≡ Listen asked → page_at w path asked.visit ≡ told
   page_so event told (IsListing other c) e = let other = sym c.is_event ∙ e in cc
   page_so event told (IsAtPath request there is_event is_on) e =
       let one : Listen request ≡ Listen asked = sym is_event ∙ e in
       let same : request ≡ asked = cc in
-      let both : Some there ≡ Some path = sym is_on ∙ ap (λ (r : ListenRequest). web_path w.house.settings.web r.mount) same ∙ on in
+      let both : Some there ≡ Some path = sym is_on ∙ ap (λ (r : ListenRequest). web_path w.station.settings.web r.mount) same ∙ on in
       let it : there ≡ path = cc in
       ap (λ (p : WebPath). page_at w p asked.visit) (sym it) ∙ ap (λ (r : ListenRequest). page_at w there r.visit) (sym same)
 
@@ -101,7 +101,7 @@ module _ (w : World) where
   shown_rows : (live : List Session) → rows_shown (map (mount_row w) live) ≡ map row_seen (map (seen w) (filter (is_public w) live))
   shown_rows [] = refl
   shown_rows (session ∷ live) =
-      shown_at (options_for w.house.settings session.mount).stream.hidden session live (filter (is_public w) live) (shown_rows live)
+      shown_at (options_for w.station.settings session.mount).stream.hidden session live (filter (is_public w) live) (shown_rows live)
 
   abbrev name_shown : Session → Option (List ℕ)
   name_shown session = Some (utf8_lossy session.mount)
@@ -121,7 +121,7 @@ module _ (w : World) where
 
   all_lines : stream_text (mount_rows w) ≡ flat_map (λ (session : Session). session.mount ++ 13 ∷ 10 ∷ []) (public_live w)
   unfolding stream_text
-  all_lines = ap (flat_map stream_line) (shown_rows w.house.live) ∙ lines (public_live w)
+  all_lines = ap (flat_map stream_line) (shown_rows w.station.live) ∙ lines (public_live w)
 
   module _ (named : (rows : List MountRow) → mounts_named (status_data rows) ≡ shown_names rows) where
     pub hidden_are_left_out : HiddenAreLeftOut w
@@ -130,7 +130,7 @@ module _ (w : World) where
         mount_rows w,
         sym (is_told w asked Status text is d),
         named (mount_rows w)
-            ∙ ap (λ (rows : List PublicRow). Some (map (λ (row : PublicRow). Some (utf8_lossy row.mount)) rows)) (shown_rows w.house.live)
+            ∙ ap (λ (rows : List PublicRow). Some (map (λ (row : PublicRow). Some (utf8_lossy row.mount)) rows)) (shown_rows w.station.live)
             ∙ ap (λ (all : List (Option (List ℕ))). Some all) (names (public_live w)),
       );
       streams = λ is. sym (is_told w asked Streams text is d) ∙ ap (λ (bytes : List ℕ). StreamList bytes) all_lines;
@@ -139,25 +139,25 @@ module _ (w : World) where
   module _ (urls : (server : ListedServer) (rows : List MountRow) → urls_told (icecast_data server rows) ≡ shown_urls server.base_url rows) where
     pub hidden_are_not_told_on_the_web : HiddenAreNotToldOnTheWeb w
     hidden_are_not_told_on_the_web asked text is d =
-        let server = server_as w.house.settings asked.visit in (
+        let server = server_as w.station.settings asked.visit in (
           server,
           mount_rows w,
           sym (is_visited w asked IcecastStatus text (is_on w asked.mount IcecastStatus is) d),
           urls server (mount_rows w)
-              ∙ ap (λ (rows : List PublicRow). Some (map (λ (row : PublicRow). Some (utf8_lossy (server.base_url ++ row.mount))) rows)) (shown_rows w.house.live)
+              ∙ ap (λ (rows : List PublicRow). Some (map (λ (row : PublicRow). Some (utf8_lossy (server.base_url ++ row.mount))) rows)) (shown_rows w.station.live)
               ∙ ap (λ (all : List (Option (List ℕ))). Some all) (heard_at server.base_url (public_live w)),
         )
 
 module _ (alike : (rows others : List MountRow) → rows_shown rows ≡ rows_shown others → LookAlike rows others) (w v : World) where
   look_alike : seen_by_all w ≡ seen_by_all v → LookAlike (mount_rows w) (mount_rows v)
-  look_alike same = alike (mount_rows w) (mount_rows v) (shown_rows w w.house.live ∙ ap (map row_seen) same ∙ sym (shown_rows v v.house.live))
+  look_alike same = alike (mount_rows w) (mount_rows v) (shown_rows w w.station.live ∙ ap (map row_seen) same ∙ sym (shown_rows v v.station.live))
 
   visited_alike : seen_by_all w ≡ seen_by_all v → AreVisitedAlike w v
   visited_alike same asked other text said is its visit url address port d e =
       let there = is_on w asked.mount IcecastStatus is in
-      let server : server_as w.house.settings asked.visit ≡ server_as v.house.settings other.visit = rw (visit, url, address, port) refl in
+      let server : server_as w.station.settings asked.visit ≡ server_as v.station.settings other.visit = rw (visit, url, address, port) refl in
       ap body_of (sym (is_visited w asked IcecastStatus text there d))
-      ∙ (look_alike same).icecast (server_as w.house.settings asked.visit)
+      ∙ (look_alike same).icecast (server_as w.station.settings asked.visit)
       ∙ ap (λ (s : ListedServer). icecast_text s (mount_rows v)) server
       ∙ ap body_of (is_visited v other IcecastStatus said (is_on v other.mount IcecastStatus its) e)
 
@@ -167,7 +167,7 @@ module _ (alike : (rows others : List MountRow) → rows_shown rows ≡ rows_sho
     icecast = visited_alike;
     streams = λ same. answered w v Streams (look_alike same).streams;
     stats = λ rows count. answered w v Stats
-        (ap (λ (n : ℕ). stats_text n (mount_rows w)) count ∙ ap (λ (all : List MountRow). stats_text (length v.house.clients) all) rows);
+        (ap (λ (n : ℕ). stats_text n (mount_rows w)) count ∙ ap (λ (all : List MountRow). stats_text (length v.station.clients) all) rows);
     mounts = λ rows. answered w v Mounts (ap (λ (all : List MountRow). mounts_text all) rows);
     listeners = λ mount rows. answered w v (Clients mount) (ap (λ (all : List ListedListener). listeners_text mount all) rows);
   }

@@ -22,7 +22,7 @@ use Rattle.radio_seats_rows.specs.Seats.{is_listener, listener_of, seat_held, se
 use Rattle.radio_seats_rows.specs.Seats.{with_end, without_listener, AreByNumber, SitsAs}
 use Rattle.radio_seats_rows.proofs.Lists.{one, held, passing_removed}
 use Rattle.radio_seats_rows.proofs.SeatLaws.{beside_left, is_no_listener}
-use Rattle.radio_parts.proofs.NumberOrder.{order_left, same_order}
+use Rattle.radio_parts_mount.proofs.NumberOrder.{order_left, same_order}
 use Rattle.radio_fallback.specs.declared.moves.Move.TheVariants.{Ended}
 use Rattle.radio_fallback.specs.declared.moves.MoveEffect.TheVariants.{Stays, GoesTo, IsOut}
 use Rattle.radio_fallback.specs.declared.walking.Landing.TheVariants.{Lands}

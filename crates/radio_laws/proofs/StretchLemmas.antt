@@ -14,23 +14,23 @@ use Rattle.radio_tables.proofs.KeyLaws.{by_number}
 use Rattle.radio_events.specs.declared.event.Event.{Event}
 use Rattle.radio_events.specs.declared.event.Event.TheVariants.{Push, Title}
 use Rattle.radio_laws.proofs.BroughtLemmas.{IsOldOrEmpty, IsOld, IsEmpty, Brought, BringsBlock, BringsTitle, ByCommand, BringsNothing, brought}
-use Rattle.radio_changes.specs.declared.change.Change.TheVariants.{Receive, SetTitle}
-use Rattle.radio_core.specs.declared.outcome.Outcome.{Outcome}
+use Rattle.radio_parts_changes.specs.declared.change.Change.TheVariants.{Receive, SetTitle}
+use Rattle.radio_parts.specs.declared.outcome.Outcome.{Outcome}
 use Rattle.radio_seats_rows.specs.declared.seat.Seat.{Seat}
-use Rattle.radio_house.specs.declared.standing.Standing.TheVariants.{Unknown, Undecided, Feeds}
-use Rattle.radio_house.specs.World.{World, opening, standing_of}
-use Rattle.radio_changes.specs.Changes.{changed}
+use Rattle.radio_parts_station.specs.declared.standing.Standing.TheVariants.{Unknown, Undecided, Feeds}
+use Rattle.radio_parts_station.specs.World.{World, opening, standing_of}
+use Rattle.radio_parts_changes.specs.Changes.{changed}
 use Rattle.radio_core.specs.Handing.{block_in, of_client, handed_at, handed, delivered_at, delivered}
 use Rattle.radio_seats_rows.specs.Seats.{seat_of}
-use Rattle.radio_parts.specs.Sessions.{Session, session_of}
+use Rattle.radio_parts_mount.specs.Sessions.{Session, session_of}
 use Rattle.radio_core.specs.Sound.{IsSound}
-use Rattle.radio_core.specs.Step.{outcome, world_after}
-use Rattle.radio_parts.specs.Stream.{WholeStream, data_at, end_of}
+use Rattle.radio_parts.specs.Step.{outcome, world_after}
+use Rattle.radio_parts_mount.specs.Stream.{WholeStream, data_at, end_of}
 use Rattle.radio_laws.specs.Stretches.{between, Sitting, sitting_in, begun_sittings, sittings, AreStretches, StretchesAreWhole, IsSlice, AreSlices, Cut, cut_behind, cut_at_sittings, StretchesAreCut}
 use Rattle.radio_core.proofs.FinishLemmas.{undecided_before}
 use Rattle.radio_core.proofs.OwnLemmas.{not_of, nothing_of}
 use Rattle.radio_laws.proofs.GoneLemmas.{his_own, with_nothing, last_rises}
-use Rattle.radio_changes.proofs.PartChanges.{is_taken_in}
+use Rattle.radio_parts_changes.proofs.PartChanges.{is_taken_in}
 use Rattle.radio_core.specs.Moves.{moved_into}
 use Rattle.radio_core.proofs.SeatSteps.{seats_step}
 use Rattle.radio_core.specs.Finishes.{Finishes}
@@ -40,9 +40,9 @@ use Rattle.radio_core.proofs.SoundSessions.{grown_cases}
 use Rattle.radio_core.proofs.SoundTitles.{titled_cases}
 use Rattle.radio_laws.proofs.ObeyLemmas.{was_live_then}
 use Rattle.radio_core.proofs.SoundRuns.{sound_after, sound_opening}
-use Rattle.radio_core.proofs.HeardLemmas.{heard_cases}
+use Rattle.radio_parts.proofs.HeardLemmas.{heard_cases}
 use Rattle.radio_laws.proofs.SliceLemmas.{between_grown, between_drawn, between_joined, between_none, cut_joined, joined_slices}
-use Rattle.radio_house.specs.Waiting.{heard_at}
+use Rattle.radio_parts_station.specs.Waiting.{heard_at}
 
 -- a seat in the same session begins no sitting
 begun_same : (old seat : Seat) (b : Bool) → (old.session == seat.session) ≡ b → b ≡ true → (if b then [] else sitting_in seat ∷ []) ≡ []
@@ -62,7 +62,7 @@ abbrev IsCutSo : (ℕ → List ℕ) → Option Seat → List Sitting → Cut ℕ
 IsCutSo sent seat sittings cut = IsNext sent seat cut.before × AreSlices sent sittings cut.each
 
 -- what an event hands out, and does to its seat, goes before what comes then; all that is sent in the end begins with what was sent so far
-module _ (w : World) (s : IsSound w) (sent more : ℕ → List ℕ) (whole : (mount : List ℕ) (session : Session) → heard_at w.house mount ≡ Some session
+module _ (w : World) (s : IsSound w) (sent more : ℕ → List ℕ) (whole : (mount : List ℕ) (session : Session) → heard_at w.station mount ≡ Some session
     → session.stream.bytes ≡ sent session.number) where
   abbrev all : ℕ → List ℕ
   all n = sent n ++ more n
@@ -78,7 +78,7 @@ module _ (w : World) (s : IsSound w) (sent more : ℕ → List ℕ) (whole : (mo
         sym (between_none seat.place (all seat.session)),
       )
 
-  handed_first : (seat : Seat) (session : Session) (room : ℕ) → heard_at w.house seat.mount ≡ Some session → session.number ≡ seat.session
+  handed_first : (seat : Seat) (session : Session) (room : ℕ) → heard_at w.station seat.mount ≡ Some session → session.number ≡ seat.session
       → seat.place + length (data_at session.stream seat.place room) ≤ end_of session.stream → (bytes : List ℕ)
       → IsSlice all (sitting_in (record seat { place = seat.place + length (data_at session.stream seat.place room) })) bytes
       → IsSlice all (sitting_in seat) (data_at session.stream seat.place room ++ bytes)
@@ -132,17 +132,17 @@ module _ (w : World) (s : IsSound w) (sent more : ℕ → List ℕ) (whole : (mo
 -- what was sent so far is what the sessions have
 
 record Sent (w : World) (sent : ℕ → List ℕ) : Type 0 where
-  pub whole : (mount : List ℕ) (session : Session) → session_of w.house.live mount ≡ Some session → session.stream.bytes ≡ sent session.number
+  pub whole : (mount : List ℕ) (session : Session) → session_of w.station.live mount ≡ Some session → session.stream.bytes ≡ sent session.number
   -- nobody has the number 0
   pub by_nobody : sent 0 ≡ []
   pub none_yet : (id : ℕ) (peer : Peer) → standing_of w id ≡ Undecided peer → sent id ≡ []
-  pub none_above : (id : ℕ) → w.house.last_id < id → sent id ≡ []
+  pub none_above : (id : ℕ) → w.station.last_id < id → sent id ≡ []
 
 -- so is what is heard at a mount that waits: nothing
-whole_heard : (w : World) (sent : ℕ → List ℕ) → Sent w sent → (mount : List ℕ) (session : Session) → heard_at w.house mount ≡ Some session
+whole_heard : (w : World) (sent : ℕ → List ℕ) → Sent w sent → (mount : List ℕ) (session : Session) → heard_at w.station mount ≡ Some session
     → session.stream.bytes ≡ sent session.number
 whole_heard w sent h mount session hears =
-    heard_cases w.house mount session hears (h.whole mount session)
+    heard_cases w.station mount session hears (h.whole mount session)
     (λ none silent. subst (λ (x : Session). x.stream.bytes ≡ sent x.number) silent (sym h.by_nobody))
 
 module _ (w : World) (s : IsSound w) (sent : ℕ → List ℕ) (h : Sent w sent) where
@@ -156,10 +156,10 @@ module _ (w : World) (s : IsSound w) (sent : ℕ → List ℕ) (h : Sent w sent)
   brings_nothing event o (BringsNothing _ _ no_block no_title live) id not = nothing_of event id (block_in o.change) no_block
 
   whole_now : Event → Outcome → Type 0
-  whole_now event o = (mount : List ℕ) (session : Session) → session_of (changed w o.change).house.live mount ≡ Some session
+  whole_now event o = (mount : List ℕ) (session : Session) → session_of (changed w o.change).station.live mount ≡ Some session
       → session.stream.bytes ≡ sent session.number ++ of_client event session.number (block_in o.change)
 
-  as_it_was : (event : Event) (mount : List ℕ) (session : Session) → session_of w.house.live mount ≡ Some session
+  as_it_was : (event : Event) (mount : List ℕ) (session : Session) → session_of w.station.live mount ≡ Some session
       → session.stream.bytes ≡ sent session.number ++ of_client event session.number []
   as_it_was event mount session live = h.whole mount session live ∙ with_nothing (sent session.number) (of_client event session.number [])
       (nothing_of event session.number [] refl)
@@ -171,10 +171,10 @@ module _ (w : World) (s : IsSound w) (sent : ℕ → List ℕ) (h : Sent w sent)
   whole_so_far session (IsEmpty no_data no_title (inr above)) = no_data ∙ sym (h.none_above session.number above)
 
   grown_whole : (him : ℕ) (mount block : List ℕ) → standing_of w him ≡ Feeds mount → (other : List ℕ) (now : Session)
-      → session_of (changed w (Receive mount block)).house.live other ≡ Some now
+      → session_of (changed w (Receive mount block)).station.live other ≡ Some now
       → now.stream.bytes ≡ sent now.number ++ of_client (Push him block) now.number block
   grown_whole him mount block feeding other now e =
-      grown_cases w s mount block other now (ap (λ (later : World). session_of later.house.live other) (sym (is_taken_in w mount block)) ∙ e)
+      grown_cases w s mount block other now (ap (λ (later : World). session_of later.station.live other) (sym (is_taken_in w mount block)) ∙ e)
       (λ session same found one. subst (λ (x : Session). x.stream.bytes ≡ sent x.number ++ of_client (Push him block) x.number block) one
       (here session found))
       (λ apart found.
@@ -184,8 +184,8 @@ module _ (w : World) (s : IsSound w) (sent : ℕ → List ℕ) (h : Sent w sent)
       (λ same. let both : Feeds mount ≡ Feeds other = sym feeding ∙ ap (standing_of w) same ∙ s.fed other now found in let one : mount ≡ other =
       cc in let there : bytes_eq mount other ≡ true = (bytes_eq-Decides mount other).1 one in cc)
       (λ away. not_of (Push him block) now.number block away)))
-      (λ none. let ours = s.feeds him mount feeding in let found : session_of w.house.live mount ≡ Some ours.0 = ours.1 in cc) where
-        here : (session : Session) → session_of w.house.live mount ≡ Some session
+      (λ none. let ours = s.feeds him mount feeding in let found : session_of w.station.live mount ≡ Some ours.0 = ours.1 in cc) where
+        here : (session : Session) → session_of w.station.live mount ≡ Some session
             → session.stream.bytes ++ block ≡ sent session.number ++ of_client (Push him block) session.number block
         here session found =
             let ours = s.feeds him mount feeding in
@@ -196,7 +196,7 @@ module _ (w : World) (s : IsSound w) (sent : ℕ → List ℕ) (h : Sent w sent)
             ap (λ xs. xs ++ block) (h.whole mount session found) ∙ ap (λ xs. sent session.number ++ xs) (his_own (him == session.number) block itself)
 
   titled_whole : (him : ℕ) (mount text : List ℕ) → standing_of w him ≡ Feeds mount → (other : List ℕ) (now : Session)
-      → session_of (changed w (SetTitle mount text)).house.live other ≡ Some now
+      → session_of (changed w (SetTitle mount text)).station.live other ≡ Some now
       → now.stream.bytes ≡ sent now.number ++ of_client (Title him text) now.number []
   titled_whole him mount text feeding other now e =
       titled_cases w s mount text him feeding other now e
@@ -224,13 +224,13 @@ module _ (w : World) (s : IsSound w) (sent : ℕ → List ℕ) (h : Sent w sent)
     none_yet = none_yet;
     none_above = λ id high.
         let low = last_rises w s event in
-        let above : w.house.last_id < id = omega (arith, low, high) in
+        let above : w.station.last_id < id = omega (arith, low, high) in
         nothing id (h.none_above id above) (λ mount f. let unknown : standing_of w id ≡ Unknown = s.numbered id above in cc);
   } where
     nothing : (id : ℕ) → sent id ≡ [] → ((mount : List ℕ) → standing_of w id ≡ Feeds mount → ⊥) → sent id ++ delivered_at w event id ≡ []
     nothing id none not = ap (λ xs. xs ++ delivered_at w event id) none ∙ brings_nothing event (outcome w event) (brought w s event) id not
 
-    by_before : (id : ℕ) (peer : Peer) → (standing_of w id ≡ Undecided peer) ⊎ ((w.house.last_id < id) × (passes w.house.lists peer ≡ true))
+    by_before : (id : ℕ) (peer : Peer) → (standing_of w id ≡ Undecided peer) ⊎ ((w.station.last_id < id) × (passes w.station.lists peer ≡ true))
         → sent id ++ delivered_at w event id ≡ []
     by_before id peer (inl before) = nothing id (h.none_yet id peer before) (λ mount f. cc)
     by_before id peer (inr new) = nothing id (h.none_above id new.0) (λ mount f. let unknown : standing_of w id ≡ Unknown = s.numbered id new.0 in cc)

@@ -11,17 +11,17 @@ use Rattle.radio_fallback.specs.declared.moves.Move.{Move}
 use Rattle.radio_fallback.specs.declared.moves.Move.TheVariants.{Ended as SessionEnds, To}
 use Rattle.radio_fallback.specs.declared.walking.Landing.TheVariants.{Lands}
 use Rattle.radio_fallback.specs.Carry.{carried}
-use Rattle.radio_parts.specs.Sessions.{Session, session_of}
-use Rattle.radio_parts.specs.Stream.{data_at}
-use Rattle.radio_parts.specs.Timeouts.{lags_behind}
-use Rattle.radio_house.specs.Facts.{sight_of, walks_to}
-use Rattle.radio_house.specs.House.{House}
-use Rattle.radio_house.specs.HouseChanges.{begun, raised}
-use Rattle.radio_house.specs.Outsiders.{is_shut_out}
-use Rattle.radio_house.specs.Streams.{shown_for}
-use Rattle.radio_house.specs.Waiting.{heard_at}
-use Rattle.radio_house.specs.declared.standing.Standing.TheVariants.{Undecided}
-use Rattle.radio_house.specs.World.{World, world, standing_of}
+use Rattle.radio_parts_mount.specs.Sessions.{Session, session_of}
+use Rattle.radio_parts_mount.specs.Stream.{data_at}
+use Rattle.radio_parts_mount.specs.Timeouts.{lags_behind}
+use Rattle.radio_parts_station.specs.Facts.{sight_of, walks_to}
+use Rattle.radio_parts_station.specs.StationState.{StationState}
+use Rattle.radio_parts_station.specs.StationChanges.{begun, raised}
+use Rattle.radio_parts_station.specs.Outsiders.{is_shut_out}
+use Rattle.radio_parts_station.specs.Streams.{shown_for}
+use Rattle.radio_parts_station.specs.Waiting.{heard_at}
+use Rattle.radio_parts_station.specs.declared.standing.Standing.TheVariants.{Undecided}
+use Rattle.radio_parts_station.specs.World.{World, world, standing_of}
 use Rattle.radio_events.specs.declared.command.Command.{Command as TheCommand}
 use Rattle.radio_events.specs.declared.command.Command.TheVariants.{MoveClients, KillClient, KillSource, SetTitle as NewTitle}
 use Rattle.radio_events.specs.declared.command.Command.TheVariants.{SetFallback, AddUser, DeleteUser}
@@ -29,17 +29,17 @@ use Rattle.radio_events.specs.declared.event.Event.{Event}
 use Rattle.radio_events.specs.declared.event.Event.TheVariants.{Clock}
 use Rattle.radio_events.specs.declared.event.ListenRequest.{ListenRequest}
 use Rattle.radio_events.specs.declared.reply.Reply.TheVariants.{Noted}
-use Rattle.radio_changes.specs.declared.change.Change.{Change}
-use Rattle.radio_changes.specs.declared.change.Change.TheVariants.{Obey}
-use Rattle.radio_changes.specs.Changes.{answered, changed, session_over, session_ended, called_home, session_killed, user_added, user_deleted, ticked}
-use Rattle.radio_core.specs.declared.outcome.Outcome.{Outcome}
-use Rattle.radio_core.specs.Closing.{Closes, OfClient, OfRelay}
-use Rattle.radio_core.specs.Listen.{first_seat}
-use Rattle.radio_core.specs.Outcomes.{says}
-use Rattle.radio_core.specs.Step.{outcome, reply_to, world_after}
-use Rattle.radio_core.specs.Ways.{Way, Misplaced, IsFinished, IsDenied, IsRefused, IsAdmitted, Begins, ComesUp, Receives, SetsTitle, TakesSeat, HandsOut, Ends}
-use Rattle.radio_core.specs.Ways.{EndsAndLeaves, Leaves, GoesDown, Obeys, Shows, HasPassed, Ticks}
-use Rattle.radio_core.proofs.Ways.{way_of}
+use Rattle.radio_parts_changes.specs.declared.change.Change.{Change}
+use Rattle.radio_parts_changes.specs.declared.change.Change.TheVariants.{Obey}
+use Rattle.radio_parts_changes.specs.Changes.{answered, changed, session_over, session_ended, called_home, session_killed, user_added, user_deleted, ticked}
+use Rattle.radio_parts.specs.declared.outcome.Outcome.{Outcome}
+use Rattle.radio_parts.specs.Closing.{Closes, OfClient, OfRelay}
+use Rattle.radio_parts.specs.Listen.{first_seat}
+use Rattle.radio_parts.specs.Outcomes.{says}
+use Rattle.radio_parts.specs.Step.{outcome, reply_to, world_after}
+use Rattle.radio_parts.specs.Ways.{Way, Misplaced, IsFinished, IsDenied, IsRefused, IsAdmitted, Begins, ComesUp, Receives, SetsTitle, TakesSeat, HandsOut, Ends}
+use Rattle.radio_parts.specs.Ways.{EndsAndLeaves, Leaves, GoesDown, Obeys, Shows, HasPassed, Ticks}
+use Rattle.radio_parts.proofs.Ways.{way_of}
 use Rattle.radio_laws.specs.Gone.{Leaving, AsClient, AsRelay}
 
 pub data TableStep (w : World) (event : Event) : List Listener → Type 0 where
@@ -49,15 +49,15 @@ pub data TableStep (w : World) (event : Event) : List Listener → Type 0 where
   AreEnded : (p : Seat → Bool) (rule : Rule) → TableStep w event (with_ended w.seats p rule)
   -- one loses its seat
   IsEnded : (him : ℕ) (rule : Rule) → TableStep w event (with_end w.seats him rule)
-  -- a move carries listeners, in a house of the same settings
-  AreCarried : (house : House) (move : Move) → house.settings ≡ w.house.settings → TableStep w event (carried (sight_of house) move w.seats).seats
+  -- a move carries listeners, in a station of the same settings
+  AreCarried : (station : StationState) (move : Move) → station.settings ≡ w.station.settings → TableStep w event (carried (sight_of station) move w.seats).seats
   -- those at the mount are given a session that has begun there, and then others are called home, where it calls them
-  AreGiven : (house : House) (mount : List ℕ) (session : ℕ) → house.settings ≡ w.house.settings
-      → TableStep w event (called_home (world house (with_session_at w.seats mount session)) mount).seats
+  AreGiven : (station : StationState) (mount : List ℕ) (session : ℕ) → station.settings ≡ w.station.settings
+      → TableStep w event (called_home (world station (with_session_at w.seats mount session)) mount).seats
   -- one sits down where its walk lands
   SitsDown : (asked : ListenRequest) (peer : Peer) (session : Session) → standing_of w asked.id ≡ Undecided peer
-      → walks_to w.house w.seats asked.mount asked.pair ≡ Lands session.mount → heard_at w.house session.mount ≡ Some session
-      → TableStep w event (with_seat w.seats asked.id (first_seat w.house asked peer session))
+      → walks_to w.station w.seats asked.mount asked.pair ≡ Lands session.mount → heard_at w.station session.mount ≡ Some session
+      → TableStep w event (with_seat w.seats asked.id (first_seat w.station asked peer session))
   -- one is handed data, and its place moves on
   IsHanded : (him place : ℕ) (seat : Seat) → seat_of w.seats him ≡ Some seat → TableStep w event (with_place w.seats him place)
   -- one who leaves has no row any more
@@ -76,18 +76,18 @@ module _ (w : World) where
 
   killed : (event : Event) (him : ℕ) (found : Option Session) → TableStep w event (session_killed (answered w him) found).seats
   killed event him None = IsUntouched
-  killed event him (Some session) = AreCarried (session_over (answered w him) session.mount).house (SessionEnds session.mount) refl
+  killed event him (Some session) = AreCarried (session_over (answered w him) session.mount).station (SessionEnds session.mount) refl
 
   by_command : (event : Event) (him : ℕ) (command : TheCommand) → TableStep w event (changed w (Obey him command)).seats
-  by_command event him (MoveClients mount destination) = AreCarried (answered w him).house (To mount destination) refl
+  by_command event him (MoveClients mount destination) = AreCarried (answered w him).station (To mount destination) refl
   by_command event him (KillClient mount listener) = IsEnded listener Killed
-  by_command event him (KillSource mount) = killed event him (session_of w.house.live mount)
+  by_command event him (KillSource mount) = killed event him (session_of w.station.live mount)
   by_command event him (NewTitle mount text) = IsUntouched
   by_command event him (SetFallback mount fallback) = IsUntouched
   by_command event him (AddUser mount user password) =
-      AreEnded (is_shut_out (user_added (answered w him) mount user password).house.lists mount) ListenerPassword
+      AreEnded (is_shut_out (user_added (answered w him) mount user password).station.lists mount) ListenerPassword
   by_command event him (DeleteUser mount user) =
-      AreEnded (is_shut_out (user_deleted (answered w him) mount user).house.lists mount) ListenerPassword
+      AreEnded (is_shut_out (user_deleted (answered w him) mount user).station.lists mount) ListenerPassword
 
   by_way : (event : Event) (o : Outcome) → Way w event o → outcome w event ≡ o → TableStep w event (changed w o.change).seats
   by_way event o (Misplaced _) is = IsUntouched
@@ -96,15 +96,15 @@ module _ (w : World) where
   by_way event o (IsRefused _ him rule v its undecided) is = IsUntouched
   by_way event o (IsAdmitted peer allowed) is = IsUntouched
   by_way event o (Begins asked undecided none allowed) is =
-      AreGiven (begun w.house asked.id asked.mount (shown_for w.house asked.mount asked.shown)) asked.mount asked.id refl
+      AreGiven (begun w.station asked.id asked.mount (shown_for w.station asked.mount asked.shown)) asked.mount asked.id refl
   by_way event o (ComesUp mount shown unfed allowed) is =
-      AreGiven (raised w.house (w.house.last_id + 1) mount (shown_for w.house mount shown)) mount (w.house.last_id + 1) refl
-  by_way event o (Receives him mount block feeding) is = AreEnded (lags_behind mount _ w.house.settings.limits.queue_size) Lagged
+      AreGiven (raised w.station (w.station.last_id + 1) mount (shown_for w.station mount shown)) mount (w.station.last_id + 1) refl
+  by_way event o (Receives him mount block feeding) is = AreEnded (lags_behind mount _ w.station.settings.limits.queue_size) Lagged
   by_way event o (SetsTitle him mount text feeding) is = IsUntouched
   by_way event o (TakesSeat asked peer session undecided lands live allowed) is = SitsDown asked peer session undecided lands live
   by_way event o (HandsOut him room seat session sits has live) is =
       IsHanded him (seat.place + length (data_at session.stream seat.place room)) seat has
-  by_way event o (Ends him mount feeding no_relay) is = AreCarried (session_over w mount).house (SessionEnds mount) refl
+  by_way event o (Ends him mount feeding no_relay) is = AreCarried (session_over w mount).station (SessionEnds mount) refl
   by_way event o (EndsAndLeaves _ him mount closes feeding) is = SourceIsGone him mount (leaves_by event him o.change closes is)
   by_way event o (Leaves him no_relay other) is = IsGone him (AsClient no_relay)
   by_way event o (GoesDown him rule relay told) is = IsGone him (leaves_by event him o.change (OfRelay relay) is)

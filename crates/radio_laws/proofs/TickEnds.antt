@@ -8,18 +8,18 @@ use Rattle.radio_seats_rows.specs.declared.seat.Seat.{Seat}
 use Rattle.radio_seats_rows.specs.Seats.{seat_of}
 use Rattle.radio_fallback.specs.declared.moves.Move.TheVariants.{Ended as SessionEnds}
 use Rattle.radio_events.specs.declared.event.Event.TheVariants.{Clock}
-use Rattle.radio_parts.specs.Sessions.{Session, session_of}
-use Rattle.radio_parts.specs.Stream.{end_of}
-use Rattle.radio_parts.specs.Timeouts.{has_sat_out, is_silent}
-use Rattle.radio_parts.proofs.SessionLookups.{is_over}
-use Rattle.radio_house.specs.Waiting.{is_on_demand}
-use Rattle.radio_house.specs.World.{World}
-use Rattle.radio_changes.specs.declared.change.Change.TheVariants.{Nothing, Tick}
-use Rattle.radio_changes.specs.Changes.{changed, session_over, session_ended, before_silence, session_silenced, silent_in, ticked}
+use Rattle.radio_parts_mount.specs.Sessions.{Session, session_of}
+use Rattle.radio_parts_mount.specs.Stream.{end_of}
+use Rattle.radio_parts_mount.specs.Timeouts.{has_sat_out, is_silent}
+use Rattle.radio_parts_mount.proofs.SessionLookups.{is_over}
+use Rattle.radio_parts_station.specs.Waiting.{is_on_demand}
+use Rattle.radio_parts_station.specs.World.{World}
+use Rattle.radio_parts_changes.specs.declared.change.Change.TheVariants.{Nothing, Tick}
+use Rattle.radio_parts_changes.specs.Changes.{changed, session_over, session_ended, before_silence, session_silenced, silent_in, ticked}
 use Rattle.radio_core.specs.Moves.{Brings, BySilence}
 use Rattle.radio_core.specs.Sound.{IsSound}
-use Rattle.radio_core.specs.Step.{outcome, world_after}
-use Rattle.radio_core.proofs.HeardLemmas.{heard_cases}
+use Rattle.radio_parts.specs.Step.{outcome, world_after}
+use Rattle.radio_parts.proofs.HeardLemmas.{heard_cases}
 use Rattle.radio_core.proofs.TickLemmas.{timed, fates_sat_out, fates_silence, IsOnTheWay, at_first, goes_on}
 use Rattle.radio_laws.specs.Outstaying.{IsInTime, IsEndedInOrder, NobodyOutstays}
 use Rattle.radio_laws.specs.Users.{SittersAreLetIn}
@@ -31,7 +31,7 @@ use Rattle.radio_laws.proofs.WalkingOnLemmas.{walk_on}
 
 module _ (w : World) (s : IsSound w) (l : Within w) (let_in : SittersAreLetIn w) (ms : ℕ) where
   -- a relay feeds its mount on demand
-  module _ (id : ℕ) (seat : Seat) (on_demand : is_on_demand w.house.settings seat.mount ≡ true) where
+  module _ (id : ℕ) (seat : Seat) (on_demand : is_on_demand w.station.settings seat.mount ≡ true) where
     -- its seat when it waits
     abbrev waiting : Seat
     waiting = record seat { session = 0; place = 0 }
@@ -51,11 +51,11 @@ module _ (w : World) (s : IsSound w) (l : Within w) (let_in : SittersAreLetIn w)
       waits_there now at there has =
           let over = session_over during session.mount in
           let fares = walk_on w s l let_in (Clock ms) (SessionEnds session.mount) over brings id now has in
-          let waits : is_on_demand over.house.settings session.mount ≡ true =
-          ap (λ (settings : Settings). is_on_demand settings session.mount) way.so_far.settings ∙ ap (is_on_demand w.house.settings) (sym there) ∙ on_demand in
+          let waits : is_on_demand over.station.settings session.mount ≡ true =
+          ap (λ (settings : Settings). is_on_demand settings session.mount) way.so_far.settings ∙ ap (is_on_demand w.station.settings) (sym there) ∙ on_demand in
           let goes = fares.goes session.mount (fares.waits session.mount refl at waits) in
-          heard_cases over.house session.mount goes.0 goes.1
-          (λ live. let none : session_of over.house.live session.mount ≡ None = is_over during.house.live session.mount in cc)
+          heard_cases over.station session.mount goes.0 goes.1
+          (λ live. let none : session_of over.station.live session.mount ≡ None = is_over during.station.live session.mount in cc)
           (λ none silent.
           goes.2
           ∙ ap (λ (x : Session). Some (record now { mount = session.mount; session = x.number; place = end_of x.stream })) (sym silent)
@@ -75,8 +75,8 @@ module _ (w : World) (s : IsSound w) (l : Within w) (let_in : SittersAreLetIn w)
     keeps (session ∷ sessions) during way holds =
         keeps sessions (session_silenced during session) (goes_on w s ms session sessions during way) (after_silence session sessions during way holds)
 
-    waits_on : (session : Session) → seat_of w.seats id ≡ Some seat → has_sat_out w.house.settings ms seat ≡ false
-        → session_of w.house.live seat.mount ≡ Some session → is_silent w.house.settings.limits.source_timeout ms session ≡ true
+    waits_on : (session : Session) → seat_of w.seats id ≡ Some seat → has_sat_out w.station.settings ms seat ≡ false
+        → session_of w.station.live seat.mount ≡ Some session → is_silent w.station.settings.limits.source_timeout ms session ≡ true
         → seat_of (ticked w ms).seats id ≡ Some waiting
     waits_on session has not_out live silent =
         by_end (keeps (silent_in (before_silence w ms)) (before_silence w ms) (at_first w s ms) (inl (sits_at_first w s ms id seat has not_out))) where

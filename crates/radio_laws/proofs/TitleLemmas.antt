@@ -20,18 +20,18 @@ use Rattle.radio_events.specs.declared.command.Command.TheVariants.{AddUser, Del
 use Rattle.radio_events.specs.declared.event.Event.{Event}
 use Rattle.radio_events.specs.declared.event.Event.TheVariants.{Push, Title}
 use Rattle.radio_laws.proofs.BroughtLemmas.{sets, IsOldOrEmpty, IsOld, IsEmpty, Brought, BringsBlock, BringsTitle, ByCommand, BringsNothing, brought}
-use Rattle.radio_changes.specs.declared.change.Change.TheVariants.{Receive, SetTitle}
-use Rattle.radio_core.specs.declared.outcome.Outcome.{Outcome}
-use Rattle.radio_house.specs.declared.standing.Standing.TheVariants.{Unknown, Undecided, Feeds}
-use Rattle.radio_house.specs.World.{World, opening, standing_of}
-use Rattle.radio_changes.specs.Changes.{answered, changed, session_killed}
-use Rattle.radio_core.specs.Command.{obeys as obeys_it}
-use Rattle.radio_core.specs.Allowed.{IsCommanded}
+use Rattle.radio_parts_changes.specs.declared.change.Change.TheVariants.{Receive, SetTitle}
+use Rattle.radio_parts.specs.declared.outcome.Outcome.{Outcome}
+use Rattle.radio_parts_station.specs.declared.standing.Standing.TheVariants.{Unknown, Undecided, Feeds}
+use Rattle.radio_parts_station.specs.World.{World, opening, standing_of}
+use Rattle.radio_parts_changes.specs.Changes.{answered, changed, session_killed}
+use Rattle.radio_parts.specs.Command.{obeys as obeys_it}
+use Rattle.radio_parts.specs.Allowed.{IsCommanded}
 use Rattle.radio_core.specs.Handing.{is_number, of_client}
 use Rattle.radio_core.specs.Run.{world_after_all, run_after}
-use Rattle.radio_parts.specs.Sessions.{Session, session_of}
+use Rattle.radio_parts_mount.specs.Sessions.{Session, session_of}
 use Rattle.radio_core.specs.Sound.{IsSound}
-use Rattle.radio_core.specs.Step.{outcome, reply_to, world_after}
+use Rattle.radio_parts.specs.Step.{outcome, reply_to, world_after}
 use Rattle.radio_laws.specs.TitlesTold.{commanded_at, commanded_in, set_at, titles_set, last_title, TitlesAreTold}
 use Rattle.radio_laws.proofs.AccessLemmas.{access_holds}
 use Rattle.radio_core.proofs.FinishLemmas.{undecided_before}
@@ -41,12 +41,12 @@ use Rattle.radio_laws.proofs.GoneLemmas.{his_own, with_nothing, last_rises}
 use Rattle.radio_laws.proofs.ListsLemmas.{lists_run}
 use Rattle.radio_laws.proofs.LimitLemmas.{within_run}
 use Rattle.radio_core.proofs.SoundEnds.{was_live}
-use Rattle.radio_changes.proofs.PartChanges.{is_taken_in}
+use Rattle.radio_parts_changes.proofs.PartChanges.{is_taken_in}
 use Rattle.radio_core.proofs.SoundRuns.{sound_after, sound_opening, sound_run}
 use Rattle.radio_core.proofs.SoundSessions.{grown_cases}
 use Rattle.radio_core.proofs.SoundTitles.{titled_cases}
-use Rattle.radio_core.proofs.HeardLemmas.{heard_cases}
-use Rattle.radio_house.specs.Waiting.{heard_at}
+use Rattle.radio_parts.proofs.HeardLemmas.{heard_cases}
+use Rattle.radio_parts_station.specs.Waiting.{heard_at}
 
 -- the last of a list with one more
 last_is : {A : Type 0} (o : Option A) (xs : List A) (x : A) → last_or o (xs ++ x ∷ []) ≡ Some x
@@ -55,17 +55,17 @@ last_is o (y ∷ xs) x = last_is (Some y) xs x
 
 -- the last titles that were set so far are those that the sessions have
 record Told (w : World) (told : ℕ → List (List ℕ)) : Type 0 where
-  pub last : (mount : List ℕ) (session : Session) → session_of w.house.live mount ≡ Some session → session.title ≡ last_or None (told session.number)
+  pub last : (mount : List ℕ) (session : Session) → session_of w.station.live mount ≡ Some session → session.title ≡ last_or None (told session.number)
   -- nobody has the number 0
   pub by_nobody : told 0 ≡ []
   pub none_yet : (id : ℕ) (peer : Peer) → standing_of w id ≡ Undecided peer → told id ≡ []
-  pub none_above : (id : ℕ) → w.house.last_id < id → told id ≡ []
+  pub none_above : (id : ℕ) → w.station.last_id < id → told id ≡ []
 
 -- where nobody feeds no title is heard
-told_heard : (w : World) (told : ℕ → List (List ℕ)) → Told w told → (mount : List ℕ) (session : Session) → heard_at w.house mount ≡ Some session
+told_heard : (w : World) (told : ℕ → List (List ℕ)) → Told w told → (mount : List ℕ) (session : Session) → heard_at w.station mount ≡ Some session
     → session.title ≡ last_or None (told session.number)
 told_heard w told h mount session hears =
-    heard_cases w.house mount session hears (h.last mount session)
+    heard_cases w.station mount session hears (h.last mount session)
     (λ none silent. subst (λ (x : Session). x.title ≡ last_or None (told x.number)) silent (ap (λ xs. last_or None xs) (sym h.by_nobody)))
 
 told_as : (w : World) (told now : ℕ → List (List ℕ)) → ((n : ℕ) → told n ≡ now n) → Told w told → Told w now
@@ -93,11 +93,11 @@ module _ (w : World) (s : IsSound w) (told : ℕ → List (List ℕ)) (h : Told 
   numbered found session id e = rw e refl
 
   title_of_command : (event : Event) (mount text : List ℕ) (c : IsCommanded w event (CommandsTitle mount text)) (session : Session) (id : ℕ)
-      → session_of w.house.live mount ≡ Some session → (b : Bool) → (session.number == id) ≡ b
+      → session_of w.station.live mount ≡ Some session → (b : Bool) → (session.number == id) ≡ b
       → commanded_in w event id ++ of_client event id [] ≡ (if b then text ∷ [] else [])
   title_of_command event mount text c session id found b is =
       ap (λ xs. xs ++ of_client event id []) (asked_so event (CommandsTitle mount text) c id)
-      ∙ ap (λ (x : Bool). (if x then text ∷ [] else []) ++ of_client event id []) (numbered (session_of w.house.live mount) session id found ∙ is)
+      ∙ ap (λ (x : Bool). (if x then text ∷ [] else []) ++ of_client event id []) (numbered (session_of w.station.live mount) session id found ∙ is)
       ∙ alone (if b then text ∷ [] else []) where
         alone : (xs : List (List ℕ)) → xs ++ of_client event id [] ≡ xs
         alone xs = ap (λ ys. xs ++ ys) (nothing_of event id [] refl) ∙ append-nil xs
@@ -127,11 +127,11 @@ module _ (w : World) (s : IsSound w) (told : ℕ → List (List ℕ)) (h : Told 
   sets_nothing event o (BringsNothing _ _ no_block no_title live) id not = no_title id
 
   last_now : Event → Outcome → Type 0
-  last_now event o = (mount : List ℕ) (session : Session) → session_of (changed w o.change).house.live mount ≡ Some session
+  last_now event o = (mount : List ℕ) (session : Session) → session_of (changed w o.change).station.live mount ≡ Some session
       → session.title ≡ last_or None (told session.number ++ sets w event o session.number)
 
   -- a session whose source sets nothing has the title that it had
-  as_it_was : (event : Event) (mount : List ℕ) (session : Session) → session_of w.house.live mount ≡ Some session
+  as_it_was : (event : Event) (mount : List ℕ) (session : Session) → session_of w.station.live mount ≡ Some session
       → session.title ≡ last_or None (told session.number ++ of_client event session.number [])
   as_it_was event mount session live =
       h.last mount session live
@@ -145,18 +145,18 @@ module _ (w : World) (s : IsSound w) (told : ℕ → List (List ℕ)) (h : Told 
   last_so_far session (IsEmpty no_data no_title (inr above)) = no_title ∙ ap (λ xs. last_or None xs) (sym (h.none_above session.number above))
 
   grown_title : (him : ℕ) (mount block : List ℕ) → standing_of w him ≡ Feeds mount → (other : List ℕ) (now : Session)
-      → session_of (changed w (Receive mount block)).house.live other ≡ Some now
+      → session_of (changed w (Receive mount block)).station.live other ≡ Some now
       → now.title ≡ last_or None (told now.number ++ of_client (Push him block) now.number [])
   grown_title him mount block feeding other now e =
-      grown_cases w s mount block other now (ap (λ (later : World). session_of later.house.live other) (sym (is_taken_in w mount block)) ∙ e)
+      grown_cases w s mount block other now (ap (λ (later : World). session_of later.station.live other) (sym (is_taken_in w mount block)) ∙ e)
       (λ session same found one. subst (λ (x : Session). x.title ≡ last_or None (told x.number ++ of_client (Push him block) x.number [])) one
       (as_it_was (Push him block) mount session found))
       (λ apart found. as_it_was (Push him block) other now found)
-      (λ none. let ours = s.feeds him mount feeding in let found : session_of w.house.live mount ≡ Some ours.0 = ours.1 in cc)
+      (λ none. let ours = s.feeds him mount feeding in let found : session_of w.station.live mount ≡ Some ours.0 = ours.1 in cc)
 
   -- the session of the source has the title that it sets, and the others have theirs
   new_title : (him : ℕ) (mount text : List ℕ) → standing_of w him ≡ Feeds mount → (other : List ℕ) (now : Session)
-      → session_of (changed w (SetTitle mount text)).house.live other ≡ Some now
+      → session_of (changed w (SetTitle mount text)).station.live other ≡ Some now
       → now.title ≡ last_or None (told now.number ++ of_client (Title him text) now.number (text ∷ []))
   new_title him mount text feeding other now e =
       titled_cases w s mount text him feeding other now e
@@ -178,7 +178,7 @@ module _ (w : World) (s : IsSound w) (told : ℕ → List (List ℕ)) (h : Told 
 
   -- after a command that sets no title each session has its own
   none_set : (event : Event) (command : TheCommand) (c : IsCommanded w event command) → ((id : ℕ) → commanded_at w (Asks command) id ≡ []) → (mount : List ℕ)
-      (session : Session) → session_of w.house.live mount ≡ Some session
+      (session : Session) → session_of w.station.live mount ≡ Some session
       → session.title ≡ last_or None (told session.number ++ (commanded_in w event session.number ++ of_client event session.number []))
   none_set event command c none mount session live =
       h.last mount session live
@@ -186,13 +186,13 @@ module _ (w : World) (s : IsSound w) (told : ℕ → List (List ℕ)) (h : Told 
       (sets_no_title event command c session.number (none session.number)))
 
   still_live : (found : Option Session) (him : ℕ) (mount : List ℕ) (session : Session)
-      → session_of (session_killed (answered w him) found).house.live mount ≡ Some session → session_of w.house.live mount ≡ Some session
+      → session_of (session_killed (answered w him) found).station.live mount ≡ Some session → session_of w.station.live mount ≡ Some session
   still_live None him mount session e = e
   still_live (Some killed) him mount session e = was_live w killed.mount mount session e
 
   -- after one that sets a title, that of the mount is this one
   command_sets : (event : Event) (mount text : List ℕ) (c : IsCommanded w event (CommandsTitle mount text)) (other : List ℕ) (now : Session)
-      → session_of (changed w (SetTitle mount text)).house.live other ≡ Some now
+      → session_of (changed w (SetTitle mount text)).station.live other ≡ Some now
       → now.title ≡ last_or None (told now.number ++ (commanded_in w event now.number ++ of_client event now.number []))
   command_sets event mount text c other now e =
       titled_cases w s mount text there.0.number (s.fed mount there.0 there.1) other now e
@@ -209,7 +209,7 @@ module _ (w : World) (s : IsSound w) (told : ℕ → List (List ℕ)) (h : Told 
       let one : mount ≡ other = cc in
       let at : bytes_eq mount other ≡ true = (bytes_eq-Decides mount other).1 one in cc)
       (λ away. away))))) where
-        there : (session : Session) × (session_of w.house.live mount ≡ Some session)
+        there : (session : Session) × (session_of w.station.live mount ≡ Some session)
         there = title_live w s event mount text c
 
         here : (session : Session) → session.number ≡ there.0.number
@@ -224,7 +224,7 @@ module _ (w : World) (s : IsSound w) (told : ℕ → List (List ℕ)) (h : Told 
   command_title event (MoveClients mount destination) c = as_it_was event
   command_title event (KillClient mount listener) c = none_set event (KillClient mount listener) c (λ id. refl)
   command_title event (KillSource mount) c = λ other session e.
-      none_set event (KillSource mount) c (λ id. refl) other session (still_live (session_of w.house.live mount) c.asked.id other session e)
+      none_set event (KillSource mount) c (λ id. refl) other session (still_live (session_of w.station.live mount) c.asked.id other session e)
   command_title event (SetFallback mount fallback) c = none_set event (SetFallback mount fallback) c (λ id. refl)
   command_title event (AddUser mount user password) c = as_it_was event
   command_title event (DeleteUser mount user) c = as_it_was event
@@ -247,13 +247,13 @@ module _ (w : World) (s : IsSound w) (told : ℕ → List (List ℕ)) (h : Told 
     none_yet = λ id peer e. none_yet id (undecided_before w s event id peer e);
     none_above = λ id high.
         let low = last_rises w s event in
-        let above : w.house.last_id < id = omega (arith, low, high) in
+        let above : w.station.last_id < id = omega (arith, low, high) in
         nothing id (h.none_above id above) (λ mount f. let unknown : standing_of w id ≡ Unknown = s.numbered id above in cc);
   } where
     nothing : (id : ℕ) → told id ≡ [] → ((mount : List ℕ) → standing_of w id ≡ Feeds mount → ⊥) → told id ++ set_at w event id ≡ []
     nothing id none not = ap (λ xs. xs ++ set_at w event id) none ∙ sets_nothing event (outcome w event) (brought w s event) id not
 
-    none_yet : {peer : Peer} (id : ℕ) → (standing_of w id ≡ Undecided peer) ⊎ ((w.house.last_id < id) × (passes w.house.lists peer ≡ true))
+    none_yet : {peer : Peer} (id : ℕ) → (standing_of w id ≡ Undecided peer) ⊎ ((w.station.last_id < id) × (passes w.station.lists peer ≡ true))
         → told id ++ set_at w event id ≡ []
     none_yet {peer} id (inl before) = nothing id (h.none_yet id peer before) (λ mount f. cc)
     none_yet id (inr new) = nothing id (h.none_above id new.0) (λ mount f. let unknown : standing_of w id ≡ Unknown = s.numbered id new.0 in cc)

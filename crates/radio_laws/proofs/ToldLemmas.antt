@@ -4,12 +4,12 @@ use Rattle.radio_policy.specs.declared.rule.Rule.{Rule}
 use Rattle.radio_settings_values.specs.declared.settings.Settings.{Settings}
 use Rattle.radio_access.specs.Lists.{Lists}
 use Rattle.radio_events.specs.declared.event.Event.{Event}
-use Rattle.radio_house.specs.declared.standing.Standing.TheVariants.{Finished as HasFinished}
-use Rattle.radio_house.specs.World.{World, opening, standing_of}
+use Rattle.radio_parts_station.specs.declared.standing.Standing.TheVariants.{Finished as HasFinished}
+use Rattle.radio_parts_station.specs.World.{World, opening, standing_of}
 use Rattle.radio_core.specs.Finishes.{Finishes}
 use Rattle.radio_core.specs.Run.{world_after_all, run_after}
 use Rattle.radio_core.specs.Sound.{IsSound}
-use Rattle.radio_core.specs.Step.{world_after}
+use Rattle.radio_parts.specs.Step.{world_after}
 use Rattle.radio_core.proofs.SoundRuns.{sound_after, sound_opening}
 use Rattle.radio_laws.specs.FinishesTold.{WasFinished, FinishedAreTold}
 use Rattle.radio_core.proofs.FinishLemmas.{finish_step, finished_told}

@@ -26,16 +26,16 @@ use Rattle.radio_events.specs.declared.command.Command.TheVariants.{AddUser, Del
 use Rattle.radio_events.specs.declared.event.Event.{Event}
 use Rattle.radio_events.specs.declared.reply.Reply.TheVariants.{Text as SaysText}
 use Rattle.radio_events.specs.declared.text.ReplyText.TheVariants.{Ended}
-use Rattle.radio_house.specs.Clients.{client_of}
-use Rattle.radio_house.specs.Outsiders.{is_shut_out}
-use Rattle.radio_house.specs.Relays.{relay_of}
-use Rattle.radio_house.specs.declared.standing.Standing.TheVariants.{Sits}
-use Rattle.radio_house.specs.World.{World, standing_of, standing_in}
-use Rattle.radio_core.specs.Allowed.{IsCommanded, ChangesUsers}
-use Rattle.radio_changes.specs.Changes.{answered, outsiders_ended}
+use Rattle.radio_parts_station.specs.Clients.{client_of}
+use Rattle.radio_parts_station.specs.Outsiders.{is_shut_out}
+use Rattle.radio_parts_station.specs.Relays.{relay_of}
+use Rattle.radio_parts_station.specs.declared.standing.Standing.TheVariants.{Sits}
+use Rattle.radio_parts_station.specs.World.{World, standing_of, standing_in}
+use Rattle.radio_parts.specs.Allowed.{IsCommanded, ChangesUsers}
+use Rattle.radio_parts_changes.specs.Changes.{answered, outsiders_ended}
 use Rattle.radio_core.specs.ListsSteps.{ListsStep, Stay, IsAdded, IsDeleted}
 use Rattle.radio_core.specs.Sound.{IsSound}
-use Rattle.radio_core.specs.Step.{reply_to, world_after}
+use Rattle.radio_parts.specs.Step.{reply_to, world_after}
 use Rattle.radio_core.proofs.AllowedCommands.{may_add, may_delete, needs_hold}
 use Rattle.radio_core.proofs.ChangedUsers.{with_lists, shut_out_there}
 use Rattle.radio_core.proofs.Fates.{lost_in}
@@ -112,8 +112,8 @@ module _ (w : World) (s : IsSound w) (event : Event) {command : TheCommand} (c :
         (ap (λ (m : List ℕ). lets_in lists m seat.pair) (sym at) ∙ ap (λ (x : Seat). lets_in lists x.mount x.pair) (sym his)
         ∙ (shut_out_there lists mount loses.seat loses.holds).1)
         (ap seat_in loses.finished)
-        (ap (λ (l : Option Listener). standing_in (relay_of w.house.relays id) l (client_of (answered w c.asked.id).house.clients id)) loses.finished
-        ∙ lost_in (relay_of w.house.relays id) (listener_of w.seats id) loses.id ListenerPassword loses.seat.mount (client_of (answered w c.asked.id).house.clients id) sat)
+        (ap (λ (l : Option Listener). standing_in (relay_of w.station.relays id) l (client_of (answered w c.asked.id).station.clients id)) loses.finished
+        ∙ lost_in (relay_of w.station.relays id) (listener_of w.seats id) loses.id ListenerPassword loses.seat.mount (client_of (answered w c.asked.id).station.clients id) sat)
 
   pub have_changed : world_after w event ≡ then_so → reply_to w event ≡ SaysText (Ended (how_many (is_shut_out lists mount) w.seats)) → HaveChanged w event mount
   have_changed later told = record {
@@ -126,13 +126,13 @@ module _ (w : World) (s : IsSound w) (event : Event) {command : TheCommand} (c :
 
 -- all else is as it was
 pub users_beside : (w : World) (id : ℕ) (mount : List ℕ) (change : UserList → UserList)
-    → StaysBeside w (outsiders_ended (with_lists (answered w id) (with_changed w.house.lists mount change)) mount) mount
+    → StaysBeside w (outsiders_ended (with_lists (answered w id) (with_changed w.station.lists mount change)) mount) mount
 users_beside w id mount change = record {
   sessions = λ other apart. refl;
-  seats = λ him seat has away. still_elsewhere (with_changed w.house.lists mount change) mount w.seats him seat has away;
+  seats = λ him seat has away. still_elsewhere (with_changed w.station.lists mount change) mount w.seats him seat has away;
   fallbacks = λ other apart. refl;
   settings = refl;
-  users = λ other pair apart. let_in_beside w.house.lists mount change other pair apart;
+  users = λ other pair apart. let_in_beside w.station.lists mount change other pair apart;
   addresses = λ peer. refl;
   time = refl;
 }
@@ -163,17 +163,17 @@ some_listed : (listed : Option MountUsers) (user : List ℕ) → option_map_or (
 some_listed None user e = cc
 some_listed (Some listed) user e = refl
 
-pub deleted_has_users : (w : World) (event : Event) {mount user : List ℕ} → IsCommanded w event (DeleteUser mount user) → has_users w.house.lists mount ≡ true
+pub deleted_has_users : (w : World) (event : Event) {mount user : List ℕ} → IsCommanded w event (DeleteUser mount user) → has_users w.station.lists mount ≡ true
 deleted_has_users w event {mount} {user} c =
-    some_listed (users_at w.house.lists mount) user
-    (may_delete (has_users w.house.lists mount) (has_user_at w.house.lists mount user) (needs_hold w event c))
+    some_listed (users_at w.station.lists mount) user
+    (may_delete (has_users w.station.lists mount) (has_user_at w.station.lists mount user) (needs_hold w event c))
 
 -- who is let in, one step after another
 module _ (w : World) (event : Event) where
   record IsMade (later : Lists) : Type 0 where
-    pub pairs : (mount : List ℕ) (pair : Credentials) → LetInStep w event mount pair (lets_in w.house.lists mount (Some pair)) (lets_in later mount (Some pair))
-    pub without : (mount : List ℕ) → lets_in later mount None ≡ lets_in w.house.lists mount None
-    pub addresses : (peer : Address) → passes later peer ≡ passes w.house.lists peer
+    pub pairs : (mount : List ℕ) (pair : Credentials) → LetInStep w event mount pair (lets_in w.station.lists mount (Some pair)) (lets_in later mount (Some pair))
+    pub without : (mount : List ℕ) → lets_in later mount None ≡ lets_in w.station.lists mount None
+    pub addresses : (peer : Address) → passes later peer ≡ passes w.station.lists peer
 
   as_before : (mount : List ℕ) (pair : Credentials) {before later : Bool} → later ≡ before → LetInStep w event mount pair before later
   as_before mount pair {before} {later} same = subst (λ (b : Bool). LetInStep w event mount pair before b) (sym same) Stays
@@ -182,36 +182,36 @@ module _ (w : World) (event : Event) where
   module _ (mount user : List ℕ) (change : UserList → UserList) (nobody : (users : UserList) → accepts (change users) None ≡ accepts users None)
       (others : (pair : Credentials) → bytes_eq pair.user user ≡ false → (users : UserList) → accepts (change users) (Some pair) ≡ accepts users (Some pair))
       (own : (pair : Credentials) → pair.user ≡ user
-      → LetInStep w event mount pair (lets_in w.house.lists mount (Some pair)) (lets_in (with_changed w.house.lists mount change) mount (Some pair))) where
+      → LetInStep w event mount pair (lets_in w.station.lists mount (Some pair)) (lets_in (with_changed w.station.lists mount change) mount (Some pair))) where
     abbrev now : Lists
-    now = with_changed w.house.lists mount change
+    now = with_changed w.station.lists mount change
 
-    there_now : (pair : Credentials) → LetInStep w event mount pair (lets_in w.house.lists mount (Some pair)) (lets_in now mount (Some pair))
+    there_now : (pair : Credentials) → LetInStep w event mount pair (lets_in w.station.lists mount (Some pair)) (lets_in now mount (Some pair))
     there_now pair =
-        by_name pair.user user (own pair) (λ apart. as_before mount pair (let_in_still w.house.lists mount change (Some pair) (others pair apart)))
+        by_name pair.user user (own pair) (λ apart. as_before mount pair (let_in_still w.station.lists mount change (Some pair) (others pair apart)))
 
     is_made : IsMade now
     is_made = record {
       pairs = λ at pair. by_name mount at
-          (λ same. subst (λ (m : List ℕ). LetInStep w event m pair (lets_in w.house.lists m (Some pair)) (lets_in now m (Some pair))) same (there_now pair))
-          (λ apart. as_before at pair (let_in_beside w.house.lists mount change at (Some pair) apart));
+          (λ same. subst (λ (m : List ℕ). LetInStep w event m pair (lets_in w.station.lists m (Some pair)) (lets_in now m (Some pair))) same (there_now pair))
+          (λ apart. as_before at pair (let_in_beside w.station.lists mount change at (Some pair) apart));
       without = λ at. by_name mount at
-          (λ same. subst (λ (m : List ℕ). lets_in now m None ≡ lets_in w.house.lists m None) same (let_in_still w.house.lists mount change None nobody))
-          (λ apart. let_in_beside w.house.lists mount change at None apart);
+          (λ same. subst (λ (m : List ℕ). lets_in now m None ≡ lets_in w.station.lists m None) same (let_in_still w.station.lists mount change None nobody))
+          (λ apart. let_in_beside w.station.lists mount change at None apart);
       addresses = λ peer. refl;
     }
 
-  made_by : {later : Lists} → ListsStep w event w.house.lists later → IsMade later
+  made_by : {later : Lists} → ListsStep w event w.station.lists later → IsMade later
   made_by Stay = record { pairs = λ mount pair. Stays; without = λ mount. refl; addresses = λ peer. refl }
   made_by (IsAdded mount user password c) =
       is_made mount user (λ users. with_user users user password) (λ users. refl) (λ pair apart users. accepted_beside users user password pair apart)
-      (λ pair his. IsSet password (lets_in (with_user_at w.house.lists mount user password) mount (Some pair))
+      (λ pair his. IsSet password (lets_in (with_user_at w.station.lists mount user password) mount (Some pair))
       (subst (λ (u : List ℕ). IsCommanded w event (AddUser mount u password)) (sym his) c)
-      (password_set w.house.lists mount user (may_add (has_users w.house.lists mount) (needs_hold w event c)) pair his password))
+      (password_set w.station.lists mount user (may_add (has_users w.station.lists mount) (needs_hold w event c)) pair his password))
   made_by (IsDeleted mount user c) =
       is_made mount user (λ users. without_user users user) (λ users. refl) (λ pair apart users. accepted_without users user [] pair apart)
-      (λ pair his. subst (λ (b : Bool). LetInStep w event mount pair (lets_in w.house.lists mount (Some pair)) b)
-      (sym (user_gone w.house.lists mount user (deleted_has_users w event c) pair his))
+      (λ pair his. subst (λ (b : Bool). LetInStep w event mount pair (lets_in w.station.lists mount (Some pair)) b)
+      (sym (user_gone w.station.lists mount user (deleted_has_users w event c) pair his))
       (IsTakenAway (subst (λ (u : List ℕ). IsCommanded w event (DeleteUser mount u)) (sym his) c)))
 
 pub users_step : (w : World) → IsSound w → (event : Event) → UsersStep w event

@@ -14,13 +14,13 @@ use Rattle.radio_fallback.specs.declared.walking.Landing.TheVariants.{Lands, Sto
 use Rattle.radio_fallback.specs.Walk.{Sight, is_full, is_full_for, found_at, stop_of, landing_at, landing_here, next_mount, onward, walk}
 use Rattle.radio_fallback.proofs.WalkLaws.{walks_ten}
 use Rattle.radio_events.specs.declared.event.ListenRequest.{ListenRequest}
-use Rattle.radio_house.specs.Facts.{sight_of, walks_to, fallback_of}
-use Rattle.radio_house.specs.Fallbacks.{Fallback, set_for}
-use Rattle.radio_parts.specs.Sessions.{Session}
-use Rattle.radio_house.specs.World.{World}
+use Rattle.radio_parts_station.specs.Facts.{sight_of, walks_to, fallback_of}
+use Rattle.radio_parts_station.specs.Fallbacks.{Fallback, set_for}
+use Rattle.radio_parts_mount.specs.Sessions.{Session}
+use Rattle.radio_parts_station.specs.World.{World}
 use Rattle.radio_laws.specs.Limits.{IsFullAt, most_at}
 use Rattle.radio_laws.specs.Walks.{FallsBack, ByTheSettings, ByACommand, GoesOn, HasNoSource, IsFull, ComesBy, AtFirst, Next}
-use Rattle.radio_house.specs.Waiting.{heard_at}
+use Rattle.radio_parts_station.specs.Waiting.{heard_at}
 
 -- as many sit there as may
 pub full_at : (w : World) (mount : List ℕ) (limit : Option ℕ) → most_at w mount ≡ limit → is_full (length (seats_at w.seats mount)) limit ≡ true
@@ -38,38 +38,38 @@ both true false e = cc
 both false b e = cc
 
 -- to which mount listeners fall back
-pub falls_back : (w : World) (mount next : List ℕ) → fallback_of w.house mount ≡ Some next → FallsBack w mount next
-falls_back w mount next e = by_found (set_for w.house.fallbacks mount) refl e where
-  by_found : (found : Option Fallback) → set_for w.house.fallbacks mount ≡ found
-      → option_map_or (λ (set : Fallback). set.fallback) found (options_for w.house.settings mount).listeners.fallback_mount ≡ Some next → FallsBack w mount next
+pub falls_back : (w : World) (mount next : List ℕ) → fallback_of w.station mount ≡ Some next → FallsBack w mount next
+falls_back w mount next e = by_found (set_for w.station.fallbacks mount) refl e where
+  by_found : (found : Option Fallback) → set_for w.station.fallbacks mount ≡ found
+      → option_map_or (λ (set : Fallback). set.fallback) found (options_for w.station.settings mount).listeners.fallback_mount ≡ Some next → FallsBack w mount next
   by_found None none goes = ByTheSettings goes none
   by_found (Some set) found goes = ByACommand set found goes
 
 -- where they fall back to none, there is none
-pub falls_nowhere : (w : World) (mount : List ℕ) → ((next : List ℕ) → FallsBack w mount next → ⊥) → fallback_of w.house mount ≡ None
-falls_nowhere w mount nowhere = by_fallback (fallback_of w.house mount) refl where
-  by_fallback : (fallback : Option (List ℕ)) → fallback_of w.house mount ≡ fallback → fallback_of w.house mount ≡ None
+pub falls_nowhere : (w : World) (mount : List ℕ) → ((next : List ℕ) → FallsBack w mount next → ⊥) → fallback_of w.station mount ≡ None
+falls_nowhere w mount nowhere = by_fallback (fallback_of w.station mount) refl where
+  by_fallback : (fallback : Option (List ℕ)) → fallback_of w.station mount ≡ fallback → fallback_of w.station mount ≡ None
   by_fallback None e = e
   by_fallback (Some next) e = absurd (nowhere next (falls_back w mount next e))
 
 module _ (w : World) (pair : Option Credentials) where
   abbrev sight : Sight
-  sight = sight_of w.house
+  sight = sight_of w.station
 
   -- where a mount hands on to the next, it does so by its settings
-  hands_by : (mount next : List ℕ) (live full : Bool) → is_some (heard_at w.house mount) ≡ live → is_full_for sight w.seats mount ≡ full
-      → (if not live || full && (options_for w.house.settings mount).listeners.fallback_when_full
-      then fallback_of w.house mount else None) ≡ Some next → GoesOn w mount next
-  hands_by mount next false full l f e = HasNoSource (falls_back w mount next e) (none_there (heard_at w.house mount) l)
-  hands_by mount next true true l f e = by_flag (options_for w.house.settings mount).listeners.fallback_when_full refl e where
-    by_flag : (b : Bool) → (options_for w.house.settings mount).listeners.fallback_when_full ≡ b
-        → (if b then fallback_of w.house mount else None) ≡ Some next → GoesOn w mount next
+  hands_by : (mount next : List ℕ) (live full : Bool) → is_some (heard_at w.station mount) ≡ live → is_full_for sight w.seats mount ≡ full
+      → (if not live || full && (options_for w.station.settings mount).listeners.fallback_when_full
+      then fallback_of w.station mount else None) ≡ Some next → GoesOn w mount next
+  hands_by mount next false full l f e = HasNoSource (falls_back w mount next e) (none_there (heard_at w.station mount) l)
+  hands_by mount next true true l f e = by_flag (options_for w.station.settings mount).listeners.fallback_when_full refl e where
+    by_flag : (b : Bool) → (options_for w.station.settings mount).listeners.fallback_when_full ≡ b
+        → (if b then fallback_of w.station mount else None) ≡ Some next → GoesOn w mount next
     by_flag true set goes = IsFull (falls_back w mount next goes) set (full_at w mount (most_at w mount) refl f)
     by_flag false set goes = cc
   hands_by mount next true false l f e = cc
 
   goes_on : (mount next : List ℕ) → next_mount sight w.seats mount ≡ Some next → GoesOn w mount next
-  goes_on mount next e = hands_by mount next (is_some (heard_at w.house mount)) (is_full_for sight w.seats mount) refl refl e
+  goes_on mount next e = hands_by mount next (is_some (heard_at w.station mount)) (is_full_for sight w.seats mount) refl refl e
 
   module _ (asked : List ℕ) where
     -- how a walk ends that may look at so many mounts
@@ -98,7 +98,7 @@ module _ (w : World) (pair : Option Credentials) where
     ends_by (suc left) steps mount comes =
         ends_at left steps mount comes (next_mount sight w.seats mount) refl (λ onto comes_on. ends_by left (suc steps) onto comes_on)
 
-    pub walk_ends : WalkEnds 10 (walks_to w.house w.seats asked pair)
+    pub walk_ends : WalkEnds 10 (walks_to w.station w.seats asked pair)
     walk_ends = subst (λ (l : Landing). WalkEnds 10 l) (walks_ten sight w.seats pair asked) (ends_by 10 0 asked AtFirst)
 
 -- where a walk lands, it has come within ten mounts
@@ -109,6 +109,6 @@ lands_by w pair asked l (LandsThere steps there low comes none) to e =
 lands_by w pair asked l (StopsThere steps mount rule low comes stops) to e = cc
 lands_by w pair asked l (GoesTooFar mount comes) to e = cc
 
-pub lands_on_his_way : (w : World) (asked : ListenRequest) (to : List ℕ) → walks_to w.house w.seats asked.mount asked.pair ≡ Lands to
+pub lands_on_his_way : (w : World) (asked : ListenRequest) (to : List ℕ) → walks_to w.station w.seats asked.mount asked.pair ≡ Lands to
     → (steps : ℕ) × (steps < 10) × ComesBy w asked.mount steps to
-lands_on_his_way w asked to e = lands_by w asked.pair asked.mount (walks_to w.house w.seats asked.mount asked.pair) (walk_ends w asked.pair asked.mount) to e
+lands_on_his_way w asked to e = lands_by w asked.pair asked.mount (walks_to w.station w.seats asked.mount asked.pair) (walk_ends w asked.pair asked.mount) to e

@@ -21,37 +21,37 @@ use Rattle.radio_events.specs.declared.event.Event.{Event}
 use Rattle.radio_events.specs.declared.event.Event.TheVariants.{Source, SourceEnd, Command, RelayUp, Clock}
 use Rattle.radio_events.specs.declared.command.CommandRequest.{CommandRequest}
 use Rattle.radio_values.specs.declared.field.Shown.{Shown}
-use Rattle.radio_core.specs.Closing.{Closes, OfClient, OfRelay}
+use Rattle.radio_parts.specs.Closing.{Closes, OfClient, OfRelay}
 use Rattle.radio_core.proofs.ClosingLemmas.{closes_his}
 use Rattle.radio_events.specs.declared.event.SourceRequest.{SourceRequest}
 use Rattle.radio_seats_rows.specs.declared.seat.Seating.TheVariants.{Finished as HasFinished}
 use Rattle.radio_events.specs.declared.reply.Reply.TheVariants.{Noted, Stray}
-use Rattle.radio_changes.specs.declared.change.Change.TheVariants.{Nothing, Answer, End, EndAndLeave}
-use Rattle.radio_core.specs.declared.outcome.Outcome.{Outcome}
-use Rattle.radio_house.specs.declared.standing.Standing.{Standing}
-use Rattle.radio_house.specs.declared.standing.Standing.TheVariants.{Undecided, Feeds}
-use Rattle.radio_changes.specs.Changes.{changed, carried_along, called_home, session_over, session_ended, before_silence, session_silenced}
-use Rattle.radio_house.specs.Facts.{sight_of, rows_to_feed, rows_to_raise, live_end}
+use Rattle.radio_parts_changes.specs.declared.change.Change.TheVariants.{Nothing, Answer, End, EndAndLeave}
+use Rattle.radio_parts.specs.declared.outcome.Outcome.{Outcome}
+use Rattle.radio_parts_station.specs.declared.standing.Standing.{Standing}
+use Rattle.radio_parts_station.specs.declared.standing.Standing.TheVariants.{Undecided, Feeds}
+use Rattle.radio_parts_changes.specs.Changes.{changed, carried_along, called_home, session_over, session_ended, before_silence, session_silenced}
+use Rattle.radio_parts_station.specs.Facts.{sight_of, rows_to_feed, rows_to_raise, live_end}
 use Rattle.radio_core.specs.Moves.{Brings, ByItsEnd, ByItsLeaving, BySilence, ByComingUp, ByRelayUp, ByKilling, ByMoving, his_turn}
-use Rattle.radio_core.specs.Outcomes.{says, if_feeding, unless_relayed, if_undecided, on_verdict}
-use Rattle.radio_core.specs.Leave.{leaves_from}
-use Rattle.radio_core.specs.RelayDown.{goes_down_from}
-use Rattle.radio_core.specs.RelayUp.{raises}
-use Rattle.radio_parts.specs.Sessions.{Session}
+use Rattle.radio_parts.specs.Outcomes.{says, if_feeding, unless_relayed, if_undecided, on_verdict}
+use Rattle.radio_parts.specs.Leave.{leaves_from}
+use Rattle.radio_parts.specs.RelayDown.{goes_down_from}
+use Rattle.radio_parts.specs.RelayUp.{raises}
+use Rattle.radio_parts_mount.specs.Sessions.{Session}
 use Rattle.radio_core.specs.Sound.{IsSound}
-use Rattle.radio_core.specs.Source.{begins}
-use Rattle.radio_core.specs.Step.{outcome, world_after}
-use Rattle.radio_parts.specs.Stream.{end_of}
-use Rattle.radio_house.specs.World.{World, standing_of, has_relay}
+use Rattle.radio_parts.specs.Source.{begins}
+use Rattle.radio_parts.specs.Step.{outcome, world_after}
+use Rattle.radio_parts_mount.specs.Stream.{end_of}
+use Rattle.radio_parts_station.specs.World.{World, standing_of, has_relay}
 use Rattle.radio_laws.specs.WalkingOn.{FaresByHisTurn, ListenersWalkOn, MovesAreWhole}
 use Rattle.radio_laws.proofs.CommandSteps.{later_so}
 use Rattle.radio_core.proofs.Obeyed.{is_cut, named}
 use Rattle.radio_core.proofs.CarriedFates.{order_carried}
 use Rattle.radio_core.proofs.TickLemmas.{sound_sat_out}
-use Rattle.radio_house.specs.Waiting.{heard_at, is_on_demand}
-use Rattle.radio_core.proofs.HeardLemmas.{heard_end, heard_number}
+use Rattle.radio_parts_station.specs.Waiting.{heard_at, is_on_demand}
+use Rattle.radio_parts.proofs.HeardLemmas.{heard_end, heard_number}
 use Rattle.radio_laws.proofs.HeardLaws.{heard_on_demand, order_given}
-use Rattle.radio_laws.proofs.LimitLemmas.{Within, other_house, within_silence, within_sat_out}
+use Rattle.radio_laws.proofs.LimitLemmas.{Within, other_station, within_silence, within_sat_out}
 use Rattle.radio_laws.proofs.StayingOn.{stays_on}
 use Rattle.radio_laws.specs.Users.{SittersAreLetIn}
 use Rattle.radio_access.specs.Lists.{lets_in}
@@ -59,7 +59,7 @@ use Rattle.radio_fallback.specs.Fares.{HadASeat}
 use Rattle.radio_fallback.proofs.FaresLemmas.{had_seats}
 use Rattle.radio_seats_rows.proofs.EndLaws.{had_seat}
 use Rattle.radio_policy.specs.declared.rule.Rule.TheVariants.{TimeOver}
-use Rattle.radio_parts.specs.Timeouts.{has_sat_out}
+use Rattle.radio_parts_mount.specs.Timeouts.{has_sat_out}
 
 found_there : {A : Type 0} (found : Option A) → is_some found ≡ true → (x : A) × (found ≡ Some x)
 found_there None e = cc
@@ -71,22 +71,22 @@ AreInPlace w = Within w × SittersAreLetIn w
 
 -- at a mount that a relay feeds on demand, whoever sits there goes on when its session ends
 waits_on : (before : World) (mount : List ℕ) → AreByNumber before.seats → AreInPlace before → (id : ℕ) (seat : Seat) → seat_of before.seats id ≡ Some seat
-    → seat.mount ≡ mount → is_on_demand before.house.settings mount ≡ true → his_turn before (Ended mount) id ≡ GoesTo mount
+    → seat.mount ≡ mount → is_on_demand before.station.settings mount ≡ true → his_turn before (Ended mount) id ≡ GoesTo mount
 waits_on before mount order place id seat has there on_demand =
-    stays_on (sight_of before.house) mount before.seats order id seat has there (heard_on_demand before.house mount on_demand)
+    stays_on (sight_of before.station) mount before.seats order id seat has there (heard_on_demand before.station mount on_demand)
     (λ most limit. place.0.not_too_many mount most limit)
     (λ off user one other mine yours. place.0.none_twice mount user one other off mine yours)
-    (ap (λ (m : List ℕ). lets_in before.house.lists m seat.pair) (sym there) ∙ place.1 id seat has)
+    (ap (λ (m : List ℕ). lets_in before.station.lists m seat.pair) (sym there) ∙ place.1 id seat has)
 
 module _ (before : World) (move : Move) (order : AreByNumber before.seats) (place : (mount : List ℕ) → move ≡ Ended mount → AreInPlace before) (id : ℕ)
     (seat : Seat) (has : seat_of before.seats id ≡ Some seat) where
   abbrev FaringHere : Type 0
-  FaringHere = Faring (sight_of before.house) move before.seats id
+  FaringHere = Faring (sight_of before.station) move before.seats id
 
   his_fare : FaringHere
-  his_fare = fares (sight_of before.house) move before.seats order id
+  his_fare = fares (sight_of before.station) move before.seats order id
 
-  goes_by : FaringHere → (mount : List ℕ) → his_turn before move id ≡ GoesTo mount → (session : Session) × (heard_at before.house mount ≡ Some session)
+  goes_by : FaringHere → (mount : List ℕ) → his_turn before move id ≡ GoesTo mount → (session : Session) × (heard_at before.station mount ≡ Some session)
       × (seat_of (carried_along before move).seats id ≡ Some (record seat { mount = mount; session = session.number; place = end_of session.stream }))
   goes_by (HasStayed same turn) mount e = let both : GoesTo mount ≡ Stays = sym e ∙ turn seat has in cc
   goes_by (HasGone old to turn had concerned fits now) mount e =
@@ -94,13 +94,13 @@ module _ (before : World) (move : Move) (order : AreByNumber before.seats) (plac
       let there : to ≡ mount = cc in
       let held : Some old ≡ Some seat = sym had ∙ has in
       let one : old ≡ seat = cc in
-      let found = found_there (heard_at before.house to) fits.is_live in (
+      let found = found_there (heard_at before.station to) fits.is_live in (
         found.0,
-        ap (heard_at before.house) (sym there) ∙ found.1,
+        ap (heard_at before.station) (sym there) ∙ found.1,
         ap seat_in now
-            ∙ ap (λ (x : Seat). Some (seat_at_end (sight_of before.house) to x)) one
-            ∙ ap (λ (n : ℕ). Some (record seat { mount = to; session = n; place = live_end before.house to })) (heard_number before.house to found.0 found.1)
-            ∙ ap (λ (n : ℕ). Some (record seat { mount = to; session = found.0.number; place = n })) (heard_end before.house to found.0 found.1)
+            ∙ ap (λ (x : Seat). Some (seat_at_end (sight_of before.station) to x)) one
+            ∙ ap (λ (n : ℕ). Some (record seat { mount = to; session = n; place = live_end before.station to })) (heard_number before.station to found.0 found.1)
+            ∙ ap (λ (n : ℕ). Some (record seat { mount = to; session = found.0.number; place = n })) (heard_end before.station to found.0 found.1)
             ∙ ap (λ (m : List ℕ). Some (record seat { mount = m; session = found.0.number; place = end_of found.0.stream })) there,
       )
   goes_by (HasLost old rule turn had concerned now) mount e = let both : GoesTo mount ≡ IsOut rule = sym e ∙ turn in cc
@@ -129,7 +129,7 @@ module _ (before : World) (move : Move) (order : AreByNumber before.seats) (plac
     is_out = out_by his_fare;
     stays = stays_by his_fare;
     leaves = λ mount same there e.
-        nobody_stays (sight_of before.house) mount before.seats id seat has ((bytes_eq-Decides seat.mount mount).1 there)
+        nobody_stays (sight_of before.station) mount before.seats id seat has ((bytes_eq-Decides seat.mount mount).1 there)
         (subst (λ (m : Move). his_turn before m id ≡ Stays) same e);
     waits = λ mount same there on_demand.
         ap (λ (m : Move). his_turn before m id) same ∙ waits_on before mount order (place mount same) id seat has there on_demand;
@@ -138,11 +138,11 @@ module _ (before : World) (move : Move) (order : AreByNumber before.seats) (plac
 -- a move leaves nobody where it is not let in
 let_in_ended : (w : World) (mount : List ℕ) → SittersAreLetIn w → SittersAreLetIn (session_ended w mount)
 let_in_ended w mount all id seat has =
-    by_way (had_seats (sight_of (session_over w mount).house) (Ended mount) w.seats id seat has) where
-      by_way : HadASeat (sight_of (session_over w mount).house) w.seats id seat → lets_in w.house.lists seat.mount seat.pair ≡ true
-      by_way (old, had, inl same) = ap (λ (x : Seat). lets_in w.house.lists x.mount x.pair) same ∙ all id old had
+    by_way (had_seats (sight_of (session_over w mount).station) (Ended mount) w.seats id seat has) where
+      by_way : HadASeat (sight_of (session_over w mount).station) w.seats id seat → lets_in w.station.lists seat.mount seat.pair ≡ true
+      by_way (old, had, inl same) = ap (λ (x : Seat). lets_in w.station.lists x.mount x.pair) same ∙ all id old had
       by_way (old, had, inr (to, carried)) =
-          ap (λ (x : Seat). lets_in w.house.lists x.mount x.pair) carried.at_its_end ∙ carried.is_let_in
+          ap (λ (x : Seat). lets_in w.station.lists x.mount x.pair) carried.at_its_end ∙ carried.is_let_in
 
 let_in_silenced : (sessions : List Session) (w : World) → SittersAreLetIn w → SittersAreLetIn (fold session_silenced w sessions)
 let_in_silenced [] w all = all
@@ -160,22 +160,22 @@ module _ (w : World) (s : IsSound w) where
   walk_on_by event move before (BySilence ms silent others session all) =
       order_silenced silent (before_silence w ms) (sound_sat_out w s ms).by_number
   walk_on_by event move before (ByComingUp asked peer stood allowed calls) = order_given asked.mount asked.id w.seats s.by_number
-  walk_on_by event move before (ByRelayUp mount shown allowed calls) = order_given mount (w.house.last_id + 1) w.seats s.by_number
+  walk_on_by event move before (ByRelayUp mount shown allowed calls) = order_given mount (w.station.last_id + 1) w.seats s.by_number
   walk_on_by event move before (ByKilling _ mount c) = s.by_number
   walk_on_by event move before (ByMoving _ mount destination c) = s.by_number
 
   module _ (l : Within w) (let_in : SittersAreLetIn w) where
     -- before the moves that come of the end of a session
     in_place : (event : Event) (move : Move) (before : World) → Brings w event move before → (mount : List ℕ) → move ≡ Ended mount → AreInPlace before
-    in_place event move before (ByItsEnd him at feeding no_relay) mount e = (other_house w (session_over w at) refl refl l, let_in)
-    in_place event move before (ByItsLeaving _ him at closes feeding) mount e = (other_house w (session_over w at) refl refl l, let_in)
-    in_place event move before (ByKilling _ at c) mount e = (other_house w (session_over w at) refl refl l, let_in)
+    in_place event move before (ByItsEnd him at feeding no_relay) mount e = (other_station w (session_over w at) refl refl l, let_in)
+    in_place event move before (ByItsLeaving _ him at closes feeding) mount e = (other_station w (session_over w at) refl refl l, let_in)
+    in_place event move before (ByKilling _ at c) mount e = (other_station w (session_over w at) refl refl l, let_in)
     in_place event move before (BySilence ms silent others session all) mount e =
         let during = fold session_silenced (before_silence w ms) silent in (
-          other_house during (session_over during session.mount) refl refl
+          other_station during (session_over during session.mount) refl refl
               (within_silence silent (before_silence w ms) (sound_sat_out w s ms).by_number (within_sat_out w s l ms)),
           let_in_silenced silent (before_silence w ms)
-              (λ id seat has. let_in id seat (had_seat (has_sat_out w.house.settings ms) TimeOver w.seats id seat has)),
+              (λ id seat has. let_in id seat (had_seat (has_sat_out w.station.settings ms) TimeOver w.seats id seat has)),
         )
     in_place event move before (ByComingUp asked peer stood allowed calls) mount e = cc
     in_place event move before (ByRelayUp at shown allowed calls) mount e = cc
@@ -192,10 +192,10 @@ module _ (w : World) where
   feeds_so now mount go look e = rw e refl
 
   asks_so : (now : Standing) (peer : Peer) (verdict : Verdict) (asked : SourceRequest) → now ≡ Undecided peer → verdict ≡ Allow
-      → if_undecided now (λ p. on_verdict verdict (Answer asked.id) (begins w.house asked)) ≡ begins w.house asked
+      → if_undecided now (λ p. on_verdict verdict (Answer asked.id) (begins w.station asked)) ≡ begins w.station asked
   asks_so now peer verdict asked e v = rw (e, v) refl
 
-  calls_so : (before : World) (mount : List ℕ) → (options_for before.house.settings mount).listeners.fallback_override ≡ true
+  calls_so : (before : World) (mount : List ℕ) → (options_for before.station.settings mount).listeners.fallback_override ≡ true
       → called_home before mount ≡ carried_along before (Up mount)
   calls_so before mount e = rw e refl
 
@@ -226,7 +226,7 @@ module _ (w : World) where
       → (world_after w event).seats ≡ (carried_along before move).seats
   unfolding world_after outcome
   rising at sees event move before e (ByRelayUp mount shown allowed calls) =
-      ap (λ (o : Outcome). (changed w o.change).seats) (raises_so (verdict_in (rows_to_raise w.house mount shown)) (raises w.house mount shown) allowed)
+      ap (λ (o : Outcome). (changed w o.change).seats) (raises_so (verdict_in (rows_to_raise w.station mount shown)) (raises w.station mount shown) allowed)
       ∙ ap (λ (x : World). x.seats) (calls_so before mount calls)
   rising at sees event move before e (ByComingUp asked peer stood allowed calls) = cc
   rising at sees event move before e (ByItsEnd him mount feeding no_relay) = cc
@@ -239,7 +239,7 @@ module _ (w : World) where
       → (world_after w event).seats ≡ (carried_along before move).seats
   unfolding world_after outcome
   coming asked event move before e (ByComingUp other peer stood allowed calls) =
-      ap (λ (o : Outcome). (changed w o.change).seats) (asks_so (standing_of w other.id) peer (verdict_in (rows_to_feed w.house other)) other stood allowed)
+      ap (λ (o : Outcome). (changed w o.change).seats) (asks_so (standing_of w other.id) peer (verdict_in (rows_to_feed w.station other)) other stood allowed)
       ∙ ap (λ (x : World). x.seats) (calls_so before other.mount calls)
   coming asked event move before e (ByItsEnd him mount feeding no_relay) = cc
   coming asked event move before e (ByItsLeaving _ him mount closes feeding) = absurd (closes_no_source asked event him e closes)

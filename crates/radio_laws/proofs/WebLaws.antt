@@ -19,19 +19,19 @@ use Rattle.radio_events.specs.declared.event.SourceRequest.{SourceRequest}
 use Rattle.radio_events.specs.declared.event.PageVisit.{PageVisit}
 use Rattle.radio_events.specs.declared.reply.Reply.TheVariants.{Text as SaysText, Deny}
 use Rattle.radio_events.specs.declared.text.ReplyText.{ReplyText}
-use Rattle.radio_changes.specs.declared.change.Change.TheVariants.{Answer}
-use Rattle.radio_core.specs.declared.outcome.Outcome.{Outcome}
-use Rattle.radio_house.specs.declared.standing.Standing.{Standing}
-use Rattle.radio_house.specs.declared.standing.Standing.TheVariants.{Undecided, Answered}
-use Rattle.radio_changes.specs.Changes.{changed}
-use Rattle.radio_house.specs.Facts.{names_mount, source_facts_at}
-use Rattle.radio_status.specs.Listings.{mount_rows}
-use Rattle.radio_core.specs.Outcomes.{says, if_undecided, on_verdict}
-use Rattle.radio_core.specs.Pages.{asks_by, shows_page}
-use Rattle.radio_status.specs.Pages.{page_at, server_as}
-use Rattle.radio_core.specs.Source.{begins}
-use Rattle.radio_core.specs.Step.{outcome, reply_to, world_after}
-use Rattle.radio_house.specs.World.{World, standing_of}
+use Rattle.radio_parts_changes.specs.declared.change.Change.TheVariants.{Answer}
+use Rattle.radio_parts.specs.declared.outcome.Outcome.{Outcome}
+use Rattle.radio_parts_station.specs.declared.standing.Standing.{Standing}
+use Rattle.radio_parts_station.specs.declared.standing.Standing.TheVariants.{Undecided, Answered}
+use Rattle.radio_parts_changes.specs.Changes.{changed}
+use Rattle.radio_parts_station.specs.Facts.{names_mount, source_facts_at}
+use Rattle.radio_parts_facts.specs.Listings.{mount_rows}
+use Rattle.radio_parts.specs.Outcomes.{says, if_undecided, on_verdict}
+use Rattle.radio_parts.specs.Pages.{asks_by, shows_page}
+use Rattle.radio_parts_facts.specs.Pages.{page_at, server_as}
+use Rattle.radio_parts.specs.Source.{begins}
+use Rattle.radio_parts.specs.Step.{outcome, reply_to, world_after}
+use Rattle.radio_parts_station.specs.World.{World, standing_of}
 use Rattle.radio_core.proofs.Standings.{asks, turns_answered}
 use Rattle.radio_laws.specs.Shown.{IsPath, StatusIsOn, PageIsOn, TellsAt, IsShownAtPath, WhoVisitsIsShown, NobodyFeedsAPath}
 use Rattle.radio_laws.proofs.ListingRows.{rows_tell}
@@ -49,9 +49,9 @@ on_page web path named on = rw (named, on) (by_status web.icecast_status) where
   by_status true = refl
   by_status false = refl
 
-pub is_on : (w : World) (asked : List ℕ) (path : WebPath) → IsPath w asked path → web_path w.house.settings.web asked ≡ Some path
-is_on w asked path (StatusIsOn named on) = on_status w.house.settings.web asked named on
-is_on w asked path (PageIsOn named on) = on_page w.house.settings.web asked named on
+pub is_on : (w : World) (asked : List ℕ) (path : WebPath) → IsPath w asked path → web_path w.station.settings.web asked ≡ Some path
+is_on w asked path (StatusIsOn named on) = on_status w.station.settings.web asked named on
+is_on w asked path (PageIsOn named on) = on_page w.station.settings.web asked named on
 
 -- and what the settings put on is named so
 record IsNamed (on is : Bool) : Type 0 where
@@ -69,13 +69,13 @@ path_by true false false is_page path e = cc
 path_by false true is_status false path e = cc
 path_by false false is_status is_page path e = cc
 
-pub is_path : (w : World) (asked : List ℕ) (path : WebPath) → web_path w.house.settings.web asked ≡ Some path → IsPath w asked path
+pub is_path : (w : World) (asked : List ℕ) (path : WebPath) → web_path w.station.settings.web asked ≡ Some path → IsPath w asked path
 unfolding web_path
 is_path w asked path e =
-    by_side (path_by w.house.settings.web.icecast_status w.house.settings.web.page (bytes_eq asked (codes "/status-json.xsl")) (bytes_eq asked (codes "/")) path e)
+    by_side (path_by w.station.settings.web.icecast_status w.station.settings.web.page (bytes_eq asked (codes "/status-json.xsl")) (bytes_eq asked (codes "/")) path e)
   where
-    by_side : ((path ≡ IcecastStatus) × IsNamed w.house.settings.web.icecast_status (bytes_eq asked (codes "/status-json.xsl")))
-        ⊎ ((path ≡ AtPage) × IsNamed w.house.settings.web.page (bytes_eq asked (codes "/"))) → IsPath w asked path
+    by_side : ((path ≡ IcecastStatus) × IsNamed w.station.settings.web.icecast_status (bytes_eq asked (codes "/status-json.xsl")))
+        ⊎ ((path ≡ AtPage) × IsNamed w.station.settings.web.page (bytes_eq asked (codes "/"))) → IsPath w asked path
     by_side (inl h) = subst (IsPath w asked) (sym h.0) (StatusIsOn ((bytes_eq-Decides asked (codes "/status-json.xsl")).0 h.1.named) h.1.put_on)
     by_side (inr h) = subst (IsPath w asked) (sym h.0) (PageIsOn ((bytes_eq-Decides asked (codes "/")).0 h.1.named) h.1.put_on)
 
@@ -84,7 +84,7 @@ pub tells_at : (w : World) (path : WebPath) (visit : PageVisit) → TellsAt w pa
 tells_at w IcecastStatus visit = record {
   rows = mount_rows w;
   of_the_live = rows_tell w;
-  server = server_as w.house.settings visit;
+  server = server_as w.station.settings visit;
   name = refl;
   base = refl;
   start = refl;
@@ -96,7 +96,7 @@ shows_so : (w : World) (asked : ListenRequest) (path : WebPath) (now : Standing)
     → if_undecided now (λ _. shows_page w asked path) ≡ shows_page w asked path
 shows_so w asked path now peer e = rw e refl
 
-module _ (w : World) (asked : ListenRequest) (path : WebPath) (on : web_path w.house.settings.web asked.mount ≡ Some path) (peer : Peer)
+module _ (w : World) (asked : ListenRequest) (path : WebPath) (on : web_path w.station.settings.web asked.mount ≡ Some path) (peer : Peer)
     (undecided : standing_of w asked.id ≡ Undecided peer) where
   visited : outcome w (Listen asked) ≡ shows_page w asked path
   unfolding outcome
@@ -120,7 +120,7 @@ module _ (w : World) (asked : ListenRequest) (path : WebPath) (on : web_path w.h
     answered =
         subst (λ (later : World). standing_of later asked.id ≡ Answered) (sym (ap (world_after w) is ∙ later_there))
         (turns_answered w asked.id (asks w asked.id peer undecided)).his;
-    sessions = ap (λ (later : World). later.house.live) (ap (world_after w) is ∙ later_there);
+    sessions = ap (λ (later : World). later.station.live) (ap (world_after w) is ∙ later_there);
     seats = ap (λ (later : World). later.seats) (ap (world_after w) is ∙ later_there);
   }
 
@@ -137,13 +137,13 @@ not_named true path it e = rw e refl
 not_named false path it e = refl
 
 bad_mount : (w : World) (asked : SourceRequest) (named : Bool) (now : Standing) (peer : Peer) → now ≡ Undecided peer → named ≡ false
-    → if_undecided now (λ _. on_verdict (verdict_in (source_rows (if named then Some (source_facts_at w.house asked.mount asked) else None))) (Answer asked.id)
-    (begins w.house asked)) ≡ says (Deny BadMount) (Answer asked.id)
+    → if_undecided now (λ _. on_verdict (verdict_in (source_rows (if named then Some (source_facts_at w.station asked.mount asked) else None))) (Answer asked.id)
+    (begins w.station asked)) ≡ says (Deny BadMount) (Answer asked.id)
 bad_mount w asked named now peer e not_it = rw (e, not_it) refl
 
 pub nobody_feeds_a_path : (w : World) → NobodyFeedsAPath w
 unfolding reply_to outcome
 nobody_feeds_a_path w asked peer path undecided is =
     ap (λ (o : Outcome). o.reply)
-    (bad_mount w asked (names_mount w.house.settings asked.mount) (standing_of w asked.id) peer undecided
-    (not_named (is_mount_name asked.mount) (web_path w.house.settings.web asked.mount) path (is_on w asked.mount path is)))
+    (bad_mount w asked (names_mount w.station.settings asked.mount) (standing_of w asked.id) peer undecided
+    (not_named (is_mount_name asked.mount) (web_path w.station.settings.web asked.mount) path (is_on w asked.mount path is)))

@@ -3,14 +3,14 @@ use Rattle.radio_events.specs.declared.event.Event.{Event}
 use Rattle.radio_events.specs.declared.event.Event.TheVariants.{Draw}
 use Rattle.radio_events.specs.declared.reply.Reply.TheVariants.{Drawn}
 use Rattle.radio_seats_rows.specs.declared.seat.Seat.{Seat}
-use Rattle.radio_house.specs.declared.standing.Standing.TheVariants.{Sits}
+use Rattle.radio_parts_station.specs.declared.standing.Standing.TheVariants.{Sits}
 use Rattle.radio_laws.specs.Open.{IsOpenTo}
 use Rattle.radio_seats_rows.specs.Seats.{seat_of}
-use Rattle.radio_parts.specs.Sessions.{Session}
-use Rattle.radio_core.specs.Step.{reply_to}
-use Rattle.radio_parts.specs.Stream.{data_at}
-use Rattle.radio_house.specs.World.{World, standing_of}
-use Rattle.radio_house.specs.Waiting.{heard_at}
+use Rattle.radio_parts_mount.specs.Sessions.{Session}
+use Rattle.radio_parts.specs.Step.{reply_to}
+use Rattle.radio_parts_mount.specs.Stream.{data_at}
+use Rattle.radio_parts_station.specs.World.{World, standing_of}
+use Rattle.radio_parts_station.specs.Waiting.{heard_at}
 
 -- these bytes are those that the listener may hear, which draws. They are at its place in what is heard at the mount where it sits, that mount is open to
 -- it, and the title is the one it has
@@ -23,7 +23,7 @@ pub record IsHis (w : World) (event : Event) (bytes : List ℕ) (title : Option 
   pub session : Session
   pub sits : standing_of w id ≡ Sits
   pub has_the_seat : seat_of w.seats id ≡ Some seat
-  pub is_heard : heard_at w.house seat.mount ≡ Some session
+  pub is_heard : heard_at w.station seat.mount ≡ Some session
   pub is_data : bytes ≡ data_at session.stream seat.place room
   pub is_title : title ≡ session.title
   pub is_open : IsOpenTo w id seat

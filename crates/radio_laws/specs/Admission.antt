@@ -6,17 +6,17 @@ use Rattle.radio_events.specs.declared.event.Event.TheVariants.{Listen}
 use Rattle.radio_events.specs.declared.event.ListenRequest.{ListenRequest}
 use Rattle.radio_events.specs.declared.reply.Reply.TheVariants.{Seated}
 use Rattle.radio_seats_rows.specs.declared.seat.Seat.{Seat}
-use Rattle.radio_house.specs.declared.standing.Standing.TheVariants.{Undecided}
+use Rattle.radio_parts_station.specs.declared.standing.Standing.TheVariants.{Undecided}
 use Rattle.radio_settings_values.specs.Options.{options_for}
 use Rattle.radio_seats_rows.specs.Seats.{seat_of}
-use Rattle.radio_parts.specs.Sessions.{Session, session_of}
-use Rattle.radio_core.specs.Step.{reply_to, world_after}
-use Rattle.radio_parts.specs.Stream.{WholeStream, end_of}
-use Rattle.radio_house.specs.World.{World, standing_of}
+use Rattle.radio_parts_mount.specs.Sessions.{Session, session_of}
+use Rattle.radio_parts.specs.Step.{reply_to, world_after}
+use Rattle.radio_parts_mount.specs.Stream.{WholeStream, end_of}
+use Rattle.radio_parts_station.specs.World.{World, standing_of}
 use Rattle.radio_access.specs.Lists.{lets_in}
 use Rattle.radio_laws.specs.OnDemand.{IsFedOnDemand}
 use Rattle.radio_laws.specs.Walks.{ComesBy}
-use Rattle.radio_house.specs.Waiting.{heard_at}
+use Rattle.radio_parts_station.specs.Waiting.{heard_at}
 
 -- a block starts at the place, or it is the end, where the next one will
 abbrev pub IsBlockStart : WholeStream → ℕ → Type 0
@@ -38,30 +38,30 @@ pub record IsSeated (w : World) (event : Event) (interval : Option ℕ) (head : 
   pub asked : ListenRequest
   pub listens : event ≡ Listen asked
   pub session : Session
-  pub is_heard : heard_at w.house session.mount ≡ Some session
-  pub is_awaited : session_of w.house.live session.mount ≡ None → IsFedOnDemand w.house.settings session.mount
+  pub is_heard : heard_at w.station session.mount ≡ Some session
+  pub is_awaited : session_of w.station.live session.mount ≡ None → IsFedOnDemand w.station.settings session.mount
   pub shows : head.shown ≡ session.shown
   -- as those may read it whom the settings allow
-  pub readers : head.allow_origin ≡ w.house.settings.web.allow_origin
+  pub readers : head.allow_origin ≡ w.station.settings.web.allow_origin
   pub seat : Seat
   pub has_the_seat : seat_of (world_after w event).seats asked.id ≡ Some seat
   -- at a mount by which a walk comes from the one that it asked for, among the first ten; the one that it asked for is its home
   pub steps : ℕ
   pub not_too_far : steps < 10
   pub on_his_way : ComesBy w asked.mount steps seat.mount
-  pub lets_him_in : lets_in w.house.lists seat.mount asked.pair ≡ true
+  pub lets_him_in : lets_in w.station.lists seat.mount asked.pair ≡ true
   pub at_the_mount : seat.mount ≡ session.mount
   pub his_home : seat.home ≡ asked.mount
   pub in_the_session : seat.session ≡ session.number
   -- from the address from which it came, with the pair that it sent, from now on
   pub his_address : standing_of w asked.id ≡ Undecided seat.peer
   pub his_pair : seat.pair ≡ asked.pair
-  pub from_now : seat.since ≡ w.house.time
+  pub from_now : seat.since ≡ w.station.time
   -- if it asked for metadata, at the interval of the mount that it asked for
   pub his_interval : seat.interval ≡ interval
-  pub with_metadata : asked.wants_metadata ≡ true → interval ≡ Some (options_for w.house.settings asked.mount).stream.mp3_metadata_interval
+  pub with_metadata : asked.wants_metadata ≡ true → interval ≡ Some (options_for w.station.settings asked.mount).stream.mp3_metadata_interval
   pub without_metadata : asked.wants_metadata ≡ false → interval ≡ None
-  pub starts : IsEarliestStart session.stream (options_for w.house.settings seat.mount).stream.burst_size w.house.settings.limits.queue_size seat.place
+  pub starts : IsEarliestStart session.stream (options_for w.station.settings seat.mount).stream.burst_size w.station.settings.limits.queue_size seat.place
 
 -- only who asks to hear a mount is seated, and it begins where its burst begins
 abbrev pub BeginsAtABlock : World → Event → Type 0

@@ -20,24 +20,24 @@ use Rattle.radio_events.specs.declared.reply.Reply.TheVariants.{Text as SaysText
 use Rattle.radio_events.specs.declared.text.ReplyText.{ReplyText}
 use Rattle.radio_events.specs.declared.text.ReplyText.TheVariants.{Done, Moved, Ended as EndedText}
 use Rattle.radio_events.specs.Texts.{IsShort}
-use Rattle.radio_house.specs.declared.standing.Standing.TheVariants.{Undecided, Answered, Finished}
-use Rattle.radio_core.specs.Allowed.{IsCommanded}
-use Rattle.radio_house.specs.Fallbacks.{set_for}
+use Rattle.radio_parts_station.specs.declared.standing.Standing.TheVariants.{Undecided, Answered, Finished}
+use Rattle.radio_parts.specs.Allowed.{IsCommanded}
+use Rattle.radio_parts_station.specs.Fallbacks.{set_for}
 use Rattle.radio_core.specs.Handing.{handed}
-use Rattle.radio_parts.specs.Sessions.{Session, session_of}
-use Rattle.radio_core.specs.Step.{reply_to, world_after}
-use Rattle.radio_house.specs.World.{World, standing_of}
+use Rattle.radio_parts_mount.specs.Sessions.{Session, session_of}
+use Rattle.radio_parts.specs.Step.{reply_to, world_after}
+use Rattle.radio_parts_station.specs.World.{World, standing_of}
 use Rattle.radio_laws.specs.Walks.{FallsBack}
 
 -- the user and the password of the admin, byte for byte
 pub record IsTheAdmins (w : World) (pair : Credentials) : Type 0 where
-  pub user : pair.user ≡ w.house.settings.access.admin.username
-  pub password : pair.password ≡ w.house.settings.access.admin.password
+  pub user : pair.user ≡ w.station.settings.access.admin.username
+  pub password : pair.password ≡ w.station.settings.access.admin.password
 
 -- or those of the mount's source
 pub record IsTheSources (w : World) (mount : List ℕ) (pair : Credentials) : Type 0 where
-  pub user : pair.user ≡ (options_for w.house.settings mount).source.username
-  pub password : pair.password ≡ (options_for w.house.settings mount).source.password
+  pub user : pair.user ≡ (options_for w.station.settings mount).source.username
+  pub password : pair.password ≡ (options_for w.station.settings mount).source.password
 
 -- the admin may give every command, and the source of a mount those that set a title or a fallback there
 -- rule: Admin password; Who may command
@@ -48,7 +48,7 @@ pub data MayGive (w : World) (pair : Credentials) : TheCommand → Type 0 where
 
 -- the mount has a live source
 abbrev pub IsLive : World → List ℕ → Type 0
-IsLive w mount = (session : Session) × (session_of w.house.live mount ≡ Some session)
+IsLive w mount = (session : Session) × (session_of w.station.live mount ≡ Some session)
 
 -- what a command needs is there: a live mount. To move its listeners, there is another one; to finish a listener, it sits there. To change users,
 -- there is a mount that has users, live or not; to take one away, it is one of them
@@ -59,8 +59,8 @@ IsThere w (KillClient mount listener) = IsLive w mount × (seat : Seat) × (seat
 IsThere w (KillSource mount) = IsLive w mount
 IsThere w (SetTitle mount text) = IsLive w mount
 IsThere w (SetFallback mount fallback) = IsLive w mount
-IsThere w (AddUser mount user password) = has_users w.house.lists mount ≡ true
-IsThere w (DeleteUser mount user) = has_user_at w.house.lists mount user ≡ true
+IsThere w (AddUser mount user password) = has_users w.station.lists mount ≡ true
+IsThere w (DeleteUser mount user) = has_user_at w.station.lists mount user ≡ true
 
 -- a client that has asked for nothing yet, and may give the command, reads that it was done if what it needs is
 -- there
@@ -89,14 +89,14 @@ OnlyWhoMayCommands w event = (text : ReplyText) → reply_to w event ≡ SaysTex
 -- a source is finished by a command that ends its session
 pub record IsSourceKilled (w later : World) (mount : List ℕ) : Type 0 where
   pub session : Session
-  pub was_live : session_of w.house.live mount ≡ Some session
-  pub is_over : session_of later.house.live mount ≡ None
+  pub was_live : session_of w.station.live mount ≡ Some session
+  pub is_over : session_of later.station.live mount ≡ None
   pub has_finished : standing_of later session.number ≡ Finished SourceKilled
 
 -- how one fares who sat at a mount whose users have changed: it keeps its seat where they let it in, and else has lost it by `listener-password`
 pub data FaresByUsers (later : World) (mount : List ℕ) (id : ℕ) (seat : Seat) : Type 0 where
-  IsLetIn : lets_in later.house.lists mount seat.pair ≡ true → seat_of later.seats id ≡ Some seat → FaresByUsers later mount id seat
-  IsShutOut : lets_in later.house.lists mount seat.pair ≡ false → seat_of later.seats id ≡ None → standing_of later id ≡ Finished ListenerPassword
+  IsLetIn : lets_in later.station.lists mount seat.pair ≡ true → seat_of later.seats id ≡ Some seat → FaresByUsers later mount id seat
+  IsShutOut : lets_in later.station.lists mount seat.pair ≡ false → seat_of later.seats id ≡ None → standing_of later id ≡ Finished ListenerPassword
       → FaresByUsers later mount id seat
 
 -- the users of the mount have changed. As many have lost their seats there as the text says, and each who sat there fares by the users as they are now
@@ -109,11 +109,11 @@ pub record HaveChanged (w : World) (event : Event) (mount : List ℕ) : Type 0 w
 -- this user is let in with what has the MD5 digest of this password
 abbrev pub HasPassword : World → List ℕ → List ℕ → List ℕ → Type 0
 HasPassword w mount user password = (pair : Credentials) → pair.user ≡ user
-    → (lets_in w.house.lists mount (Some pair) ≡ true) ↔ (md5 pair.password ≡ md5 password)
+    → (lets_in w.station.lists mount (Some pair) ≡ true) ↔ (md5 pair.password ≡ md5 password)
 
 -- this user is let in with nothing
 abbrev pub IsNoUser : World → List ℕ → List ℕ → Type 0
-IsNoUser w mount user = (pair : Credentials) → pair.user ≡ user → lets_in w.house.lists mount (Some pair) ≡ false
+IsNoUser w mount user = (pair : Credentials) → pair.user ≡ user → lets_in w.station.lists mount (Some pair) ≡ false
 
 -- what a command is to do is done afterwards, and what is said of it is true: as many have gone to the destination, or have finished, as the text
 -- says
@@ -124,8 +124,8 @@ HasDone w event (MoveClients mount destination) = (count : ℕ) × (reply_to w e
 HasDone w event (KillClient mount listener) = (reply_to w event ≡ SaysText Done) × (standing_of (world_after w event) listener ≡ Finished Killed)
     × (seat_of (world_after w event).seats listener ≡ None)
 HasDone w event (KillSource mount) = (reply_to w event ≡ SaysText Done) × IsSourceKilled w (world_after w event) mount
-HasDone w event (SetTitle mount text) = (reply_to w event ≡ SaysText Done) × (session : Session) × (session_of w.house.live mount ≡ Some session)
-    × (session_of (world_after w event).house.live mount ≡ Some (record session { title = Some text }))
+HasDone w event (SetTitle mount text) = (reply_to w event ≡ SaysText Done) × (session : Session) × (session_of w.station.live mount ≡ Some session)
+    × (session_of (world_after w event).station.live mount ≡ Some (record session { title = Some text }))
 HasDone w event (SetFallback mount fallback) = (reply_to w event ≡ SaysText Done)
     × ((next : List ℕ) → FallsBack (world_after w event) mount next ↔ (fallback ≡ Some next))
 HasDone w event (AddUser mount user password) = HaveChanged w event mount × HasPassword (world_after w event) mount user password
@@ -145,14 +145,14 @@ mount_of (DeleteUser mount user) = mount
 -- are let in; and the settings
 -- rule: Commands are done
 pub record StaysBeside (w later : World) (mount : List ℕ) : Type 0 where
-  pub sessions : (other : List ℕ) → bytes_eq mount other ≡ false → session_of later.house.live other ≡ session_of w.house.live other
+  pub sessions : (other : List ℕ) → bytes_eq mount other ≡ false → session_of later.station.live other ≡ session_of w.station.live other
   pub seats : (id : ℕ) (seat : Seat) → seat_of w.seats id ≡ Some seat → bytes_eq mount seat.mount ≡ false → seat_of later.seats id ≡ Some seat
-  pub fallbacks : (other : List ℕ) → bytes_eq mount other ≡ false → set_for later.house.fallbacks other ≡ set_for w.house.fallbacks other
-  pub settings : later.house.settings ≡ w.house.settings
+  pub fallbacks : (other : List ℕ) → bytes_eq mount other ≡ false → set_for later.station.fallbacks other ≡ set_for w.station.fallbacks other
+  pub settings : later.station.settings ≡ w.station.settings
   pub users : (other : List ℕ) (pair : Option Credentials) → bytes_eq mount other ≡ false
-      → lets_in later.house.lists other pair ≡ lets_in w.house.lists other pair
-  pub addresses : (peer : Address) → passes later.house.lists peer ≡ passes w.house.lists peer
-  pub time : later.house.time ≡ w.house.time
+      → lets_in later.station.lists other pair ≡ lets_in w.station.lists other pair
+  pub addresses : (peer : Address) → passes later.station.lists peer ≡ passes w.station.lists peer
+  pub time : later.station.time ≡ w.station.time
 
 -- a command that the policy allows is done, the client who gave it has had its answer, and nothing changes beyond the mount that it names
 pub record IsCommandKept (w : World) (event : Event) (command : TheCommand) (id : ℕ) : Type 0 where
@@ -173,5 +173,5 @@ KilledHearNothing w event = (mount : List ℕ) (id : ℕ) → IsCommanded w even
 -- what was set for a mount stays set, whatever happens, until a command sets another fallback for it
 -- rule: Fallbacks
 abbrev pub FallbacksStay : World → Event → Type 0
-FallbacksStay w event = (mount : List ℕ) → (set_for (world_after w event).house.fallbacks mount ≡ set_for w.house.fallbacks mount)
+FallbacksStay w event = (mount : List ℕ) → (set_for (world_after w event).station.fallbacks mount ≡ set_for w.station.fallbacks mount)
     ⊎ ((fallback : Option (List ℕ)) × IsCommanded w event (SetFallback mount fallback))

@@ -20,28 +20,28 @@ use Rattle.radio_events.specs.declared.event.ListenRequest.{ListenRequest}
 use Rattle.radio_events.specs.declared.command.CommandRequest.{CommandRequest}
 use Rattle.radio_events.specs.declared.reply.Reply.TheVariants.{Feeding, Deny}
 use Rattle.radio_events.specs.Events.{client_in}
-use Rattle.radio_house.specs.declared.clients.ClientState.TheVariants.{Undecided, Answered}
-use Rattle.radio_house.specs.declared.standing.Standing.TheVariants.{Feeds}
-use Rattle.radio_house.specs.Clients.{Client, client_of}
-use Rattle.radio_parts.specs.Sessions.{Session, session_of}
-use Rattle.radio_core.specs.Step.{reply_to, world_after}
-use Rattle.radio_core.specs.Ways.{rows_for, IsUndecided}
-use Rattle.radio_house.specs.World.{World, standing_of}
+use Rattle.radio_parts_station.specs.declared.clients.ClientState.TheVariants.{Undecided, Answered}
+use Rattle.radio_parts_station.specs.declared.standing.Standing.TheVariants.{Feeds}
+use Rattle.radio_parts_station.specs.Clients.{Client, client_of}
+use Rattle.radio_parts_mount.specs.Sessions.{Session, session_of}
+use Rattle.radio_parts.specs.Step.{reply_to, world_after}
+use Rattle.radio_parts.specs.Ways.{rows_for, IsUndecided}
+use Rattle.radio_parts_station.specs.World.{World, standing_of}
 use Rattle.radio_laws.specs.Shown.{IsPath}
 
 -- the state as it was, but that the client who asked, if it had asked for nothing before, has had its answer
 pub record IsOnlyAnswered (w later : World) (client : Option ℕ) : Type 0 where
-  pub time : later.house.time ≡ w.house.time
-  pub settings : later.house.settings ≡ w.house.settings
-  pub lists : later.house.lists ≡ w.house.lists
-  pub live : later.house.live ≡ w.house.live
-  pub fallbacks : later.house.fallbacks ≡ w.house.fallbacks
-  pub relays : later.house.relays ≡ w.house.relays
-  pub last : later.house.last_id ≡ w.house.last_id
+  pub time : later.station.time ≡ w.station.time
+  pub settings : later.station.settings ≡ w.station.settings
+  pub lists : later.station.lists ≡ w.station.lists
+  pub live : later.station.live ≡ w.station.live
+  pub fallbacks : later.station.fallbacks ≡ w.station.fallbacks
+  pub relays : later.station.relays ≡ w.station.relays
+  pub last : later.station.last_id ≡ w.station.last_id
   pub seats : later.seats ≡ w.seats
-  pub answered : (id : ℕ) (him : Client) → client ≡ Some id → client_of w.house.clients id ≡ Some him → him.state ≡ Undecided
-      → client_of later.house.clients id ≡ Some (record him { state = Answered })
-  pub others : (id : ℕ) → (client ≡ Some id → IsUndecided w id → ⊥) → client_of later.house.clients id ≡ client_of w.house.clients id
+  pub answered : (id : ℕ) (him : Client) → client ≡ Some id → client_of w.station.clients id ≡ Some him → him.state ≡ Undecided
+      → client_of later.station.clients id ≡ Some (record him { state = Answered })
+  pub others : (id : ℕ) → (client ≡ Some id → IsUndecided w id → ⊥) → client_of later.station.clients id ≡ client_of w.station.clients id
 
 -- a reply that denies is a denial of the policy in this state, by the first rule whose condition holds, and changes nothing else
 -- rule: First rule
@@ -66,8 +66,8 @@ ThePolicyDenies w event = AsksThePolicy w event → (rule : Rule) → Denies (ro
 -- whoever comes from an address that the deny list has is denied for it, whatever else holds; and where an allow list does not have it, for that
 -- rule: Address denied; Address not allowed
 pub record AddressesAreDenied (w : World) : Type 0 where
-  pub denied : (peer : Peer) → is_denied w.house.lists peer ≡ true → reply_to w (Arrive peer) ≡ Deny AddressDenied
-  pub not_allowed : (peer : Peer) → is_denied w.house.lists peer ≡ false → is_allowed w.house.lists peer ≡ false
+  pub denied : (peer : Peer) → is_denied w.station.lists peer ≡ true → reply_to w (Arrive peer) ≡ Deny AddressDenied
+  pub not_allowed : (peer : Peer) → is_denied w.station.lists peer ≡ false → is_allowed w.station.lists peer ≡ false
       → reply_to w (Arrive peer) ≡ Deny AddressNotAllowed
 
 -- a source feeds only the mount that it names, where it sent the user and the password of that mount's source, byte for byte, and a content type that is
@@ -77,8 +77,8 @@ pub record FeedsAsItsSource (w : World) (event : Event) : Type 0 where
   pub wants : event ≡ Source asked
   pub pair : Credentials
   pub sent : asked.pair ≡ Some pair
-  pub user : pair.user ≡ (options_for w.house.settings asked.mount).source.username
-  pub password : pair.password ≡ (options_for w.house.settings asked.mount).source.password
+  pub user : pair.user ≡ (options_for w.station.settings asked.mount).source.username
+  pub password : pair.password ≡ (options_for w.station.settings asked.mount).source.password
   pub is_carried : is_refused_type asked.shown.content_type ≡ false
 
 -- rule: Source password
@@ -88,6 +88,6 @@ OnlySourcesFeed w event = reply_to w event ≡ Feeding → FeedsAsItsSource w ev
 -- a mount of the settings, one that a relay feeds, and one that is live is never denied as one that the server does not know
 -- rule: No mount
 pub record KnownMountsAreKnown (w : World) (asked : ListenRequest) : Type 0 where
-  pub in_settings : (mount : MountSetting) → Has mount w.house.settings.mounts → mount.name ≡ asked.mount → reply_to w (Listen asked) ≡ Deny NoMount → ⊥
-  pub relayed : (relay : RelaySetting) → Has relay w.house.settings.relays → relay.local_mount ≡ asked.mount → reply_to w (Listen asked) ≡ Deny NoMount → ⊥
-  pub live : (session : Session) → session_of w.house.live asked.mount ≡ Some session → reply_to w (Listen asked) ≡ Deny NoMount → ⊥
+  pub in_settings : (mount : MountSetting) → Has mount w.station.settings.mounts → mount.name ≡ asked.mount → reply_to w (Listen asked) ≡ Deny NoMount → ⊥
+  pub relayed : (relay : RelaySetting) → Has relay w.station.settings.relays → relay.local_mount ≡ asked.mount → reply_to w (Listen asked) ≡ Deny NoMount → ⊥
+  pub live : (session : Session) → session_of w.station.live asked.mount ≡ Some session → reply_to w (Listen asked) ≡ Deny NoMount → ⊥

@@ -6,7 +6,7 @@ use Rattle.radio_access.specs.Lists.{Lists}
 use Rattle.radio_events.specs.declared.event.Event.{Event}
 use Rattle.radio_events.specs.declared.reply.Reply.TheVariants.{Finished}
 use Rattle.radio_core.specs.Run.{run_after}
-use Rattle.radio_core.specs.Step.{reply_to}
+use Rattle.radio_parts.specs.Step.{reply_to}
 use Rattle.radio_events.specs.Events.{client_in}
 use Rattle.radio_core.specs.Finishes.{Finishes}
 

@@ -1,14 +1,14 @@
 use Rattle.std.specs.Prelude.{◌≡◌, ℕ, ◌≤◌, false, List, []}
 use Rattle.radio_events.specs.declared.event.Event.{Event}
 use Rattle.radio_events.specs.declared.event.Event.TheVariants.{Leave, RelayDown}
-use Rattle.radio_changes.specs.declared.change.Change.TheVariants.{Nothing}
+use Rattle.radio_parts_changes.specs.declared.change.Change.TheVariants.{Nothing}
 use Rattle.radio_events.specs.declared.reply.Reply.TheVariants.{Noted, Stray}
-use Rattle.radio_house.specs.declared.standing.Standing.TheVariants.{Unknown}
+use Rattle.radio_parts_station.specs.declared.standing.Standing.TheVariants.{Unknown}
 use Rattle.radio_core.specs.Handing.{handed, delivered}
-use Rattle.radio_core.specs.Outcomes.{says}
+use Rattle.radio_parts.specs.Outcomes.{says}
 use Rattle.radio_core.specs.Run.{world_after_all}
-use Rattle.radio_core.specs.Step.{outcome, reply_to}
-use Rattle.radio_house.specs.World.{World, standing_of, has_relay}
+use Rattle.radio_parts.specs.Step.{outcome, reply_to}
+use Rattle.radio_parts_station.specs.World.{World, standing_of, has_relay}
 
 -- by the event a client leaves, or a relay has gone down
 -- rule: Leaving
@@ -19,7 +19,7 @@ pub data Leaving (w : World) (id : ℕ) : Event → Type 0 where
 -- the number was given, and its client or relay is not there any more (numbers are given from 1 on)
 -- rule: Leaving
 abbrev pub HasLeft : World → ℕ → Type 0
-HasLeft w id = (id ≤ w.house.last_id) × (standing_of w id ≡ Unknown)
+HasLeft w id = (id ≤ w.station.last_id) × (standing_of w id ≡ Unknown)
 
 -- the event is out of place, and nothing changes
 abbrev pub IsOutOfPlace : World → Event → Type 0

@@ -4,14 +4,14 @@ use Rattle.radio_policy.specs.declared.rule.Rule.{Rule}
 use Rattle.radio_fallback.specs.declared.moves.Move.{Move}
 use Rattle.radio_seats_rows.specs.declared.seat.Seat.{Seat}
 use Rattle.radio_seats_rows.specs.Seats.{listener_of, seat_of, last_mount_of}
-use Rattle.radio_parts.specs.Timeouts.{has_sat_out}
+use Rattle.radio_parts_mount.specs.Timeouts.{has_sat_out}
 use Rattle.radio_events.specs.declared.event.Event.{Event}
 use Rattle.radio_events.specs.declared.event.Event.TheVariants.{Clock}
-use Rattle.radio_house.specs.declared.standing.Standing.TheVariants.{Finished}
-use Rattle.radio_house.specs.World.{World, standing_of}
-use Rattle.radio_changes.specs.Changes.{carried_along}
+use Rattle.radio_parts_station.specs.declared.standing.Standing.TheVariants.{Finished}
+use Rattle.radio_parts_station.specs.World.{World, standing_of}
+use Rattle.radio_parts_changes.specs.Changes.{carried_along}
 use Rattle.radio_core.specs.Moves.{Brings}
-use Rattle.radio_core.specs.Step.{world_after}
+use Rattle.radio_parts.specs.Step.{world_after}
 use Rattle.radio_laws.specs.Gone.{Leaving}
 
 -- of whoever has a seat it is its seat's
@@ -28,10 +28,10 @@ FinishedWhereHeSat w event = ((ms : ℕ) → event ≡ Clock ms → ⊥) → (id
 -- rule: Last mount
 pub record EndedByClockWhereTheySat (w : World) (ms : ℕ) : Type 0 where
   -- first it ends whoever has sat as long as the mount allows that it asked for
-  pub sat_out : nat_lt ms w.house.time ≡ false → (id : ℕ) (seat : Seat) → seat_of w.seats id ≡ Some seat → has_sat_out w.house.settings ms seat ≡ true
+  pub sat_out : nat_lt ms w.station.time ≡ false → (id : ℕ) (seat : Seat) → seat_of w.seats id ≡ Some seat → has_sat_out w.station.settings ms seat ≡ true
       → last_mount_of (world_after w (Clock ms)).seats id ≡ Some seat.mount
   -- then sessions: whom the end of one leaves without a seat sat last where it had it just before, be it that the end of an earlier one took it there
-  pub left_out : nat_lt ms w.house.time ≡ false → (move : Move) (before : World) → Brings w (Clock ms) move before → (id : ℕ) (seat : Seat)
+  pub left_out : nat_lt ms w.station.time ≡ false → (move : Move) (before : World) → Brings w (Clock ms) move before → (id : ℕ) (seat : Seat)
       → seat_of before.seats id ≡ Some seat → seat_of (carried_along before move).seats id ≡ None
       → last_mount_of (world_after w (Clock ms)).seats id ≡ Some seat.mount
 

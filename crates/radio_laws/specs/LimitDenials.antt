@@ -10,8 +10,8 @@ use Rattle.radio_events.specs.declared.event.Event.{Event}
 use Rattle.radio_events.specs.declared.event.Event.TheVariants.{Listen}
 use Rattle.radio_events.specs.declared.event.ListenRequest.{ListenRequest}
 use Rattle.radio_events.specs.declared.reply.Reply.TheVariants.{Deny}
-use Rattle.radio_core.specs.Step.{reply_to}
-use Rattle.radio_house.specs.World.{World}
+use Rattle.radio_parts.specs.Step.{reply_to}
+use Rattle.radio_parts_station.specs.World.{World}
 use Rattle.radio_laws.specs.Limits.{SentUser, IsFullAt, allows_duplicates_at}
 use Rattle.radio_laws.specs.Walks.{ComesBy}
 
@@ -38,8 +38,8 @@ ByAMount w event P = (asked : ListenRequest) × (event ≡ Listen asked) × (ste
 -- user is denied as one that sits there only if a walk comes to a mount where it does. A walk is denied as too long only if ten mounts have passed it on
 -- rule: Too many clients; Too many sources
 pub record DeniesByLimits (w : World) (event : Event) : Type 0 where
-  pub clients : reply_to w event ≡ Deny TooManyClients → w.house.settings.limits.clients ≤ length w.house.clients
-  pub sources : reply_to w event ≡ Deny TooManySources → w.house.settings.limits.sources ≤ length w.house.live
+  pub clients : reply_to w event ≡ Deny TooManyClients → w.station.settings.limits.clients ≤ length w.station.clients
+  pub sources : reply_to w event ≡ Deny TooManySources → w.station.settings.limits.sources ≤ length w.station.live
   pub full : reply_to w event ≡ Deny MountFull → ByAMount w event (λ asked mount. IsFullAt w mount)
   pub twice : reply_to w event ≡ Deny UserTwice → ByAMount w event (λ asked mount. HasUserAt w mount asked.pair)
   pub depth : reply_to w event ≡ Deny FallbackDepth

@@ -9,16 +9,16 @@ use Rattle.radio_values.specs.declared.field.Shown.{Shown}
 use Rattle.radio_events.specs.declared.event.Event.{Event}
 use Rattle.radio_events.specs.declared.event.Event.TheVariants.{Arrive, RelayUp}
 use Rattle.radio_events.specs.declared.reply.Reply.TheVariants.{Arrived, Feeding}
-use Rattle.radio_core.specs.Step.{reply_to}
-use Rattle.radio_house.specs.World.{World}
+use Rattle.radio_parts.specs.Step.{reply_to}
+use Rattle.radio_parts_station.specs.World.{World}
 
 -- how many may sit at the mount, if the settings limit it
 abbrev pub most_at : World → List ℕ → Option ℕ
-most_at w mount = (options_for w.house.settings mount).listeners.max_listeners
+most_at w mount = (options_for w.station.settings mount).listeners.max_listeners
 
 -- by the settings, a user may sit at the mount more than once
 abbrev pub allows_duplicates_at : World → List ℕ → Bool
-allows_duplicates_at w mount = (options_for w.house.settings mount).users.allow_duplicate_users
+allows_duplicates_at w mount = (options_for w.station.settings mount).users.allow_duplicate_users
 
 -- a pair was sent, and this is its user, byte for byte
 abbrev pub SentUser : List ℕ → Option Credentials → Type 0
@@ -47,7 +47,7 @@ pub record IsFullAt (w : World) (mount : List ℕ) : Type 0 where
 -- a client arrives only if fewer are there than may be, and a source or a relay feeds only if fewer sessions are live than may be
 -- rule: Too many clients; Too many sources; Relay is no client
 pub record AdmitsByLimits (w : World) (event : Event) : Type 0 where
-  pub clients : (peer : Peer) (id : ℕ) → event ≡ Arrive peer → reply_to w event ≡ Arrived id → length w.house.clients < w.house.settings.limits.clients
-  pub sources : reply_to w event ≡ Feeding → length w.house.live < w.house.settings.limits.sources
+  pub clients : (peer : Peer) (id : ℕ) → event ≡ Arrive peer → reply_to w event ≡ Arrived id → length w.station.clients < w.station.settings.limits.clients
+  pub sources : reply_to w event ≡ Feeding → length w.station.live < w.station.settings.limits.sources
   pub relays : (mount : List ℕ) (shown : Shown) (id : ℕ) → event ≡ RelayUp mount shown → reply_to w event ≡ Arrived id
-      → length w.house.live < w.house.settings.limits.sources
+      → length w.station.live < w.station.settings.limits.sources

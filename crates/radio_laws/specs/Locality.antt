@@ -5,8 +5,8 @@ use Rattle.radio_settings_values.specs.Options.{options_for}
 use Rattle.radio_seats_rows.specs.declared.seat.Listener.{Listener}
 use Rattle.radio_seats_rows.specs.declared.seat.Seat.{Seat}
 use Rattle.radio_seats_rows.specs.Seats.{seat_of, last_mount, last_mount_of}
-use Rattle.radio_mounts.specs.Agree.{AllAgree}
-use Rattle.radio_parts.specs.Sessions.{Session, session_of}
+use Rattle.radio_parts_table.specs.Agree.{AllAgree}
+use Rattle.radio_parts_mount.specs.Sessions.{Session, session_of}
 use Rattle.radio_events.specs.declared.event.Event.{Event}
 use Rattle.radio_events.specs.declared.event.Event.TheVariants.{Arrive, Source, Push, SourceEnd, Title, Listen, Draw, Command, Leave}
 use Rattle.radio_events.specs.declared.event.Event.TheVariants.{RelayUp, RelayDown, Clock}
@@ -15,9 +15,9 @@ use Rattle.radio_events.specs.declared.command.Asked.{Asked}
 use Rattle.radio_events.specs.declared.command.Asked.TheVariants.{NoCommand, MissingArgument, Listing as AsksFor, Command as Asks}
 use Rattle.radio_events.specs.declared.command.Command.TheVariants.{MoveClients, KillClient, KillSource, SetTitle, SetFallback, AddUser, DeleteUser}
 use Rattle.radio_events.specs.declared.command.Listing.TheVariants.{Clients}
-use Rattle.radio_house.specs.declared.standing.Standing.TheVariants.{Feeds}
-use Rattle.radio_core.specs.Step.{reply_to, world_after}
-use Rattle.radio_house.specs.World.{World, standing_of}
+use Rattle.radio_parts_station.specs.declared.standing.Standing.TheVariants.{Feeds}
+use Rattle.radio_parts.specs.Step.{reply_to, world_after}
+use Rattle.radio_parts_station.specs.World.{World, standing_of}
 use Rattle.radio_laws.specs.Shown.{IsPath}
 use Rattle.radio_laws.specs.Walks.{FallsBack}
 use Rattle.radio_settings_values.specs.declared.web.WebPath.TheVariants.{IcecastStatus}
@@ -38,8 +38,8 @@ pub data ListenersAgree (within : List ℕ → Bool) (a b : Listener) : Type 0 w
 -- it the same mounts are live, fed by the same sources; what they have sent, their titles, who sits there, and which of these have finished, may differ.
 -- rule: Reach of a start
 pub record AgreeWithin (within : List ℕ → Bool) (v w : World) : Type 0 where
-  pub house : v.house ≡ record w.house { live = v.house.live }
-  pub sessions : AllAgree (SessionsAgree within) v.house.live w.house.live
+  pub station : v.station ≡ record w.station { live = v.station.live }
+  pub sessions : AllAgree (SessionsAgree within) v.station.live w.station.live
   pub listeners : AllAgree (ListenersAgree within) v.seats w.seats
 
 abbrev pub IsAll : (List ℕ → Bool) → Type 0
@@ -52,7 +52,7 @@ FallBackWithin w within = (mount next : List ℕ) → within mount ≡ true → 
 -- the mount on which a source comes up, or a relay; where it calls its listeners home, they may sit at any
 pub record ComesUpWithin (w : World) (within : List ℕ → Bool) (mount : List ℕ) : Type 0 where
   pub there : within mount ≡ true
-  pub home : (options_for w.house.settings mount).listeners.fallback_override ≡ true → IsAll within
+  pub home : (options_for w.station.settings mount).listeners.fallback_override ≡ true → IsAll within
 
 -- the mount from which a walk begins, and those by which it may come
 pub record WalksWithin (w : World) (within : List ℕ → Bool) (mount : List ℕ) : Type 0 where
@@ -114,7 +114,7 @@ pub record IsWithin (w : World) (within : List ℕ → Bool) (event : Event) : T
 
 -- beyond reach each mount has the session that it had, and those sit there who sat there, each in its seat
 pub record IsLeftAlone (within : List ℕ → Bool) (w later : World) : Type 0 where
-  pub sessions : (mount : List ℕ) → within mount ≡ false → session_of later.house.live mount ≡ session_of w.house.live mount
+  pub sessions : (mount : List ℕ) → within mount ≡ false → session_of later.station.live mount ≡ session_of w.station.live mount
   pub seats : (id : ℕ) (seat : Seat) → within seat.mount ≡ false → (seat_of later.seats id ≡ Some seat) ↔ (seat_of w.seats id ≡ Some seat)
 
 -- states that agree on all that the event can reach answer it alike, and agree on that still

@@ -6,9 +6,9 @@ use Rattle.radio_tables.specs.Lists.{Has}
 use Rattle.radio_seats_rows.specs.declared.seat.Listener.{Listener}
 use Rattle.radio_seats_rows.specs.declared.seat.Seat.{Seat}
 use Rattle.radio_seats_rows.specs.declared.seat.Seating.TheVariants.{Sits}
-use Rattle.radio_house.specs.Waiting.{is_on_demand}
-use Rattle.radio_facts.specs.Wanted.{wanted}
-use Rattle.radio_house.specs.World.{World}
+use Rattle.radio_parts_station.specs.Waiting.{is_on_demand}
+use Rattle.radio_parts_facts.specs.Wanted.{wanted}
+use Rattle.radio_parts_station.specs.World.{World}
 
 -- a relay of the settings feeds the mount, and does so on demand
 pub record IsFedOnDemand (settings : Settings) (mount : List ℕ) : Type 0 where
@@ -35,5 +35,5 @@ pub record IsSatAt (seats : List Listener) (mount : List ℕ) : Type 0 where
 -- wanted are the mounts where somebody sits that a relay feeds on demand, and no others
 -- rule: Pulls on demand
 pub record WantedAreSatAt (w : World) : Type 0 where
-  pub only : (mount : List ℕ) → Has mount (wanted w) → IsFedOnDemand w.house.settings mount × IsSatAt w.seats mount
-  pub each : (mount : List ℕ) → IsFedOnDemand w.house.settings mount → IsSatAt w.seats mount → Has mount (wanted w)
+  pub only : (mount : List ℕ) → Has mount (wanted w) → IsFedOnDemand w.station.settings mount × IsSatAt w.seats mount
+  pub each : (mount : List ℕ) → IsFedOnDemand w.station.settings mount → IsSatAt w.seats mount → Has mount (wanted w)

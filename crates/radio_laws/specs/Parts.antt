@@ -5,14 +5,14 @@ use Rattle.std.specs.Str.{bytes_eq}
 use Rattle.radio_seats_rows.specs.declared.seat.Listener.{Listener}
 use Rattle.radio_seats_rows.specs.declared.seat.Seat.{Seat}
 use Rattle.radio_seats_rows.specs.Seats.{seat_of, with_place}
-use Rattle.radio_parts.specs.Parts.{Part, part_received, part_titled}
-use Rattle.radio_parts.specs.Sessions.{Session, session_of}
+use Rattle.radio_parts_mount.specs.StatePart.{Part, part_received, part_titled}
+use Rattle.radio_parts_mount.specs.Sessions.{Session, session_of}
 use Rattle.radio_events.specs.declared.event.Event.TheVariants.{Push, Title, Draw}
 use Rattle.radio_events.specs.declared.reply.Reply.TheVariants.{Noted}
-use Rattle.radio_changes.specs.declared.change.Change.TheVariants.{Advance}
-use Rattle.radio_core.specs.Draw.{as_heard, part_draws}
-use Rattle.radio_core.specs.Step.{outcome, reply_to, world_after}
-use Rattle.radio_house.specs.World.{World}
+use Rattle.radio_parts_changes.specs.declared.change.Change.TheVariants.{Advance}
+use Rattle.radio_parts.specs.Draw.{as_heard, part_draws}
+use Rattle.radio_parts.specs.Step.{outcome, reply_to, world_after}
+use Rattle.radio_parts_station.specs.World.{World}
 use Rattle.radio_laws.specs.Locality.{IsLeftAlone}
 
 -- a seat of which this holds
@@ -30,7 +30,7 @@ seat_at mount listeners id = seat_if (is_at mount) (seat_of listeners id)
 -- The part is what is at its mount: its session, and the listeners that sit there, each in its seat. It may have other listeners, or none but
 -- them.
 pub record IsPartOf (w : World) (p : Part) : Type 0 where
-  pub live : session_of w.house.live p.mount ≡ p.session
+  pub live : session_of w.station.live p.mount ≡ p.session
   pub seats : (id : ℕ) → seat_at p.mount p.listeners id ≡ seat_at p.mount w.seats id
 
 -- it has heard the stream up to this place
@@ -48,8 +48,8 @@ pub record IsPartsStep (w later : World) (p after : Part) : Type 0 where
 
 -- what it gets depends on the part alone, which alone changes
 pub record DrawsByItsPart (w : World) (p : Part) (id room : ℕ) : Type 0 where
-  pub by_part : outcome w (Draw id room) ≡ part_draws (as_heard w.house p) id room
-  pub step : (place : ℕ) → (part_draws (as_heard w.house p) id room).change ≡ Advance id place
+  pub by_part : outcome w (Draw id room) ≡ part_draws (as_heard w.station p) id room
+  pub step : (place : ℕ) → (part_draws (as_heard w.station p) id room).change ≡ Advance id place
       → IsPartsStep w (world_after w (Draw id room)) p (part_heard p id place)
 
 -- a draw of one who sits there
@@ -60,7 +60,7 @@ PartsDraw w = (p : Part) (id room : ℕ) (seat : Seat) → IsPartOf w p → seat
 abbrev pub PartsReceive : World → Type 0
 PartsReceive w = (p : Part) (session : Session) (block : List ℕ) → IsPartOf w p → p.session ≡ Some session
     → reply_to w (Push session.number block) ≡ Noted
-    → IsPartsStep w (world_after w (Push session.number block)) p (part_received w.house.settings.limits.queue_size w.house.time block p)
+    → IsPartsStep w (world_after w (Push session.number block)) p (part_received w.station.settings.limits.queue_size w.station.time block p)
 
 abbrev pub PartsAreTitled : World → Type 0
 PartsAreTitled w = (p : Part) (session : Session) (text : List ℕ) → IsPartOf w p → p.session ≡ Some session

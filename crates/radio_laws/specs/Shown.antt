@@ -34,18 +34,18 @@ use Rattle.radio_policy.specs.declared.rule.Rule.TheVariants.{BadMount}
 use Rattle.radio_events.specs.declared.text.ReplyText.{ReplyText}
 use Rattle.radio_events.specs.declared.text.ReplyText.TheVariants.{Done, Moved, Ended, Json, Streams as StreamList, Public, Page}
 use Rattle.radio_events.specs.Texts.{IsShort}
-use Rattle.radio_house.specs.declared.standing.Standing.TheVariants.{Undecided, Answered}
-use Rattle.radio_status.specs.Listings.{about_row, mount_rows, listener_rows}
-use Rattle.radio_parts.specs.Sessions.{Session}
-use Rattle.radio_core.specs.Step.{reply_to, world_after}
-use Rattle.radio_house.specs.World.{World, standing_of}
+use Rattle.radio_parts_station.specs.declared.standing.Standing.TheVariants.{Undecided, Answered}
+use Rattle.radio_parts_facts.specs.Listings.{about_row, mount_rows, listener_rows}
+use Rattle.radio_parts_mount.specs.Sessions.{Session}
+use Rattle.radio_parts.specs.Step.{reply_to, world_after}
+use Rattle.radio_parts_station.specs.World.{World, standing_of}
 use Rattle.radio_laws.specs.Commanded.{IsTheAdmins, IsLive}
 use Rattle.radio_laws.specs.Walks.{FallsBack}
 
 -- the user and the password of relays, byte for byte, where they have a password
 pub record IsTheRelays (w : World) (pair : Credentials) : Type 0 where
-  pub user : pair.user ≡ w.house.settings.access.relays.username
-  pub password : w.house.settings.access.relays.password ≡ Some pair.password
+  pub user : pair.user ≡ w.station.settings.access.relays.username
+  pub password : w.station.settings.access.relays.password ≡ Some pair.password
 
 -- everybody may see the status, a relay the list of streams, and the admin all
 -- rule: Who may see
@@ -68,7 +68,7 @@ pub record TellsOf (w : World) (fed : Session) (row : MountRow) : Type 0 where
   pub title : row.public.title ≡ unwrap_or fed.title []
   pub listeners : row.public.listeners ≡ count_at w.seats fed.mount
   pub about : row.public.about ≡ about_row fed.shown.about
-  pub hidden : row.hidden ≡ (options_for w.house.settings fed.mount).stream.hidden
+  pub hidden : row.hidden ≡ (options_for w.station.settings fed.mount).stream.hidden
   pub session : row.session ≡ fed.number
   pub fallback : (next : List ℕ) → FallsBack w fed.mount next ↔ (row.fallback ≡ Some next)
 
@@ -87,8 +87,8 @@ pub record TellsOfListener (w : World) (listener : Listener) (row : ListedListen
   pub home : row.home ≡ seat.home
   pub peer : row.peer ≡ seat.peer
   -- whole seconds since it was seated
-  pub seconds_past : row.seconds * 1000 ≤ w.house.time - seat.since
-  pub no_more : w.house.time - seat.since < (row.seconds + 1) * 1000
+  pub seconds_past : row.seconds * 1000 ≤ w.station.time - seat.since
+  pub no_more : w.station.time - seat.since < (row.seconds + 1) * 1000
   pub user : (pair : Credentials) → seat.pair ≡ Some pair → row.user ≡ Some pair.user
   pub nobody : seat.pair ≡ None → row.user ≡ None
 
@@ -103,11 +103,11 @@ TellOfListeners w (listener ∷ them) [] = ⊥
 -- rule: Who may see; Waiting is not live
 abbrev pub Tells : World → Listing → ReplyText → Type 0
 Tells w Status text =
-    (rows : List MountRow) × TellOf w w.house.live rows × (text ≡ Public (status_text rows) w.house.settings.web.allow_origin)
-Tells w Stats text = (rows : List MountRow) × TellOf w w.house.live rows × (text ≡ Json (stats_text (length w.house.clients) rows))
-Tells w Mounts text = (rows : List MountRow) × TellOf w w.house.live rows × (text ≡ Json (mounts_text rows))
+    (rows : List MountRow) × TellOf w w.station.live rows × (text ≡ Public (status_text rows) w.station.settings.web.allow_origin)
+Tells w Stats text = (rows : List MountRow) × TellOf w w.station.live rows × (text ≡ Json (stats_text (length w.station.clients) rows))
+Tells w Mounts text = (rows : List MountRow) × TellOf w w.station.live rows × (text ≡ Json (mounts_text rows))
 Tells w (Clients mount) text = (rows : List ListedListener) × TellOfListeners w (seats_at w.seats mount) rows × (text ≡ Json (listeners_text mount rows))
-Tells w Streams text = (rows : List MountRow) × TellOf w w.house.live rows × (text ≡ StreamList (stream_text rows))
+Tells w Streams text = (rows : List MountRow) × TellOf w w.station.live rows × (text ≡ StreamList (stream_text rows))
 
 -- a listing is shown to a client that may see it, if what it needs is there. The client is answered then. The listing says what is there, and nothing else
 -- changes
@@ -120,31 +120,31 @@ pub record IsShownByRight (w : World) (event : Event) (text : ReplyText) : Type 
   pub there : IsThereToSee w listing
   pub tells : Tells w listing text
   pub answered : standing_of (world_after w event) asked.id ≡ Answered
-  pub sessions : (world_after w event).house.live ≡ w.house.live
+  pub sessions : (world_after w event).station.live ≡ w.station.live
   pub seats : (world_after w event).seats ≡ w.seats
 
 -- the path is one of the web site's, and the settings put it on
 -- rule: Web page
 pub data IsPath (w : World) (path : List ℕ) : WebPath → Type 0 where
-  StatusIsOn : path ≡ codes "/status-json.xsl" → w.house.settings.web.icecast_status ≡ true → IsPath w path IcecastStatus
-  PageIsOn : path ≡ codes "/" → w.house.settings.web.page ≡ true → IsPath w path AtPage
+  StatusIsOn : path ≡ codes "/status-json.xsl" → w.station.settings.web.icecast_status ≡ true → IsPath w path IcecastStatus
+  PageIsOn : path ≡ codes "/" → w.station.settings.web.page ≡ true → IsPath w path AtPage
 
 -- the text says what is there in Icecast's words on this visit. It has the public URL of the settings, or else the host by which the client calls the
 -- server. It has the moment at which the server started, if the program says it
 pub record TellsAsIcecast (w : World) (visit : PageVisit) (text : ReplyText) : Type 0 where
   pub rows : List MountRow
-  pub of_the_live : TellOf w w.house.live rows
+  pub of_the_live : TellOf w w.station.live rows
   pub server : ListedServer
   pub name : server.name ≡ codes "radiod"
   pub base : server.base_url
-      ≡ unwrap_or w.house.settings.web.public_url (base_url visit.host w.house.settings.listen.address w.house.settings.listen.port)
+      ≡ unwrap_or w.station.settings.web.public_url (base_url visit.host w.station.settings.listen.address w.station.settings.listen.port)
   pub start : server.start ≡ unwrap_or visit.server_start []
-  pub says : text ≡ Public (icecast_text server rows) w.house.settings.web.allow_origin
+  pub says : text ≡ Public (icecast_text server rows) w.station.settings.web.allow_origin
 
 -- rule: Web page
 abbrev pub TellsAt : World → WebPath → PageVisit → ReplyText → Type 0
 TellsAt w IcecastStatus visit text = TellsAsIcecast w visit text
-TellsAt w AtPage visit text = text ≡ Page w.house.settings.web.allow_origin
+TellsAt w AtPage visit text = text ≡ Page w.station.settings.web.allow_origin
 
 -- what is at a path of the web site is shown to one who asks for it, who has had its answer then, and nothing changes but that
 pub record IsShownAtPath (w : World) (event : Event) (text : ReplyText) : Type 0 where
@@ -154,7 +154,7 @@ pub record IsShownAtPath (w : World) (event : Event) (text : ReplyText) : Type 0
   pub is_path : IsPath w asked.mount path
   pub tells : TellsAt w path asked.visit text
   pub answered : standing_of (world_after w event) asked.id ≡ Answered
-  pub sessions : (world_after w event).house.live ≡ w.house.live
+  pub sessions : (world_after w event).station.live ≡ w.station.live
   pub seats : (world_after w event).seats ≡ w.seats
 
 -- what is no short text is a listing, or is at a path of the web site
@@ -190,11 +190,11 @@ abbrev pub seen : World → Session → Seen
 seen w session = record { mount = session.mount; shown = session.shown; title = session.title; listeners = count_at w.seats session.mount }
 
 abbrev pub is_public : World → Session → Bool
-is_public w session = not (options_for w.house.settings session.mount).stream.hidden
+is_public w session = not (options_for w.station.settings session.mount).stream.hidden
 
 -- the sessions of the live mounts that are not hidden
 abbrev pub public_live : World → List Session
-public_live w = filter (is_public w) w.house.live
+public_live w = filter (is_public w) w.station.live
 
 -- what everybody may see
 abbrev pub seen_by_all : World → List Seen
@@ -218,7 +218,7 @@ AreAnsweredAlike w v listing = (asked other : CommandRequest) (text said : Reply
 -- in two states those who ask for Icecast's status on equal visits are answered by the same bytes, if the servers have one address and one public URL
 abbrev pub AreVisitedAlike : World → World → Type 0
 AreVisitedAlike w v = (asked other : ListenRequest) (text said : ReplyText) → IsPath w asked.mount IcecastStatus → IsPath v other.mount IcecastStatus → asked.visit ≡ other.visit
-    → w.house.settings.web.public_url ≡ v.house.settings.web.public_url → w.house.settings.listen.address ≡ v.house.settings.listen.address → w.house.settings.listen.port ≡ v.house.settings.listen.port
+    → w.station.settings.web.public_url ≡ v.station.settings.web.public_url → w.station.settings.listen.address ≡ v.station.settings.listen.address → w.station.settings.listen.port ≡ v.station.settings.listen.port
     → reply_to w (Listen asked) ≡ SaysText text → reply_to v (Listen other) ≡ SaysText said → body_of text ≡ body_of said
 
 -- two states that agree on what everybody may see of the live mounts show everybody and every relay the same bytes, whatever else they hold. Those with
@@ -228,14 +228,14 @@ pub record SightIsKept (w v : World) : Type 0 where
   pub status : seen_by_all w ≡ seen_by_all v → AreAnsweredAlike w v Status
   pub icecast : seen_by_all w ≡ seen_by_all v → AreVisitedAlike w v
   pub streams : seen_by_all w ≡ seen_by_all v → AreAnsweredAlike w v Streams
-  pub stats : mount_rows w ≡ mount_rows v → length w.house.clients ≡ length v.house.clients → AreAnsweredAlike w v Stats
+  pub stats : mount_rows w ≡ mount_rows v → length w.station.clients ≡ length v.station.clients → AreAnsweredAlike w v Stats
   pub mounts : mount_rows w ≡ mount_rows v → AreAnsweredAlike w v Mounts
   pub listeners : (mount : List ℕ) → listener_rows w mount ≡ listener_rows v mount → AreAnsweredAlike w v (Clients mount)
 
 -- no hidden mount is in the status or in the list of streams: they name the live mounts that are not hidden, in their order
 -- rule: Hidden mounts
 pub record NoHiddenIsNamed (w : World) (asked : CommandRequest) (text : ReplyText) : Type 0 where
-  pub status : asked.asked ≡ AsksFor Status → (rows : List MountRow) × (text ≡ Public (status_text rows) w.house.settings.web.allow_origin)
+  pub status : asked.asked ≡ AsksFor Status → (rows : List MountRow) × (text ≡ Public (status_text rows) w.station.settings.web.allow_origin)
       × (mounts_named (status_data rows) ≡ Some (map (λ (session : Session). Some (utf8_lossy session.mount)) (public_live w)))
   pub streams : asked.asked ≡ AsksFor Streams → text ≡ StreamList (flat_map (λ session. session.mount ++ 13 ∷ 10 ∷ []) (public_live w))
 
@@ -246,6 +246,6 @@ HiddenAreLeftOut w = (asked : CommandRequest) (text : ReplyText) → reply_to w 
 -- rule: Paths of the web site
 abbrev pub HiddenAreNotToldOnTheWeb : World → Type 0
 HiddenAreNotToldOnTheWeb w = (asked : ListenRequest) (text : ReplyText) → IsPath w asked.mount IcecastStatus → reply_to w (Listen asked) ≡ SaysText text
-    → (server : ListedServer) × (rows : List MountRow) × (text ≡ Public (icecast_text server rows) w.house.settings.web.allow_origin)
+    → (server : ListedServer) × (rows : List MountRow) × (text ≡ Public (icecast_text server rows) w.station.settings.web.allow_origin)
     × (urls_told (icecast_data server rows)
     ≡ Some (map (λ (session : Session). Some (utf8_lossy (server.base_url ++ session.mount))) (public_live w)))

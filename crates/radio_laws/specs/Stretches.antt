@@ -6,13 +6,13 @@ use Rattle.radio_events.specs.declared.event.Event.{Event}
 use Rattle.radio_seats_rows.specs.declared.seat.Seat.{Seat}
 use Rattle.radio_core.specs.Handing.{handed, handed_at, delivered}
 use Rattle.radio_seats_rows.specs.Seats.{seat_of}
-use Rattle.radio_parts.specs.Sessions.{Session, session_of}
-use Rattle.radio_core.specs.Step.{world_after}
+use Rattle.radio_parts_mount.specs.Sessions.{Session, session_of}
+use Rattle.radio_parts.specs.Step.{world_after}
 use Rattle.radio_core.specs.Moves.{TakesTo}
 use Rattle.radio_core.specs.SeatSteps.{ComesUpOn, IsSent}
-use Rattle.radio_parts.specs.Stream.{end_of}
-use Rattle.radio_house.specs.World.{World, opening}
-use Rattle.radio_house.specs.Waiting.{heard_at}
+use Rattle.radio_parts_mount.specs.Stream.{end_of}
+use Rattle.radio_parts_station.specs.World.{World, opening}
+use Rattle.radio_parts_station.specs.Waiting.{heard_at}
 
 -- what is between two places of some data
 abbrev pub between : ℕ → ℕ → List ℕ → List ℕ
@@ -92,10 +92,10 @@ StretchesAreCut settings lists events = (id : ℕ) → let w = opening settings 
 -- rule: Moved to the end; Session after a wait
 pub record KeepsItsMount (w : World) (event : Event) (id : ℕ) (seat : Seat) : Type 0 where
   pub session : Session
-  pub is_heard : heard_at (world_after w event).house seat.mount ≡ Some session
+  pub is_heard : heard_at (world_after w event).station seat.mount ≡ Some session
   pub in_the_session : seat.session ≡ session.number
   pub kept : (old : Seat) → seat_of w.seats id ≡ Some old → ((seat ≡ record old { place = seat.place }) × (old.place ≤ seat.place))
-      ⊎ (ComesUpOn event old.mount × (session_of w.house.live old.mount ≡ None) × (session.stream.bytes ≡ [])
+      ⊎ (ComesUpOn event old.mount × (session_of w.station.live old.mount ≡ None) × (session.stream.bytes ≡ [])
       × (seat ≡ record old { session = session.number; place = 0 }))
       ⊎ (TakesTo w event id seat.mount × IsSent w (world_after w event) event old seat.mount
       × (seat ≡ record old { mount = seat.mount; session = session.number; place = end_of session.stream }))

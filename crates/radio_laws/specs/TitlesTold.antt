@@ -14,11 +14,11 @@ use Rattle.radio_events.specs.declared.reply.Reply.TheVariants.{Drawn, Noted, Te
 use Rattle.radio_events.specs.declared.text.ReplyText.TheVariants.{Done}
 use Rattle.radio_seats_rows.specs.declared.seat.Seat.{Seat}
 use Rattle.radio_core.specs.Handing.{is_number, of_client}
-use Rattle.radio_parts.specs.Sessions.{session_of}
+use Rattle.radio_parts_mount.specs.Sessions.{session_of}
 use Rattle.radio_core.specs.Run.{run_after}
 use Rattle.radio_seats_rows.specs.Seats.{seat_of}
-use Rattle.radio_core.specs.Step.{reply_to, world_after}
-use Rattle.radio_house.specs.World.{World, opening}
+use Rattle.radio_parts.specs.Step.{reply_to, world_after}
+use Rattle.radio_parts_station.specs.World.{World, opening}
 
 -- the title in an event
 abbrev pub title_in : Event → List (List ℕ)
@@ -37,7 +37,7 @@ if_done _ titles = []
 
 -- the source that feeds the mount, by its number, if the mount is live
 abbrev pub source_at : World → List ℕ → Option ℕ
-source_at w mount = option_map (λ session. session.number) (session_of w.house.live mount)
+source_at w mount = option_map (λ session. session.number) (session_of w.station.live mount)
 
 -- the title of a command, where this source feeds the mount that it names
 abbrev pub commanded_at : World → Asked → ℕ → List (List ℕ)

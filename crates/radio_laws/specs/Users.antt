@@ -8,9 +8,9 @@ use Rattle.radio_seats_rows.specs.declared.seat.Seat.{Seat}
 use Rattle.radio_seats_rows.specs.Seats.{seat_of}
 use Rattle.radio_events.specs.declared.command.Command.TheVariants.{AddUser, DeleteUser}
 use Rattle.radio_events.specs.declared.event.Event.{Event}
-use Rattle.radio_core.specs.Allowed.{IsCommanded}
-use Rattle.radio_core.specs.Step.{world_after}
-use Rattle.radio_house.specs.World.{World}
+use Rattle.radio_parts.specs.Allowed.{IsCommanded}
+use Rattle.radio_parts.specs.Step.{world_after}
+use Rattle.radio_parts_station.specs.World.{World}
 
 -- whether one who sends this pair is let in at the mount, before an event and after it
 pub data LetInStep (w : World) (event : Event) (mount : List ℕ) (pair : Credentials) (before : Bool) : Bool → Type 0 where
@@ -25,12 +25,12 @@ pub data LetInStep (w : World) (event : Event) (mount : List ℕ) (pair : Creden
 -- what an event does to who is let in
 pub record UsersStep (w : World) (event : Event) : Type 0 where
   pub pairs : (mount : List ℕ) (pair : Credentials)
-      → LetInStep w event mount pair (lets_in w.house.lists mount (Some pair)) (lets_in (world_after w event).house.lists mount (Some pair))
+      → LetInStep w event mount pair (lets_in w.station.lists mount (Some pair)) (lets_in (world_after w event).station.lists mount (Some pair))
   -- whoever sends no pair is let in where it was
-  pub without : (mount : List ℕ) → lets_in (world_after w event).house.lists mount None ≡ lets_in w.house.lists mount None
+  pub without : (mount : List ℕ) → lets_in (world_after w event).station.lists mount None ≡ lets_in w.station.lists mount None
   -- and the addresses are let in that were
-  pub addresses : (peer : Address) → passes (world_after w event).house.lists peer ≡ passes w.house.lists peer
+  pub addresses : (peer : Address) → passes (world_after w event).station.lists peer ≡ passes w.station.lists peer
 
 -- nobody sits at a mount whose users, as they are now, do not let it in
 abbrev pub SittersAreLetIn : World → Type 0
-SittersAreLetIn w = (id : ℕ) (seat : Seat) → seat_of w.seats id ≡ Some seat → lets_in w.house.lists seat.mount seat.pair ≡ true
+SittersAreLetIn w = (id : ℕ) (seat : Seat) → seat_of w.seats id ≡ Some seat → lets_in w.station.lists seat.mount seat.pair ≡ true

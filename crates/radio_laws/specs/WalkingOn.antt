@@ -12,15 +12,15 @@ use Rattle.radio_events.specs.declared.event.Event.{Event}
 use Rattle.radio_events.specs.declared.event.Event.TheVariants.{Source, SourceEnd, RelayUp}
 use Rattle.radio_events.specs.declared.event.SourceRequest.{SourceRequest}
 use Rattle.radio_events.specs.declared.command.Command.TheVariants.{MoveClients, KillSource}
-use Rattle.radio_changes.specs.Changes.{carried_along, session_over}
-use Rattle.radio_core.specs.Closing.{Closes}
-use Rattle.radio_core.specs.Allowed.{IsCommanded}
+use Rattle.radio_parts_changes.specs.Changes.{carried_along, session_over}
+use Rattle.radio_parts.specs.Closing.{Closes}
+use Rattle.radio_parts.specs.Allowed.{IsCommanded}
 use Rattle.radio_core.specs.Moves.{Brings, his_turn}
-use Rattle.radio_parts.specs.Sessions.{Session}
-use Rattle.radio_core.specs.Step.{world_after}
-use Rattle.radio_parts.specs.Stream.{end_of}
-use Rattle.radio_house.specs.World.{World}
-use Rattle.radio_house.specs.Waiting.{heard_at, is_on_demand}
+use Rattle.radio_parts_mount.specs.Sessions.{Session}
+use Rattle.radio_parts.specs.Step.{world_after}
+use Rattle.radio_parts_mount.specs.Stream.{end_of}
+use Rattle.radio_parts_station.specs.World.{World}
+use Rattle.radio_parts_station.specs.Waiting.{heard_at, is_on_demand}
 
 -- what a move makes of a listener that had this seat before. It goes on at the end of the stream of the mount to which its turn
 -- takes it. Or it has finished where it sat, by the rule that leaves it out. Or it keeps its seat. If the session of its mount
@@ -28,13 +28,13 @@ use Rattle.radio_house.specs.Waiting.{heard_at, is_on_demand}
 -- session
 -- rule: Turns of a move; End at a waiting mount
 pub record FaresByHisTurn (before : World) (move : Move) (id : ℕ) (seat : Seat) : Type 0 where
-  pub goes : (mount : List ℕ) → his_turn before move id ≡ GoesTo mount → (session : Session) × (heard_at before.house mount ≡ Some session)
+  pub goes : (mount : List ℕ) → his_turn before move id ≡ GoesTo mount → (session : Session) × (heard_at before.station mount ≡ Some session)
       × (seat_of (carried_along before move).seats id ≡ Some (record seat { mount = mount; session = session.number; place = end_of session.stream }))
   pub is_out : (rule : Rule) → his_turn before move id ≡ IsOut rule
       → listener_of (carried_along before move).seats id ≡ Some (record { id = id; seating = Finished rule seat.mount })
   pub stays : his_turn before move id ≡ Stays → seat_of (carried_along before move).seats id ≡ Some seat
   pub leaves : (mount : List ℕ) → move ≡ Ended mount → seat.mount ≡ mount → his_turn before move id ≡ Stays → ⊥
-  pub waits : (mount : List ℕ) → move ≡ Ended mount → seat.mount ≡ mount → is_on_demand before.house.settings mount ≡ true
+  pub waits : (mount : List ℕ) → move ≡ Ended mount → seat.mount ≡ mount → is_on_demand before.station.settings mount ≡ true
       → his_turn before move id ≡ GoesTo mount
 
 -- a move that an event brings makes of each listener what its turn has in store for it

@@ -24,18 +24,19 @@ ghost use Rattle.radio_laws.specs.WalkingOn.{ListenersWalkOn, MovesAreWhole};
 ghost use Rattle.radio_laws.specs.Commanded.{OnlyWhoMayCommands, WhoMayIsServed, CommandsAreKept, FallbacksStay, KilledHearNothing};
 ghost use Rattle.radio_laws.specs.Users.{UsersStep, SittersAreLetIn};
 ghost use Rattle.radio_laws.specs.TitlesTold.{TitlesAreTold};
-ghost use Rattle.radio_house.specs.Timeouts.{TestsAreInNumbers};
+ghost use Rattle.radio_parts_station.specs.Timeouts.{TestsAreInNumbers};
 ghost use Rattle.radio_laws.specs.Outstaying.{NobodyOutstays};
 ghost use Rattle.radio_laws.specs.LentParts.{all_but};
 ghost use Rattle.radio_laws.specs.Locality.{AgreeWithin, AnswersAlike, IsWithin, LeavesAlone};
-ghost use Rattle.radio_changes.specs.Counts.{counted};
-ghost use Rattle.radio_changes.specs.Lent.{IsLentTo};
-ghost use Rattle.radio_core.specs.Planned.{planned, with_counts};
-ghost use Rattle.radio_mount_part.specs.declared.part.MountPart.{MountPart};
+ghost use Rattle.radio_parts_changes.specs.Counts.{counted};
+ghost use Rattle.radio_parts_changes.specs.Lent.{IsLentTo};
+ghost use Rattle.radio_parts.specs.Planned.{planned, with_counts};
+ghost use Rattle.radio_parts_mount.specs.declared.part.MountPart.{MountPart};
 ghost use Rattle.radio_laws.specs.Parts.{PartsDraw, PartsReceive, PartsAreTitled};
 ghost use Rattle.radio_laws.specs.OwnSteps.{OwnStepsAreTheServers, OwnStepsAreAnswered};
-ghost use Rattle.radio_core.specs.Step.{Represents, reply_to};
-ghost use Rattle.radio_house.specs.World.{World};
+ghost use Rattle.radio_core.specs.Represents.{Represents};
+ghost use Rattle.radio_parts.specs.Step.{reply_to};
+ghost use Rattle.radio_parts_station.specs.World.{World};
 ghost use Rattle.radio_laws.specs.Gone.{Leaving, HasLeft, IsOutOfPlace, StaysGone};
 
 use radio_policy::denials_name_the_first_rule;
@@ -257,7 +258,7 @@ pub fn nobody_outstays()
 // rule: Leaving; Relay goes down
 pub fn who_left_is_gone()
     // a client that was given a number and leaves is no client then, and a relay that has gone down is none
-    ensures left { (settings : Settings) (lists : Lists) (events : List Event) (id : ℕ) → id ≤ (run_after settings lists events).house.last_id
+    ensures left { (settings : Settings) (lists : Lists) (events : List Event) (id : ℕ) → id ≤ (run_after settings lists events).station.last_id
         → (event : Event) → Leaving (run_after settings lists events) id event → HasLeft (run_after settings lists (events ++ event ∷ [])) id }
     // whatever happens in the name of a client that left is out of place, and changes nothing
     ensures strays { (settings : Settings) (lists : Lists) (events : List Event) (event : Event) (id : ℕ) → HasLeft (run_after settings lists events) id

@@ -5,7 +5,7 @@ use Rattle.radio_events.specs.declared.event.Event.{Event}
 use Rattle.radio_events.specs.declared.event.Event.TheVariants.{Draw}
 use Rattle.radio_events.specs.declared.reply.Reply.{Reply}
 use Rattle.radio_events.specs.Events.{EventTakesNoMemory}
-use Rattle.radio_house.specs.World.{World}
+use Rattle.radio_parts_station.specs.World.{World}
 use Rattle.radio_events.specs.declared.entry.Entry.{Entry}
 use Rattle.radio_book.specs.Receipts.{ReceiptOf, receipt_of}
 use Rattle.radio_locks.specs.Callers.{IsCalled, MayBeRefused, PassesGainWhatWasApplied}

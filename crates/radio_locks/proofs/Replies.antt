@@ -9,7 +9,7 @@ use Rattle.radio_book.specs.declared.mount_book.Own.{Own}
 use Rattle.radio_book.specs.declared.mount_book.Own.TheVariants.{Made, Elsewhere}
 use Rattle.radio_events.specs.declared.event.Event.{Event}
 use Rattle.radio_events.specs.declared.reply.Reply.{Reply}
-use Rattle.radio_house.specs.World.{World}
+use Rattle.radio_parts_station.specs.World.{World}
 use Rattle.radio_locks.specs.Replies.{IsReplied, IsRepliedIf, IsTried}
 use Rattle.radio_locks.specs.Replies.IsReplied.{ByMount, ByControl}
 

@@ -24,7 +24,7 @@ use Rattle.boxcar.proofs.tag.Tag.TheSendSync as tag
 use Rattle.radio_book.proofs.Threads.{book_send, mount_book_send}
 use Rattle.radio_book.specs.contracts.mount_book.MountBook as mount_book
 use Rattle.radio_chronicle.specs.declared.chronicle.Chronicle as chronicle
-use Rattle.radio_chronicle.specs.declared.house.Origin as house
+use Rattle.radio_chronicle.specs.declared.origin.Origin as origin
 use Rattle.radio_locks.proofs.mount_lists.MountLists.TheSendSync as mount_lists
 use Rattle.radio_locks.specs.contracts.hall.Hall as hall
 use Rattle.radio_locks.specs.contracts.locked_control.LockedControl as locked_control
@@ -37,7 +37,7 @@ declared_sync T syncs = recorded_sync (Struct (shape T)) T.D T.to T.to_one (stru
 declared_send : (T : Declared) → AllSend (fields T) → IsSend (row T)
 declared_send T sends = recorded_send (Struct (shape T)) T.D T.to T.to_one (struct_send (shape T) sends)
 
-module _ (C H : RattleType) (c : chronicle.Ghosts C.Denot) (h : house.Ghosts H.Denot) (l : ledger.Ghosts H.Denot) where
+module _ (C H : RattleType) (c : chronicle.Ghosts C.Denot) (h : origin.Ghosts H.Denot) (l : ledger.Ghosts H.Denot) where
   locked_control_send : IsSend C → IsSend H → IsSend (locked_control.the_row C H c h l)
   locked_control_send sc sh =
       declared_send (locked_control.the_type C H c h l)

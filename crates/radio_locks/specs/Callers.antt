@@ -4,7 +4,7 @@ use Rattle.radio_events.specs.declared.event.Event.{Event}
 use Rattle.radio_events.specs.declared.event.Event.TheVariants.{Leave}
 use Rattle.radio_events.specs.declared.reply.Reply.{Reply}
 use Rattle.radio_events.specs.Events.{EventTakesNoMemory}
-use Rattle.radio_house.specs.World.{World}
+use Rattle.radio_parts_station.specs.World.{World}
 use Rattle.radio_book.specs.declared.newcomer.Newcomer.TheVariants.{Client}
 use Rattle.radio_book.specs.Newcomers.{is_here}
 use Rattle.radio_events.specs.declared.entry.Entry.{Entry}

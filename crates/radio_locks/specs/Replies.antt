@@ -6,7 +6,7 @@ use Rattle.radio_book.specs.declared.mount_book.Own.{Own}
 use Rattle.radio_book.specs.declared.mount_book.Own.TheVariants.{Made, Elsewhere}
 use Rattle.radio_events.specs.declared.event.Event.{Event}
 use Rattle.radio_events.specs.declared.reply.Reply.{Reply}
-use Rattle.radio_house.specs.World.{World}
+use Rattle.radio_parts_station.specs.World.{World}
 
 -- the reply is a mount's part's own, or that of a control of which its list tells, over the parts that it was lent
 -- rule: Order of calls

@@ -10,7 +10,7 @@ ghost use Rattle.radio_book.specs.declared.newcomer.Newcomer.TheVariants.{Client
 ghost use Rattle.radio_chronicle.specs.Stamps.{stamp};
 ghost use Rattle.radio_events.specs.Events.{EventTakesNoMemory};
 ghost use Rattle.radio_events.specs.declared.event.Event.TheVariants.{Leave};
-ghost use Rattle.radio_house.specs.World.{opening};
+ghost use Rattle.radio_parts_station.specs.World.{opening};
 ghost use Rattle.radio_locks.specs.Replies.{IsReplied, IsTried};
 
 use crate::OutOfMemory;

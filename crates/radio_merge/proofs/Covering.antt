@@ -7,7 +7,7 @@ use Rattle.std.proofs.lemmas.Option.{slice_get_within, slice_get-map}
 use Rattle.radio_events.specs.declared.entry.Entry.{Entry}
 use Rattle.radio_chronicle.specs.declared.line.ControlLine.{ControlLine}
 use Rattle.radio_chronicle.specs.declared.line.ControlLine.TheVariants.{Cut, Made}
-use Rattle.radio_mount_part.specs.declared.item.MountItem.{MountItem}
+use Rattle.radio_parts_mount.specs.declared.item.MountItem.{MountItem}
 use Rattle.radio_chronicle.specs.declared.stamp.Stamp.{Stamp}
 use Rattle.radio_merge.specs.Merged.{Positions, PastCuts, Merged, Begins, LeavesOut, TakesOwn, TakesControl}
 use Rattle.radio_merge.specs.Covered.{IsMade, InCut, TheControlMakesTheRest}

@@ -4,10 +4,11 @@ use Rattle.std.proofs.lemmas.List.{take_more}
 use Rattle.std.proofs.lemmas.Result.{IfOk-at_ok}
 use Rattle.radio_events.specs.declared.reply.Reply.{Reply}
 use Rattle.radio_events.specs.declared.entry.Entry.{Entry}
-use Rattle.radio_house.specs.World.{World}
-use Rattle.radio_core.specs.Step.{Step, reply_to, world_after, Represents}
+use Rattle.radio_parts_station.specs.World.{World}
+use Rattle.radio_parts.specs.Step.{Step, reply_to, world_after}
+use Rattle.radio_core.specs.Represents.{Represents}
 use Rattle.radio_chronicle.specs.declared.line.ControlLine.{ControlLine}
-use Rattle.radio_mount_part.specs.declared.item.MountItem.{MountItem}
+use Rattle.radio_parts_mount.specs.declared.item.MountItem.{MountItem}
 use Rattle.radio_chronicle.specs.declared.stamp.Stamp.{Stamp}
 use Rattle.radio_chronicle.specs.History.{world_of, IsRun}
 use Rattle.radio_merge.specs.declared.family.Family.{Family}

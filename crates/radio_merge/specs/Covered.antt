@@ -3,9 +3,9 @@ use Rattle.std.specs.Prelude.{◌≡◌, ℕ, ◌+◌, ◌≤◌, ◌<◌, false
 use Rattle.radio_events.specs.declared.entry.Entry.{Entry}
 use Rattle.radio_chronicle.specs.declared.line.ControlLine.{ControlLine}
 use Rattle.radio_chronicle.specs.declared.line.ControlLine.TheVariants.{Cut}
-use Rattle.radio_mount_part.specs.declared.item.MountItem.{MountItem}
+use Rattle.radio_parts_mount.specs.declared.item.MountItem.{MountItem}
 use Rattle.radio_chronicle.specs.declared.stamp.Stamp.{Stamp}
-use Rattle.radio_mount_part.specs.Items.{is_left_out, own_entry}
+use Rattle.radio_parts_mount.specs.Items.{is_left_out, own_entry}
 use Rattle.radio_merge.specs.Merged.{IsMerge}
 
 -- neither an own entry nor an end that a push made: an Attach, a title by a command, or a Detach by a command, a move or an end

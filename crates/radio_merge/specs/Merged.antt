@@ -3,9 +3,9 @@ use Rattle.std.specs.Prelude.{◌≡◌, ◌⊎◌, ℕ, ◌+◌, ◌-◌, ◌<�
 use Rattle.radio_events.specs.declared.entry.Entry.{Entry}
 use Rattle.radio_chronicle.specs.declared.line.ControlLine.{ControlLine}
 use Rattle.radio_chronicle.specs.declared.line.ControlLine.TheVariants.{Cut, Made}
-use Rattle.radio_mount_part.specs.declared.item.MountItem.{MountItem}
+use Rattle.radio_parts_mount.specs.declared.item.MountItem.{MountItem}
 use Rattle.radio_chronicle.specs.declared.stamp.Stamp.{Stamp}
-use Rattle.radio_mount_part.specs.Items.{is_left_out, own_entry}
+use Rattle.radio_parts_mount.specs.Items.{is_left_out, own_entry}
 use Rattle.radio_chronicle.specs.Stamps.{stamp}
 
 -- how far each list was taken: what is left of the control's, and how many items of each mount's

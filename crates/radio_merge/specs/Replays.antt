@@ -1,10 +1,10 @@
 -- A core that steps through a history while lists are merged.
 use Rattle.std.specs.Prelude.{List}
-use Rattle.radio_house.specs.World.{World}
-use Rattle.radio_core.specs.Step.{Represents}
+use Rattle.radio_parts_station.specs.World.{World}
+use Rattle.radio_core.specs.Represents.{Represents}
 use Rattle.radio_events.specs.declared.entry.Entry.{Entry}
 use Rattle.radio_chronicle.specs.declared.line.ControlLine.{ControlLine}
-use Rattle.radio_mount_part.specs.declared.item.MountItem.{MountItem}
+use Rattle.radio_parts_mount.specs.declared.item.MountItem.{MountItem}
 use Rattle.radio_chronicle.specs.declared.stamp.Stamp.{Stamp}
 use Rattle.radio_chronicle.specs.History.{IsRun, world_of}
 use Rattle.radio_merge.specs.Merged.{Positions, Merged}

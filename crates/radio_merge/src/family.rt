@@ -6,7 +6,7 @@ ghost use Rattle.std.specs.Prelude.{◌≡◌, length, slice_get};
 ghost use Rattle.std.specs.Option.{option_copied};
 
 use radio_chronicle::ControlLine;
-use radio_mount_part::MountItem;
+use radio_parts_mount::MountItem;
 use std::marker::Model;
 
 /// A mount's list. Contracts see the list of its items.
@@ -17,7 +17,7 @@ pub struct MountList {
 
 impl Model for MountList {
     ghost use Rattle.std.specs.Prelude.{List};
-    ghost use Rattle.radio_mount_part.specs.declared.item.MountItem.{MountItem as ItemOf};
+    ghost use Rattle.radio_parts_mount.specs.declared.item.MountItem.{MountItem as ItemOf};
 
     ghost Value = { List ItemOf };
 

@@ -26,7 +26,7 @@ pub use laws::the_control_makes_the_rest;
 pub use merging::merge;
 pub use radio_chronicle::{ControlLine, Stamp};
 pub use radio_events::Entry;
-pub use radio_mount_part::{Attaching, MountItem};
+pub use radio_parts_mount::{Attaching, MountItem};
 pub use same::{is_same_event, is_same_reply};
 
 /// The error of a call if memory was refused.

@@ -1,7 +1,7 @@
 //! All lists as one history.
 
 ghost use Rattle.std.specs.Prelude.{All, IfOk, List};
-ghost use Rattle.radio_house.specs.World.{opening};
+ghost use Rattle.radio_parts_station.specs.World.{opening};
 ghost use Rattle.radio_chronicle.specs.History.{IsRun};
 ghost use Rattle.radio_merge.specs.Merged.{IsMerge, IsSubsequence};
 ghost use Rattle.radio_chronicle.specs.declared.stamp.Stamp.{Stamp as StampOf};

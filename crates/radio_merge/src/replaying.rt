@@ -3,8 +3,9 @@
 //! Read [`replay`] first.
 
 ghost use Rattle.std.specs.Prelude.{◌≡◌, ◌∷◌, [], ◌++◌, List, IfOk, IfSome, OnOk};
-ghost use Rattle.radio_house.specs.World.{World, opening};
-ghost use Rattle.radio_core.specs.Step.{Represents, reply_to, world_after};
+ghost use Rattle.radio_parts_station.specs.World.{World, opening};
+ghost use Rattle.radio_core.specs.Represents.{Represents};
+ghost use Rattle.radio_parts.specs.Step.{reply_to, world_after};
 ghost use Rattle.radio_chronicle.specs.History.{IsRun};
 ghost use Rattle.radio_merge.specs.Merged.{IsMerge};
 ghost use Rattle.radio_merge.specs.Replays.{IsSoFar};

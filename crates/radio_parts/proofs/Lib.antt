@@ -1,14 +1,11 @@
-mod KeptQueues
-pub mod ApartLemmas
-pub mod DueLemmas
-pub mod FurthestLemmas
-pub mod KeptLists
-pub mod KeptStreams
-pub mod NumberLists
-pub mod NumberOrder
-pub mod PartLemmas
-pub mod PreparedLemmas
-pub mod RisingLemmas
-pub mod SessionLookups
-pub mod SilentSessions
-pub mod TimeoutLemmas
+pub mod CalledStation
+mod CommonLemmas
+pub mod DrawLemmas
+pub mod HeardLemmas
+mod LentState
+pub mod ListingLemmas
+pub mod PlannedLemmas
+mod SeatedDraws
+pub mod SmallOutcomes
+pub mod Threads
+pub mod Ways

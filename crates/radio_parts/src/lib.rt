@@ -1,22 +1,44 @@
-//! What one mount does by itself: its session, the stream of that, and what has had its time there.
+//! What each event does: over the control, and over the parts of mounts that are lent to it.
 //!
-//! - [`Session`]: what a source feeds to a mount. The parts of `radio_mounts` have them. A [`NewSession`] is one that begins.
-//! - [`Stream`]: the data of a session, of which the last blocks are kept.
-//! - [`lies_back`]: whether a moment lies so many seconds back; [`HasSatOut`] says of
-//!   a listener that it has had its time.
-//! - [`due_at`]: from which moment on another lies so many seconds back; [`seat_due`] and
-//!   [`GuestDue`] say it of a listener, by the mount that it asked for.
+//! - [`Control`]: what all mounts share, with the parts that are here. [`Control::step`] is one event;
+//!   [`Control::exchange`] lends a part and takes it back.
+//! - [`MountPart`], [`ListedPart`]: one mount's part. `MountPart::step` does by itself what an attached client and the
+//!   mount's source do.
+//! - [`Event`], [`Reply`]: what goes in and comes out.
+//! - [`Outcome`], [`Change`]: the words in which contracts speak of what an event does. No public call takes or gives one.
+//!
+//! The reply and the change are worked out first (a file for each event). The change is then made whole or not at all
+//! (`radio_parts_changes`).
 #![tactic(auto)]
 
-mod due;
-mod sessions;
-mod stream;
-mod timeouts;
+mod arrive;
+mod clock;
+mod command;
+mod control;
+mod draw;
+mod leave;
+mod lending;
+mod listen;
+mod outcome;
+mod pages;
+mod push;
+mod relay;
+mod replies;
+mod source;
+mod source_end;
+mod telling;
+mod title;
 
-pub use due::{GuestDue, LAST_MOMENT, due_at, seat_due};
-pub use sessions::{NewSession, Session};
-pub use stream::Stream;
-pub use timeouts::{HasSatOut, lies_back};
+pub use control::Control;
+pub use outcome::Outcome;
+pub use radio_access::Lists;
+pub use radio_events::{
+    Asked, Boxed, Command, CommandRequest, Event, ListenRequest, Listing, OpenedBy, PageVisit,
+    Reply, ReplyText, SourceRequest, StreamHead,
+};
+pub use radio_parts_changes::Change;
+pub use radio_parts_mount::{ListedPart, MountPart, PartAnswer};
+pub use radio_parts_table::MountParts;
 
-/// What a call answers if memory was refused. Nothing has changed then, unless it is said.
+/// The error of a call if memory was refused. Nothing has changed then, unless the call says otherwise.
 pub type OutOfMemory = std::alloc::AllocError;

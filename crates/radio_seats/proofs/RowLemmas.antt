@@ -20,7 +20,7 @@ use Rattle.radio_seats_rows.specs.declared.seat.Listener.{Listener}
 use Rattle.radio_seats_rows.specs.declared.seat.Seat.{Seat}
 use Rattle.radio_seats_rows.specs.declared.seat.Seating.{Seating}
 use Rattle.radio_seats_rows.specs.declared.seat.Seating.TheVariants.{Sits, Finished}
-use Rattle.radio_seats_rows.specs.Board.{Board}
+use Rattle.radio_seats_rows.specs.SeatTable.{SeatTable}
 use Rattle.radio_seats_rows.specs.Guests.{passes_in, passes_at, seat_of_guest}
 use Rattle.radio_seats_rows.specs.Mounts.{name_in, naming_in}
 use Rattle.radio_seats_rows.specs.Rests.{how_many}
@@ -305,8 +305,8 @@ module _ (name later : ℕ → List ℕ) (rows : List ListenerRow) (same : (k : 
         (λ row. refl) shifted_shown rows
 
 -- two boards are one where their parts are
-pub same_board : (names more : List (List ℕ)) (seats others : List Listener) → names ≡ more → seats ≡ others
-    → ◌≡◌ {A = Board} (record { prepared = names; seats = seats }) (record { prepared = more; seats = others })
-same_board names more seats others e f = ap (λ n. board n seats) e ∙ ap (board more) f where
-  board : List (List ℕ) → List Listener → Board
+pub same_table : (names more : List (List ℕ)) (seats others : List Listener) → names ≡ more → seats ≡ others
+    → ◌≡◌ {A = SeatTable} (record { prepared = names; seats = seats }) (record { prepared = more; seats = others })
+same_table names more seats others e f = ap (λ n. board n seats) e ∙ ap (board more) f where
+  board : List (List ℕ) → List Listener → SeatTable
   board n s = record { prepared = n; seats = s }

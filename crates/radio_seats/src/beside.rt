@@ -2,7 +2,7 @@
 //! mount.
 
 ghost use Rattle.std.specs.Prelude.{◌≡◌, length};
-ghost use Rattle.radio_seats_rows.specs.Board.{is_prepared};
+ghost use Rattle.radio_seats_rows.specs.SeatTable.{is_prepared};
 ghost use Rattle.radio_seats_rows.specs.Seats.{others_of, without_listener, count_at, sits_there, sits_at, next_number, AreByNumber};
 
 use crate::Seats;

@@ -8,7 +8,7 @@ ghost use Rattle.radio_seats_rows.specs.declared.row.ListenerRow.{ListenerRow as
 ghost use Rattle.std.specs.Str.{bytes_eq};
 ghost use Rattle.radio_seats_rows.specs.Seats.{listener_of, seat_of, with_seat, with_place, with_move, with_end, with_ended, with_session_at, without_listener};
 ghost use Rattle.radio_seats_rows.specs.Seats.{count_at, named_at, sits_there, AreByNumber};
-ghost use Rattle.radio_seats_rows.specs.Board.{is_prepared};
+ghost use Rattle.radio_seats_rows.specs.SeatTable.{is_prepared};
 ghost use Rattle.radio_seats_rows.specs.Guests.{passes_in, passes_at, first_moment};
 ghost use Rattle.radio_seats.specs.Lent.{lent_seat, standing_in};
 ghost use Rattle.radio_seats_rows.specs.Rests.{how_many};
@@ -43,11 +43,11 @@ impl Drop for Seats {
 
 impl Model for Seats {
     ghost use Rattle.std.specs.Prelude.{map};
-    ghost use Rattle.radio_seats_rows.specs.Board.{Board};
+    ghost use Rattle.radio_seats_rows.specs.SeatTable.{SeatTable};
     ghost use Rattle.radio_seats_rows.specs.Mounts.{name_in};
     ghost use Rattle.radio_seats.specs.Shown.{named, AreCounted};
 
-    ghost Value = { Board };
+    ghost Value = { SeatTable };
 
     ghost view = { λ s. record { prepared = s.mounts.names; seats = map (named (name_in s.mounts.mounts)) s.rows } };
 

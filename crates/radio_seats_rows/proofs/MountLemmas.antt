@@ -15,7 +15,7 @@ use Rattle.radio_tables.proofs.FindLaws.{find_removed, find_others, found_passes
 use Rattle.radio_tables.proofs.KeyLaws.{by_number, by_name, number_is, name_is, find_placed}
 use Rattle.radio_seats_rows.specs.declared.mounts.Mount.{Mount}
 use Rattle.radio_seats_rows.specs.declared.mounts.NumberedName.{NumberedName}
-use Rattle.radio_seats_rows.specs.Board.{is_prepared}
+use Rattle.radio_seats_rows.specs.SeatTable.{is_prepared}
 use Rattle.radio_seats_rows.proofs.Lists.{same_number, placed_removed, none_removed}
 use Rattle.radio_seats_rows.specs.Mounts.{is_numbered, is_named, name_of, name_in, naming_of, naming_in, is_number, AreMounts}
 

@@ -1,6 +1,6 @@
 pub mod Seats
 pub mod Guests
-pub mod Board
+pub mod SeatTable
 pub mod Mounts
 pub mod Rows
 pub mod Rests

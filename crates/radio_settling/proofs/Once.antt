@@ -9,8 +9,8 @@ use Rattle.radio_chronicle.specs.declared.line.ControlLine.{ControlLine}
 use Rattle.radio_chronicle.specs.declared.stamp.Stamp.{Stamp}
 use Rattle.radio_chronicle.specs.Lines.{line_entry}
 use Rattle.radio_chronicle.specs.Stamps.{stamp}
-use Rattle.radio_mount_part.specs.declared.item.MountItem.{MountItem}
-use Rattle.radio_mount_part.specs.Items.{own_entry}
+use Rattle.radio_parts_mount.specs.declared.item.MountItem.{MountItem}
+use Rattle.radio_parts_mount.specs.Items.{own_entry}
 use Rattle.radio_settling.specs.Settling.{IsEachOnce, all_places, own_places, places_of, times}
 use Rattle.radio_settling.proofs.Twins.{one_at}
 

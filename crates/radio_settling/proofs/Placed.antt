@@ -10,8 +10,8 @@ use Rattle.radio_chronicle.specs.declared.line.ControlLine.TheVariants.{Cut, Mad
 use Rattle.radio_chronicle.specs.declared.stamp.Stamp.{Stamp}
 use Rattle.radio_chronicle.specs.Lines.{line_entry}
 use Rattle.radio_chronicle.specs.Stamps.{stamp}
-use Rattle.radio_mount_part.specs.declared.item.MountItem.{MountItem}
-use Rattle.radio_mount_part.specs.Items.{own_entry}
+use Rattle.radio_parts_mount.specs.declared.item.MountItem.{MountItem}
+use Rattle.radio_parts_mount.specs.Items.{own_entry}
 use Rattle.radio_merge.specs.Merged.{IsNext, Merged, PastCuts, Positions, Begins, LeavesOut, TakesOwn, TakesControl}
 use Rattle.radio_merge.proofs.Covering.{line_at}
 use Rattle.radio_settling.specs.Settling.{entry_at, own_at}

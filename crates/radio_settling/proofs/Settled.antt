@@ -8,11 +8,11 @@ use Rattle.std.proofs.lemmas.List.Elements.{All-cons, All-head, All-map, All-nil
 use Rattle.std.proofs.lemmas.List.Sums.{sum_by_more, sum_by-take-le}
 use Rattle.std.proofs.lemmas.List.Concat.{flat_map-append, length-flat_map}
 use Rattle.std.proofs.Math.Path.{fun_ext}
-use Rattle.radio_house.specs.World.{World}
+use Rattle.radio_parts_station.specs.World.{World}
 use Rattle.radio_chronicle.specs.declared.stamp.Stamp.{Stamp}
 use Rattle.radio_chronicle.specs.Stamps.{stamp}
 use Rattle.radio_book.specs.Receipts.{ReceiptOf}
-use Rattle.radio_mount_part.specs.declared.item.MountItem.{MountItem}
+use Rattle.radio_parts_mount.specs.declared.item.MountItem.{MountItem}
 use Rattle.radio_merge.specs.Merged.{IsSubsequence}
 use Rattle.radio_chronicle.specs.declared.line.ControlLine.{ControlLine}
 use Rattle.radio_settling.specs.declared.fault.SettleFault.{SettleFault}

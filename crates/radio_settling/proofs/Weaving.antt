@@ -9,7 +9,7 @@ use Rattle.std.proofs.lemmas.Option.{same_Some}
 use Rattle.radio_events.specs.declared.entry.Entry.{Entry}
 use Rattle.radio_chronicle.specs.declared.line.ControlLine.{ControlLine}
 use Rattle.radio_chronicle.specs.declared.stamp.Stamp.{Stamp}
-use Rattle.radio_mount_part.specs.declared.item.MountItem.{MountItem}
+use Rattle.radio_parts_mount.specs.declared.item.MountItem.{MountItem}
 use Rattle.radio_book.specs.Receipts.{entry_of, ReceiptOf}
 use Rattle.radio_merge.specs.Merged.{IsSubsequence}
 use Rattle.radio_settling.specs.Settling.{IsEachOnce, StandsIn, all_places, all_stamps, entry_at, stamps, times}

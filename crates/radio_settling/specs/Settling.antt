@@ -7,16 +7,16 @@ use Rattle.std.specs.Ordering.{nat_cmp, ordering_then}
 use Rattle.std.specs.declared.cmp.Ordering.{Ordering}
 use Rattle.std.specs.Option.{is_some, option_and_then}
 use Rattle.radio_events.specs.declared.entry.Entry.{Entry}
-use Rattle.radio_house.specs.World.{World}
+use Rattle.radio_parts_station.specs.World.{World}
 use Rattle.radio_chronicle.specs.History.{IsRun}
 use Rattle.radio_chronicle.specs.declared.stamp.Stamp.{Stamp}
 use Rattle.radio_chronicle.specs.Stamps.{stamp}
 use Rattle.radio_chronicle.specs.declared.line.ControlLine.{ControlLine}
-use Rattle.radio_mount_part.specs.declared.item.MountItem.{MountItem}
+use Rattle.radio_parts_mount.specs.declared.item.MountItem.{MountItem}
 use Rattle.radio_merge.specs.declared.fault.MergeFault.{MergeFault}
 use Rattle.radio_merge.specs.declared.fault.MergeFault.TheVariants.{OutOfOrder as MergesOutOfOrder, Unlike as MergesUnlike, OutOfMemory as MergesOutOfMemory}
 use Rattle.radio_chronicle.specs.Lines.{line_entry}
-use Rattle.radio_mount_part.specs.Items.{own_entry}
+use Rattle.radio_parts_mount.specs.Items.{own_entry}
 use Rattle.radio_merge.specs.Merged.{IsMerge, IsSubsequence}
 use Rattle.radio_book.specs.Receipts.{entry_of, ReceiptOf}
 use Rattle.radio_settling.specs.declared.fault.SettleFault.{SettleFault}

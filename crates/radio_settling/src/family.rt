@@ -1,9 +1,9 @@
 //! All passes held against the books of the control and of all mounts.
 
 ghost use Rattle.std.specs.Prelude.{◌≡◌, length, IfOk, IfErr, List, sum_by};
-ghost use Rattle.radio_house.specs.World.{opening};
+ghost use Rattle.radio_parts_station.specs.World.{opening};
 ghost use Rattle.radio_chronicle.specs.History.{IsRun};
-ghost use Rattle.radio_mount_part.specs.declared.item.MountItem.{MountItem as ItemOf};
+ghost use Rattle.radio_parts_mount.specs.declared.item.MountItem.{MountItem as ItemOf};
 ghost use Rattle.radio_settling.specs.Settling.{IsSettled, Shows};
 
 use crate::settling::settle_family;

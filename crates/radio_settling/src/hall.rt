@@ -3,8 +3,8 @@
 ghost use Rattle.std.specs.Prelude.{◌≡◌, length, IfOk, IfErr, List, sum_by};
 ghost use Rattle.radio_chronicle.specs.History.{IsRun};
 ghost use Rattle.radio_chronicle.specs.declared.line.ControlLine.{ControlLine as LineOf};
-ghost use Rattle.radio_house.specs.World.{opening};
-ghost use Rattle.radio_mount_part.specs.declared.item.MountItem.{MountItem as ItemOf};
+ghost use Rattle.radio_parts_station.specs.World.{opening};
+ghost use Rattle.radio_parts_mount.specs.declared.item.MountItem.{MountItem as ItemOf};
 ghost use Rattle.radio_settling.specs.Settling.{IsSettled, Shows};
 
 use crate::SettleFault;

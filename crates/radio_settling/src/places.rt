@@ -3,7 +3,7 @@
 ghost use Rattle.std.specs.Prelude.{◌≡◌, ◌↔◌, ◌++◌, slice_get, IsTrue, IfOk, OnOk};
 ghost use Rattle.std.specs.Option.{option_and_then, option_copied};
 ghost use Rattle.radio_chronicle.specs.Lines.{line_entry};
-ghost use Rattle.radio_mount_part.specs.Items.{own_entry};
+ghost use Rattle.radio_parts_mount.specs.Items.{own_entry};
 ghost use Rattle.radio_settling.specs.Settling.{StandsIn, all_places, entry_at, own_at, own_places, places_of};
 
 use crate::OutOfMemory;

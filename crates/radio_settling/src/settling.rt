@@ -1,7 +1,7 @@
 //! All passes held against the lists of a server.
 
 ghost use Rattle.std.specs.Prelude.{◌≡◌, ◌+◌, length, IfOk, IfErr, OnOk, IsTrue, IsPermutation, sum_by};
-ghost use Rattle.radio_house.specs.World.{World, opening};
+ghost use Rattle.radio_parts_station.specs.World.{World, opening};
 ghost use Rattle.radio_chronicle.specs.History.{IsRun};
 ghost use Rattle.radio_merge.specs.declared.fault.MergeFault.{MergeFault as MergeFaultOf};
 ghost use Rattle.radio_settling.specs.Settling.{AllRise, AllStand, IsCounted, IsEachOnce, IsSettled, MergesPasses, Shows, all_places, all_stamps, of_merge};

@@ -75,7 +75,7 @@ pub fn read_text<F: ReadsFiles>(files: &F, path: &str) -> Result<SettingsText, F
 }
 
 impl SettingsText {
-    /// Returns the settings, with what the files hold that they name, and a second copy of the settings: the house
+    /// Returns the settings, with what the files hold that they name, and a second copy of the settings: the server
     /// takes one, and the threads of relays read the other. Faults are those of [`read_station`], without the first.
     // rule: Settings check
     pub fn station_twice<F: ReadsFiles>(&self, files: &F) -> Result<(Station, Settings), FileFault>

@@ -2,7 +2,7 @@
 use Rattle.std.proofs.Common.{◌≡◌, List, [], ◌∷◌, ◌++◌, map, refl, sym, ap, subst, ◌∙◌}
 use Rattle.radio_answers.specs.declared.web_answers.WebAnswers.{WebAnswers}
 use Rattle.radio_events.specs.declared.entry.Entry.{Entry}
-use Rattle.radio_house.specs.World.{World, opening}
+use Rattle.radio_parts_station.specs.World.{World, opening}
 use Rattle.radio_book.specs.Receipts.{ReceiptOf}
 use Rattle.radio_chronicle.specs.History.{IsRun}
 use Rattle.radio_settling.specs.Woven.{AreWoven, IsWoven, SettledHistoriesAreWoven, entries_of, nothing_left, takes_one, takes_other}

@@ -10,8 +10,8 @@ use Rattle.radio_events.specs.declared.reply.Reply.{Reply}
 use Rattle.radio_events.specs.declared.reply.Reply.TheVariants.{Arrived, Feeding, Seated, Drawn, Noted, Text, Deny, Finished, Stray}
 use Rattle.radio_events.specs.Events.{entry}
 use Rattle.radio_core.specs.Handing.{is_number}
-use Rattle.radio_core.specs.Step.{reply_to, world_after}
-use Rattle.radio_house.specs.World.{World, opening}
+use Rattle.radio_parts.specs.Step.{reply_to, world_after}
+use Rattle.radio_parts_station.specs.World.{World, opening}
 use Rattle.radio_chronicle.specs.History.{IsRun}
 use Rattle.radio_session.specs.Conversation.{asking}
 use Rattle.radio_session.specs.Saying.{said}

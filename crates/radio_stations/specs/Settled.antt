@@ -4,8 +4,8 @@ use Rattle.radio_settings_values.specs.declared.settings.Settings.{Settings}
 use Rattle.radio_access.specs.Lists.{Lists}
 use Rattle.radio_answers.specs.declared.web_answers.WebAnswers.{WebAnswers}
 use Rattle.radio_events.specs.declared.entry.Entry.{Entry}
-use Rattle.radio_house.specs.World.{World, opening}
-use Rattle.radio_mount_part.specs.declared.item.MountItem.{MountItem}
+use Rattle.radio_parts_station.specs.World.{World, opening}
+use Rattle.radio_parts_mount.specs.declared.item.MountItem.{MountItem}
 use Rattle.radio_chronicle.specs.declared.line.ControlLine.{ControlLine}
 use Rattle.radio_chronicle.specs.History.{IsRun}
 use Rattle.radio_book.specs.Receipts.{ReceiptOf}

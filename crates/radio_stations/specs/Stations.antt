@@ -3,7 +3,7 @@ use Rattle.std.specs.Prelude.{◌≡◌, ◌⊎◌, ℕ, List, [], map}
 use Rattle.radio_settings_values.specs.declared.settings.Settings.{Settings}
 use Rattle.radio_access.specs.Lists.{Lists}
 use Rattle.radio_answers.specs.declared.web_answers.WebAnswers.{WebAnswers}
-use Rattle.radio_house.specs.World.{opening}
+use Rattle.radio_parts_station.specs.World.{opening}
 use Rattle.radio_chronicle.specs.History.{IsRun}
 use Rattle.radio_settling.specs.Woven.{IsWoven}
 use Rattle.radio_connections.specs.Serving.{IsHanded}

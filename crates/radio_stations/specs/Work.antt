@@ -10,7 +10,7 @@ use Rattle.radio_events.specs.declared.reply.Reply.{Reply}
 use Rattle.radio_events.specs.declared.reply.Reply.TheVariants.{Arrived}
 use Rattle.radio_events.specs.Events.{entry}
 use Rattle.radio_events.specs.Servers.{Steps}
-use Rattle.radio_house.specs.World.{World}
+use Rattle.radio_parts_station.specs.World.{World}
 use Rattle.radio_book.specs.Receipts.{ReceiptOf, entry_of}
 use Rattle.radio_locks.specs.Callers.{IsCalled}
 use Rattle.radio_connections.specs.Admission.{IsTakenIn}

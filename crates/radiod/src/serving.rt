@@ -3,7 +3,7 @@
 ghost use Rattle.std.specs.Prelude.{◌≡◌, ◌^◌, IfErr};
 ghost use Rattle.std.specs.Option.{option_map};
 ghost use Rattle.radio_log.specs.Moments.{offset_text};
-ghost use Rattle.radio_house.specs.World.{opening};
+ghost use Rattle.radio_parts_station.specs.World.{opening};
 ghost use Rattle.radiod.specs.Binding.{IsNotBound};
 ghost use Rattle.radiod.specs.Ends.{EndsService};
 ghost use Rattle.radiod.specs.declared.fault.NotBound.{NotBound as NotBoundOf};
@@ -113,7 +113,7 @@ fn cannot_bind(rt: &HostRuntime, settings: &Settings, reason: NotBound) -> Fault
     }
 }
 
-/// Serves connections in a house of the station's settings and lists.
+/// Serves connections by the station's settings and lists.
 fn serve_in<W: Clock + Threads + Wait + Sync, H: Origin + Send + Sync>(
     rt: &HostRuntime,
     waits: &W,

@@ -184,16 +184,16 @@ fn a_peer_who_closes_is_left(rt: HostRuntime) {
 }
 
 /// What a client reads if there are clients enough.
-const FULL_HOUSE: &[u8] =
+const FULL_SERVER: &[u8] =
     b"HTTP/1.0 403 Forbidden\r\nContent-Type: text/plain; charset=utf-8\r\nContent-Length: 25\r\nConnection: close\r\n\r\ndenied: too-many-clients\n";
 
-/// A house with one client, and another that comes: it reads that and is closed, and the first stays.
+/// A server with one client, and another that comes: it reads that and is closed, and the first stays.
 const FULL: &[Step] = &[
     Step::Comes(SOURCE, 0),
     Step::Turns(1, 1, 2),
     Step::Comes(LISTENER, 2),
     Step::Turns(3, 1, 2),
-    Step::Shows(1, Look::Took(FULL_HOUSE)),
+    Step::Shows(1, Look::Took(FULL_SERVER)),
     Step::Shows(0, Look::Took(SOURCE_ANSWER)),
     Step::Turns(1500, 1, 1),
     Step::Clients(&[1]),
@@ -201,7 +201,7 @@ const FULL: &[Step] = &[
 
 // rule: Connection without memory
 #[test]
-fn a_full_house(rt: HostRuntime) {
+fn a_full_station(rt: HostRuntime) {
     assert!(rt; steps::are_played(rt.alloc(), "[limits]\nclients = 1\n", FULL));
 }
 

@@ -2,12 +2,12 @@
 
 ghost use Rattle.std.specs.Prelude.{◌≡◌, ◌^◌};
 ghost use Rattle.radio_access.specs.Lists.{no_lists};
-ghost use Rattle.radio_house.specs.World.{opening};
+ghost use Rattle.radio_parts_station.specs.World.{opening};
 
 use crate::calls::{Callee, number_given};
-use crate::house::{is_lock_free, is_title_heard};
 use crate::kept_rows::{KeptRow, is_row_played};
 use crate::moving::{Together, are_together};
+use crate::over_a_hall::{is_lock_free, is_title_heard};
 use crate::stations::settings;
 use crate::two_callers::{are_served, is_of_two};
 use crate::workers;

@@ -170,7 +170,7 @@ fn settles_refused<R: AllocGlobal + Threads + Wait + Clock + Sync>(rt: &R, call:
 
 // rule: Lingering; Closed by the peer
 #[test]
-fn who_fails_has_left_the_house(rt: HostRuntime) {
+fn who_fails_has_left_the_station(rt: HostRuntime) {
     assert!(rt; have_left_at_each_call(&rt, PLAIN, Failure::Fault, &[2]));
     assert!(rt; have_left_at_each_call(&rt, PLAIN, Failure::Closing, &[2]));
     assert!(rt; have_left_at_each_call(&rt, BEHIND_A_SOURCE, Failure::Fault, &[1, 2]));
@@ -179,7 +179,7 @@ fn who_fails_has_left_the_house(rt: HostRuntime) {
 /// It stays while it stalls, and has left where it has stalled, lags, or closes while something is pending.
 // rule: Lingering
 #[test]
-fn who_is_slow_has_left_the_house(rt: HostRuntime) {
+fn who_is_slow_has_left_the_station(rt: HostRuntime) {
     assert!(rt; are_kept(&rt, LONG_TIMEOUT, KEPT, &[]));
     assert!(rt; are_kept(&rt, LONG_TIMEOUT, CLOSED, &[2]));
     assert!(rt; are_kept(&rt, SHORT_QUEUE, LAGS, &[2]));

@@ -4,10 +4,11 @@
 use crate::calls::{CALLS, Callee, number_given, serve, step_copy};
 use crate::stations::{core, settings};
 use radio_access::Lists;
-use radio_core::{Control, Core};
+use radio_core::Core;
 use radio_events::{Event, Reply};
 use radio_merge::is_same_reply;
-use radio_mount_part::{ListedPart, MountItem, PartAnswer};
+use radio_parts::Control;
+use radio_parts_mount::{ListedPart, MountItem, PartAnswer};
 use radio_seats_rows::OutOfMemory;
 use radio_settings::SettingsFault;
 use radio_values::MountName;

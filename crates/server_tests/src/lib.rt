@@ -6,8 +6,8 @@
 //! Of the server:
 //! - `events`: events and replies of the core, in tables.
 //! - `scripts`: lists of deliveries, among them large ones.
-//! - `listeners`: who sits where and has heard how far, through the calls of `radio_attached`.
-//! - `mounts`: sessions in the parts of the mounts, through the calls of `radio_mounts`.
+//! - `listeners`: who sits where and has heard how far, through the calls of `radio_parts_table`.
+//! - `mounts`: sessions in the parts of the mounts, through the calls of `radio_parts_table`.
 //! - `own_steps`: draws, blocks and titles by a mount's part alone.
 //! - `mount_books`: two mounts' parts that are kept apart, each with its book, and settled.
 //! - `locked`: the same under a lock for each mount.
@@ -29,7 +29,7 @@
 //! - `stations`: a worker over a core, and connections over such lines.
 //! - `steps`: what happens at a station and is seen there, as tables.
 //! - `rows`: sources and listeners who are served, turn after turn.
-//! - `house`: the same over a hall, with another caller.
+//! - `over_a_hall`: the same over a hall, with another caller.
 //! - `kept_rows`: failing and slow connections over a hall, and who has left in its history.
 //! - `slow`: lines that take little or nothing.
 //! - `moments`: from when patience and lingering count, to the millisecond.
@@ -53,8 +53,6 @@ mod freezing;
 #[cfg(test)]
 mod halls;
 #[cfg(test)]
-mod house;
-#[cfg(test)]
 mod kept_rows;
 #[cfg(test)]
 mod lent_parts;
@@ -76,6 +74,8 @@ mod mount_books;
 mod mounts;
 #[cfg(test)]
 mod moving;
+#[cfg(test)]
+mod over_a_hall;
 #[cfg(test)]
 mod own_steps;
 #[cfg(test)]

@@ -2,8 +2,8 @@
 //! that gives up for want of memory is proved under any contract.
 
 use radio_addr::Peer;
-use radio_attached::Listeners;
 use radio_blocks::Place;
+use radio_parts_table::Listeners;
 use radio_policy::Rule;
 use radio_seats_rows::{Guest, KeptName, OutOfMemory, Seat, SeatTest};
 use radio_values::MountName;

@@ -1,7 +1,7 @@
 //! The books of mounts and of the control, each under a lock of its own: the replies are those of a core, and all passes settle.
 
 ghost use Rattle.radio_access.specs.Lists.{no_lists};
-ghost use Rattle.radio_house.specs.World.{opening};
+ghost use Rattle.radio_parts_station.specs.World.{opening};
 ghost use Rattle.std.specs.Prelude.{◌≡◌, ◌^◌};
 
 use crate::calls::{Callee, number_given, step_copy};

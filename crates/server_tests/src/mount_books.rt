@@ -2,7 +2,7 @@
 //! which is lent both for each event that is not one mount's. The replies are those of a core, and all passes settle.
 
 ghost use Rattle.radio_access.specs.Lists.{no_lists};
-ghost use Rattle.radio_house.specs.World.{opening};
+ghost use Rattle.radio_parts_station.specs.World.{opening};
 ghost use Rattle.std.specs.Prelude.{◌≡◌, ◌^◌};
 
 use crate::calls::{

@@ -3,8 +3,8 @@
 
 use bytes::Bytes;
 use radio_blocks::Block;
-use radio_mounts::MountParts;
-use radio_parts::NewSession;
+use radio_parts_mount::NewSession;
+use radio_parts_table::MountParts;
 use radio_seats_rows::OutOfMemory;
 use radio_values::{MountName, Shown, Title};
 use std::alloc::{AllocGlobal, Global};

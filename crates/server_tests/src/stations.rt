@@ -95,7 +95,7 @@ pub type Meddled = Refusing<Titled>;
 impl Model for Titled {
     ghost use Rattle.std.specs.Coded.{codes};
     ghost use Rattle.radio_core.specs.contracts.server.Core as the_core;
-    ghost use Rattle.radio_house.specs.World.{World};
+    ghost use Rattle.radio_parts_station.specs.World.{World};
 
     ghost Value = { World };
 

@@ -2,7 +2,7 @@
 
 ghost use Rattle.std.specs.Prelude.{◌≡◌, ◌^◌};
 ghost use Rattle.radio_access.specs.Lists.{no_lists};
-ghost use Rattle.radio_house.specs.World.{opening};
+ghost use Rattle.radio_parts_station.specs.World.{opening};
 
 use crate::calls::{CALLS, Callee, number_given, serve, step_copy};
 use crate::stations::{core, settings};

@@ -1,5 +1,5 @@
 use Rattle.std.proofs.Common.{◌≡◌, List, ◌++◌, take, drop}
-use Rattle.radio_house.specs.World.{World}
+use Rattle.radio_parts_station.specs.World.{World}
 use Rattle.radio_book.specs.MountBooks.{AreLent, BookOfMount}
 use Rattle.radio_book.proofs.lending.lend_each.Given as goal
 

@@ -1,7 +1,7 @@
 use Rattle.std.proofs.Common.{◌≡◌, ◌⊎◌, inl, inr, Result, Ok, Err, IsOk, OnErr, ◌∙◌, sym}
 use Rattle.std.proofs.lemmas.Bool.{false≢true}
 use Rattle.radio_events.specs.Replies.{HoldsNoText}
-use Rattle.radio_mount_part.specs.declared.part.MountPart.{MountPart}
+use Rattle.radio_parts_mount.specs.declared.part.MountPart.{MountPart}
 use Rattle.radio_book.specs.OwnSteps.{set_back_in}
 use Rattle.radio_book.proofs.OwnLemmas.{undone}
 use Rattle.radio_book.proofs.own_steps.step_twice.Goals as goal

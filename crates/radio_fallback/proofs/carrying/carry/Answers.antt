@@ -1,8 +1,8 @@
 use Rattle.std.proofs.Common.{◌≡◌, ◌<◌, ◌^◌, ℕ, List, length, refl, ap, sym, subst, ◌∙◌, arith}
-use Rattle.radio_seats_rows.specs.Board.{Board}
-use Rattle.radio_seats.proofs.RowLemmas.{same_board}
-use Rattle.radio_parts.specs.Parts.{ends_in}
-use Rattle.radio_parts.specs.Sessions.{Session}
+use Rattle.radio_seats_rows.specs.SeatTable.{SeatTable}
+use Rattle.radio_seats.proofs.RowLemmas.{same_table}
+use Rattle.radio_parts_mount.specs.StatePart.{ends_in}
+use Rattle.radio_parts_mount.specs.Sessions.{Session}
 use Rattle.radio_fallback.specs.Walk.{with_ends}
 use Rattle.radio_fallback.specs.Carry.{Carry, after_turn, turn_of, turns}
 use Rattle.radio_fallback.specs.Heard.{heard}
@@ -35,7 +35,7 @@ listeners-smaller g c =
     let sight = with_ends (g.V.View.sight c.args.view.now) (ends_in (g.A.Attachments.live c.listeners.attached)) in
     fewer_left sight c.args.moving.now c.listeners.last c.in-Some.id c.listeners.seats.seats c.listeners.counts
     c.next.ensures.rising (sym c.in-Some.is ∙ c.next.ensures.next) c.take_turn-counts.new.seats.seats c.take_turn-counts.result
-    (ap (λ (b : Board). b.seats) c.take_turn-counts.ensures.seats) c.take_turn-counts.ensures.counts
+    (ap (λ (b : SeatTable). b.seats) c.take_turn-counts.ensures.seats) c.take_turn-counts.ensures.counts
 
 pub listeners-preserved : goal.listeners-preserved
 listeners-preserved g c =
@@ -54,7 +54,7 @@ listeners-preserved g c =
     let next = sym c.in-Some.is ∙ c.next.ensures.next in
     let is_later = subst (λ (live : List Session). new
     ≡ (after_turn (with_ends view (ends_in live)) id (record { seats = seats; counts = counts }) (turn_of (with_ends view (ends_in live)) move seats id)).seats) unmoved
-    (ap (λ (b : Board). b.seats) c.take_turn-counts.ensures.seats) in
+    (ap (λ (b : SeatTable). b.seats) c.take_turn-counts.ensures.seats) in
     let is_counted = subst (λ (live : List Session). counted
     ≡ (after_turn (with_ends view (ends_in live)) id (record { seats = seats; counts = counts }) (turn_of (with_ends view (ends_in live)) move seats id)).counts) unmoved
     c.take_turn-counts.ensures.counts in
@@ -62,7 +62,7 @@ listeners-preserved g c =
     ≡ (after_turn (with_ends view (ends_in live)) id (record { seats = heard places seats; counts = counts }) (turn_of (with_ends view (ends_in live)) move (heard places seats) id)).seats)
     unmoved c.take_turn-counts.ensures.heard in (
       goes_on sight move c.listeners.last id seats counts c.next.ensures.rising next new counted is_later is_counted ∙ c.listeners.invariant.0,
-      ap (λ (b : Board). b.prepared) c.take_turn-counts.ensures.seats ∙ c.listeners.invariant.1,
+      ap (λ (b : SeatTable). b.prepared) c.take_turn-counts.ensures.seats ∙ c.listeners.invariant.1,
       all_counted sight move c.listeners.last id seats counts c.next.ensures.rising next new counted is_later is_counted
           (length c.args.seats.now.seats) c.listeners.invariant.2,
       goes_on_heard sight move places later c.listeners.last id seats counts c.next.ensures.rising next new counted is_later is_counted is_heard
@@ -110,7 +110,7 @@ pub returns-clause-seats : goal.returns-clause-seats
 returns-clause-seats g c =
     let sight = with_ends (g.V.View.sight c.args.view.now) (ends_in (g.A.Attachments.live c.args.attached.now)) in
     let none = nobody_is_next c.listeners.seats.seats c.listeners.last (sym c.in_default.is ∙ c.next.ensures.next) in
-    same_board c.listeners.seats.prepared c.args.seats.now.prepared c.listeners.seats.seats _ c.listeners.invariant.1
+    same_table c.listeners.seats.prepared c.args.seats.now.prepared c.listeners.seats.seats _ c.listeners.invariant.1
     (ap (λ (x : Carry). x.seats)
     (sym (ap (λ ns. turns sight c.args.moving.now ns (record { seats = c.listeners.seats.seats; counts = c.listeners.counts })) none)
     ∙ c.listeners.invariant.0))

@@ -4,7 +4,7 @@ use Rattle.radio_access.specs.Lists.{Lists}
 use Rattle.radio_answers.specs.declared.web_answers.WebAnswers.{WebAnswers}
 use Rattle.radio_deliveries.specs.declared.delivery.Delivery.{Delivery}
 use Rattle.radio_deliveries.specs.Given.{given}
-use Rattle.radio_house.specs.World.{opening}
+use Rattle.radio_parts_station.specs.World.{opening}
 use Rattle.radio_floor.specs.ScriptState.{connection_of, opening_script}
 use Rattle.radio_headline.specs.Course.{Happening, log_on}
 use Rattle.radio_headline.specs.Scripts.{brought}

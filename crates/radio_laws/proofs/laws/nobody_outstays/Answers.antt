@@ -3,7 +3,7 @@ use Rattle.radio_core.proofs.SoundRuns.{sound_run}
 use Rattle.radio_laws.proofs.LimitLemmas.{within_run}
 use Rattle.radio_laws.proofs.ListsLemmas.{sitters_run}
 use Rattle.radio_laws.proofs.TickEnds.{nobody_outstays}
-use Rattle.radio_house.proofs.TimeoutLemmas.{tests_are_in_numbers}
+use Rattle.radio_parts_station.proofs.TimeoutLemmas.{tests_are_in_numbers}
 use Rattle.radio_laws.proofs.laws.nobody_outstays.Goals as goal
 
 pub returns : goal.returns

@@ -1,5 +1,5 @@
 use Rattle.std.proofs.Common.{◌≡◌, ◌++◌, drop}
-use Rattle.radio_mount_part.specs.Items.{own_entry}
+use Rattle.radio_parts_mount.specs.Items.{own_entry}
 use Rattle.radio_settling.specs.Settling.{places_of}
 use Rattle.radio_settling.proofs.places.add_items.Given as goal
 

@@ -1,4 +1,4 @@
-use Rattle.radio_house.specs.World.{opening}
+use Rattle.radio_parts_station.specs.World.{opening}
 use Rattle.radio_settling.proofs.settling.settle_family.Goals as goal
 
 pub returns-in-Err-clause-fault : goal.returns-in-Err-clause-fault

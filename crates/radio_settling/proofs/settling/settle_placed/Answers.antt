@@ -1,7 +1,7 @@
 use Rattle.std.proofs.Common.{length, subst, sym, ap, ◌∙◌, arith}
 use Rattle.std.specs.List.Sorted.{IsPermutation}
 use Rattle.std.proofs.lemmas.List.Sorted.{IsPermutation-sym, length_permutation}
-use Rattle.radio_house.specs.World.{opening}
+use Rattle.radio_parts_station.specs.World.{opening}
 use Rattle.radio_settling.specs.Settling.{all_stamps}
 use Rattle.radio_settling.proofs.Settled.{counted, receipts_of_all}
 use Rattle.radio_settling.proofs.settling.settle_placed.Goals as goal

@@ -1,7 +1,7 @@
-use Rattle.radio_house.specs.World.{opening}
+use Rattle.radio_parts_station.specs.World.{opening}
 use Rattle.radiod.proofs.serving.serve_station.Given as goal
 
--- the house that is opened here
+-- the server that is opened here
 abbrev pub ghosts-serve_in-H-Origin : goal.ghosts-serve_in-H-Origin
 ghosts-serve_in-H-Origin g a = record { opening = opening a.station.settings a.station.lists }
 

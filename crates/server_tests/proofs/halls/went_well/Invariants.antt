@@ -1,8 +1,8 @@
 use Rattle.radio_access.specs.Lists.{no_lists}
-use Rattle.radio_house.specs.World.{opening}
+use Rattle.radio_parts_station.specs.World.{opening}
 use Rattle.server_tests.proofs.halls.went_well.Given as goal
 
--- the house that is opened here
+-- the server that is opened here
 abbrev pub ghosts-goes_well-H-Origin : goal.ghosts-goes_well-H-Origin
 ghosts-goes_well-H-Origin g a = record { opening = opening a.settings no_lists }
 

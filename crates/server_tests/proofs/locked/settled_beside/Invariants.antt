@@ -1,8 +1,8 @@
 use Rattle.radio_access.specs.Lists.{no_lists}
-use Rattle.radio_house.specs.World.{opening}
+use Rattle.radio_parts_station.specs.World.{opening}
 use Rattle.server_tests.proofs.locked.settled_beside.Given as goal
 
--- the house that is opened here
+-- the server that is opened here
 abbrev pub ghosts-are_settled-H-Origin : goal.ghosts-are_settled-H-Origin
 ghosts-are_settled-H-Origin g a = record { opening = opening a.settings no_lists }
 

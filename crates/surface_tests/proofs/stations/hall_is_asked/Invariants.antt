@@ -1,7 +1,7 @@
 use Rattle.radio_hall.specs.Words.{no_lists, opening}
 use Rattle.surface_tests.proofs.stations.hall_is_asked.Given as goal
 
--- the house that is opened here
+-- the server that is opened here
 abbrev pub ghosts-is_asked_hall-H-Origin : goal.ghosts-is_asked_hall-H-Origin
 ghosts-is_asked_hall-H-Origin g a = record { opening = opening a.settings no_lists }
 

@@ -1,7 +1,7 @@
 use Rattle.std.proofs.Common.{◌≡◌, ◌∙◌, ◌++◌, ◌∷◌, [], true, List, refl, ap, sym}
 use Rattle.radio_chronicle.specs.declared.line.ControlLine.{ControlLine}
 use Rattle.radio_chronicle.specs.declared.line.ControlLine.TheVariants.{Made}
-use Rattle.radio_core.specs.Common.{common_after, common_of}
+use Rattle.radio_parts.specs.Common.{common_after, common_of}
 use Rattle.radio_events.specs.Events.{entry}
 use Rattle.radio_events.specs.declared.event.Event.{Event}
 use Rattle.radio_book.specs.ControlLists.{entries_in}

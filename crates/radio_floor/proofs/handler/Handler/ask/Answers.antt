@@ -1,7 +1,7 @@
 use Rattle.std.proofs.Common.{◌≡◌, ap, sym, ◌∙◌}
 use Rattle.std.proofs.lemmas.Result.{IfOk-weaker}
 use Rattle.radio_events.specs.declared.state.State.{State}
-use Rattle.radio_core.specs.Step.{core_steps}
+use Rattle.radio_core.specs.Represents.{core_steps}
 use Rattle.radio_pull.specs.Course.{AsksIf}
 use Rattle.radio_pull.specs.Pulling.{Pulling, Standing}
 use Rattle.radio_floor.specs.ScriptServer.{PullsAs, script_state_of}

@@ -1,7 +1,7 @@
 use Rattle.std.proofs.Common.{refl}
 use Rattle.std.proofs.lemmas.Result.{IfOk-weaker}
 use Rattle.radio_deliveries.specs.declared.delivery.Input.TheVariants.{Data}
-use Rattle.radio_core.specs.Step.{core_steps}
+use Rattle.radio_core.specs.Represents.{core_steps}
 use Rattle.radio_pull.specs.Course.{Takes}
 use Rattle.radio_floor.specs.ScriptServer.{PullsAs}
 use Rattle.radio_floor.specs.ScriptState.{ComesToRelay}

@@ -1,6 +1,6 @@
 use Rattle.std.proofs.Common.{◌≡◌, ◌++◌, List, ℕ, Option, Some, sym, ap, ◌∙◌}
 use Rattle.radio_events.specs.declared.event.Event.TheVariants.{Arrive}
-use Rattle.radio_core.specs.Step.{reply_to, world_after}
+use Rattle.radio_parts.specs.Step.{reply_to, world_after}
 use Rattle.radio_tables.specs.Lists.{placed}
 use Rattle.radio_events.specs.declared.state.State.{State}
 use Rattle.radio_floor.specs.declared.labelled.Labelled.{Labelled}

@@ -1,7 +1,7 @@
 use Rattle.std.proofs.Common.{◌≡◌, [], None, Option, Result, Ok, Some, append-nil, ap, subst, sym, ◌∙◌}
 use Rattle.std.specs.declared.alloc.AllocError.{AllocError}
-use Rattle.radio_house.specs.World.{World}
-use Rattle.radio_core.specs.Step.{Represents}
+use Rattle.radio_parts_station.specs.World.{World}
+use Rattle.radio_core.specs.Represents.{Represents}
 use Rattle.radio_tables.proofs.VisitLaws.{was_visited}
 use Rattle.radio_tables.specs.Visits.{IsVisited}
 use Rattle.radio_deliveries.specs.declared.delivery.Delivery.TheVariants.{To}

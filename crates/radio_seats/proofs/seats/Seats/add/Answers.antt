@@ -3,13 +3,13 @@ use Rattle.std.specs.Prelude.{length, map}
 use Rattle.std.specs.Ordering.{nat_cmp}
 use Rattle.radio_tables.specs.Lists.{placed}
 use Rattle.radio_seats_rows.specs.declared.row.ListenerRow.{ListenerRow}
-use Rattle.radio_seats_rows.specs.Board.{Board}
+use Rattle.radio_seats_rows.specs.SeatTable.{SeatTable}
 use Rattle.radio_seats_rows.specs.Mounts.{is_number, name_in, sitting_in, naming_in, one_at}
 use Rattle.radio_seats_rows.specs.Rows.{seated_row}
 use Rattle.radio_seats.specs.Shown.{named, number_in, last_in, sits_by, names_by, AreCounted}
 use Rattle.radio_seats_rows.specs.Seats.{with_seat}
 use Rattle.radio_seats.proofs.RowCounts.{held_number, held_last, his_counts, one_comes, one_more, room_for_one}
-use Rattle.radio_seats.proofs.RowLemmas.{is_called, same_board, seats_with}
+use Rattle.radio_seats.proofs.RowLemmas.{is_called, same_table, seats_with}
 use Rattle.radio_seats.proofs.seats.Seats.add.Goals as goal
 
 pub gain-requires-clause-room_to_sit : goal.gain-requires-clause-room_to_sit
@@ -66,9 +66,9 @@ returns-clause-ok c =
     let mount = c.args.seat.mount in
     let called = is_called name mount c.in-Some.number (λ k. c.number.ensures.only k ∙ ap (λ n. is_number n k) c.in-Some.is) in
     let later = c.gain.new.self in
-    same_board later.names c.args.self.now.prepared _ _
-    (c.gain.ensures.prepared ∙ c.give_up.ensures.prepared ∙ c.leave.ensures.prepared ∙ ap (λ (b : Board). b.prepared) c.self.view_is)
+    same_table later.names c.args.self.now.prepared _ _
+    (c.gain.ensures.prepared ∙ c.give_up.ensures.prepared ∙ c.leave.ensures.prepared ∙ ap (λ (b : SeatTable). b.prepared) c.self.view_is)
     (ap (map (named (name_in later.mounts))) c.in_ok-insert.ensures.ok
     ∙ seats_with name (name_in later.mounts) c.self.inside.rows (λ k. c.gain.ensures.names k ∙ c.give_up.ensures.names k ∙ c.leave.ensures.names k) c.args.id
     c.in-Some.number c.args.seat called
-    ∙ ap (λ (b : Board). with_seat b.seats c.args.id c.args.seat) c.self.view_is)
+    ∙ ap (λ (b : SeatTable). with_seat b.seats c.args.id c.args.seat) c.self.view_is)

@@ -4,14 +4,14 @@ use Rattle.std.specs.Option.{option_map}
 use Rattle.radio_seats_rows.specs.declared.row.ListenerRow.{ListenerRow}
 use Rattle.radio_seats_rows.specs.declared.row.RowState.{RowState}
 use Rattle.radio_seats_rows.specs.declared.row.RowState.TheVariants.{Seated, Ended}
-use Rattle.radio_seats_rows.specs.Board.{Board}
+use Rattle.radio_seats_rows.specs.SeatTable.{SeatTable}
 use Rattle.radio_seats_rows.specs.Mounts.{name_in}
 use Rattle.radio_seats_rows.specs.Rows.{is_row, number_of, last_number, with_state}
 use Rattle.radio_seats.specs.Further.{heard_to_place}
 use Rattle.radio_seats.specs.Shown.{named, sits_by, names_by, number_in, last_in, AreCounted}
 use Rattle.radio_seats_rows.specs.Seats.{with_place}
 use Rattle.radio_seats.proofs.RowCounts.{held_number, held_last, stays_there}
-use Rattle.radio_seats.proofs.RowLemmas.{same_board, seats_heard}
+use Rattle.radio_seats.proofs.RowLemmas.{same_table, seats_heard}
 use Rattle.radio_seats.proofs.seats.Seats.advance.Goals as goal
 
 abbrev hearing : ℕ → ListenerRow → ListenerRow
@@ -40,6 +40,6 @@ pub returns : goal.returns
 returns c =
     let mounts = c.self.inside.mounts in
     let name = name_in mounts.mounts in
-    same_board mounts.names c.args.self.now.prepared _ _ (ap (λ (b : Board). b.prepared) c.self.view_is)
+    same_table mounts.names c.args.self.now.prepared _ _ (ap (λ (b : SeatTable). b.prepared) c.self.view_is)
     (ap (map (named name)) c.change.ensures ∙ seats_heard name name c.self.inside.rows (λ k. refl) c.args.id c.args.place
-    ∙ ap (λ (b : Board). with_place b.seats c.args.id c.args.place) c.self.view_is)
+    ∙ ap (λ (b : SeatTable). with_place b.seats c.args.id c.args.place) c.self.view_is)

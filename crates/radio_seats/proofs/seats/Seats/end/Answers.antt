@@ -6,13 +6,13 @@ use Rattle.radio_tables.specs.Lists.{update_first}
 use Rattle.radio_seats_rows.specs.declared.row.ListenerRow.{ListenerRow}
 use Rattle.radio_seats_rows.specs.declared.row.RowState.{RowState}
 use Rattle.radio_seats_rows.specs.declared.row.RowState.TheVariants.{Seated, Ended}
-use Rattle.radio_seats_rows.specs.Board.{Board}
+use Rattle.radio_seats_rows.specs.SeatTable.{SeatTable}
 use Rattle.radio_seats_rows.specs.Mounts.{name_in, sitting_in}
 use Rattle.radio_seats_rows.specs.Rows.{is_row, ended, number_of, last_number, with_state}
 use Rattle.radio_seats.specs.Shown.{sits_by, names_by, named, number_in, last_in, AreCounted}
 use Rattle.radio_seats_rows.specs.Seats.{with_end}
 use Rattle.radio_seats.proofs.RowCounts.{held_number, held_last, goes_from, stays_there, one_less}
-use Rattle.radio_seats.proofs.RowLemmas.{same_board, seats_ended}
+use Rattle.radio_seats.proofs.RowLemmas.{same_table, seats_ended}
 use Rattle.radio_seats.proofs.seats.Seats.end.Goals as goal
 
 abbrev ending : Rule → ListenerRow → ListenerRow
@@ -44,7 +44,7 @@ invariant_of-self c =
 pub returns : goal.returns
 returns c =
     let mounts = c.self.inside.mounts in
-    same_board c.leave.new.self.names c.args.self.now.prepared _ _ (c.leave.ensures.prepared ∙ ap (λ (b : Board). b.prepared) c.self.view_is)
+    same_table c.leave.new.self.names c.args.self.now.prepared _ _ (c.leave.ensures.prepared ∙ ap (λ (b : SeatTable). b.prepared) c.self.view_is)
     (ap (map (named (name_in c.leave.new.self.mounts))) c.change.ensures
     ∙ seats_ended (name_in mounts.mounts) (name_in c.leave.new.self.mounts) c.self.inside.rows c.leave.ensures.names c.args.id c.args.rule
-    ∙ ap (λ (b : Board). with_end b.seats c.args.id c.args.rule) c.self.view_is)
+    ∙ ap (λ (b : SeatTable). with_end b.seats c.args.id c.args.rule) c.self.view_is)

@@ -1,12 +1,12 @@
 use Rattle.std.proofs.Common.{◌≡◌, ◌∙◌, ap, sym, subst, refl}
 use Rattle.std.specs.Prelude.{map}
-use Rattle.radio_seats_rows.specs.Board.{Board}
+use Rattle.radio_seats_rows.specs.SeatTable.{SeatTable}
 use Rattle.radio_seats_rows.specs.Guests.{passes_at}
 use Rattle.radio_seats_rows.specs.Mounts.{is_number, name_in}
 use Rattle.radio_seats.specs.Shown.{named, AreCounted}
 use Rattle.radio_seats_rows.specs.Seats.{with_ended}
 use Rattle.radio_seats_rows.specs.Rests.{how_many}
-use Rattle.radio_seats.proofs.RowLemmas.{all_end_there, none_end_there, nobody_ends, none_to_end, how_many_there, same_board, shown_same}
+use Rattle.radio_seats.proofs.RowLemmas.{all_end_there, none_end_there, nobody_ends, none_to_end, how_many_there, same_table, shown_same}
 use Rattle.radio_seats.proofs.RowCounts.{counted_ended}
 use Rattle.radio_seats.proofs.seats.Seats.finish_at_if.Goals as goal
 
@@ -16,8 +16,8 @@ returns-in_default-clause-seats g c =
     let mounts = c.self.inside.mounts in
     let name = name_in mounts.mounts in
     let mount = c.args.mount.now in
-    subst (λ (b : Board). b ≡ record b { seats = with_ended b.seats (passes_at mount p) c.args.rule }) c.self.view_is
-    (same_board mounts.names mounts.names _ _ refl
+    subst (λ (b : SeatTable). b ≡ record b { seats = with_ended b.seats (passes_at mount p) c.args.rule }) c.self.view_is
+    (same_table mounts.names mounts.names _ _ refl
     (nobody_ends name mount (λ k. c.number.ensures.only k ∙ ap (λ n. is_number n k) c.in_default.is) p c.args.rule c.self.inside.rows))
 
 pub returns-then-count-eq0-clause-seats : goal.returns-then-count-eq0-clause-seats
@@ -26,8 +26,8 @@ returns-then-count-eq0-clause-seats g c =
     let mounts = c.self.inside.mounts in
     let name = name_in mounts.mounts in
     let mount = c.args.mount.now in
-    subst (λ (b : Board). b ≡ record b { seats = with_ended b.seats (passes_at mount p) c.args.rule }) c.self.view_is
-    (same_board mounts.names mounts.names _ _ refl
+    subst (λ (b : SeatTable). b ≡ record b { seats = with_ended b.seats (passes_at mount p) c.args.rule }) c.self.view_is
+    (same_table mounts.names mounts.names _ _ refl
     (none_end_there name mount c.in-Some.number (λ k. c.number.ensures.only k ∙ ap (λ n. is_number n k) c.in-Some.is) p c.args.rule c.self.inside.rows
     c.count_where-count.result c.count_where-count.ensures c.if-count-eq0.true))
 
@@ -44,18 +44,18 @@ returns-clause-seats g c =
     let mounts = c.self.inside.mounts in
     let name = name_in mounts.mounts in
     let mount = c.args.mount.now in
-    same_board c.lose.new.self.names c.args.self.now.prepared _ _ (c.lose.ensures.prepared ∙ ap (λ (b : Board). b.prepared) c.self.view_is)
+    same_table c.lose.new.self.names c.args.self.now.prepared _ _ (c.lose.ensures.prepared ∙ ap (λ (b : SeatTable). b.prepared) c.self.view_is)
     (shown_same name (name_in c.lose.new.self.mounts) c.change_all.new.self c.lose.ensures.names
     ∙ ap (map (named name)) c.change_all.ensures
     ∙ all_end_there name mount c.in-Some.number (λ k. c.number.ensures.only k ∙ ap (λ n. is_number n k) c.in-Some.is) p c.args.rule c.self.inside.rows
-    ∙ ap (λ (b : Board). with_ended b.seats (passes_at mount p) c.args.rule) c.self.view_is)
+    ∙ ap (λ (b : SeatTable). with_ended b.seats (passes_at mount p) c.args.rule) c.self.view_is)
 
 pub returns-in_default-clause-count : goal.returns-in_default-clause-count
 returns-in_default-clause-count g c =
     let p = g.T.SeatTest.passes c.args.test.now in
     let name = name_in c.self.inside.mounts.mounts in
     let mount = c.args.mount.now in
-    subst (λ (b : Board). 0 ≡ how_many (passes_at mount p) b.seats) c.self.view_is
+    subst (λ (b : SeatTable). 0 ≡ how_many (passes_at mount p) b.seats) c.self.view_is
     (none_to_end name mount (λ k. c.number.ensures.only k ∙ ap (λ n. is_number n k) c.in_default.is) p c.args.rule c.self.inside.rows)
 
 pub returns-then-count-eq0-clause-count : goal.returns-then-count-eq0-clause-count
@@ -63,7 +63,7 @@ returns-then-count-eq0-clause-count g c =
     let p = g.T.SeatTest.passes c.args.test.now in
     let name = name_in c.self.inside.mounts.mounts in
     let mount = c.args.mount.now in
-    subst (λ (b : Board). 0 ≡ how_many (passes_at mount p) b.seats) c.self.view_is
+    subst (λ (b : SeatTable). 0 ≡ how_many (passes_at mount p) b.seats) c.self.view_is
     (sym c.if-count-eq0.true ∙ c.count_where-count.ensures
     ∙ sym (how_many_there name mount c.in-Some.number (λ k. c.number.ensures.only k ∙ ap (λ n. is_number n k) c.in-Some.is) p c.args.rule c.self.inside.rows))
 
@@ -72,6 +72,6 @@ returns-clause-count g c =
     let p = g.T.SeatTest.passes c.args.test.now in
     let name = name_in c.self.inside.mounts.mounts in
     let mount = c.args.mount.now in
-    subst (λ (b : Board). c.count_where-count.result ≡ how_many (passes_at mount p) b.seats) c.self.view_is
+    subst (λ (b : SeatTable). c.count_where-count.result ≡ how_many (passes_at mount p) b.seats) c.self.view_is
     (c.count_where-count.ensures
     ∙ sym (how_many_there name mount c.in-Some.number (λ k. c.number.ensures.only k ∙ ap (λ n. is_number n k) c.in-Some.is) p c.args.rule c.self.inside.rows))

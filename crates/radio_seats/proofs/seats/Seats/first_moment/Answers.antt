@@ -1,5 +1,5 @@
 use Rattle.std.proofs.Common.{ap, ◌∙◌}
-use Rattle.radio_seats_rows.specs.Board.{Board}
+use Rattle.radio_seats_rows.specs.SeatTable.{SeatTable}
 use Rattle.radio_seats_rows.specs.Guests.{first_moment}
 use Rattle.radio_seats_rows.specs.Mounts.{name_in}
 use Rattle.radio_seats.proofs.TestedRows.{moments_shown}
@@ -10,4 +10,4 @@ returns g c =
     let moment = g.M.GuestMoment.gives c.args.moment.now in
     c.first_in.ensures
     ∙ moments_shown moment c.args.last (name_in c.self.inside.mounts.mounts) c.self.inside.rows c.args.last
-    ∙ ap (λ (b : Board). first_moment moment c.args.last b.seats) c.self.view_is
+    ∙ ap (λ (b : SeatTable). first_moment moment c.args.last b.seats) c.self.view_is

@@ -1,6 +1,6 @@
 use Rattle.std.proofs.Common.{◌<◌, ap, sym, subst, ◌∙◌, arith}
 use Rattle.std.specs.Option.{option_copied}
-use Rattle.radio_seats_rows.specs.Board.{Board}
+use Rattle.radio_seats_rows.specs.SeatTable.{SeatTable}
 use Rattle.radio_seats_rows.specs.Guests.{passes_in, passes_at}
 use Rattle.radio_seats_rows.specs.Mounts.{name_of, name_in, sitting_of}
 use Rattle.radio_seats_rows.specs.Rests.{how_many}
@@ -10,7 +10,7 @@ use Rattle.radio_seats.proofs.seats.Seats.first_mount_where.Goals as goal
 pub returns-in_default : goal.returns-in_default
 returns-in_default g c =
     let p = g.T.SeatTest.passes c.args.test.now in
-    ap (λ (b : Board). how_many (passes_in p) b.seats) (sym c.self.view_is)
+    ap (λ (b : SeatTable). how_many (passes_in p) b.seats) (sym c.self.view_is)
     ∙ none_pass p (name_in c.self.inside.mounts.mounts) c.self.inside.rows (sym c.first_where.ensures ∙ ap option_copied c.in_default.is)
 
 -- who passes sits
@@ -37,5 +37,5 @@ returns g c =
     let found = sym c.first_where.ensures ∙ ap option_copied c.in-Some.is in
     let called = ap name_of (sym c.get.ensures ∙ ap option_copied c.in-Some-get.is) in
     let mount = c.in-Some-get.mount.now.name in
-    subst (λ (b : Board). 0 < how_many (passes_at mount p) b.seats) c.self.view_is
+    subst (λ (b : SeatTable). 0 < how_many (passes_at mount p) b.seats) c.self.view_is
     (some_pass p name rows c.in-Some.row.now c.in-Some-mount.number found (sym c.mount.ensures ∙ c.in-Some-mount.is) mount called)

@@ -1,11 +1,11 @@
 use Rattle.std.proofs.Common.{◌≡◌, ap, sym, subst, refl, ◌∙◌}
 use Rattle.std.specs.Prelude.{map}
-use Rattle.radio_seats_rows.specs.Board.{Board}
+use Rattle.radio_seats_rows.specs.SeatTable.{SeatTable}
 use Rattle.radio_seats_rows.specs.Mounts.{is_number, name_in}
 use Rattle.radio_seats.specs.Shown.{named, AreCounted}
 use Rattle.radio_seats_rows.specs.Seats.{with_session_at}
 use Rattle.radio_seats.proofs.GivenRows.{counted_hearing, nobody_hears, seats_hearing}
-use Rattle.radio_seats.proofs.RowLemmas.{same_board}
+use Rattle.radio_seats.proofs.RowLemmas.{same_table}
 use Rattle.radio_seats.proofs.seats.Seats.give_session.Goals as goal
 
 pub returns-in_default : goal.returns-in_default
@@ -13,8 +13,8 @@ returns-in_default c =
     let mounts = c.self.inside.mounts in
     let name = name_in mounts.mounts in
     let mount = c.args.mount.now in
-    subst (λ (b : Board). b ≡ record b { seats = with_session_at b.seats mount c.args.session }) c.self.view_is
-    (same_board mounts.names mounts.names _ _ refl
+    subst (λ (b : SeatTable). b ≡ record b { seats = with_session_at b.seats mount c.args.session }) c.self.view_is
+    (same_table mounts.names mounts.names _ _ refl
     (nobody_hears name mount c.args.session (λ k. c.number.ensures.only k ∙ ap (λ n. is_number n k) c.in_default.is) c.self.inside.rows))
 
 pub invariant_of-self : goal.invariant_of-self
@@ -27,7 +27,7 @@ returns c =
     let mounts = c.self.inside.mounts in
     let name = name_in mounts.mounts in
     let mount = c.args.mount.now in
-    same_board mounts.names c.args.self.now.prepared _ _ (ap (λ (b : Board). b.prepared) c.self.view_is)
+    same_table mounts.names c.args.self.now.prepared _ _ (ap (λ (b : SeatTable). b.prepared) c.self.view_is)
     (ap (map (named name)) c.change_all.ensures
     ∙ seats_hearing name mount c.in-Some.number c.args.session (λ k. c.number.ensures.only k ∙ ap (λ n. is_number n k) c.in-Some.is) c.self.inside.rows
-    ∙ ap (λ (b : Board). with_session_at b.seats mount c.args.session) c.self.view_is)
+    ∙ ap (λ (b : SeatTable). with_session_at b.seats mount c.args.session) c.self.view_is)

@@ -1,5 +1,5 @@
 use Rattle.std.proofs.Common.{◌≡◌, List, map, IfOk, ap, sym, subst, ◌∙◌}
-use Rattle.radio_seats_rows.specs.Board.{Board}
+use Rattle.radio_seats_rows.specs.SeatTable.{SeatTable}
 use Rattle.radio_seats.specs.Listed.{ListedGuest, lent_guest, guests_at}
 use Rattle.radio_seats_rows.specs.Mounts.{is_number, name_in}
 use Rattle.radio_seats.proofs.ListedLemmas.{guests_there, no_guests}
@@ -10,7 +10,7 @@ returns-in-Some c =
     let name = name_in c.self.inside.mounts.mounts in
     subst (λ (all : List ListedGuest). IfOk c.guests_in.result (λ found. map lent_guest found.items ≡ all))
     (sym (guests_there name c.args.mount.now c.in-Some.number (λ k. c.number.ensures.only k ∙ ap (λ n. is_number n k) c.in-Some.is) c.self.inside.rows)
-    ∙ ap (λ (b : Board). guests_at b.seats c.args.mount.now) c.self.view_is)
+    ∙ ap (λ (b : SeatTable). guests_at b.seats c.args.mount.now) c.self.view_is)
     c.guests_in.ensures
 
 pub returns-in-None : goal.returns-in-None
@@ -18,4 +18,4 @@ returns-in-None c =
     let name = name_in c.self.inside.mounts.mounts in
     ap (map lent_guest) c.new.ensures.items
     ∙ sym (no_guests name c.args.mount.now (λ k. c.number.ensures.only k ∙ ap (λ n. is_number n k) c.in-None.is) c.self.inside.rows)
-    ∙ ap (λ (b : Board). guests_at b.seats c.args.mount.now) c.self.view_is
+    ∙ ap (λ (b : SeatTable). guests_at b.seats c.args.mount.now) c.self.view_is

@@ -1,7 +1,7 @@
 use Rattle.std.proofs.Common.{◌<◌, ◌==◌, Some, ap, sym, ◌∙◌, arith}
 use Rattle.std.specs.Option.{option_copied, option_map}
 use Rattle.radio_seats_rows.specs.declared.row.ListenerRow.{ListenerRow}
-use Rattle.radio_seats_rows.specs.Board.{Board}
+use Rattle.radio_seats_rows.specs.SeatTable.{SeatTable}
 use Rattle.radio_seats_rows.specs.Mounts.{name_of, name_in, naming_of}
 use Rattle.radio_seats_rows.specs.Rows.{is_row, last_number}
 use Rattle.radio_seats.specs.Shown.{names_by}
@@ -14,7 +14,7 @@ pub returns-in_default : goal.returns-in_default
 returns-in_default c =
     let name = name_in c.self.inside.mounts.mounts in
     let rows = c.self.inside.rows in
-    sym (ap (λ (b : Board). last_mount_of b.seats c.args.id) (sym c.self.view_is) ∙ last_found name rows c.args.id
+    sym (ap (λ (b : SeatTable). last_mount_of b.seats c.args.id) (sym c.self.view_is) ∙ last_found name rows c.args.id
     ∙ ap (option_map (λ (row : ListenerRow). name (last_number row.state))) (sym c.get.ensures ∙ ap option_copied c.in_default.is))
 
 -- a mount that a row names is there
@@ -33,6 +33,6 @@ returns c =
     let name = name_in c.self.inside.mounts.mounts in
     let rows = c.self.inside.rows in
     let called = ap name_of (sym c.get-2.ensures ∙ ap option_copied c.in-Some-get.is) in
-    sym (ap (λ (b : Board). last_mount_of b.seats c.args.id) (sym c.self.view_is) ∙ last_found name rows c.args.id
+    sym (ap (λ (b : SeatTable). last_mount_of b.seats c.args.id) (sym c.self.view_is) ∙ last_found name rows c.args.id
     ∙ ap (option_map (λ (row : ListenerRow). name (last_number row.state))) (sym c.get.ensures ∙ ap option_copied c.in-Some.is)
     ∙ ap (λ n. Some (name n)) (sym c.last_mount.ensures) ∙ ap Some called)

@@ -1,5 +1,5 @@
 use Rattle.std.proofs.Common.{subst}
-use Rattle.radio_seats_rows.specs.Board.{Board}
+use Rattle.radio_seats_rows.specs.SeatTable.{SeatTable}
 use Rattle.radio_seats_rows.specs.Mounts.{name_in}
 use Rattle.radio_seats_rows.specs.Seats.{AreByNumber}
 use Rattle.radio_seats.proofs.RowLemmas.{rising_shown}
@@ -7,4 +7,4 @@ use Rattle.radio_seats.proofs.seats.Seats.len.Goals as goal
 
 pub returns-clause-rising : goal.returns-clause-rising
 returns-clause-rising c =
-    subst (λ (b : Board). AreByNumber b.seats) c.self.view_is (rising_shown (name_in c.self.inside.mounts.mounts) c.self.inside.rows c.len.ensures.rising)
+    subst (λ (b : SeatTable). AreByNumber b.seats) c.self.view_is (rising_shown (name_in c.self.inside.mounts.mounts) c.self.inside.rows c.len.ensures.rising)

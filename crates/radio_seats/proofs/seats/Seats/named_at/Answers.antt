@@ -1,6 +1,6 @@
 use Rattle.std.proofs.Common.{ap, sym, ◌∙◌}
 use Rattle.std.specs.Option.{option_copied}
-use Rattle.radio_seats_rows.specs.Board.{Board}
+use Rattle.radio_seats_rows.specs.SeatTable.{SeatTable}
 use Rattle.radio_seats_rows.specs.Mounts.{is_number, name_in, naming_of}
 use Rattle.radio_seats_rows.specs.Seats.{named_at}
 use Rattle.radio_seats.proofs.RowLemmas.{names_there, nobody_names}
@@ -9,7 +9,7 @@ use Rattle.radio_seats.proofs.seats.Seats.named_at.Goals as goal
 pub returns-in_default : goal.returns-in_default
 returns-in_default c =
     let name = name_in c.self.inside.mounts.mounts in
-    sym (ap (λ (b : Board). named_at b.seats c.args.mount.now) (sym c.self.view_is)
+    sym (ap (λ (b : SeatTable). named_at b.seats c.args.mount.now) (sym c.self.view_is)
     ∙ nobody_names name c.args.mount.now (λ k. c.number.ensures.only k ∙ ap (λ n. is_number n k) c.in_default.is) c.self.inside.rows)
 
 pub returns-in-Some-get : goal.returns-in-Some-get
@@ -17,5 +17,5 @@ returns-in-Some-get c =
     let name = name_in c.self.inside.mounts.mounts in
     let number = c.in-Some.number in
     ap naming_of (sym (ap option_copied c.in-Some-get.is) ∙ c.get.ensures) ∙ c.self.invariant.naming number
-    ∙ sym (ap (λ (b : Board). named_at b.seats c.args.mount.now) (sym c.self.view_is)
+    ∙ sym (ap (λ (b : SeatTable). named_at b.seats c.args.mount.now) (sym c.self.view_is)
     ∙ names_there name c.args.mount.now number (λ k. c.number.ensures.only k ∙ ap (λ n. is_number n k) c.in-Some.is) c.self.inside.rows)

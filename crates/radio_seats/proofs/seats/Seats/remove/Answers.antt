@@ -1,12 +1,12 @@
 use Rattle.std.proofs.Common.{ap, sym, subst, ◌∙◌, ◌-◌}
 use Rattle.std.specs.Prelude.{filter, map, not}
-use Rattle.radio_seats_rows.specs.Board.{Board}
+use Rattle.radio_seats_rows.specs.SeatTable.{SeatTable}
 use Rattle.radio_seats_rows.specs.Mounts.{name_in, sitting_in, naming_in, one_at}
 use Rattle.radio_seats_rows.specs.Rows.{is_row}
 use Rattle.radio_seats.specs.Shown.{sits_by, names_by, named, number_in, last_in, AreCounted}
 use Rattle.radio_seats_rows.specs.Seats.{without_listener}
 use Rattle.radio_seats.proofs.RowCounts.{held_number, held_last, one_goes, one_less}
-use Rattle.radio_seats.proofs.RowLemmas.{same_board, seats_without}
+use Rattle.radio_seats.proofs.RowLemmas.{same_table, seats_without}
 use Rattle.radio_seats.proofs.seats.Seats.remove.Goals as goal
 
 pub invariant_of-self : goal.invariant_of-self
@@ -31,8 +31,8 @@ pub returns : goal.returns
 returns c =
     let mounts = c.self.inside.mounts in
     let later = c.give_up.new.self in
-    same_board later.names c.args.self.now.prepared _ _
-    (c.give_up.ensures.prepared ∙ c.leave.ensures.prepared ∙ ap (λ (b : Board). b.prepared) c.self.view_is)
+    same_table later.names c.args.self.now.prepared _ _
+    (c.give_up.ensures.prepared ∙ c.leave.ensures.prepared ∙ ap (λ (b : SeatTable). b.prepared) c.self.view_is)
     (ap (map (named (name_in later.mounts))) c.remove.ensures.removed
     ∙ seats_without (name_in mounts.mounts) (name_in later.mounts) c.self.inside.rows (λ k. c.give_up.ensures.names k ∙ c.leave.ensures.names k) c.args.id
-    ∙ ap (λ (b : Board). without_listener b.seats c.args.id) c.self.view_is)
+    ∙ ap (λ (b : SeatTable). without_listener b.seats c.args.id) c.self.view_is)

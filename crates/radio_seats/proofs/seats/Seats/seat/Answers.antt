@@ -1,6 +1,6 @@
 use Rattle.std.proofs.Common.{◌<◌, Some, ap, sym, ◌∙◌, arith}
 use Rattle.std.specs.Option.{option_copied, option_map}
-use Rattle.radio_seats_rows.specs.Board.{Board}
+use Rattle.radio_seats_rows.specs.SeatTable.{SeatTable}
 use Rattle.radio_seats_rows.specs.Guests.{seat_of_guest}
 use Rattle.radio_seats_rows.specs.Mounts.{name_of, name_in, sitting_of}
 use Rattle.radio_seats_rows.specs.Rows.{is_row}
@@ -14,7 +14,7 @@ pub returns-in_default : goal.returns-in_default
 returns-in_default c =
     let name = name_in c.self.inside.mounts.mounts in
     let rows = c.self.inside.rows in
-    let found = ap (λ (b : Board). listener_of b.seats c.args.id) (sym c.self.view_is) ∙ listener_shown name rows c.args.id
+    let found = ap (λ (b : SeatTable). listener_of b.seats c.args.id) (sym c.self.view_is) ∙ listener_shown name rows c.args.id
     ∙ ap (option_map (named name)) (sym c.get.ensures ∙ ap option_copied c.in_default.is) in
     sym (ap seat_in found)
 
@@ -22,7 +22,7 @@ pub returns-in-Ended : goal.returns-in-Ended
 returns-in-Ended c =
     let name = name_in c.self.inside.mounts.mounts in
     let rows = c.self.inside.rows in
-    let found = ap (λ (b : Board). listener_of b.seats c.args.id) (sym c.self.view_is) ∙ listener_shown name rows c.args.id
+    let found = ap (λ (b : SeatTable). listener_of b.seats c.args.id) (sym c.self.view_is) ∙ listener_shown name rows c.args.id
     ∙ ap (option_map (named name)) (sym c.get.ensures ∙ ap option_copied c.in-Some.is) in
     sym (ap seat_in found ∙ ap (λ state. seat_held (named_state name state)) c.in-Ended.is)
 
@@ -30,7 +30,7 @@ pub returns-in-Some-get : goal.returns-in-Some-get
 returns-in-Some-get c =
     let name = name_in c.self.inside.mounts.mounts in
     let rows = c.self.inside.rows in
-    let found = ap (λ (b : Board). listener_of b.seats c.args.id) (sym c.self.view_is) ∙ listener_shown name rows c.args.id
+    let found = ap (λ (b : SeatTable). listener_of b.seats c.args.id) (sym c.self.view_is) ∙ listener_shown name rows c.args.id
     ∙ ap (option_map (named name)) (sym c.get.ensures ∙ ap option_copied c.in-Some.is) in
     let seat = c.in-Seated.seat in
     let called = ap name_of (sym c.get-in-Seated.ensures ∙ ap option_copied c.in-Some-get.is) in

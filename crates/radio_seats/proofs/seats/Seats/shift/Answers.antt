@@ -1,13 +1,13 @@
 use Rattle.std.proofs.Common.{◌<◌, ◌-◌, ap, refl, sym, subst, ◌∙◌, arith}
 use Rattle.std.specs.Prelude.{find, length, map}
 use Rattle.radio_tables.specs.Lists.{update_first}
-use Rattle.radio_seats_rows.specs.Board.{Board}
+use Rattle.radio_seats_rows.specs.SeatTable.{SeatTable}
 use Rattle.radio_seats_rows.specs.Mounts.{is_number, name_in, sitting_in, naming_in, one_at}
 use Rattle.radio_seats_rows.specs.Rows.{is_row}
 use Rattle.radio_seats.specs.Shown.{named, number_in, last_in, sits_by, names_by, AreCounted}
 use Rattle.radio_seats_rows.specs.Seats.{with_move}
 use Rattle.radio_seats.proofs.RowCounts.{held_number, held_last, his_counts, stays_there, move, none_moves, his_name, seat_goes, name_goes, one_more, room_for_one}
-use Rattle.radio_seats.proofs.RowLemmas.{is_called, same_board, seats_moved}
+use Rattle.radio_seats.proofs.RowLemmas.{is_called, same_table, seats_moved}
 use Rattle.radio_seats.proofs.seats.Seats.shift.Goals as goal
 
 pub invariant_of-self : goal.invariant_of-self
@@ -28,10 +28,10 @@ returns-in_default-from c =
     let name = name_in mounts.mounts in
     let mount = c.args.mount.now in
     let called = is_called name mount c.in-Some.number (λ k. c.number.ensures.only k ∙ ap (λ n. is_number n k) c.in-Some.is) in
-    same_board mounts.names c.args.self.now.prepared _ _ (ap (λ (b : Board). b.prepared) c.self.view_is)
+    same_table mounts.names c.args.self.now.prepared _ _ (ap (λ (b : SeatTable). b.prepared) c.self.view_is)
     (ap (map (named name)) c.change.ensures
     ∙ seats_moved name name c.self.inside.rows (λ k. refl) mount c.in-Some.number c.args.session c.args.place called c.args.id
-    ∙ ap (λ (b : Board). with_move b.seats c.args.id mount c.args.session c.args.place) c.self.view_is)
+    ∙ ap (λ (b : SeatTable). with_move b.seats c.args.id mount c.args.session c.args.place) c.self.view_is)
 
 pub gain-requires-clause-room_to_sit : goal.gain-requires-clause-room_to_sit
 gain-requires-clause-room_to_sit c =
@@ -88,9 +88,9 @@ returns c =
     let mount = c.args.mount.now in
     let called = is_called name mount c.in-Some.number (λ k. c.number.ensures.only k ∙ ap (λ n. is_number n k) c.in-Some.is) in
     let later = c.gain.new.self in
-    same_board later.names c.args.self.now.prepared _ _
-    (c.gain.ensures.prepared ∙ c.give_up.ensures.prepared ∙ c.leave.ensures.prepared ∙ ap (λ (b : Board). b.prepared) c.self.view_is)
+    same_table later.names c.args.self.now.prepared _ _
+    (c.gain.ensures.prepared ∙ c.give_up.ensures.prepared ∙ c.leave.ensures.prepared ∙ ap (λ (b : SeatTable). b.prepared) c.self.view_is)
     (ap (map (named (name_in later.mounts))) c.change.ensures
     ∙ seats_moved name (name_in later.mounts) c.self.inside.rows (λ k. c.gain.ensures.names k ∙ c.give_up.ensures.names k ∙ c.leave.ensures.names k) mount
     c.in-Some.number c.args.session c.args.place called c.args.id
-    ∙ ap (λ (b : Board). with_move b.seats c.args.id mount c.args.session c.args.place) c.self.view_is)
+    ∙ ap (λ (b : SeatTable). with_move b.seats c.args.id mount c.args.session c.args.place) c.self.view_is)

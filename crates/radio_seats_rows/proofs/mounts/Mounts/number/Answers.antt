@@ -2,7 +2,7 @@ use Rattle.std.proofs.Common.{◌≡◌, ℕ, ◌==◌, true, false, None, Some,
 use Rattle.std.specs.Option.{option_copied}
 use Rattle.std.specs.Prelude.{is_some}
 use Rattle.std.specs.Str.{bytes_eq}
-use Rattle.radio_seats_rows.specs.Board.{is_prepared}
+use Rattle.radio_seats_rows.specs.SeatTable.{is_prepared}
 use Rattle.radio_seats_rows.specs.Mounts.{Prepared, name_in}
 use Rattle.radio_seats_rows.proofs.MountLemmas.{found_under, only_number, prepared_found}
 use Rattle.radio_seats_rows.proofs.mounts.Mounts.number.Goals as goal

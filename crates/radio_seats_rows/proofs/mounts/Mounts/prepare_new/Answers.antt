@@ -3,7 +3,7 @@ use Rattle.std.specs.Prelude.{filter, map, not}
 use Rattle.std.specs.Str.{bytes_eq}
 use Rattle.radio_seats_rows.specs.declared.mounts.Mount.{Mount}
 use Rattle.radio_seats_rows.specs.declared.mounts.NumberedName.{NumberedName}
-use Rattle.radio_seats_rows.specs.Board.{is_prepared}
+use Rattle.radio_seats_rows.specs.SeatTable.{is_prepared}
 use Rattle.radio_seats_rows.specs.Mounts.{Prepared, is_numbered, name_in, sitting_of, sitting_in, naming_of, naming_in, AreMounts}
 use Rattle.radio_seats_rows.proofs.MountLemmas.{entry_name, mounts_then, more_mounts, not_prepared, prepared_then, count_then, name_in_then, taken_back}
 use Rattle.radio_seats_rows.proofs.mounts.Mounts.prepare_new.Goals as goal

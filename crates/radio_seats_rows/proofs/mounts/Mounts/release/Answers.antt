@@ -3,7 +3,7 @@ use Rattle.std.specs.Prelude.{find, map, not, ◌&&◌}
 use Rattle.std.specs.Str.{bytes_eq}
 use Rattle.radio_seats_rows.specs.declared.mounts.Mount.{Mount}
 use Rattle.radio_seats_rows.specs.declared.mounts.NumberedName.{NumberedName}
-use Rattle.radio_seats_rows.specs.Board.{is_prepared}
+use Rattle.radio_seats_rows.specs.SeatTable.{is_prepared}
 use Rattle.radio_seats_rows.specs.Mounts.{Prepared, is_named, name_in, sitting_of, sitting_in, naming_of, naming_in, AreMounts}
 use Rattle.radio_seats_rows.proofs.Lists.{none_removed}
 use Rattle.radio_seats_rows.proofs.MountLemmas.{entry_name, mounts_left, left_mounts, prepared_left, prepared_no_less, count_left, named_left}

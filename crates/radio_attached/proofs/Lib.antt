@@ -1,9 +1,0 @@
-pub mod HeardChanges
-pub mod HeardReads
-pub mod LossLemmas
-pub mod FitsChanges
-pub mod ListenersLemmas
-pub mod Threads
-pub mod PlaceNotes
-pub mod LaggingTurns
-pub mod LentLemmas

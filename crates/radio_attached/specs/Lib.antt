@@ -1,3 +1,0 @@
-pub mod Attached
-pub mod Losses
-pub mod Lent

@@ -1,3 +1,0 @@
-pub mod CommandFacts
-pub mod Streams
-pub mod Wanted

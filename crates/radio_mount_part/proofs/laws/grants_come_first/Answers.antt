@@ -1,5 +1,0 @@
-use Rattle.radio_mount_part.proofs.GrantLemmas.{own_after_attach}
-use Rattle.radio_mount_part.proofs.laws.grants_come_first.Goals as goal
-
-pub returns : goal.returns
-returns c = λ queue mount items. own_after_attach queue mount items

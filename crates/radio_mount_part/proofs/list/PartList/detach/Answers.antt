@@ -1,7 +1,0 @@
-use Rattle.radio_mount_part.proofs.ListLemmas.{known}
-use Rattle.radio_mount_part.proofs.list.PartList.detach.Goals as goal
-
-pub returns : goal.returns
-returns c = λ mount session attachments told.
-    c.detach.ensures mount session attachments
-    (known mount session attachments c.args.self.now c.in-Some.kept c.has_room.new.self c.in-Some.is c.has_room.ensures.same told)

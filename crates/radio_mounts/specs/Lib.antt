@@ -1,4 +1,0 @@
-pub mod Parts
-pub mod Agree
-pub mod Exchange
-pub mod Attached

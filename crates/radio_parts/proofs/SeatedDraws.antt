@@ -1,0 +1,46 @@
+-- what a draw comes to, of one who has a seat and of one who has none
+use Rattle.std.proofs.Common.{◌≡◌, ℕ, Option, None, Some, refl, ap, ◌∙◌}
+use Rattle.radio_seats_rows.specs.declared.seat.Seat.{Seat}
+use Rattle.radio_seats_rows.specs.Seats.{seat_of}
+use Rattle.radio_parts_station.specs.StationState.{StationState}
+use Rattle.radio_parts_station.specs.Waiting.{heard_at}
+use Rattle.radio_parts_station.specs.World.{World, standing_of}
+use Rattle.radio_parts_station.specs.declared.standing.Standing.{Standing}
+use Rattle.radio_parts_station.specs.declared.standing.Standing.TheVariants.{Unknown, Undecided, Feeds, Sits, Answered, Finished}
+use Rattle.radio_parts_changes.specs.declared.change.Change.TheVariants.{Nothing}
+use Rattle.radio_parts.specs.Draw.{hands_out, draws}
+use Rattle.radio_parts.specs.Outcomes.{if_sitting, out_of_place}
+use Rattle.radio_parts.proofs.DrawLemmas.{hands_out_at, draws_so}
+
+-- one who has a seat is handed what stands at it
+draws_at : (s : Standing) (found : Option Seat) (station : StationState) (id room : ℕ) (seat : Seat) → s ≡ Sits → found ≡ Some seat
+    → if_sitting s (hands_out_at station id room found) ≡ hands_out id seat room (heard_at station seat.mount)
+draws_at s found station id room seat sits has = rw (sits, has) refl
+
+pub draws_seated : (w : World) (id room : ℕ) (seat : Seat) → standing_of w id ≡ Sits → seat_of w.seats id ≡ Some seat
+    → draws w id room ≡ hands_out id seat room (heard_at w.station seat.mount)
+draws_seated w id room seat sits has =
+    draws_so w id room ∙ draws_at (standing_of w id) (seat_of w.seats id) w.station id room seat sits has
+
+-- one who has none is out of place
+draws_by : (s : Standing) (station : StationState) (id room : ℕ) → if_sitting s (hands_out_at station id room None) ≡ out_of_place s
+draws_by Unknown station id room = refl
+draws_by (Undecided peer) station id room = refl
+draws_by (Feeds mount) station id room = refl
+draws_by Sits station id room = refl
+draws_by Answered station id room = refl
+draws_by (Finished rule) station id room = refl
+
+pub draws_seatless : (w : World) (id room : ℕ) → seat_of w.seats id ≡ None → draws w id room ≡ out_of_place (standing_of w id)
+draws_seatless w id room none =
+    draws_so w id room ∙ ap (λ (found : Option Seat). if_sitting (standing_of w id) (hands_out_at w.station id room found)) none
+    ∙ draws_by (standing_of w id) w.station id room
+
+-- and stays where it is
+pub stays_out : (s : Standing) → (out_of_place s).change ≡ Nothing
+stays_out Unknown = refl
+stays_out (Undecided peer) = refl
+stays_out (Feeds mount) = refl
+stays_out Sits = refl
+stays_out Answered = refl
+stays_out (Finished rule) = refl

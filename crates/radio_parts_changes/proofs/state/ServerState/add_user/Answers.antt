@@ -1,0 +1,13 @@
+use Rattle.std.proofs.Common.{ap, ◌∙◌}
+use Rattle.radio_parts_changes.specs.Changes.{user_added}
+use Rattle.radio_parts_changes.specs.Counts.{counts_out}
+use Rattle.radio_parts_station.specs.Registry.{Registry, station_state}
+use Rattle.radio_parts_station.specs.World.{World, world}
+use Rattle.radio_parts_changes.proofs.state.ServerState.add_user.Goals as goal
+
+pub returns-clause-counts : goal.returns-clause-counts
+returns-clause-counts c =
+    c.end_outsiders.ensures.counts
+    ∙ ap (λ (registry : Registry). counts_out (world (station_state registry c.self.inside.listeners.live) c.self.inside.listeners.seats) c.args.mount.now)
+    c.in_ok-add_user.ensures.ok
+    ∙ ap (λ (w : World). counts_out (user_added w c.args.mount.now c.args.user.now c.args.password.now) c.args.mount.now) c.self.view_is

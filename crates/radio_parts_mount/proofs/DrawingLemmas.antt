@@ -1,0 +1,55 @@
+-- what a draw changes among the attachments of a mount
+use Rattle.std.proofs.Common.{◌≡◌, ℕ, Option, Some, None, List, Result, Ok, Err, refl, ap, sym, subst, ◌∙◌}
+use Rattle.std.specs.Prelude.{find}
+use Rattle.std.specs.declared.alloc.AllocError.{AllocError}
+use Rattle.radio_tables.specs.Lists.{update_first}
+use Rattle.radio_tables.proofs.FindLaws.{changed_alike, unchanged}
+use Rattle.radio_attachments.specs.declared.attachment.Attachment.{Attachment}
+use Rattle.radio_attachments.specs.Rows.{is_attached, at_place, FoundIsVisited, IsVisitedIn}
+use Rattle.radio_parts_mount.specs.Sessions.{Session}
+use Rattle.radio_parts_mount.proofs.PartLemmas.{none_changes}
+use Rattle.radio_parts_mount.specs.declared.drawing.Portion.{Portion}
+use Rattle.radio_parts_mount.specs.Steps.{IsDrawn, IsKept, heard_on}
+
+module _ {V : Type 0} (Visits : V → ℕ → Result Portion AllocError → V → ℕ → Type 0) (draws draws' : V) (id : ℕ) (rows rows' : List Attachment)
+    (answer : Option (Result Portion AllocError)) (visited : IsVisitedIn Visits id draws rows answer draws' rows') (session : Option Session) (room : ℕ)
+    (drawn : (place after : ℕ) (a : Result Portion AllocError) → Visits draws place a draws' after → IsDrawn session room place a after) where
+  abbrev Visited : Option (Result Portion AllocError) → Option Attachment → Type 0
+  Visited a found = FoundIsVisited Visits id draws rows a draws' rows' found
+
+  visited_so : (a : Option (Result Portion AllocError)) → answer ≡ a → Visited a (find (is_attached id) rows)
+  visited_so a is = subst (λ (b : Option (Result Portion AllocError)). Visited b (find (is_attached id) rows)) is visited
+
+  -- it has heard more who was handed something
+  pub has_drawn : (portion : Portion) → answer ≡ Some (Ok portion) → ((row : Attachment) → find (is_attached id) rows ≡ Some row → IsKept session row.place)
+      → rows' ≡ update_first (is_attached id) (heard_on session room) rows
+  has_drawn portion is kept = by_found (find (is_attached id) rows) refl (visited_so (Some (Ok portion)) is) where
+    by_found : (found : Option Attachment) → find (is_attached id) rows ≡ found → Visited (Some (Ok portion)) found
+        → rows' ≡ update_first (is_attached id) (heard_on session room) rows
+    by_found None e h = let none : Some (Ok portion) ≡ None = h.0 in cc
+    by_found (Some row) e h =
+        let its : Some (Ok portion) ≡ Some h.0 = h.2 in
+        let same : h.0 ≡ Ok portion = cc in
+        let so = drawn row.place h.1 (Ok portion) (subst (λ (a : Result Portion AllocError). Visits draws row.place a draws' h.1) same h.4) in
+        h.3
+        ∙ changed_alike (is_attached id) (at_place h.1) (heard_on session room) row
+        (ap (λ (place : ℕ). at_place place row) ((so.portion (kept row e)).1)) rows e
+
+  -- nothing has changed if memory was refused
+  pub was_refused : (refused : AllocError) → answer ≡ Some (Err refused) → rows' ≡ rows
+  was_refused refused is = by_found (find (is_attached id) rows) refl (visited_so (Some (Err refused)) is) where
+    by_found : (found : Option Attachment) → find (is_attached id) rows ≡ found → Visited (Some (Err refused)) found → rows' ≡ rows
+    by_found None e h = let none : Some (Err refused) ≡ None = h.0 in cc
+    by_found (Some row) e h =
+        let its : Some (Err refused) ≡ Some h.0 = h.2 in
+        let same : h.0 ≡ Err refused = cc in
+        let so = drawn row.place h.1 (Err refused) (subst (λ (a : Result Portion AllocError). Visits draws row.place a draws' h.1) same h.4) in
+        h.3 ∙ unchanged (is_attached id) (at_place h.1) row (ap (λ (place : ℕ). at_place place row) so.refused) rows e
+
+  -- and if the listener is not attached
+  pub is_absent : answer ≡ None → rows' ≡ update_first (is_attached id) (heard_on session room) rows
+  is_absent is = by_found (find (is_attached id) rows) refl (visited_so None is) where
+    by_found : (found : Option Attachment) → find (is_attached id) rows ≡ found → Visited None found
+        → rows' ≡ update_first (is_attached id) (heard_on session room) rows
+    by_found None e h = h.2 ∙ sym (none_changes (is_attached id) (heard_on session room) rows e)
+    by_found (Some row) e h = let none : None ≡ Some h.0 = h.2 in cc

@@ -1,0 +1,13 @@
+pub mod Stream
+pub mod Sessions
+pub mod Kept
+pub mod Prepared
+pub mod Timeouts
+pub mod Due
+pub mod StatePart
+pub mod Parts
+pub mod Attached
+pub mod Steps
+pub mod Items
+pub mod ByLists
+pub mod Grants

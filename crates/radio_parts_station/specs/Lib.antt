@@ -1,0 +1,14 @@
+pub mod Clients
+pub mod Relays
+pub mod Fallbacks
+pub mod StationState
+pub mod Registry
+pub mod World
+pub mod Streams
+pub mod Waiting
+pub mod Facts
+pub mod Live
+pub mod Timeouts
+pub mod Due
+pub mod StationChanges
+pub mod Outsiders

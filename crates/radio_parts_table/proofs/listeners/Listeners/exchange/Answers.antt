@@ -1,0 +1,49 @@
+use Rattle.std.proofs.Common.{◌≡◌, [], List, not, ap, sym, subst, ◌∙◌}
+use Rattle.std.specs.Prelude.{filter, map}
+use Rattle.radio_attachments.specs.declared.attachment.Attachment.{Attachment}
+use Rattle.radio_policy.specs.declared.rule.Rule.TheVariants.{Lagged}
+use Rattle.radio_seats_rows.specs.SeatTable.{SeatTable, is_prepared}
+use Rattle.radio_seats_rows.specs.Seats.{sits_at}
+use Rattle.radio_parts_mount.specs.Attached.{is_among}
+use Rattle.radio_parts_mount.specs.declared.part.MountPart.{MountPart}
+use Rattle.radio_parts_table.specs.Exchange.{IsExchanged}
+use Rattle.radio_parts_table.specs.Listening.{Listening, listening}
+use Rattle.radio_parts_table.specs.Lent.{IsLent}
+use Rattle.radio_parts_table.specs.Losses.{ended_where}
+use Rattle.radio_parts_table.proofs.LentLemmas.{has_part_still, is_lent}
+use Rattle.radio_parts_table.proofs.listeners.Listeners.exchange.Goals as goal
+use Rattle.radio_parts_table.proofs.listeners.Listeners.exchange.Goals.{After-end_each}
+
+is_put : (c : After-end_each) → IsExchanged (record c.args.part { lagged = [] }) c.in-Ok.there c.self.inside.parts c.exchange.new.self
+is_put c =
+    subst (λ (part : MountPart). IsExchanged part c.in-Ok.there c.self.inside.parts c.exchange.new.self) c.take_lagged-lagged.ensures.part c.in-Ok.ensures.ok
+
+abbrev after_losses : After-end_each → List Attachment → SeatTable
+after_losses c lost = record {
+  prepared = c.self.inside.seats.prepared;
+  seats = map (ended_where (is_among lost) Lagged) c.self.inside.seats.seats;
+}
+
+left : (c : After-end_each) → c.end_each.new.seats
+    ≡ after_losses c (filter (λ (row : Attachment). not (not (sits_at c.self.inside.seats.seats row.id c.args.part.mount))) c.args.part.lagged)
+left c =
+    c.end_each.ensures.seats
+    ∙ ap (after_losses c) (c.sitters_among-lost.ensures
+    ∙ ap (λ (part : MountPart). filter (λ (row : Attachment). not (not (sits_at c.self.inside.seats.seats row.id part.mount))) c.take_lagged-lagged.result)
+    c.part.ensures
+    ∙ ap (filter (λ (row : Attachment). not (not (sits_at c.self.inside.seats.seats row.id c.args.part.mount)))) c.take_lagged-lagged.ensures.lagged)
+
+pub invariant_of-self : goal.invariant_of-self
+invariant_of-self c = record {
+  parts = λ mount prepared.
+      has_part_still c.args.part c.in-Ok.there c.self.inside.parts c.exchange.new.self (is_put c) c.self.inside.seats.seats c.end_each.ensures.rising mount
+      (c.self.invariant.parts mount (sym (ap (λ (b : SeatTable). is_prepared b.prepared mount) (left c)) ∙ prepared));
+  fits = λ whole. cc;
+}
+
+pub returns-in-Ok-clause-ok : goal.returns-in-Ok-clause-ok
+returns-in-Ok-clause-ok c =
+    let i = c.self.inside in
+    subst (λ (b : Listening). IsLent c.args.part c.in-Ok.there b (listening c.exchange.new.self c.end_each.new.seats)) c.self.view_is
+    (subst (λ (board : SeatTable). IsLent c.args.part c.in-Ok.there (listening i.parts i.seats) (listening c.exchange.new.self board)) (sym (left c))
+    (is_lent c.args.part c.in-Ok.there i.parts c.exchange.new.self (is_put c) i.seats.seats c.end_each.ensures.rising i.seats.prepared))
