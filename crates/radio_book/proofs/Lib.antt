@@ -1,5 +1,4 @@
 pub mod Newcomers
-pub mod TotalLemmas
 pub mod Threads
 pub mod OwnLemmas
 pub mod MountBookLemmas

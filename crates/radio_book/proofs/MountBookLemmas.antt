@@ -1,5 +1,5 @@
 -- Books that are lent and taken back are the same books.
-use Rattle.std.proofs.Common.{◌≡◌, inl, inr, List, [], ◌∷◌, ◌++◌, Result, Ok, Err, IfOk, OnErr, refl, ap, ◌∙◌}
+use Rattle.std.proofs.Common.{◌≡◌, inl, inr, Bool, List, [], ◌∷◌, ◌++◌, Result, Ok, Err, IfOk, OnErr, refl, ap, ◌∙◌}
 use Rattle.std.specs.Prelude.{map}
 use Rattle.std.specs.declared.alloc.AllocError.{AllocError}
 use Rattle.radio_book.specs.Receipts.{ReceiptOf}
@@ -7,19 +7,20 @@ use Rattle.radio_chronicle.specs.declared.line.ControlLine.{ControlLine}
 use Rattle.radio_parts_station.specs.World.{World}
 use Rattle.radio_events.specs.declared.event.Event.{Event}
 use Rattle.radio_events.specs.declared.reply.Reply.{Reply}
-use Rattle.radio_book.specs.MountBooks.{mount_and_list, AreBack, AreCuts, AreLent, BookOfMount, IsBack, IsControlStep, IsCut, IsLent, IsRefused}
+use Rattle.radio_book.specs.LentParts.{AreBack, AreLent, IsBack, IsControlStep, IsLent, IsRefused}
+use Rattle.radio_book.specs.MountBooks.{mount_and_list, AreCuts, BookOfMount, IsCut}
 
-lent_same : (book lent : BookOfMount) (before after : World) → IsLent book lent before after → mount_and_list lent ≡ mount_and_list book
-lent_same book lent before after (inl is) = ap mount_and_list is.0
-lent_same book lent before after (inr is) = ap mount_and_list is.3
+lent_same : (reached : Bool) (book lent : BookOfMount) (before after : World) → IsLent reached book lent before after → mount_and_list lent ≡ mount_and_list book
+lent_same reached book lent before after (inl is) = ap mount_and_list is.0
+lent_same reached book lent before after (inr is) = ap mount_and_list is.3
 
-all_lent_same : (books lent : List BookOfMount) (before after : World) → AreLent books lent before after → map mount_and_list lent ≡ map mount_and_list books
-all_lent_same [] [] before after are = refl
-all_lent_same [] (one ∷ lent) before after are = absurd are
-all_lent_same (book ∷ books) [] before after are = absurd are
-all_lent_same (book ∷ books) (one ∷ lent) before after are =
-    let here = lent_same book one before are.0 are.1 in
-    let later = all_lent_same books lent are.0 after are.2 in cc
+all_lent_same : (reached : Bool) (books lent : List BookOfMount) (before after : World) → AreLent reached books lent before after → map mount_and_list lent ≡ map mount_and_list books
+all_lent_same reached [] [] before after are = refl
+all_lent_same reached [] (one ∷ lent) before after are = absurd are
+all_lent_same reached (book ∷ books) [] before after are = absurd are
+all_lent_same reached (book ∷ books) (one ∷ lent) before after are =
+    let here = lent_same reached book one before are.0 are.1 in
+    let later = all_lent_same reached books lent are.0 after are.2 in cc
 
 back_same : (lent back : BookOfMount) (before after : World) → IsBack lent back before after → mount_and_list back ≡ mount_and_list lent
 back_same lent back before after (inl is) = ap mount_and_list is.0
@@ -36,12 +37,12 @@ all_back_same (one ∷ lent) (book ∷ back) before after are =
 pub stepped_same : (books back : List BookOfMount) (before after : World) (event : Event) (reply : Reply) → IsControlStep books before event reply back after
     → map mount_and_list back ≡ map mount_and_list books
 stepped_same books back before after event reply is =
-    all_back_same is.lent back is.later after is.takes_back ∙ all_lent_same books is.lent before is.whole is.lends
+    all_back_same is.lent back is.later after is.takes_back ∙ all_lent_same is.reached books is.lent before is.whole is.lends
 
 pub refused_same : (books back : List BookOfMount) (before after : World) → IsRefused books before back after → map mount_and_list back ≡ map mount_and_list books
 refused_same books back before after (inl is) = ap (map mount_and_list) is.0
 refused_same books back before after (inr is) =
-    all_back_same is.lent back is.whole after is.takes_back ∙ all_lent_same books is.lent before is.whole is.lends
+    all_back_same is.lent back is.whole after is.takes_back ∙ all_lent_same is.reached books is.lent before is.whole is.lends
 
 pub same_so : (books back : List BookOfMount) (before after : World) (event : Event) (result : Result ReceiptOf AllocError)
     → IfOk result (λ receipt. IsControlStep books before event receipt.reply back after) → OnErr result (IsRefused books before back after)
@@ -50,10 +51,10 @@ same_so books back before after event (Ok receipt) step err = stepped_same books
 same_so books back before after event (Err refused) step err = refused_same books back before after err
 
 -- nothing is left to be lent, or taken back
-pub none_lent : (books lent : List BookOfMount) (w : World) → books ≡ [] → lent ≡ [] → AreLent books lent w w
-none_lent [] [] w none over = refl
-none_lent [] (one ∷ lent) w none over = let other : one ∷ lent ≡ [] = over in cc
-none_lent (book ∷ books) lent w none over = let other : book ∷ books ≡ [] = none in cc
+pub none_lent : (reached : Bool) (books lent : List BookOfMount) (w : World) → books ≡ [] → lent ≡ [] → AreLent reached books lent w w
+none_lent reached [] [] w none over = refl
+none_lent reached [] (one ∷ lent) w none over = let other : one ∷ lent ≡ [] = over in cc
+none_lent reached (book ∷ books) lent w none over = let other : book ∷ books ≡ [] = none in cc
 
 pub none_back : (lent back : List BookOfMount) (w : World) → lent ≡ [] → back ≡ [] → AreBack lent back w w
 none_back [] [] w none over = refl

@@ -19,22 +19,23 @@ use Rattle.radio_parts_mount.specs.declared.part.MountPart.{MountPart}
 use Rattle.radio_parts.specs.Lending.{IsTakenOut}
 use Rattle.radio_parts_facts.specs.Wanted.{wanted}
 use Rattle.radio_book.specs.ControlLists.{entries_in, AreWantedThere, IsControlLent, IsControlReply, IsToldBy, WasThere}
-use Rattle.radio_book.specs.MountBooks.{AreBack, AreCuts, AreLent, BookOfMount, IsBack, IsControlAsBefore, IsControlStep, IsLent, IsRefused}
+use Rattle.radio_book.specs.LentParts.{AreBack, AreLent, IsBack, IsControlAsBefore, IsControlStep, IsLent, IsRefused}
+use Rattle.radio_book.specs.MountBooks.{AreCuts, BookOfMount}
 use Rattle.radio_book.specs.Receipts.{ReceiptOf}
 
 exchanged_common : (part there : MountPart) (before after : World) → IsLentTo part there before after → common_of after ≡ common_of before
 exchanged_common part there before after is = ap (λ (station : StationState). common_of (record after { station = station })) is.station
 
-lent_common : (book lent : BookOfMount) (before after : World) → IsLent book lent before after → common_of after ≡ common_of before
-lent_common book lent before after (inl is) = ap common_of is.1
-lent_common book lent before after (inr is) = exchanged_common is.0 is.1 before after is.4
+lent_common : (reached : Bool) (book lent : BookOfMount) (before after : World) → IsLent reached book lent before after → common_of after ≡ common_of before
+lent_common reached book lent before after (inl is) = ap common_of is.1
+lent_common reached book lent before after (inr is) = exchanged_common is.0 is.1 before after is.4
 
-all_lent_common : (books lent : List BookOfMount) (before after : World) → AreLent books lent before after → common_of after ≡ common_of before
-all_lent_common [] [] before after are = ap common_of are
-all_lent_common [] (one ∷ lent) before after are = absurd are
-all_lent_common (book ∷ books) [] before after are = absurd are
-all_lent_common (book ∷ books) (one ∷ lent) before after are =
-    all_lent_common books lent are.0 after are.2 ∙ lent_common book one before are.0 are.1
+all_lent_common : (reached : Bool) (books lent : List BookOfMount) (before after : World) → AreLent reached books lent before after → common_of after ≡ common_of before
+all_lent_common reached [] [] before after are = ap common_of are
+all_lent_common reached [] (one ∷ lent) before after are = absurd are
+all_lent_common reached (book ∷ books) [] before after are = absurd are
+all_lent_common reached (book ∷ books) (one ∷ lent) before after are =
+    all_lent_common reached books lent are.0 after are.2 ∙ lent_common reached book one before are.0 are.1
 
 back_common : (lent back : BookOfMount) (before after : World) → IsBack lent back before after → common_of after ≡ common_of before
 back_common lent back before after (inl is) = ap common_of is.1
@@ -52,11 +53,11 @@ pub stepped_common : (books back : List BookOfMount) (before after : World) (eve
 stepped_common books back before after event reply is =
     all_back_common is.lent back is.later after is.takes_back
     ∙ is.common
-    ∙ ap (λ (common : Common). common_after common event reply) (all_lent_common books is.lent before is.whole is.lends)
+    ∙ ap (λ (common : Common). common_after common event reply) (all_lent_common is.reached books is.lent before is.whole is.lends)
 
 pub as_before_common : (books back : List BookOfMount) (before after : World) → IsControlAsBefore books before back after → common_of after ≡ common_of before
 as_before_common books back before after is =
-    all_back_common is.lent back is.whole after is.takes_back ∙ all_lent_common books is.lent before is.whole is.lends
+    all_back_common is.lent back is.whole after is.takes_back ∙ all_lent_common is.reached books is.lent before is.whole is.lends
 
 refused_common : (books back : List BookOfMount) (before after : World) → IsRefused books before back after → common_of after ≡ common_of before
 refused_common books back before after (inl is) = ap common_of is.1
@@ -134,13 +135,13 @@ module _ (keeps : Bool) (opening : World) where
 
   -- the mounts are wanted by a control of which its list tells
   pub legal_wanted : {A E : Type 0} (names : A → List (List ℕ)) (lines : List ControlLine) (books lent : List BookOfMount) (before whole : World) (result : Result A E)
-      → AreLent books lent before whole → IfOk result (λ mounts. names mounts ≡ wanted whole) → ∥ IsToldBy keeps opening lines before ∥₁
+      → AreLent true books lent before whole → IfOk result (λ mounts. names mounts ≡ wanted whole) → ∥ IsToldBy keeps opening lines before ∥₁
       → IfOk result (λ mounts. ∥ AreWantedThere opening (names mounts) ∥₁)
   legal_wanted names lines books lent before whole (Err refused) lends are told = tt
   legal_wanted names lines books lent before whole (Ok mounts) lends are told =
       ∥∥₁_map told (λ (t : IsToldBy keeps opening lines before).
-      let is : IsControlLent opening whole = record { entries = t.entries; control = before; common = t.common; books = books; lent = lent; lends = lends } in
-      let wants : AreWantedThere opening (names mounts) = record { whole = whole; is = is; are = are } in wants)
+      let is : IsControlLent opening whole = record { entries = t.entries; control = before; common = t.common; books = books; lent = lent; reached = true; lends = lends } in
+      let wants : AreWantedThere opening (names mounts) = record { whole = whole; is = is; reached = refl; are = are } in wants)
 
   -- the reply is that of a control of which its list tells
   pub legal_reply : (lines : List ControlLine) (books back : List BookOfMount) (before after : World) (event : Event) (result : Result ReceiptOf AllocError)
@@ -149,8 +150,8 @@ module _ (keeps : Bool) (opening : World) where
   legal_reply lines books back before after event (Err refused) step told = tt
   legal_reply lines books back before after event (Ok receipt) step told =
       ∥∥₁_map told (λ (t : IsToldBy keeps opening lines before).
-      let lent : IsControlLent opening step.whole = record { entries = t.entries; control = before; common = t.common; books = books; lent = step.lent; lends = step.lends } in
-      let is : IsControlReply opening event receipt.reply = record { whole = step.whole; is = lent; replied = step.replied } in is)
+      let lent : IsControlLent opening step.whole = record { entries = t.entries; control = before; common = t.common; books = books; lent = step.lent; reached = step.reached; lends = step.lends } in
+      let is : IsControlReply opening event receipt.reply = record { whole = step.whole; is = lent; leaves = step.leaves; replied = step.replied } in is)
 
   -- the listener was there, as a control knows of which its list tells
   pub legal_last : (lines : List ControlLine) (control : World) (id : ℕ) (mount : Option (List ℕ)) → mount ≡ last_mount_of control.seats id

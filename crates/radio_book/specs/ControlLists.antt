@@ -1,5 +1,5 @@
 -- What the control's list tells of it, and whose reply the control's is.
-use Rattle.std.specs.Prelude.{◌≡◌, ℕ, Bool, true, List, [], ◌∷◌, Option, None, Some}
+use Rattle.std.specs.Prelude.{◌≡◌, ℕ, Bool, true, false, List, [], ◌∷◌, Option, None, Some}
 use Rattle.radio_chronicle.specs.declared.line.ControlLine.{ControlLine}
 use Rattle.radio_chronicle.specs.declared.line.ControlLine.TheVariants.{Cut, Made}
 use Rattle.radio_parts.specs.CanStep.{CanStep}
@@ -13,7 +13,9 @@ use Rattle.radio_parts_station.specs.World.{World}
 use Rattle.radio_parts_station.specs.declared.standing.Standing.{Standing}
 use Rattle.radio_parts_station.specs.declared.standing.Standing.TheVariants.{Feeds}
 use Rattle.radio_seats_rows.specs.Seats.{last_mount_of}
-use Rattle.radio_book.specs.MountBooks.{AreLent, BookOfMount}
+use Rattle.radio_book.specs.Clocks.{LeavesParts}
+use Rattle.radio_book.specs.LentParts.{AreLent}
+use Rattle.radio_book.specs.MountBooks.{BookOfMount}
 
 -- the mount that who stands so feeds, if it feeds one
 abbrev pub mount_fed : Standing → Option (List ℕ)
@@ -40,13 +42,16 @@ pub record IsControlLent (opening : World) (whole : World) : Type 0 where
   pub common : common_of control ≡ common_by (common_of opening) entries
   pub books : List BookOfMount
   pub lent : List BookOfMount
-  pub lends : AreLent books lent control whole
+  pub reached : Bool
+  pub lends : AreLent reached books lent control whole
 
 -- the reply is that of such a control
 -- rule: Legal history
 pub record IsControlReply (opening : World) (event : Event) (reply : Reply) : Type 0 where
   pub whole : World
   pub is : IsControlLent opening whole
+  -- the parts were lent, unless the event leaves them as they are
+  pub leaves : is.reached ≡ false → LeavesParts is.control.station.settings is.books event
   pub replied : CanStep whole event → reply ≡ control_reply whole event
 
 -- these mounts are wanted by such a control
@@ -54,6 +59,7 @@ pub record IsControlReply (opening : World) (event : Event) (reply : Reply) : Ty
 pub record AreWantedThere (opening : World) (mounts : List (List ℕ)) : Type 0 where
   pub whole : World
   pub is : IsControlLent opening whole
+  pub reached : is.reached ≡ true
   pub are : mounts ≡ wanted whole
 
 -- the listener sits there, or sat there last, as a control knows of which entries tell so

@@ -1,25 +1,19 @@
 -- A mount's part that stands apart from the control, and is lent to it.
-use Rattle.std.specs.Prelude.{◌≡◌, ◌⊎◌, ℕ, ◌+◌, ◌-◌, List, [], ◌∷◌, ◌++◌, Option, None, Some, Result, Ok, Err}
+use Rattle.std.specs.Prelude.{◌≡◌, ℕ, ◌+◌, ◌-◌, List, [], ◌∷◌, ◌++◌, Option, None, Some, Result, Ok, Err}
 use Rattle.std.specs.declared.alloc.AllocError.{AllocError}
-use Rattle.radio_parts_changes.specs.Lent.{IsLentTo}
 use Rattle.radio_chronicle.specs.Stamps.{stamp}
 use Rattle.radio_chronicle.specs.declared.line.ControlLine.{ControlLine}
 use Rattle.radio_chronicle.specs.declared.line.ControlLine.TheVariants.{Cut, Made}
 use Rattle.radio_chronicle.specs.declared.stamp.Stamp.{Stamp}
-use Rattle.radio_parts.specs.CanStep.{CanStep}
-use Rattle.radio_parts.specs.Common.{common_after, common_of}
-use Rattle.radio_parts.specs.ControlSteps.{control_after, control_reply}
-use Rattle.radio_parts.specs.Lending.{IsTakenOut}
 use Rattle.radio_events.specs.declared.event.Event.{Event}
 use Rattle.radio_events.specs.declared.reply.Reply.{Reply}
-use Rattle.radio_parts_station.specs.World.{World}
 use Rattle.radio_parts_mount.specs.declared.part.MountPart.{MountPart}
 use Rattle.radio_parts_mount.specs.declared.step.PartAnswer.{PartAnswer}
 use Rattle.radio_parts_mount.specs.declared.step.PartAnswer.TheVariants.{Replied, Elsewhere as GivenBack}
 use Rattle.radio_book.specs.Receipts.{entry_of}
-use Rattle.radio_book.specs.OwnSteps.{answered_here, once, part_here, CanDrawHere}
+use Rattle.radio_chronicle.specs.OwnSteps.{answered_here, once, part_here, CanDrawHere}
 use Rattle.radio_book.specs.Receipts.{ReceiptOf, receipt_of}
-use Rattle.radio_book.specs.declared.own_steps.Twice.{Twice}
+use Rattle.radio_chronicle.specs.declared.own_steps.Twice.{Twice}
 use Rattle.radio_book.specs.declared.mount_book.Own.{Own}
 use Rattle.radio_book.specs.declared.mount_book.Own.TheVariants.{Made as DoneHere, Elsewhere}
 
@@ -39,6 +33,11 @@ pub record BookOfMount : Type 0 where
 abbrev pub CanOwn : BookOfMount → Event → Type 0
 CanOwn book event = CanDrawHere book.part event
 
+-- the part, if it is here, does not reply to the event, and nothing has changed
+pub record IsNotHere (before : BookOfMount) (event : Event) (after : BookOfMount) : Type 0 where
+  pub elsewhere : (other : Event) × (answered_here before.part event ≡ GivenBack other)
+  pub unchanged : after ≡ before
+
 -- the part replies so by itself, and is as it says then
 -- rule: Legal history
 pub record IsOwnStep (before : BookOfMount) (event : Event) (reply : Reply) (after : BookOfMount) : Type 0 where
@@ -50,56 +49,6 @@ with_part part book = record book { part = part }
 
 abbrev pub at_moment : ℕ → BookOfMount → BookOfMount
 at_moment moment book = record book { moment = moment }
-
--- the book's part is in the place of the one that was there; or the book has it still, since it has none or that does not fit
-abbrev pub IsLent : BookOfMount → BookOfMount → World → World → Type 0
-IsLent book lent before after = ((lent ≡ book) × (after ≡ before)) ⊎
-    ((part : MountPart) × (there : MountPart) × (book.part ≡ Some part) × (lent ≡ with_part None book) × IsLentTo part there before after)
-
--- one book after the other
-abbrev pub AreLent : List BookOfMount → List BookOfMount → World → World → Type 0
-AreLent [] [] before after = after ≡ before
-AreLent (book ∷ books) (one ∷ lent) before after = (between : World) × IsLent book one before between × AreLent books lent between after
-AreLent books lent before after = ⊥
-
--- the mount's part is taken out again; or the book has it, or the mount has none, or memory is refused. The book has the control's time.
-abbrev pub IsBack : BookOfMount → BookOfMount → World → World → Type 0
-IsBack lent back before after = ((back ≡ at_moment before.station.time lent) × (after ≡ before)) ⊎
-    ((part : MountPart) × (back ≡ with_part (Some part) (at_moment before.station.time lent)) × IsTakenOut lent.mount part before after)
-
-abbrev pub AreBack : List BookOfMount → List BookOfMount → World → World → Type 0
-AreBack [] [] before after = after ≡ before
-AreBack (one ∷ lent) (book ∷ back) before after = (between : World) × IsBack one book before between × AreBack lent back between after
-AreBack lent back before after = ⊥
-
--- the control's book, as its callers see it
-pub record ControlState : Type 0 where
-  pub control : World
-  -- the lines that are stored
-  pub lines : List ControlLine
-
--- the control has replied so to the event, over the parts that it was lent
-pub record IsControlStep (books : List BookOfMount) (before : World) (event : Event) (reply : Reply) (back : List BookOfMount) (after : World) : Type 0 where
-  -- while the parts are lent
-  pub lent : List BookOfMount
-  pub whole : World
-  pub later : World
-  pub lends : AreLent books lent before whole
-  pub replied : CanStep whole event → reply ≡ control_reply whole event
-  pub changed : CanStep whole event → later ≡ control_after whole event
-  pub common : common_of later ≡ common_after (common_of whole) event reply
-  pub takes_back : AreBack lent back later after
-
--- nothing has happened, but that the parts may have been lent and taken back
-pub record IsControlAsBefore (books : List BookOfMount) (before : World) (back : List BookOfMount) (after : World) : Type 0 where
-  pub lent : List BookOfMount
-  pub whole : World
-  pub lends : AreLent books lent before whole
-  pub takes_back : AreBack lent back whole after
-
--- the parts were lent and taken back, or not even that
-abbrev pub IsRefused : List BookOfMount → World → List BookOfMount → World → Type 0
-IsRefused books before back after = ((back ≡ books) × (after ≡ before)) ⊎ IsControlAsBefore books before back after
 
 abbrev pub mount_and_list : BookOfMount → List ℕ × ℕ
 mount_and_list book = (book.mount, book.list)
@@ -124,10 +73,10 @@ abbrev pub IsOf : Event → Own → Type 0
 IsOf event (DoneHere receipt) = receipt.event ≡ event
 IsOf event (Elsewhere same) = same ≡ event
 
--- the part has replied so, or it does not know the client, and nothing has changed
+-- the part has replied so, or it does not reply
 abbrev pub IsDone : BookOfMount → Event → Own → BookOfMount → Type 0
 IsDone before event (DoneHere receipt) after = IsOwnStep before event receipt.reply after
-IsDone before event (Elsewhere same) after = after ≡ before
+IsDone before event (Elsewhere same) after = IsNotHere before event after
 
 -- what becomes of a part's answer to the event: the receipt has this place
 abbrev pub own_by : Stamp → Event → PartAnswer → Own
@@ -142,11 +91,11 @@ abbrev pub once_in : Result Twice AllocError → Result PartAnswer AllocError
 once_in (Ok twice) = Ok (once twice)
 once_in (Err refused) = Err refused
 
--- the part has replied so, or it does not know the client, and nothing has changed
+-- the part has replied so, or it does not reply
 -- rule: Legal history
 abbrev pub IsReplyHere : BookOfMount → Event → Option Reply → BookOfMount → Type 0
 IsReplyHere before event (Some reply) after = IsOwnStep before event reply after
-IsReplyHere before event None after = after ≡ before
+IsReplyHere before event None after = IsNotHere before event after
 
 -- the reply of a part's answer, if it knows the client
 abbrev pub reply_in : Result PartAnswer AllocError → Result (Option Reply) AllocError

@@ -4,16 +4,16 @@ ghost use Rattle.std.specs.Prelude.{◌≡◌, ◌+◌, ◌-◌, ◌≤◌, ◌<
 ghost use Rattle.radio_events.specs.Events.{EventTakesNoMemory};
 ghost use Rattle.radio_chronicle.specs.Stamps.{stamp};
 ghost use Rattle.radio_book.specs.ControlLists.{AreWantedThere, IsToldBy};
-ghost use Rattle.radio_book.specs.MountBooks.{lines_for, AreNoted, IsControlAsBefore, IsControlStep, IsRefused};
+ghost use Rattle.radio_book.specs.LentParts.{IsControlAsBefore, IsControlStep, IsRefused};
+ghost use Rattle.radio_book.specs.MountBooks.{lines_for, AreNoted};
 ghost use Rattle.radio_book.specs.Newcomers.{is_arrival, room_for};
 
-use crate::copies::{Copies, thrice};
 use crate::debt::Debt;
 use crate::holdings::Holdings;
 use crate::lending::{apart, lend_each, note_cuts, step_over, step3_over, take_back_each};
 use crate::receipt::NOWHERE;
 use crate::{Chronicle, Entry, MountBook, Origin, OutOfMemory, Receipt, Stamp};
-use radio_chronicle::{ControlLine, Notes};
+use radio_chronicle::{ControlLine, Copies, Notes, thrice};
 use radio_core::{Control, ListedPart};
 use radio_events::Event;
 use radio_values::MountName;

@@ -6,7 +6,8 @@ ghost use Rattle.radio_events.specs.Events.{EventTakesNoMemory};
 ghost use Rattle.radio_chronicle.specs.Stamps.{stamp};
 ghost use Rattle.radio_seats_rows.specs.Seats.{last_mount_of};
 ghost use Rattle.radio_book.specs.ControlLists.{mount_fed, AreWantedThere, IsControlReply, IsToldBy, WasThere};
-ghost use Rattle.radio_book.specs.MountBooks.{mount_and_list, AreNoted, IsControlAsBefore, IsControlStep, IsRefused};
+ghost use Rattle.radio_book.specs.LentParts.{IsControlAsBefore, IsControlStep, IsRefused};
+ghost use Rattle.radio_book.specs.MountBooks.{mount_and_list, AreNoted};
 ghost use Rattle.radio_book.specs.Newcomers.{is_here, leaver_of};
 ghost use Rattle.radio_book.specs.declared.newcomer.Newcomer.{Newcomer};
 
@@ -45,7 +46,7 @@ impl<C: Chronicle, H: Origin> Drop for Book<C, H> {
 impl<C: Chronicle, H: Origin> Model for Book<C, H> {
     ghost use Rattle.std.specs.Coded.{codes};
     ghost use Rattle.radio_parts.specs.contracts.control.Control as the_control;
-    ghost use Rattle.radio_book.specs.MountBooks.{ControlState};
+    ghost use Rattle.radio_book.specs.LentParts.{ControlState};
 
     ghost Value = { ControlState };
 

@@ -15,7 +15,7 @@ pub(crate) struct Debt<L: Ledger> {
 }
 
 impl<L: Ledger> Debt<L> {
-    /// Nothing is owed yet.
+    /// Returns a debt of nothing.
     pub(crate) fn new(book: ledger::Book<L>) -> Debt<L>
         requires { book.total ≡ 0 }
         ensures { result.owed ≡ 0 }
@@ -23,7 +23,7 @@ impl<L: Ledger> Debt<L> {
         Debt { owed: 0, book }
     }
 
-    /// One more is owed to the one whose share it is.
+    /// Owes one more entry to the one whose share it is.
     pub(crate) fn grow(&mut self, share: &mut Share<L>)
         requires part { 0 < share.old.parts }
         requires fits { self.old.owed + 1 < 2 ^ 64 }
@@ -36,7 +36,7 @@ impl<L: Ledger> Debt<L> {
         *owed += 1;
     }
 
-    /// One less is owed to the one whose share it is.
+    /// Owes one entry less to the one whose share it is.
     pub(crate) fn shrink(&mut self, share: &mut Share<L>)
         requires { 0 < share.old.amount }
         ensures owed { self.new.owed + 1 ≡ self.old.owed }
@@ -49,7 +49,7 @@ impl<L: Ledger> Debt<L> {
         *owed -= 1;
     }
 
-    /// No share has more than is owed in all.
+    /// Shows that no share has more than is owed in all. It changes nothing.
     pub(crate) fn audit(&mut self, share: &mut Share<L>)
         ensures bound { share.old.amount ≤ self.old.owed }
         ensures owed { self.new.owed ≡ self.old.owed }

@@ -1,7 +1,7 @@
 //! What a caller holds.
 
 ghost use Rattle.std.specs.Prelude.{◌≡◌, ◌+◌, ◌≤◌, ◌<◌, ◌^◌, ◌∷◌, [], ◌++◌, ℕ, true, false, IsOk, IsSome, OnOk, vec_len, vec_capacity};
-ghost use Rattle.radio_book.specs.OwnSteps.{is_own};
+ghost use Rattle.radio_chronicle.specs.OwnSteps.{is_own};
 ghost use Rattle.radio_book.specs.Newcomers.{present_by, present_of, is_arrival, leaver_of, newcomer_by, place_of, room_by, room_for};
 
 use crate::debt::Debt;
@@ -25,7 +25,7 @@ pub(crate) struct Holdings<L: Ledger> {
 }
 
 impl<L: Ledger> Holdings<L> {
-    /// No receipt yet.
+    /// Returns holdings without a receipt.
     pub(crate) fn new(alloc: Global, share: Share<L>) -> Holdings<L>
         requires part { 0 < share.parts }
         requires none { share.amount ≡ 0 }
@@ -38,7 +38,7 @@ impl<L: Ledger> Holdings<L> {
         }
     }
 
-    /// For how many entries room must be found before the event.
+    /// Returns for how many entries room must be found before the event.
     pub(crate) fn room_for(&self, event: &Event) -> usize
         ensures { result ≡ room_for self.now.present.items event.now }
     {
@@ -48,7 +48,7 @@ impl<L: Ledger> Holdings<L> {
         }
     }
 
-    /// Makes room for so many more receipts. `OutOfMemory` where memory was refused.
+    /// Makes room for so many more receipts. `OutOfMemory` if memory was refused; the receipts are unchanged.
     pub(crate) fn reserve(&mut self, more: usize) -> Result<(), OutOfMemory>
         requires { more ≤ 2 }
         ensures ok { OnOk result (vec_len self.new.receipts + vec_len self.new.present + more ≤ vec_capacity self.new.receipts) }
@@ -63,7 +63,7 @@ impl<L: Ledger> Holdings<L> {
         Ok(())
     }
 
-    /// No more is owed to it than the book owes in all.
+    /// Shows that no more is owed to its caller than the book owes in all. It changes nothing.
     pub(crate) fn audit(&mut self, debt: &mut Debt<L>)
         ensures bound { vec_len self.old.present ≤ debt.old.owed }
         ensures owed { debt.new.owed ≡ debt.old.owed }
@@ -72,7 +72,7 @@ impl<L: Ledger> Holdings<L> {
         debt.audit(&mut self.share);
     }
 
-    /// Takes the receipt of a block, a title or a draw, for which there is room.
+    /// Adds the receipt of a block, a title or a draw, for which there is room.
     pub(crate) fn note_own(&mut self, receipt: Receipt)
         requires own { is_own receipt.event ≡ true }
         requires room { vec_len self.old.receipts + vec_len self.old.present < vec_capacity self.old.receipts }
@@ -81,7 +81,7 @@ impl<L: Ledger> Holdings<L> {
         self.receipts.push_reserved(receipt);
     }
 
-    /// Takes the receipt of a call, for which there is room.
+    /// Adds the receipt of a call, for which there is room, and notes who came or went by it.
     pub(crate) fn note(&mut self, debt: &mut Debt<L>, receipt: Receipt)
         requires room { vec_len self.old.receipts + vec_len self.old.present + room_for self.old.present.items receipt.event ≤ vec_capacity self.old.receipts }
         requires present { is_arrival receipt.event ≡ true → vec_len self.old.present < vec_capacity self.old.present }
@@ -102,7 +102,7 @@ impl<L: Ledger> Holdings<L> {
     }
 }
 
-/// One leaves, or one comes; the book owes it an entry less, or more.
+/// Removes who leaves, or adds who comes; the book owes it an entry less, or more.
 fn come_and_go<L: Ledger>(
     debt: &mut Debt<L>,
     share: &mut Share<L>,
@@ -129,7 +129,7 @@ fn come_and_go<L: Ledger>(
     }
 }
 
-/// One goes, if it is among those who are there; the book then owes an entry less.
+/// Removes who goes, if it is among those who are there; the book owes it an entry less.
 fn goes<L: Ledger>(
     debt: &mut Debt<L>,
     share: &mut Share<L>,
@@ -148,13 +148,14 @@ fn goes<L: Ledger>(
     }
 }
 
-/// Where it stands among these.
+/// Returns its place among these.
 fn place_of(present: &[Newcomer], one: Newcomer) -> Option<usize>
     ensures { result ≡ place_of one present.now }
 {
     present.iter().position(|other| other.is(one))
 }
 
+/// Returns for how many entries room must be found before this one leaves: none if it is there, since its end has its room.
 fn room_for_leaver(present: &[Newcomer], gone: Newcomer) -> usize
     ensures { result ≡ room_by (Some gone) false present.now }
 {
@@ -165,49 +166,73 @@ fn room_for_leaver(present: &[Newcomer], gone: Newcomer) -> usize
     }
 }
 
+/// Returns for how many entries room must be found before an event that is nobody's end.
 fn room_for_others(event: &Event) -> usize
     ensures { result ≡ room_by None (is_arrival event.now) [] }
 {
     if is_arrival(event) { 2 } else { 1 }
 }
 
-/// Whose end the event is.
+/// Returns whose end the event is.
 fn leaver_of(event: &Event) -> Option<Newcomer>
     ensures { result ≡ leaver_of event.now }
 {
     match event {
         Event::Leave { id } => Some(Newcomer::Client(*id)),
         Event::RelayDown { id } => Some(Newcomer::Relay(*id)),
-        _ => None,
+        Event::Arrive { .. }
+        | Event::Source(_)
+        | Event::Push { .. }
+        | Event::SourceEnd { .. }
+        | Event::Title { .. }
+        | Event::Listen(_)
+        | Event::Draw { .. }
+        | Event::Command(_)
+        | Event::RelayUp { .. }
+        | Event::Clock { .. } => None,
     }
 }
 
-/// Whether somebody comes: a connection, or a relay that comes up.
+/// Returns whether somebody comes: a connection, or a relay that comes up.
 fn is_arrival(event: &Event) -> bool
     ensures { result ≡ is_arrival event.now }
 {
     matches!(event, Event::Arrive { .. } | Event::RelayUp { .. })
 }
 
+/// Returns whose end the call of the receipt was.
 fn leaver_in(receipt: &Receipt) -> Option<Newcomer>
     ensures { result ≡ leaver_of receipt.now.event }
 {
     leaver_of(receipt.event())
 }
 
+/// Returns who has come by the call of the receipt.
 fn newcomer_in(receipt: &Receipt) -> Option<Newcomer>
     ensures { result ≡ newcomer_by receipt.now.event receipt.now.reply }
 {
     newcomer_by(receipt.event(), receipt.reply())
 }
 
-/// Who has come, if the reply lets it in.
+/// Returns who has come, if the reply lets it in.
 fn newcomer_by(event: &Event, reply: &Reply) -> Option<Newcomer>
     ensures { result ≡ newcomer_by event.now reply.now }
 {
-    match (event, reply) {
-        (Event::Arrive { .. }, Reply::Arrived(id)) => Some(Newcomer::Client(*id)),
-        (Event::RelayUp { .. }, Reply::Arrived(id)) => Some(Newcomer::Relay(*id)),
-        _ => None,
+    let Reply::Arrived(id) = reply else {
+        return None;
+    };
+    match event {
+        Event::Arrive { .. } => Some(Newcomer::Client(*id)),
+        Event::RelayUp { .. } => Some(Newcomer::Relay(*id)),
+        Event::Source(_)
+        | Event::Push { .. }
+        | Event::SourceEnd { .. }
+        | Event::Title { .. }
+        | Event::Listen(_)
+        | Event::Draw { .. }
+        | Event::Command(_)
+        | Event::Leave { .. }
+        | Event::RelayDown { .. }
+        | Event::Clock { .. } => None,
     }
 }

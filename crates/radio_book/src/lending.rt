@@ -8,7 +8,8 @@ ghost use Rattle.radio_events.specs.declared.reply.Reply.{Reply as ReplyOf};
 ghost use Rattle.radio_parts_mount.specs.Due.{last_moment, seat_due};
 ghost use Rattle.radio_seats_rows.specs.declared.seat.Seat.{Seat as SeatOf};
 ghost use Rattle.radio_book.specs.Clocks.{IsNotDue, LeavesParts};
-ghost use Rattle.radio_book.specs.MountBooks.{AreBack, AreCuts, AreLent, IsControlAsBefore, IsControlStep};
+ghost use Rattle.radio_book.specs.LentParts.{AreBack, AreLent, IsControlAsBefore, IsControlStep};
+ghost use Rattle.radio_book.specs.MountBooks.{AreCuts};
 
 use crate::{Chronicle, MountBook, OutOfMemory};
 use radio_chronicle::{ControlLine, Notes};
@@ -58,7 +59,7 @@ pub(crate) fn lend_each<C: Chronicle>(
     lent: &mut [MountBook<C>],
     is_reached: bool,
 )
-    ensures { AreLent lent.old lent.new control.old control.new }
+    ensures { AreLent is_reached lent.old lent.new control.old control.new }
 {
     for book in lent.iter_mut() {
         book.lend(control, is_reached);

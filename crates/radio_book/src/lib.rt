@@ -11,24 +11,20 @@
 
 mod accounts;
 mod book;
-mod copies;
 mod debt;
 mod holdings;
-mod laws;
+mod last_blocks;
 mod lending;
 mod mount_book;
 mod newcomer;
-mod own_steps;
 mod pass;
 mod receipt;
-mod stand_ins;
 
 pub use book::{Book, PASSES};
-pub use laws::histories_add_up;
 pub use mount_book::{MountBook, Own};
 pub use newcomer::Newcomer;
 pub use pass::Pass;
-pub use radio_chronicle::{Chronicle, ControlLine, Kept, Origin, Stamp, Unkept};
+pub use radio_chronicle::{Chronicle, ControlLine, Kept, Origin, Stamp, Unkept, histories_add_up};
 pub use radio_events::Entry;
 pub use receipt::Receipt;
 

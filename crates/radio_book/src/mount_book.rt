@@ -2,18 +2,17 @@
 
 ghost use Rattle.std.specs.Prelude.{◌≡◌, ◌+◌, ◌≤◌, ◌<◌, true, false, None, IfOk, IsTrue, OnErr, vec_len, vec_capacity};
 ghost use Rattle.radio_book.specs.Clocks.{IsNotDue};
-ghost use Rattle.radio_book.specs.MountBooks.{noted_own, once_in, own_in, reply_in, CanOwn, IsBack, IsCut, IsDone, IsInList, IsLent, IsNowhere, IsOf, IsReplyHere};
+ghost use Rattle.radio_book.specs.LentParts.{IsBack, IsLent};
+ghost use Rattle.radio_book.specs.MountBooks.{noted_own, once_in, own_in, reply_in, CanOwn, IsCut, IsDone, IsInList, IsNowhere, IsOf, IsReplyHere};
 ghost use Rattle.radio_chronicle.specs.Stamps.{stamp};
 ghost use Rattle.radio_events.specs.declared.event.Event.TheVariants.{Draw};
-ghost use Rattle.radio_book.specs.OwnSteps.{is_own, IsAlike};
+ghost use Rattle.radio_chronicle.specs.OwnSteps.{is_own, IsAlike};
 
-use crate::copies::twice;
 use crate::holdings::Holdings;
-use crate::own_steps::{Twice, is_own, items_here, step_here, step_twice_here};
+use crate::last_blocks::{drop_old, last_block, last_block_of};
 use crate::receipt::NOWHERE;
-use crate::stand_ins::{drop_old, last_block, last_block_of, take_out};
 use crate::{Chronicle, Origin, OutOfMemory, Pass, Receipt, Stamp};
-use radio_chronicle::ControlLine;
+use radio_chronicle::{ControlLine, Twice, is_own, items_here, step_here, step_twice_here, twice};
 use radio_core::{Control, ListedPart, PartAnswer};
 use radio_events::{Event, Reply};
 use radio_parts_mount::{LAST_MOMENT, due_at};
@@ -154,7 +153,7 @@ impl<C: Chronicle> MountBook<C> {
 
     /// Puts the part, if it is here and the event reaches it, in the place of that which the control has. It takes no memory.
     pub(crate) fn lend(&mut self, control: &mut Control, is_reached: bool)
-        ensures { IsLent self.old self.new control.old control.new }
+        ensures { IsLent is_reached self.old self.new control.old control.new }
     {
         self.items = self.item_count();
         if !is_reached {
@@ -182,7 +181,7 @@ impl<C: Chronicle> MountBook<C> {
         drop_old(&mut self.stand_in, self.last_block, self.moment, timeout);
         let stand_in = self.stand_in.take();
         let known = last_block_of(&stand_in);
-        self.part = take_out(control, &self.mount, stand_in);
+        self.part = control.take_out_for(&self.mount, stand_in);
         self.known_block = known.min(last_block_of(&self.part));
     }
 

@@ -13,14 +13,15 @@ pub enum Newcomer {
 }
 
 impl Newcomer {
-    /// Whether it is the other.
+    /// Returns whether it is the other.
     pub(crate) fn is(self, other: Newcomer) -> bool
         ensures { result ≡ is_same other self }
     {
         match (self, other) {
             (Newcomer::Client(a), Newcomer::Client(b)) => a == b,
             (Newcomer::Relay(a), Newcomer::Relay(b)) => a == b,
-            _ => false,
+            (Newcomer::Client(_), Newcomer::Relay(_)) | (Newcomer::Relay(_), Newcomer::Client(_)) =>
+                false,
         }
     }
 }

@@ -1,0 +1,2 @@
+mod OwnLemmas
+mod TotalLemmas

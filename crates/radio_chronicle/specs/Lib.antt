@@ -2,3 +2,5 @@ pub mod History
 pub mod Notes
 pub mod Stamps
 pub mod Lines
+pub mod OwnSteps
+pub mod Totals

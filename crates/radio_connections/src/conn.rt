@@ -195,10 +195,10 @@ impl<L: Line> Conn<L> {
         // memory is wanted only for one who was not let in
         ensures err { OnErr result (LetsNobodyIn reply) }
     {
-        match reply {
-            Reply::Arrived(id) => Ok(Conn::new(alloc, web, id, peer, line, ms)),
-            denial => Conn::turned_away(alloc, web, peer, line, denial, ms),
-        }
+        let Reply::Arrived(id) = reply else {
+            return Conn::turned_away(alloc, web, peer, line, reply, ms);
+        };
+        Ok(Conn::new(alloc, web, id, peer, line, ms))
     }
 
     /// Whether it is still to be served.
@@ -263,7 +263,9 @@ fn told_first(
     ensures says { IfOk result (λ _. session.new ≡ saying_now session.old (said session.old.says reply).says) }
 {
     let mut outgoing = Outgoing::new(alloc);
-    match outgoing.tell(session, reply) {
+    let told = outgoing.tell(session, &reply);
+    drop(reply);
+    match told {
         Ok(state) => {
             account.note_state(state);
             Ok(outgoing)

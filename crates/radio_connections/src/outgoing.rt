@@ -95,15 +95,19 @@ impl Outgoing {
         }
     }
 
-    /// Appends a reply to what is pending, by [`Session::give`]. `OutOfMemory` if memory was
+    /// Appends a reply to what is pending, by [`Session::tell_reply`]. `OutOfMemory` if memory was
     /// refused; nothing was appended then.
-    pub(crate) fn tell(&mut self, session: &mut Session, reply: Reply) -> Result<State, OutOfMemory>
-        ensures bytes { IfOk result (λ _. self.new ≡ self.old ++ (said session.old.says reply).bytes) }
-        ensures state { IfOk result (λ state. state ≡ (said session.old.says reply).state) }
-        ensures says { IfOk result (λ _. session.new ≡ saying_now session.old (said session.old.says reply).says) }
+    pub(crate) fn tell(
+        &mut self,
+        session: &mut Session,
+        reply: &Reply,
+    ) -> Result<State, OutOfMemory>
+        ensures bytes { IfOk result (λ _. self.new ≡ self.old ++ (said session.old.says reply.now).bytes) }
+        ensures state { IfOk result (λ state. state ≡ (said session.old.says reply.now).state) }
+        ensures says { IfOk result (λ _. session.new ≡ saying_now session.old (said session.old.says reply.now).says) }
         ensures silent { OnErr result (self.new ≡ self.old) }
         ensures fails { OnErr result (session.new.has_failed ≡ true) }
     {
-        session.give(reply, &mut self.bytes)
+        session.tell_reply(reply, &mut self.bytes)
     }
 }

@@ -50,11 +50,12 @@ impl Refusals {
         ensures one { OnErr result (self.new ≡ one_refusal event self.old) }
     {
         let leaves = is_leave(&event);
-        match server.apply(event) {
-            Ok(reply) => Ok(reply),
-            Err(refused) => {
+        let applied = server.apply(event);
+        match &applied {
+            Ok(_) => applied,
+            Err(_) => {
                 self.count(leaves);
-                Err(refused)
+                applied
             }
         }
     }

@@ -121,10 +121,15 @@ impl Activity {
         self.drawn.store(news.drawn, Ordering::SeqCst);
     }
 
+    /// Returns the moment of the turn that has begun, in milliseconds.
+    pub(crate) fn now_ms(&self) -> u64 {
+        self.now_ms.load(Ordering::SeqCst)
+    }
+
     /// Returns the turn that has begun.
     pub(crate) fn turn(&self) -> LineTurn {
         LineTurn {
-            ms: self.now_ms.load(Ordering::SeqCst),
+            ms: self.now_ms(),
             pace: Pace::of(self.pace.load(Ordering::SeqCst)),
             news: NewsCount {
                 told: self.told.load(Ordering::SeqCst),
@@ -151,13 +156,20 @@ impl Activity {
 
     /// Notes what a line needs in the next turn, and that it gave so many bytes that count as those of a source.
     pub(crate) fn note(&self, need: Need, sourced: usize) {
+        if need != Need::Nothing {
+            self.note_need(need);
+        }
+        if sourced > 0 {
+            self.received.fetch_add(sourced as u64, Ordering::SeqCst);
+        }
+    }
+
+    /// Notes what a line needs in the next turn.
+    fn note_need(&self, need: Need) {
         let before = Need::of(self.need.load(Ordering::SeqCst));
         let after = before.or(need);
         if after != before {
             self.need.store(after.number(), Ordering::SeqCst);
-        }
-        if sourced > 0 {
-            self.received.fetch_add(sourced as u64, Ordering::SeqCst);
         }
     }
 }

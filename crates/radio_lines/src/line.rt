@@ -63,6 +63,10 @@ impl<S: Read + Write + Shut + Drop> SocketLine<S> {
         ensures taken { self.new.taken ≡ self.old.taken }
         ensures calls { self.new.calls ≡ self.old.calls }
     {
+        // in most turns nothing has come on most lines
+        if !self.readiness.is_readable() {
+            return Received::Nothing;
+        }
         let turn = self.activity.turn();
         let mut ready = self.readiness.load();
         match self.course.call(ready, turn) {
@@ -104,13 +108,13 @@ impl<S: Read + Write + Shut + Drop> SocketLine<S> {
         ensures given { self.new.given ≡ self.old.given }
         ensures calls { self.new.calls ≡ self.old.calls }
     {
-        let turn = self.activity.turn();
+        let ms = self.activity.now_ms();
         let mut ready = self.readiness.load();
-        if !ready.may_write(turn.ms) {
+        if !ready.may_write(ms) {
             return Sent::Nothing;
         }
-        let sent = write_once(&mut self.stream, bytes, &mut ready, turn.ms);
-        let writing = writing_of(sent, bytes.len(), ready, turn.ms);
+        let sent = write_once(&mut self.stream, bytes, &mut ready, ms);
+        let writing = writing_of(sent, bytes.len(), ready, ms);
         self.readiness.store(writing.ready);
         self.activity.note(writing.need, 0);
         if let Sent::Took(count) = sent {

@@ -22,14 +22,6 @@ gained opening before after (e ∷ entries) c =
       ap (λ (xs : List Entry). e ∷ xs) rest.2,
     )
 
--- by the receipt of a hall's call
-pub called : (keeps : Bool) (opening : World) (before now : List ReceiptOf) (event : Event) (receipt : ReceiptOf) (reply : Reply)
-    → ∥ IsReplied opening event receipt.reply ∥₁ → receipt.event ≡ event → reply ≡ receipt.reply → (keeps ≡ true → now ≡ before ++ receipt ∷ [])
-    → IsCalled keeps opening before event reply now
-called keeps opening before now event receipt reply legal same told pass =
-    subst (λ (x : Reply). IsCalled keeps opening before event x now) (sym told)
-    (record { legal = legal; gains = λ k. (receipt.stamp, pass k ∙ ap (λ (e : Event). before ++ receipt_of receipt.stamp e receipt.reply ∷ []) same) })
-
 -- by a draw of which nothing is stored
 pub drawn : (keeps : Bool) (opening : World) (before now : List ReceiptOf) (event draw : Event) (result : Result Reply AllocError) → keeps ≡ false → event ≡ draw
     → IfOk result (λ reply. ∥ IsReplied opening draw reply ∥₁) → IfOk result (λ reply. IsCalled keeps opening before event reply now)

@@ -1,5 +1,6 @@
 -- What a caller of a hall is told, and what its pass gains.
-use Rattle.std.specs.Prelude.{◌≡◌, ℕ, Bool, true, false, List, [], ◌∷◌, ◌++◌, map}
+use Rattle.std.specs.Prelude.{◌≡◌, ℕ, Bool, true, false, List, [], ◌∷◌, ◌++◌, map, Result, IfOk, OnErr}
+use Rattle.std.specs.declared.alloc.AllocError.{AllocError}
 use Rattle.radio_events.specs.declared.event.Event.{Event}
 use Rattle.radio_events.specs.declared.event.Event.TheVariants.{Leave}
 use Rattle.radio_events.specs.declared.reply.Reply.{Reply}
@@ -8,6 +9,7 @@ use Rattle.radio_parts_station.specs.World.{World}
 use Rattle.radio_book.specs.declared.newcomer.Newcomer.TheVariants.{Client}
 use Rattle.radio_book.specs.Newcomers.{is_here}
 use Rattle.radio_events.specs.declared.entry.Entry.{Entry}
+use Rattle.radio_chronicle.specs.Stamps.{stamp}
 use Rattle.radio_chronicle.specs.declared.stamp.Stamp.{Stamp}
 use Rattle.radio_book.specs.Receipts.{entry_of, has_fed, receipt_of, ReceiptOf}
 use Rattle.radio_locks.specs.Replies.{IsReplied}
@@ -20,6 +22,17 @@ IsNotItsEnd receipts event = (id : ℕ) → event ≡ Leave id → is_here (Clie
 -- if entries are stored, the pass gains the receipt of this event with this reply
 abbrev pub Gains : Bool → List ReceiptOf → Event → Reply → List ReceiptOf → Type 0
 Gains keeps before event reply now = keeps ≡ true → (stamp : Stamp) × (now ≡ before ++ receipt_of stamp event reply ∷ [])
+
+-- A call for this event has ended with a receipt of it, or memory was refused. The pass was so before, and is so now.
+-- rule: Legal history
+pub record IsResultOfCall (keeps : Bool) (opening : World) (before : List ReceiptOf) (event : Event) (result : Result ReceiptOf AllocError) (now : List ReceiptOf) : Type 0 where
+  pub event_is : IfOk result (λ receipt. receipt.event ≡ event)
+  -- the reply is a part's own, or that of a control of which its list tells, over the parts that it was lent
+  pub legal : IfOk result (λ receipt. ∥ IsReplied opening event receipt.reply ∥₁)
+  -- if entries are stored, the pass gains the receipt; if they are not, nothing is noted
+  pub kept : keeps ≡ true → IfOk result (λ receipt. now ≡ before ++ receipt ∷ [])
+  pub unkept : keeps ≡ false → (now ≡ before) × IfOk result (λ receipt. receipt.stamp ≡ stamp 0 0)
+  pub refused : OnErr result (now ≡ before)
 
 -- Whatever is stored, the reply is a legal one; and if entries are stored, the pass gains its receipt.
 -- rule: Legal history

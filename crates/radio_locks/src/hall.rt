@@ -1,17 +1,14 @@
 //! The locks of a server.
 
-ghost use Rattle.std.specs.Prelude.{◌≡◌, ◌≤◌, ◌^◌, ◌∷◌, [], ◌++◌, ℕ, true, false, Some, IsOk, IfOk, IfSome, OnErr, vec_len};
+ghost use Rattle.std.specs.Prelude.{◌≡◌, ◌≤◌, ◌^◌, [], true, false, Some, IsOk, IfOk, IfSome, OnErr, vec_len};
 ghost use Rattle.radio_book.specs.ControlLists.{AreWantedThere, WasThere};
 ghost use Rattle.radio_book.specs.MountBooks.{noted_own, IsNowhere, IsOf};
 ghost use Rattle.radio_book.specs.Newcomers.{is_here, leaver_of};
-ghost use Rattle.radio_book.specs.Receipts.{has_fed};
 ghost use Rattle.radio_book.specs.declared.newcomer.Newcomer.{Newcomer};
-ghost use Rattle.radio_book.specs.declared.newcomer.Newcomer.TheVariants.{Client};
-ghost use Rattle.radio_chronicle.specs.Stamps.{stamp};
 ghost use Rattle.radio_events.specs.Events.{EventTakesNoMemory};
-ghost use Rattle.radio_events.specs.declared.event.Event.TheVariants.{Leave};
 ghost use Rattle.radio_parts_station.specs.World.{opening};
-ghost use Rattle.radio_locks.specs.Replies.{IsReplied, IsTried};
+ghost use Rattle.radio_locks.specs.Callers.{IsResultOfCall, MayBeRefused};
+ghost use Rattle.radio_locks.specs.Replies.{IsTried};
 
 use crate::OutOfMemory;
 use crate::concerned::{leaver, mount_in, own_client};
@@ -102,17 +99,10 @@ impl<C: Chronicle, H: Origin> Hall<C, H> {
         pass: &mut Pass<C, H>,
         event: Event,
     ) -> Result<Receipt, OutOfMemory>
-        ensures event { IfOk result (λ receipt. receipt.event ≡ event) }
-        // the reply is a part's own, or that of a control of which its list tells, over the parts that it was lent
-        ensures legal { IfOk result (λ receipt. ∥ IsReplied H.opening event receipt.reply ∥₁) }
-        // if entries are stored, the pass gains the receipt; if they are not, nothing is noted
-        ensures pass { C.KEEPS ≡ true → IfOk result (λ receipt. pass.new ≡ pass.old ++ receipt ∷ []) }
-        ensures unkept { C.KEEPS ≡ false → (pass.new ≡ pass.old) × IfOk result (λ receipt. receipt.stamp ≡ stamp 0 0) }
-        ensures err { OnErr result (pass.new ≡ pass.old) }
-        // the end of a client that was let in by the receipts of this pass, has not left by them and has never fed by them is never refused
-        ensures leave { C.KEEPS ≡ true → (id : ℕ) → event ≡ Leave id → is_here (Client id) pass.old ≡ true → has_fed id pass.old ≡ false → IsOk result }
-        // if nothing is stored, the end of a session, of a connection and of a relay, and the clock, are never refused
-        ensures frees { C.KEEPS ≡ false → EventTakesNoMemory event → IsOk result }
+        // a receipt of the event with a legal reply, which the pass gains if entries are stored; or memory was refused
+        ensures called { IsResultOfCall C.KEEPS H.opening pass.old event result pass.new }
+        // if entries are stored, the end of a client of this pass that has never fed by it is never refused; if none are, no end is, nor the clock
+        ensures refused { OnErr result (MayBeRefused C.KEEPS pass.old event) }
     {
         match own_client(&event) {
             Some(id) => self.apply_own(rt, pass, id, event),
@@ -132,11 +122,7 @@ impl<C: Chronicle, H: Origin> Hall<C, H> {
         id: u64,
         event: Event,
     ) -> Result<Receipt, OutOfMemory>
-        ensures event { IfOk result (λ receipt. receipt.event ≡ event) }
-        ensures legal { IfOk result (λ receipt. ∥ IsReplied H.opening event receipt.reply ∥₁) }
-        ensures pass { C.KEEPS ≡ true → IfOk result (λ receipt. pass.new ≡ pass.old ++ receipt ∷ []) }
-        ensures unkept { C.KEEPS ≡ false → (pass.new ≡ pass.old) × IfOk result (λ receipt. receipt.stamp ≡ stamp 0 0) }
-        ensures err { OnErr result (pass.new ≡ pass.old) }
+        ensures { IsResultOfCall C.KEEPS H.opening pass.old event result pass.new }
     {
         let Some(list) = pass.list_of(id) else {
             return self.find(rt, pass, id, event);
@@ -156,11 +142,7 @@ impl<C: Chronicle, H: Origin> Hall<C, H> {
         id: u64,
         event: Event,
     ) -> Result<Receipt, OutOfMemory>
-        ensures event { IfOk result (λ receipt. receipt.event ≡ event) }
-        ensures legal { IfOk result (λ receipt. ∥ IsReplied H.opening event receipt.reply ∥₁) }
-        ensures pass { C.KEEPS ≡ true → IfOk result (λ receipt. pass.new ≡ pass.old ++ receipt ∷ []) }
-        ensures unkept { C.KEEPS ≡ false → (pass.new ≡ pass.old) × IfOk result (λ receipt. receipt.stamp ≡ stamp 0 0) }
-        ensures err { OnErr result (pass.new ≡ pass.old) }
+        ensures { IsResultOfCall C.KEEPS H.opening pass.old event result pass.new }
     {
         let mut locked = self.enter(rt);
         // a worker draws for a silent source too, and the pass keeps where its blocks go
@@ -215,13 +197,8 @@ impl<C: Chronicle, H: Origin> Hall<C, H> {
         pass: &mut Pass<C, H>,
         event: Event,
     ) -> Result<Receipt, OutOfMemory>
-        ensures event { IfOk result (λ receipt. receipt.event ≡ event) }
-        ensures legal { IfOk result (λ receipt. ∥ IsReplied H.opening event receipt.reply ∥₁) }
-        ensures pass { C.KEEPS ≡ true → IfOk result (λ receipt. pass.new ≡ pass.old ++ receipt ∷ []) }
-        ensures unkept { C.KEEPS ≡ false → (pass.new ≡ pass.old) × IfOk result (λ receipt. receipt.stamp ≡ stamp 0 0) }
-        ensures err { OnErr result (pass.new ≡ pass.old) }
-        ensures leave { C.KEEPS ≡ true → (id : ℕ) → event ≡ Leave id → is_here (Client id) pass.old ≡ true → has_fed id pass.old ≡ false → IsOk result }
-        ensures frees { C.KEEPS ≡ false → EventTakesNoMemory event → IsOk result }
+        ensures called { IsResultOfCall C.KEEPS H.opening pass.old event result pass.new }
+        ensures refused { OnErr result (MayBeRefused C.KEEPS pass.old event) }
     {
         let concerned = locked.concerned(pass, &event);
         let LockedControl {
@@ -353,6 +330,7 @@ fn take_each<C: Chronicle>(
 }
 
 /// An event of the control over what is lent, unless memory was refused for a mount's book.
+#[tactic(auto, using(crate::proofs::Replies::replied_by))]
 fn apply_lent<C: Chronicle, H: Origin>(
     control: &mut Book<C, H>,
     lent: &mut Vec<MountBook<C>>,
@@ -360,11 +338,7 @@ fn apply_lent<C: Chronicle, H: Origin>(
     pass: &mut Pass<C, H>,
     event: Event,
 ) -> Result<Receipt, OutOfMemory>
-    ensures event { IfOk result (λ receipt. receipt.event ≡ event) }
-    ensures legal { IfOk result (λ receipt. ∥ IsReplied H.opening event receipt.reply ∥₁) }
-    ensures pass { C.KEEPS ≡ true → IfOk result (λ receipt. pass.new ≡ pass.old ++ receipt ∷ []) }
-    ensures unkept { C.KEEPS ≡ false → (pass.new ≡ pass.old) × IfOk result (λ receipt. receipt.stamp ≡ stamp 0 0) }
-    ensures err { OnErr result (pass.new ≡ pass.old) }
+    ensures called { IsResultOfCall C.KEEPS H.opening pass.old event result pass.new }
     ensures leave { IsOk added → (one : Newcomer) → leaver_of event ≡ Some one → is_here one pass.old ≡ true → vec_len lent.old ≤ 1 → IsOk result }
     ensures frees { IsOk added → C.KEEPS ≡ false → EventTakesNoMemory event → IsOk result }
 {

@@ -75,7 +75,7 @@ impl Account {
 
     /// Its line has taken so many bytes.
     pub fn note_handed(&self, count: usize) {
-        self.note(Happening::Handed(count as u64));
+        self.visit.set(self.visit.get().handed_more(count as u64));
     }
 
     /// Returns what is to be logged of this event, if it is done.

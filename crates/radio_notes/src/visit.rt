@@ -4,6 +4,7 @@ ghost use Rattle.std.specs.Prelude.{◌≡◌, ◌≢◌, ◌⊎◌, []};
 ghost use Rattle.radio_log.specs.declared.facts.Fact.TheVariants.{MountGone};
 ghost use Rattle.radio_notes.specs.Ends.{code_of_end, mount_word};
 ghost use Rattle.radio_notes.specs.Requests.{request_kept};
+ghost use Rattle.radio_notes.specs.declared.visit.Happening.TheVariants.{Handed};
 ghost use Rattle.radio_notes.specs.Visits.{after, begun, client_ended, first_of, first_end, is_shown, mount_of_visit, part_given, replied, seconds_between, source_gone, status_told};
 
 use crate::Told;
@@ -80,15 +81,22 @@ impl Visit {
     {
         match happening {
             Happening::Replied(told) => self.replied(told),
-            Happening::Handed(count) => Visit {
-                handed: self.handed.saturating_add(count),
-                ..self
-            },
+            Happening::Handed(count) => self.handed_more(count),
             Happening::Fed(count) => Visit {
                 fed: self.fed.saturating_add(count),
                 ..self
             },
             Happening::Ended(end) => self.ended(end),
+        }
+    }
+
+    /// Returns what has happened once its line has taken so many bytes more.
+    pub(crate) fn handed_more(self, count: u64) -> Visit
+        ensures { result ≡ after self (Handed count) }
+    {
+        Visit {
+            handed: self.handed.saturating_add(count),
+            ..self
         }
     }
 

@@ -3,6 +3,7 @@
 ghost use Rattle.std.specs.Prelude.{◌≡◌, Err, IfOk, OnErr, MatchOption};
 ghost use Rattle.radio_parts_changes.specs.Lent.{IsLentTo};
 ghost use Rattle.radio_parts.specs.Lending.{IsTakenOut, StandsIn};
+ghost use Rattle.radio_parts_table.specs.Exchange.{IsUnfit};
 
 use crate::OutOfMemory;
 use crate::control::Control;
@@ -25,6 +26,7 @@ impl Control {
     pub fn exchange(&mut self, part: ListedPart) -> Result<ListedPart, ListedPart>
         ensures ok { IfOk result (λ there. IsLentTo part there self.old self.new) }
         ensures back { OnErr result (result ≡ Err part) }
+        ensures unfit { OnErr result (IsUnfit part self.old.station.live) }
         ensures err { OnErr result (self.new ≡ self.old) }
     {
         self.state.exchange(part)

@@ -26,6 +26,7 @@ mod relay;
 mod replies;
 mod source;
 mod source_end;
+mod stand_ins;
 mod telling;
 mod title;
 

@@ -2,6 +2,7 @@
 
 ghost use Rattle.std.specs.Prelude.{◌≡◌, Err, IfOk, OnErr};
 ghost use Rattle.radio_parts_changes.specs.Lent.{part_due, IsLentTo};
+ghost use Rattle.radio_parts_table.specs.Exchange.{IsUnfit};
 
 use crate::state::ServerState;
 use radio_parts_mount::{LAST_MOMENT, ListedPart, due_at};
@@ -13,6 +14,7 @@ impl ServerState {
     pub(crate) fn exchange(&mut self, part: ListedPart) -> Result<ListedPart, ListedPart>
         ensures ok { IfOk result (λ there. IsLentTo part there self.old self.new) }
         ensures back { OnErr result (result ≡ Err part) }
+        ensures unfit { OnErr result (IsUnfit part self.old.station.live) }
         ensures err { OnErr result (self.new ≡ self.old) }
     {
         self.listeners.exchange(part)

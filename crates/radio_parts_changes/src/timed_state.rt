@@ -8,6 +8,7 @@ ghost use Rattle.radio_parts_changes.specs.Due.{at_moment, due_by};
 ghost use Rattle.radio_parts_station.specs.Due.{first_due};
 ghost use Rattle.radio_parts_changes.specs.KeptChanges.{kept_changed};
 ghost use Rattle.radio_parts_changes.specs.Lent.{IsLentTo};
+ghost use Rattle.radio_parts_table.specs.Exchange.{IsUnfit};
 ghost use Rattle.radio_parts_station.specs.World.{opening};
 
 use crate::OutOfMemory;
@@ -132,6 +133,7 @@ impl TimedState {
     pub fn exchange(&mut self, part: ListedPart) -> Result<ListedPart, ListedPart>
         ensures ok { IfOk result (λ there. IsLentTo part there self.old self.new) }
         ensures back { OnErr result (result ≡ Err part) }
+        ensures unfit { OnErr result (IsUnfit part self.old.station.live) }
         ensures err { OnErr result (self.new ≡ self.old) }
     {
         self.due_from = self.due_from.min(self.state.part_due(&part));

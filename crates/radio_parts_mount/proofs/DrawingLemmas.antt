@@ -11,39 +11,39 @@ use Rattle.radio_parts_mount.proofs.PartLemmas.{none_changes}
 use Rattle.radio_parts_mount.specs.declared.drawing.Portion.{Portion}
 use Rattle.radio_parts_mount.specs.Steps.{IsDrawn, IsKept, heard_on}
 
-module _ {V : Type 0} (Visits : V → ℕ → Result Portion AllocError → V → ℕ → Type 0) (draws draws' : V) (id : ℕ) (rows rows' : List Attachment)
-    (answer : Option (Result Portion AllocError)) (visited : IsVisitedIn Visits id draws rows answer draws' rows') (session : Option Session) (room : ℕ)
-    (drawn : (place after : ℕ) (a : Result Portion AllocError) → Visits draws place a draws' after → IsDrawn session room place a after) where
-  abbrev Visited : Option (Result Portion AllocError) → Option Attachment → Type 0
+module _ {V : Type 0} (Visits : V → ℕ → Unit {0} → V → ℕ → Type 0) (draws draws' : V) (id : ℕ) (rows rows' : List Attachment) (answer : Option (Unit {0}))
+    (visited : IsVisitedIn Visits id draws rows answer draws' rows') (session : Option Session) (room : ℕ) (before handed : Portion)
+    (drawn : Result (Unit {0}) AllocError)
+    (is_drawn : (place after : ℕ) (a : Unit {0}) → Visits draws place a draws' after → IsDrawn session room place before drawn handed after) where
+  abbrev Visited : Option (Unit {0}) → Option Attachment → Type 0
   Visited a found = FoundIsVisited Visits id draws rows a draws' rows' found
 
-  visited_so : (a : Option (Result Portion AllocError)) → answer ≡ a → Visited a (find (is_attached id) rows)
-  visited_so a is = subst (λ (b : Option (Result Portion AllocError)). Visited b (find (is_attached id) rows)) is visited
+  visited_so : (a : Option (Unit {0})) → answer ≡ a → Visited a (find (is_attached id) rows)
+  visited_so a is = subst (λ (b : Option (Unit {0})). Visited b (find (is_attached id) rows)) is visited
+
+  abbrev DrawnAt : ℕ → Result (Unit {0}) AllocError → ℕ → Type 0
+  DrawnAt place its after = IsDrawn session room place before its handed after
 
   -- it has heard more who was handed something
-  pub has_drawn : (portion : Portion) → answer ≡ Some (Ok portion) → ((row : Attachment) → find (is_attached id) rows ≡ Some row → IsKept session row.place)
-      → rows' ≡ update_first (is_attached id) (heard_on session room) rows
-  has_drawn portion is kept = by_found (find (is_attached id) rows) refl (visited_so (Some (Ok portion)) is) where
-    by_found : (found : Option Attachment) → find (is_attached id) rows ≡ found → Visited (Some (Ok portion)) found
+  pub has_drawn : (a done : Unit {0}) → answer ≡ Some a → drawn ≡ Ok done
+      → ((row : Attachment) → find (is_attached id) rows ≡ Some row → IsKept session row.place) → rows' ≡ update_first (is_attached id) (heard_on session room) rows
+  has_drawn a done is ok kept = by_found (find (is_attached id) rows) refl (visited_so (Some a) is) where
+    by_found : (found : Option Attachment) → find (is_attached id) rows ≡ found → Visited (Some a) found
         → rows' ≡ update_first (is_attached id) (heard_on session room) rows
-    by_found None e h = let none : Some (Ok portion) ≡ None = h.0 in cc
+    by_found None e h = let none : Some a ≡ None = h.0 in cc
     by_found (Some row) e h =
-        let its : Some (Ok portion) ≡ Some h.0 = h.2 in
-        let same : h.0 ≡ Ok portion = cc in
-        let so = drawn row.place h.1 (Ok portion) (subst (λ (a : Result Portion AllocError). Visits draws row.place a draws' h.1) same h.4) in
+        let so = subst (λ (its : Result (Unit {0}) AllocError). DrawnAt row.place its h.1) ok (is_drawn row.place h.1 h.0 h.4) in
         h.3
         ∙ changed_alike (is_attached id) (at_place h.1) (heard_on session room) row
         (ap (λ (place : ℕ). at_place place row) ((so.portion (kept row e)).1)) rows e
 
   -- nothing has changed if memory was refused
-  pub was_refused : (refused : AllocError) → answer ≡ Some (Err refused) → rows' ≡ rows
-  was_refused refused is = by_found (find (is_attached id) rows) refl (visited_so (Some (Err refused)) is) where
-    by_found : (found : Option Attachment) → find (is_attached id) rows ≡ found → Visited (Some (Err refused)) found → rows' ≡ rows
-    by_found None e h = let none : Some (Err refused) ≡ None = h.0 in cc
+  pub was_refused : (a : Unit {0}) (refused : AllocError) → answer ≡ Some a → drawn ≡ Err refused → rows' ≡ rows
+  was_refused a refused is err = by_found (find (is_attached id) rows) refl (visited_so (Some a) is) where
+    by_found : (found : Option Attachment) → find (is_attached id) rows ≡ found → Visited (Some a) found → rows' ≡ rows
+    by_found None e h = let none : Some a ≡ None = h.0 in cc
     by_found (Some row) e h =
-        let its : Some (Err refused) ≡ Some h.0 = h.2 in
-        let same : h.0 ≡ Err refused = cc in
-        let so = drawn row.place h.1 (Err refused) (subst (λ (a : Result Portion AllocError). Visits draws row.place a draws' h.1) same h.4) in
+        let so = subst (λ (its : Result (Unit {0}) AllocError). DrawnAt row.place its h.1) err (is_drawn row.place h.1 h.0 h.4) in
         h.3 ∙ unchanged (is_attached id) (at_place h.1) row (ap (λ (place : ℕ). at_place place row) so.refused) rows e
 
   -- and if the listener is not attached

@@ -1,5 +1,5 @@
 -- What a client who is attached to a mount, and the source of the mount, do with the mount's part, by that part alone.
-use Rattle.std.specs.Prelude.{◌≡◌, ℕ, ◌+◌, ◌-◌, ◌^◌, ◌≤◌, ◌==◌, Bool, false, nat_lt, not, if◌then◌else◌, List, [], Option, None, Some, length, find, filter, fold, Result, IfOk, OnErr}
+use Rattle.std.specs.Prelude.{◌≡◌, ℕ, ◌+◌, ◌-◌, ◌^◌, ◌≤◌, ◌++◌, ◌==◌, Bool, false, nat_lt, not, if◌then◌else◌, List, [], Option, None, Some, length, find, filter, fold, Result, OnOk, OnErr}
 use Rattle.std.specs.declared.alloc.AllocError.{AllocError}
 use Rattle.std.specs.Option.{option_map, option_map_or}
 use Rattle.radio_tables.specs.Lists.{update_first}
@@ -8,6 +8,7 @@ use Rattle.radio_attachments.specs.Rows.{is_attached, at_place, put_in, lags}
 use Rattle.radio_policy.specs.declared.rule.Rule.TheVariants.{NumbersSpent}
 use Rattle.radio_events.specs.declared.event.Event.{Event}
 use Rattle.radio_events.specs.declared.event.Event.TheVariants.{Arrive, Source, Push, SourceEnd, Title, Listen, Draw, Command, Leave, RelayUp, RelayDown, Clock}
+use Rattle.radio_events.specs.declared.reply.Reply.{Reply}
 use Rattle.radio_events.specs.declared.reply.Reply.TheVariants.{Drawn, Noted, Deny}
 use Rattle.radio_parts_mount.specs.Kept.{first_start, longer_kept}
 use Rattle.radio_parts_mount.specs.StatePart.{end_in}
@@ -33,11 +34,20 @@ abbrev pub IsKept : Option Session → ℕ → Type 0
 IsKept None place = Unit {0}
 IsKept (Some session) place = first_start (end_of session.stream) session.stream.starts ≤ place
 
--- a draw at the place: the answer, and the place behind what was handed out
-pub record IsDrawn (session : Option Session) (room place : ℕ) (answer : Result Portion AllocError) (after : ℕ) : Type 0 where
-  pub portion : IsKept session place → IfOk answer (λ portion. (portion ≡ portion_at session place room) × (after ≡ place_after session place room))
+-- what a listener has then who was handed so much before
+abbrev pub portion_behind : Portion → Option Session → ℕ → ℕ → Portion
+portion_behind before None place room = before
+portion_behind before (Some session) place room = record { pieces = before.pieces ++ data_at session.stream place room; title = session.title }
+
+-- a draw at the place: the answer, what was handed out with what was before, and the place behind it
+pub record IsDrawn (session : Option Session) (room place : ℕ) (before : Portion) (answer : Result (Unit {0}) AllocError) (handed : Portion) (after : ℕ) : Type 0 where
+  pub portion : IsKept session place → OnOk answer ((handed ≡ portion_behind before session place room) × (after ≡ place_after session place room))
   pub refused : OnErr answer (after ≡ place)
   pub on : place ≤ after
+
+-- the reply that has what is handed out
+abbrev pub portion_reply : Portion → Reply
+portion_reply portion = Drawn portion.pieces portion.title
 
 -- what follows the place of the listener is not forgotten, if it is attached here
 abbrev pub KeepsFor : ℕ → MountPart → Type 0

@@ -269,6 +269,22 @@ impl ListedPart {
         if !self.list.is_kept() {
             return self.part.step(alloc, moment, queue, event);
         }
+        self.step_listed(alloc, moment, queue, event)
+    }
+
+    /// The same if a list is kept.
+    #[cold]
+    fn step_listed(
+        &mut self,
+        alloc: Global,
+        moment: u64,
+        queue: u64,
+        event: Event,
+    ) -> Result<PartAnswer, OutOfMemory>
+        ensures answer { CanDraw self.old event → IfOk result (λ answer. answer ≡ part_answers self.old event) }
+        ensures ok { CanDraw self.old event → OnOk result (self.new ≡ part_after queue moment self.old event) }
+        ensures err { OnErr result (self.new ≡ self.old) }
+    {
         if !self.part.can_draw(&event) {
             self.list.give_up();
             return self.part.step(alloc, moment, queue, event);

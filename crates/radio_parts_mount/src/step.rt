@@ -4,7 +4,6 @@ ghost use Rattle.std.specs.Prelude.{◌≡◌, IfOk, IsTrue, OnOk, OnErr};
 ghost use Rattle.radio_parts_mount.specs.Steps.{is_fed_by, is_spent_with, part_answers, part_after, push_answered, push_done, title_answered, title_done, draw_answered, draw_done, with_all, CanDraw, KeepsFor};
 
 use crate::OutOfMemory;
-use crate::drawing::Portion;
 use crate::part::MountPart;
 use radio_attachments::AttachmentTree;
 use radio_blocks::{Block, Place};
@@ -103,9 +102,7 @@ impl MountPart {
         ensures err { OnErr result (self.new ≡ self.old) }
     {
         match self.draw(alloc, id, room)? {
-            Some(Portion { pieces, title }) => {
-                Ok(PartAnswer::Replied(Reply::Drawn { pieces, title }))
-            }
+            Some(reply) => Ok(PartAnswer::Replied(reply)),
             None => Ok(PartAnswer::Elsewhere(Event::Draw { id, room })),
         }
     }

@@ -1,6 +1,6 @@
 -- the parts, after one has taken the place of another
-use Rattle.std.proofs.Common.{◌≡◌, Bool, true, false, ℕ, ◌≤◌, max, Option, Some, None, List, [], ◌∷◌, refl, ap, sym, subst, ◌∙◌, arith}
-use Rattle.std.specs.Prelude.{find, map, ◌==◌, if◌then◌else◌}
+use Rattle.std.proofs.Common.{◌≡◌, ◌⊎◌, inl, inr, Bool, true, false, ℕ, ◌≤◌, max, Option, Some, None, List, [], ◌∷◌, refl, ap, sym, subst, ◌∙◌, arith}
+use Rattle.std.specs.Prelude.{find, map, ◌==◌, ◌&&◌, if◌then◌else◌}
 use Rattle.std.specs.Option.{option_map, option_map_or}
 use Rattle.std.specs.Cmp.Lexicographic.{slice_cmp}
 use Rattle.std.specs.List.Sorted.{IsStrictlySortedBy}
@@ -9,15 +9,15 @@ use Rattle.std.specs.Str.{bytes_eq}
 use Rattle.std.proofs.lemmas.Slice.Eq.{bytes_eq-Decides}
 use Rattle.radio_tables.specs.Lists.{update_first}
 use Rattle.radio_tables.proofs.EachLaws.{Each_each}
-use Rattle.radio_tables.proofs.FindLaws.{find_apart, find_here, find_later, unchanged}
+use Rattle.radio_tables.proofs.FindLaws.{find_apart, find_here, find_later, found_passes, unchanged}
 use Rattle.radio_parts_mount.specs.StatePart.{end_in}
-use Rattle.radio_parts_mount.specs.Sessions.{Session, GoNoFurther}
+use Rattle.radio_parts_mount.specs.Sessions.{Session, session_of, GoNoFurther}
 use Rattle.radio_parts_mount.specs.Stream.{end_of}
 use Rattle.radio_parts_mount.proofs.PartLemmas.{none_changes}
 use Rattle.radio_parts_table.specs.declared.exchange.PartSwap.{PartSwap}
 use Rattle.radio_parts_mount.specs.declared.part.MountPart.{MountPart}
 use Rattle.radio_parts_table.specs.Agree.{AllAgree}
-use Rattle.radio_parts_table.specs.Exchange.{Comes, Stays, can_replace, left_for, put_for, same_source, same_name, first_true, second_true, of_mount, keeps_mount, IsInPlace, IsExchanged}
+use Rattle.radio_parts_table.specs.Exchange.{Comes, Stays, can_replace, left_for, put_for, same_source, same_name, first_true, second_true, of_mount, keeps_mount, IsInPlace, IsExchanged, IsUnfit}
 use Rattle.radio_parts_table.specs.Parts.{by_mount_of, live_in, IsNamed, AreNamed}
 use Rattle.radio_parts_mount.specs.Parts.{attached_to, is_part_of}
 use Rattle.radio_parts_table.proofs.LiveLemmas.{its, live_none, live_some, session_found, AreRising}
@@ -203,6 +203,20 @@ module _ (part : MountPart) where
     by_found None e not_put = none_changes of (put_for part) parts e
     by_found (Some row) e not_put = unchanged of (put_for part) row (rw not_put refl) parts e
 
+  -- it cannot take it if nobody feeds it, or another than who feeds the mount
+  unfit_for : (mine : Option Session) (parts : List MountPart) (found : Option MountPart) → part.session ≡ mine → find of parts ≡ found
+      → session_of (live_in parts) part.mount ≡ its part.mount found
+      → option_map_or (λ (row : MountPart). can_replace part row) found false ≡ false → IsUnfit part (live_in parts)
+  unfit_for None parts found is e there not_put = inl is
+  unfit_for (Some session) parts None is e there not_put = inr (rw (is, there) refl)
+  unfit_for (Some session) parts (Some row) is e there not_put =
+      inr (ap (same_source part.session) there ∙ other_source (bytes_eq part.mount row.mount) refl) where
+        other_source : (same : Bool) → bytes_eq part.mount row.mount ≡ same → same_source part.session row.session ≡ false
+        other_source true here = sym (ap (λ (same : Bool). same && same_source part.session row.session) here) ∙ not_put
+        other_source false here =
+            let name : row.mount ≡ part.mount = same_name row.mount part.mount (found_passes of parts row e) in
+            let no : false ≡ true = sym here ∙ (bytes_eq-Decides part.mount row.mount).1 (sym name) in cc
+
   -- what the swap says: whether the part was put, and what is out
   abbrev swapped : Option MountPart → PartSwap
   swapped found =
@@ -226,6 +240,12 @@ module _ (part : MountPart) where
         let can : can_replace part row ≡ true = sym (ap (λ (s : PartSwap). s.is_put) so) ∙ put in
         let out : swap.part ≡ row = ap (λ (s : PartSwap). s.part) so ∙ rw can refl in
         subst (λ there. IsExchanged part there (by_mount_of parts) (by_mount_of (put_in_place parts))) (sym out) (is_exchanged row furthest parts whole rising e can)
+
+  pub was_unfit : (furthest : ℕ) (parts : List MountPart) (swap : PartSwap) → AreWhole furthest parts → AreRising parts → swap ≡ swapped (find of parts)
+      → swap.is_put ≡ false → IsUnfit part (live_in parts)
+  was_unfit furthest parts swap whole rising is e =
+      unfit_for part.session parts (find of parts) refl refl (session_found part.mount parts whole.1 rising)
+      (sym (is_put (find of parts)) ∙ sym (ap (λ (s : PartSwap). s.is_put) is) ∙ e)
 
   pub was_not_put : (parts : List MountPart) (swap : PartSwap) → swap ≡ swapped (find of parts) → swap.is_put ≡ false
       → (put_in_place parts ≡ parts) × (swap.part ≡ part)

@@ -1,5 +1,5 @@
 -- A part that takes the place of another of the same mount.
-use Rattle.std.specs.Prelude.{◌≡◌, refl, ◌==◌, ◌&&◌, Bool, true, false, ℕ, List, Option, None, Some, find, if◌then◌else◌}
+use Rattle.std.specs.Prelude.{◌≡◌, ◌⊎◌, refl, ◌==◌, ◌&&◌, Bool, true, false, ℕ, List, Option, None, Some, find, if◌then◌else◌}
 use Rattle.std.specs.Str.{bytes_eq}
 use Rattle.std.proofs.lemmas.Slice.Eq.{bytes_eq-Decides}
 use Rattle.radio_parts_mount.specs.Sessions.{Session, session_of}
@@ -23,6 +23,10 @@ same_source (Some a) (Some b) = is_of_source a b
 -- the part can take the place of this one
 abbrev pub can_replace : MountPart → MountPart → Bool
 can_replace part row = bytes_eq part.mount row.mount && same_source part.session row.session
+
+-- The part cannot take the place of its mount's: nobody feeds it, or another than who feeds the mount.
+abbrev pub IsUnfit : MountPart → List Session → Type 0
+IsUnfit part live = (part.session ≡ None) ⊎ (same_source part.session (session_of live part.mount) ≡ false)
 
 -- what is in the place of this one then, and what is left
 abbrev pub put_for : MountPart → MountPart → MountPart

@@ -1,7 +1,7 @@
 //! A part that takes the place of another, for as long as it is lent.
 
 ghost use Rattle.std.specs.Prelude.{◌≡◌, Err, IfOk, OnErr};
-ghost use Rattle.radio_parts_table.specs.Exchange.{can_replace, is_of_source, same_source, IsExchanged};
+ghost use Rattle.radio_parts_table.specs.Exchange.{can_replace, is_of_source, same_source, IsExchanged, IsUnfit};
 ghost use Rattle.radio_parts_mount.specs.StatePart.{end_in};
 
 use crate::parts::MountParts;
@@ -40,6 +40,7 @@ impl MountParts {
     pub fn exchange(&mut self, part: ListedPart) -> Result<ListedPart, ListedPart>
         ensures ok { IfOk result (λ there. IsExchanged part there self.old self.new) }
         ensures back { OnErr result (result ≡ Err part) }
+        ensures unfit { OnErr result (IsUnfit part self.old.live) }
         ensures err { OnErr result (self.new ≡ self.old) }
     {
         let mount = part.key();

@@ -2,6 +2,7 @@
 
 ghost use Rattle.std.specs.Prelude.{◌≡◌, Err, IfOk, OnErr, if◌then◌else◌};
 ghost use Rattle.radio_parts_table.specs.Lent.{after_turn, lags_now, IsLent};
+ghost use Rattle.radio_parts_table.specs.Exchange.{IsUnfit};
 ghost use Rattle.radio_parts_mount.specs.Timeouts.{lags_behind};
 ghost use Rattle.radio_policy.specs.declared.rule.Rule.{Rule as RuleOf};
 ghost use Rattle.radio_seats_rows.specs.declared.seat.Seat.{Seat as SeatOf};
@@ -23,6 +24,7 @@ impl Listeners {
     pub fn exchange(&mut self, part: ListedPart) -> Result<ListedPart, ListedPart>
         ensures ok { IfOk result (λ there. IsLent part there self.old self.new) }
         ensures back { OnErr result (result ≡ Err part) }
+        ensures unfit { OnErr result (IsUnfit part self.old.live) }
         ensures err { OnErr result (self.new ≡ self.old) }
     {
         let mut part = part;

@@ -42,7 +42,8 @@ pub(crate) fn answer<S: Server, L: Line>(
             };
             note(&mut conn.status, answered);
             pass_over_if(&mut conn.line, sits);
-            conn.status.fate = tell(&mut conn.outgoing, &mut conn.session, reply, &conn.account);
+            conn.status.fate = tell(&mut conn.outgoing, &mut conn.session, &reply, &conn.account);
+            drop(reply);
         }
         Err(_) => {
             conn.account.hear_refusal(notice);
@@ -71,8 +72,8 @@ pub(crate) fn answer_all<S: Server, L: Line>(
 }
 
 /// Appends a reply to what is pending, and returns what becomes of the connection by that.
-fn tell(outgoing: &mut Outgoing, session: &mut Session, reply: Reply, account: &Account) -> Fate
-    ensures told { IsToldAs result reply session.old outgoing.old session.new outgoing.new }
+fn tell(outgoing: &mut Outgoing, session: &mut Session, reply: &Reply, account: &Account) -> Fate
+    ensures told { IsToldAs result reply.now session.old outgoing.old session.new outgoing.new }
     // it is not closed by that, and cut off only if the session fails
     ensures closed { result ≡ Closed → ⊥ }
     ensures cut { result ≡ Cut → session.new.has_failed ≡ true }

@@ -39,7 +39,8 @@ impl Session {
         told
     }
 
-    fn tell_reply(&mut self, reply: &Reply, out: &mut Vec<u8>) -> Result<State, OutOfMemory>
+    /// The same, of a reply that the caller keeps.
+    pub fn tell_reply(&mut self, reply: &Reply, out: &mut Vec<u8>) -> Result<State, OutOfMemory>
         ensures bytes { IfOk result (λ _. out.new.items ≡ out.old.items ++ (said self.old.says reply.now).bytes) }
         ensures state { IfOk result (λ state. state ≡ (said self.old.says reply.now).state) }
         ensures says { IfOk result (λ _. self.new ≡ saying_now self.old (said self.old.says reply.now).says) }

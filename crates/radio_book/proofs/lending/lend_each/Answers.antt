@@ -1,6 +1,7 @@
 use Rattle.std.proofs.Common.{◌≡◌, List, [], ◌++◌, take, subst, ◌∙◌, refl}
 use Rattle.std.proofs.lemmas.List.{append-nil, drop_all, take_all}
-use Rattle.radio_book.specs.MountBooks.{AreLent, BookOfMount}
+use Rattle.radio_book.specs.LentParts.{AreLent}
+use Rattle.radio_book.specs.MountBooks.{BookOfMount}
 use Rattle.radio_book.proofs.MountBookLemmas.{none_lent}
 use Rattle.radio_book.proofs.lending.lend_each.Goals as goal
 
@@ -11,5 +12,5 @@ returns g c =
     let before = c.args.lent.now in
     let none = drop_all i before c.loop-book-test.false in
     let all : take i books ++ [] ≡ books = append-nil (take i books) ∙ take_all i books (rw c.loop-book.auto.lent c.loop-book-test.false) in
-    subst (λ (lent : List BookOfMount). AreLent before lent c.args.control.now c.loop-book.control) all
-    (c.loop-book.invariant.lends c.loop-book.control [] (none_lent _ [] c.loop-book.control none refl))
+    subst (λ (lent : List BookOfMount). AreLent c.args.is_reached before lent c.args.control.now c.loop-book.control) all
+    (c.loop-book.invariant.lends c.loop-book.control [] (none_lent c.args.is_reached _ [] c.loop-book.control none refl))

@@ -1,5 +1,5 @@
-use Rattle.std.proofs.Common.{refl}
-use Rattle.radio_book.specs.MountBooks.{IsControlAsBefore}
+use Rattle.std.proofs.Common.{refl, true}
+use Rattle.radio_book.specs.LentParts.{IsControlAsBefore}
 use Rattle.radio_book.proofs.ToldLemmas.{as_before_common, legal_wanted, told_still}
 use Rattle.radio_book.proofs.accounts.Accounts.wanted.Goals as goal
 
@@ -8,6 +8,7 @@ invariant_of-self-clause-by_entries g c =
     let as_before : IsControlAsBefore c.args.lent.now c.args.self.now.control c.take_back_each.new.lent c.take_back_each.new.control = record {
       lent = c.lend_each.new.lent;
       whole = c.lend_each.new.control;
+      reached = true;
       lends = c.lend_each.ensures;
       takes_back = c.take_back_each.ensures;
     } in

@@ -1,14 +1,16 @@
 use Rattle.radio_book.specs.MountBooks.{once_in}
-use Rattle.radio_book.specs.OwnSteps.{answered_here, part_here}
-use Rattle.radio_book.proofs.OwnLemmas.{done_here, once_answers, once_becomes}
+use Rattle.radio_chronicle.specs.OwnSteps.{answered_here, part_here}
+use Rattle.radio_book.proofs.OwnLemmas.{done_here, once_answers, once_becomes, once_kept}
 use Rattle.radio_book.proofs.mount_book.MountBook.note_copied.Goals as goal
 
 pub returns-clause-done : goal.returns-clause-done
 returns-clause-done g c can =
     let inside = c.self.inside in
     let stepped = c.step_twice_here-stepped.result in
+    let later = c.step_twice_here-stepped.new.part in
     let after = part_here inside.queue inside.moment inside.part c.args.event in
-    done_here c.args.self.now _ c.step_twice_here-stepped.new.part _ c.args.event c.args.told (once_in stepped) c.note_own.result c.self.view_is
-    c.note_own.ensures.value c.requires.copies.1
-    (λ draws. once_answers (answered_here inside.part c.args.event) stepped (c.step_twice_here-stepped.ensures.answer draws))
-    (λ draws. once_becomes after c.step_twice_here-stepped.new.part stepped (c.step_twice_here-stepped.ensures.ok draws)) can
+    done_here _ later c.args.event c.args.self.now _ c.args.told (once_in stepped) c.note_own.result c.self.view_is c.note_own.ensures.value (
+      λ draws. once_answers (answered_here inside.part c.args.event) stepped (c.step_twice_here-stepped.ensures.answer draws),
+      λ draws. once_becomes after later stepped (c.step_twice_here-stepped.ensures.ok draws),
+      λ draws. once_kept inside.part later stepped (c.step_twice_here-stepped.ensures.elsewhere draws),
+    ) can

@@ -18,8 +18,8 @@ on_err_by : {A E : Type 0} (P : Type 0) → P → (r : Result A E) → OnErr r P
 on_err_by P p (Ok x) = tt
 on_err_by P p (Err e) = p
 
-pub returns-in-Arrived-clause-taken_in : goal.returns-in-Arrived-clause-taken_in
-returns-in-Arrived-clause-taken_in g c =
+pub returns-clause-taken_in : goal.returns-clause-taken_in
+returns-clause-taken_in g c =
     let given = g.L.Line.given c.args.line in
     let taken = g.L.Line.taken c.args.line in
     subst (λ (r : Reply). IsTakenIn (record { web = c.args.web; peer = c.args.peer; reply = r }) given taken c.new.result) (sym c.in-Arrived.is)
@@ -38,11 +38,11 @@ returns-in_default-clause-taken_in g c =
 pub returns-in_default-clause-err : goal.returns-in_default-clause-err
 returns-in_default-clause-err g c = on_err_by _ (lets_nobody_in c.args.reply c.in_default.not-Arrived) c.turned_away.result
 
-pub returns-in-Arrived-clause-answers : goal.returns-in-Arrived-clause-answers
-returns-in-Arrived-clause-answers g c = ap (λ (x : Connection). x.session.says.web) c.new.ensures
+pub returns-clause-answers : goal.returns-clause-answers
+returns-clause-answers g c = ap (λ (x : Connection). x.session.says.web) c.new.ensures
 
-pub returns-in-Arrived-clause-denial : goal.returns-in-Arrived-clause-denial
-returns-in-Arrived-clause-denial g c rule denied = let never : Arrived c.in-Arrived.id ≡ Deny rule = sym c.in-Arrived.is ∙ denied in absurd (cc)
+pub returns-clause-denial : goal.returns-clause-denial
+returns-clause-denial g c rule denied = let never : Arrived c.in-Arrived.id ≡ Deny rule = sym c.in-Arrived.is ∙ denied in absurd (cc)
 
 pub returns-in_default-clause-answers : goal.returns-in_default-clause-answers
 returns-in_default-clause-answers g c =

@@ -1,3 +1,6 @@
+use Rattle.std.proofs.Common.{OnErr, subst}
+use Rattle.radio_parts_station.specs.World.{World}
+use Rattle.radio_parts_table.specs.Exchange.{IsUnfit}
 use Rattle.radio_parts_changes.proofs.LentState.{lent_holds, lent_seen, not_lent}
 use Rattle.radio_parts_changes.proofs.state.ServerState.exchange.Goals as goal
 
@@ -14,3 +17,7 @@ returns-clause-ok c =
 pub returns-clause-err : goal.returns-clause-err
 returns-clause-err c =
     not_lent c.self.inside.registry c.self.inside.listeners c.exchange.new.self c.exchange.result c.exchange.ensures.err c.args.self.now c.self.view_is
+
+pub returns-clause-unfit : goal.returns-clause-unfit
+returns-clause-unfit c =
+    subst (λ (w : World). OnErr c.exchange.result (IsUnfit c.args.part w.station.live)) c.self.view_is c.exchange.ensures.unfit

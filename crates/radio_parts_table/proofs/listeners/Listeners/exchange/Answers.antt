@@ -6,7 +6,7 @@ use Rattle.radio_seats_rows.specs.SeatTable.{SeatTable, is_prepared}
 use Rattle.radio_seats_rows.specs.Seats.{sits_at}
 use Rattle.radio_parts_mount.specs.Attached.{is_among}
 use Rattle.radio_parts_mount.specs.declared.part.MountPart.{MountPart}
-use Rattle.radio_parts_table.specs.Exchange.{IsExchanged}
+use Rattle.radio_parts_table.specs.Exchange.{IsExchanged, IsUnfit}
 use Rattle.radio_parts_table.specs.Listening.{Listening, listening}
 use Rattle.radio_parts_table.specs.Lent.{IsLent}
 use Rattle.radio_parts_table.specs.Losses.{ended_where}
@@ -47,3 +47,8 @@ returns-in-Ok-clause-ok c =
     subst (λ (b : Listening). IsLent c.args.part c.in-Ok.there b (listening c.exchange.new.self c.end_each.new.seats)) c.self.view_is
     (subst (λ (board : SeatTable). IsLent c.args.part c.in-Ok.there (listening i.parts i.seats) (listening c.exchange.new.self board)) (sym (left c))
     (is_lent c.args.part c.in-Ok.there i.parts c.exchange.new.self (is_put c) i.seats.seats c.end_each.ensures.rising i.seats.prepared))
+
+pub returns-in-Err-clause-unfit : goal.returns-in-Err-clause-unfit
+returns-in-Err-clause-unfit c =
+    subst (λ (b : Listening). IsUnfit c.args.part b.live) c.self.view_is
+    (subst (λ (part : MountPart). IsUnfit part c.self.inside.parts.live) c.take_lagged-lagged.ensures.part c.in-Err.ensures.unfit)

@@ -2,12 +2,12 @@ use Rattle.std.proofs.Common.{ℕ, false, List, ap, sym, subst, ◌∙◌}
 use Rattle.std.specs.Prelude.{find}
 use Rattle.std.specs.Option.{option_map_or}
 use Rattle.radio_tables.specs.Lists.{update_first}
-use Rattle.radio_parts_table.specs.Exchange.{IsExchanged, can_replace, left_for, put_for}
+use Rattle.radio_parts_table.specs.Exchange.{IsExchanged, IsUnfit, can_replace, left_for, put_for}
 use Rattle.radio_parts_table.specs.declared.exchange.PartSwap.{PartSwap}
 use Rattle.radio_parts_table.specs.Parts.{ByMount, by_mount_of}
 use Rattle.radio_parts_mount.specs.Parts.{is_part_of}
 use Rattle.radio_parts_mount.specs.declared.part.MountPart.{MountPart}
-use Rattle.radio_parts_table.proofs.ExchangeLemmas.{put_in_place, was_not_put, was_put, whole_after}
+use Rattle.radio_parts_table.proofs.ExchangeLemmas.{put_in_place, was_not_put, was_put, was_unfit, whole_after}
 use Rattle.radio_parts_table.proofs.PartLemmas.{AreWhole}
 use Rattle.radio_parts_table.proofs.parts.MountParts.exchange.Goals as goal
 
@@ -30,6 +30,12 @@ invariant_of-self c =
 pub returns-then-not-is_put-clause-err : goal.returns-then-not-is_put-clause-err
 returns-then-not-is_put-clause-err c =
     ap by_mount_of (c.swap.ensures.row ∙ ap (in_row c.args.part c.self.inside.parts) c.key-mount.ensures ∙ (was_not_put c.args.part c.self.inside.parts c.swap.new.swap (c.swap.ensures.taken ∙ ap (taken_by c.args.part c.self.inside.parts) c.key-mount.ensures) c.if-not-is_put.true).0) ∙ c.self.view_is
+
+pub returns-then-not-is_put-clause-unfit : goal.returns-then-not-is_put-clause-unfit
+returns-then-not-is_put-clause-unfit c =
+    subst (λ (parts : ByMount). IsUnfit c.args.part parts.live) c.self.view_is
+    (was_unfit c.args.part c.self.inside.furthest c.self.inside.parts c.swap.new.swap c.self.invariant c.len.ensures.rising
+    (c.swap.ensures.taken ∙ ap (taken_by c.args.part c.self.inside.parts) c.key-mount.ensures) c.if-not-is_put.true)
 
 pub invariant_of-self-2 : goal.invariant_of-self-2
 invariant_of-self-2 c =

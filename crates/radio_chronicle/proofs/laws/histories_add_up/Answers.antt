@@ -1,5 +1,5 @@
-use Rattle.radio_book.proofs.TotalLemmas.{adds_up}
-use Rattle.radio_book.proofs.laws.histories_add_up.Goals as goal
+use Rattle.radio_chronicle.proofs.TotalLemmas.{adds_up}
+use Rattle.radio_chronicle.proofs.laws.histories_add_up.Goals as goal
 
 pub returns : goal.returns
 returns c = record {

@@ -1,4 +1,4 @@
-//! Copies of an event.
+//! Copies of an event, for those who note it.
 
 ghost use Rattle.std.specs.Prelude.{◌≡◌, IsOk, IfOk};
 ghost use Rattle.radio_events.specs.Events.{EventTakesNoMemory};
@@ -8,14 +8,17 @@ use radio_events::Event;
 
 /// An event three times: for the history, for the pass and for the caller.
 #[derive(Drop)]
-pub(crate) struct Copies {
-    pub(crate) noted: Event,
-    pub(crate) held: Event,
-    pub(crate) told: Event,
+pub struct Copies {
+    /// For the history.
+    pub noted: Event,
+    /// For the pass.
+    pub held: Event,
+    /// For the caller.
+    pub told: Event,
 }
 
-/// An event three times. `OutOfMemory` where memory was refused.
-pub(crate) fn thrice(event: &Event) -> Result<Copies, OutOfMemory>
+/// Returns the event three times. `OutOfMemory` if memory was refused.
+pub fn thrice(event: &Event) -> Result<Copies, OutOfMemory>
     ensures value { IfOk result (λ copies. (copies.noted ≡ event.now) × (copies.held ≡ event.now) × (copies.told ≡ event.now)) }
     ensures frees { EventTakesNoMemory event.now → IsOk result }
 {
@@ -29,8 +32,8 @@ pub(crate) fn thrice(event: &Event) -> Result<Copies, OutOfMemory>
     }
 }
 
-/// An event twice. `OutOfMemory` where memory was refused.
-pub(crate) fn twice(event: &Event) -> Result<(Event, Event), OutOfMemory>
+/// Returns the event twice. `OutOfMemory` if memory was refused.
+pub fn twice(event: &Event) -> Result<(Event, Event), OutOfMemory>
     ensures value { IfOk result (λ copies. (copies.0 ≡ event.now) × (copies.1 ≡ event.now)) }
     ensures frees { EventTakesNoMemory event.now → IsOk result }
 {

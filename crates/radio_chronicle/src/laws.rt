@@ -6,7 +6,7 @@ ghost use Rattle.radio_access.specs.Lists.{Lists};
 ghost use Rattle.radio_parts_station.specs.World.{opening};
 ghost use Rattle.radio_events.specs.declared.entry.Entry.{Entry};
 ghost use Rattle.radio_chronicle.specs.History.{IsRun};
-ghost use Rattle.radio_book.specs.Totals.{AddsUp};
+ghost use Rattle.radio_chronicle.specs.Totals.{AddsUp};
 
 use radio_core::{clients_and_seats_add_up, events_are_of_their_clients};
 

@@ -1,21 +1,21 @@
 //! What a mount's part does by itself, with its reply twice: for the caller, and for its pass.
 
-ghost use Rattle.std.specs.Prelude.{◌≡◌, find, IfOk, IsOk, OnOk, OnErr};
+ghost use Rattle.std.specs.Prelude.{◌≡◌, false, find, IfOk, IsOk, OnOk, OnErr};
 ghost use Rattle.radio_attachments.specs.Rows.{is_attached};
 ghost use Rattle.radio_events.specs.Replies.{HoldsNoText};
 ghost use Rattle.radio_parts_mount.specs.Attached.{place_in};
 ghost use Rattle.radio_parts_mount.specs.Steps.{part_after, part_answers, CanDraw};
-ghost use Rattle.radio_book.specs.declared.own_steps.Twice.TheVariants.{Replied as RepliedTwice};
-ghost use Rattle.radio_book.specs.OwnSteps.{answered_here, drawer_at, drawer_in, is_own, once, part_here, set_back_in, CanDrawHere, IsAlike};
+ghost use Rattle.radio_chronicle.specs.declared.own_steps.Twice.TheVariants.{Replied as RepliedTwice};
+ghost use Rattle.radio_chronicle.specs.OwnSteps.{answered_here, drawer_at, drawer_in, is_own, once, part_here, set_back_in, CanDrawHere, IsAlike, IsKeptUnlessReplied, IsNoPartsOwn};
 
 use crate::OutOfMemory;
-use radio_core::{ListedPart, PartAnswer};
 use radio_events::{Event, Reply};
+use radio_parts_mount::{ListedPart, PartAnswer};
 use std::alloc::Global;
 
 /// What a part does with an event.
 #[derive(Drop)]
-pub(crate) enum Twice {
+pub enum Twice {
     /// It has replied, and this is the reply twice.
     Replied(Reply, Reply),
     /// The client is not attached to the mount; nothing has changed.
@@ -24,16 +24,17 @@ pub(crate) enum Twice {
 
 /// A listener that draws.
 #[derive(Clone, Copy)]
-pub(crate) struct Drawer {
+pub struct Drawer {
     /// Its number.
     id: u64,
     /// The place up to which it has heard the stream before, in bytes.
     place: u64,
 }
 
-/// Returns whether the event is a block, a title or a draw.
-pub(crate) fn is_own(event: &Event) -> bool
-    ensures { result ≡ is_own event.now }
+/// Returns whether the event is a block, a title or a draw. A part replies to no other event.
+pub fn is_own(event: &Event) -> bool
+    ensures value { result ≡ is_own event.now }
+    ensures others { result ≡ false → IsNoPartsOwn event.now }
 {
     match event {
         Event::Push { .. } | Event::Title { .. } | Event::Draw { .. } => true,
@@ -49,8 +50,9 @@ pub(crate) fn is_own(event: &Event) -> bool
     }
 }
 
-/// Does what the event does, as [`ListedPart::step`], if the part is here.
-pub(crate) fn step_here(
+/// Does what the event does, as [`ListedPart::step`], if the part is here. `OutOfMemory` if memory was refused; the part is
+/// unchanged then.
+pub fn step_here(
     alloc: Global,
     part: &mut Option<ListedPart>,
     moment: u64,
@@ -59,6 +61,7 @@ pub(crate) fn step_here(
 ) -> Result<PartAnswer, OutOfMemory>
     ensures answer { CanDrawHere part.old event → IfOk result (λ answer. answer ≡ answered_here part.old event) }
     ensures ok { CanDrawHere part.old event → OnOk result (part.new ≡ part_here queue moment part.old event) }
+    ensures elsewhere { CanDrawHere part.old event → IfOk result (λ answer. IsKeptUnlessReplied answer part.old part.new) }
     ensures err { OnErr result (part.new ≡ part.old) }
 {
     match part {
@@ -68,7 +71,7 @@ pub(crate) fn step_here(
 }
 
 /// The same, with the reply twice. `OutOfMemory` if memory was refused; the part is unchanged then, but its list may be given up.
-pub(crate) fn step_twice_here(
+pub fn step_twice_here(
     alloc: Global,
     part: &mut Option<ListedPart>,
     moment: u64,
@@ -78,6 +81,7 @@ pub(crate) fn step_twice_here(
     ensures answer { CanDrawHere part.old event → IfOk result (λ twice. once twice ≡ answered_here part.old event) }
     ensures alike { IfOk result (λ twice. IsAlike twice) }
     ensures ok { CanDrawHere part.old event → OnOk result (part.new ≡ part_here queue moment part.old event) }
+    ensures elsewhere { CanDrawHere part.old event → IfOk result (λ twice. IsKeptUnlessReplied (once twice) part.old part.new) }
     ensures err { CanDrawHere part.old event → OnErr result (part.new ≡ part.old) }
 {
     match part {
@@ -87,7 +91,7 @@ pub(crate) fn step_twice_here(
 }
 
 /// Returns how many items the part's list has; 0 if the part is not here.
-pub(crate) fn items_here(part: &Option<ListedPart>) -> u64 {
+pub fn items_here(part: &Option<ListedPart>) -> u64 {
     match part {
         Some(part) => part.item_count(),
         None => 0,

@@ -14,7 +14,7 @@ use Rattle.radio_core.specs.Totals.{arrivals, departures, relays_up, relays_down
 use Rattle.radio_core.specs.Totals.{numbers_given, AddsUp as StepAddsUp}
 use Rattle.radio_events.specs.declared.entry.Entry.{Entry}
 use Rattle.radio_chronicle.specs.History.{world_of, IsRun}
-use Rattle.radio_book.specs.Totals.{clients_come, clients_left, relays_come, relays_gone, seats_made, listeners_left, AddsUp}
+use Rattle.radio_chronicle.specs.Totals.{clients_come, clients_left, relays_come, relays_gone, seats_made, listeners_left, AddsUp}
 
 run_more : (w : World) (events : List Event) (event : Event) → world_after_all w (events ++ event ∷ []) ≡ world_after (world_after_all w events) event
 run_more w [] event = refl

@@ -2,9 +2,9 @@ use Rattle.std.proofs.Common.{◌≡◌, ◌⊎◌, inl, inr, Result, Ok, Err, I
 use Rattle.std.proofs.lemmas.Bool.{false≢true}
 use Rattle.radio_events.specs.Replies.{HoldsNoText}
 use Rattle.radio_parts_mount.specs.declared.part.MountPart.{MountPart}
-use Rattle.radio_book.specs.OwnSteps.{set_back_in}
-use Rattle.radio_book.proofs.OwnLemmas.{undone}
-use Rattle.radio_book.proofs.own_steps.step_twice.Goals as goal
+use Rattle.radio_chronicle.specs.OwnSteps.{set_back_in}
+use Rattle.radio_chronicle.proofs.OwnLemmas.{undone}
+use Rattle.radio_chronicle.proofs.own_steps.step_twice.Goals as goal
 
 -- nothing has changed if memory was refused
 refused_so : {A E : Type 0} (result : Result A E) (before after set_back : MountPart) (NoText : Type 0) → (NoText → IsOk result) → OnErr result (after ≡ set_back)

@@ -8,9 +8,9 @@ use Rattle.radio_parts_mount.specs.Steps.{part_after, part_answers, CanDraw}
 use Rattle.radio_parts_mount.specs.declared.part.MountPart.{MountPart}
 use Rattle.radio_parts_mount.specs.declared.step.PartAnswer.{PartAnswer}
 use Rattle.radio_parts_mount.specs.declared.step.PartAnswer.TheVariants.{Replied, Elsewhere}
-use Rattle.radio_book.specs.declared.own_steps.Drawer.{Drawer}
-use Rattle.radio_book.specs.declared.own_steps.Twice.{Twice}
-use Rattle.radio_book.specs.declared.own_steps.Twice.TheVariants.{Replied as RepliedTwice, Elsewhere as GivenBack}
+use Rattle.radio_chronicle.specs.declared.own_steps.Drawer.{Drawer}
+use Rattle.radio_chronicle.specs.declared.own_steps.Twice.{Twice}
+use Rattle.radio_chronicle.specs.declared.own_steps.Twice.TheVariants.{Replied as RepliedTwice, Elsewhere as GivenBack}
 
 -- a block, a title or a draw: what a mount's part can do by itself
 abbrev pub is_own : Event → Bool
@@ -28,6 +28,15 @@ answered_here (Some part) event = part_answers part event
 abbrev pub part_here : ℕ → ℕ → Option MountPart → Event → Option MountPart
 part_here queue moment None event = None
 part_here queue moment (Some part) event = Some (part_after queue moment part event)
+
+-- no part replies to the event
+abbrev pub IsNoPartsOwn : Event → Type 0
+IsNoPartsOwn event = (part : Option MountPart) → answered_here part event ≡ Elsewhere event
+
+-- a part that does not reply is unchanged
+abbrev pub IsKeptUnlessReplied : PartAnswer → Option MountPart → Option MountPart → Type 0
+IsKeptUnlessReplied (Replied reply) before after = Unit {0}
+IsKeptUnlessReplied (Elsewhere event) before after = after ≡ before
 
 -- what follows the place of one who draws is not forgotten
 abbrev pub CanDrawHere : Option MountPart → Event → Type 0
