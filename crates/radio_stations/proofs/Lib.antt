@@ -5,6 +5,9 @@ mod Courses
 mod Strangers
 mod TurnLemmas
 mod WorkLemmas
+mod HeldLemmas
 mod RoundLemmas
+mod ShiftLemmas
 mod StationLemmas
 mod SettledLemmas
+mod RunningLemmas

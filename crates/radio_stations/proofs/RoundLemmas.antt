@@ -1,6 +1,6 @@
 -- A worker's admissions and turns, step by step.
-use Rattle.std.proofs.Common.{◌≡◌, inl, inr, ℕ, ◌==◌, Bool, true, false, List, [], ◌∷◌, ◌++◌, refl, sym, ap, subst, ◌∙◌, append_assoc}
-use Rattle.std.specs.Prelude.{map, filter, if◌then◌else◌}
+use Rattle.std.proofs.Common.{◌≡◌, inl, inr, ℕ, Bool, true, false, List, [], ◌∷◌, ◌++◌, refl, sym, ap, subst, ◌∙◌, append_assoc}
+use Rattle.std.specs.Prelude.{map, filter}
 use Rattle.std.proofs.lemmas.List.{append-nil, map-append}
 use Rattle.radio_answers.specs.declared.web_answers.WebAnswers.{WebAnswers}
 use Rattle.radio_events.specs.declared.event.Event.{Event}
@@ -8,71 +8,17 @@ use Rattle.radio_events.specs.declared.event.Event.TheVariants.{Arrive}
 use Rattle.radio_events.specs.Events.{entry}
 use Rattle.radio_events.specs.Servers.{Steps}
 use Rattle.radio_connections.specs.Connections.{Connection, stays}
-use Rattle.radio_serving.specs.Turns.{ServesEach, TicksUnless, is_known}
+use Rattle.radio_serving.specs.declared.turn.Turn.{Turn}
+use Rattle.radio_serving.specs.Turns.{IsTurn, ServesEach, TicksUnless, is_known}
 use Rattle.radio_serving.specs.Workers.{WorkerOf}
-use Rattle.radio_tables.proofs.KeyLaws.{by_number}
 use Rattle.radio_stations.specs.Work.{HasWorked, Made, Roll, here, made_on, moment, enrolled, served, told, took_in}
 use Rattle.radio_stations.specs.Rounds.{AdmissionsAreWork, AreHeld, Held, IsOther, TurnsAreWork, connections, held_at}
+use Rattle.radio_stations.proofs.HeldLemmas.{apart_of, conns_stay, held_stay, held_then, other_stays, stay, still_held}
 use Rattle.radio_stations.proofs.WorkLemmas.{enrolled_elsewhere, enrolled_here}
-
-apart_of : (label other : ℕ) → (other ≡ label → ⊥) → (label == other) ≡ false
-apart_of label other apart = by_number label other (λ same. absurd (apart (sym same))) (λ e. e)
-
-other_then : (label : ℕ) (held : List Held) (last : Held) → IsOther label held → (last.label ≡ label → ⊥) → IsOther label (held ++ last ∷ [])
-other_then label [] last h apart = (apart, tt)
-other_then label (one ∷ held) last h apart = (h.0, other_then label held last h.1 apart)
-
--- what is elsewhere is held as before
-still_held : (held : List Held) (label : ℕ) (c : Connection) (roll : Roll) → AreHeld held roll → IsOther label held → AreHeld held (enrolled label (here c) roll)
-still_held [] label c roll h other = tt
-still_held (one ∷ held) label c roll h other = (
-  enrolled_elsewhere label one.label (here c) roll (apart_of label one.label other.0) ∙ h.0,
-  h.1,
-  still_held held label c roll h.2 other.1,
-)
-
-held_then : (held : List Held) (label : ℕ) (c : Connection) (roll : Roll) → AreHeld held roll → IsOther label held
-    → AreHeld (held ++ held_at label c ∷ []) (enrolled label (here c) roll)
-held_then [] label c roll h other = (enrolled_here label (here c) roll, tt, tt)
-held_then (one ∷ held) label c roll h other = (
-  enrolled_elsewhere label one.label (here c) roll (apart_of label one.label other.0) ∙ h.0,
-  other_then one.label held (held_at label c) h.1 (λ e. other.0 (sym e)),
-  held_then held label c roll h.2 other.1,
-)
-
--- those that stay
-stay : List Held → List Held
-stay [] = []
-stay (one ∷ held) = if stays one.connection then one ∷ stay held else stay held
-
-other_stays : (label : ℕ) (held : List Held) → IsOther label held → IsOther label (stay held)
-unfolding stay
-other_stays label [] h = tt
-other_stays label (one ∷ held) h = by_test (other_stays label held h.1) (stays one.connection) where
-  by_test : IsOther label (stay held) → (b : Bool) → IsOther label (if b then one ∷ stay held else stay held)
-  by_test others true = (h.0, others)
-  by_test others false = others
-
-held_stay : (held : List Held) (roll : Roll) → AreHeld held roll → AreHeld (stay held) roll
-unfolding stay
-held_stay [] roll h = tt
-held_stay (one ∷ held) roll h = by_test (held_stay held roll h.2) (stays one.connection) where
-  by_test : AreHeld (stay held) roll → (b : Bool) → AreHeld (if b then one ∷ stay held else stay held) roll
-  by_test others true = (h.0, other_stays one.label held h.1, others)
-  by_test others false = others
-
-conns_stay : (held : List Held) → connections (stay held) ≡ filter stays (connections held)
-unfolding stay
-conns_stay [] = refl
-conns_stay (one ∷ held) = by_test (conns_stay held) (stays one.connection) where
-  by_test : connections (stay held) ≡ filter stays (connections held) → (b : Bool) → connections (if b then one ∷ stay held else stay held)
-      ≡ (if b then one.connection ∷ filter stays (connections held) else filter stays (connections held))
-  by_test same true = ap (λ (cs : List Connection). one.connection ∷ cs) same
-  by_test same false = same
 
 module _ {S : Type 0} (steps : Steps S) (web : WebAnswers) (refuses : S → Event → Type 0) (first : S) where
   -- nothing more was made
-  as_before : (made : List Made) (from to : S) (roll : Roll) → HasWorked steps web first made from roll → to ≡ from → HasWorked steps web first (made ++ []) to roll
+  pub as_before : (made : List Made) (from to : S) (roll : Roll) → HasWorked steps web first made from roll → to ≡ from → HasWorked steps web first (made ++ []) to roll
   as_before made from to roll was same =
       subst (λ (ms : List Made). HasWorked steps web first ms to roll) (sym (append-nil made)) (subst (λ (s : S). HasWorked steps web first made s roll) (sym same) was)
 
@@ -90,7 +36,7 @@ module _ {S : Type 0} (steps : Steps S) (web : WebAnswers) (refuses : S → Even
       record { more = []; worked = as_before made w.server mid.server roll was (ap (λ (x : WorkerOf S). x.server) refused.0) }
 
   -- each was served, and the others are as before
-  record HasServed (made : List Made) (to : S) (roll : Roll) (held : List Held) (conns : List Connection) : Type 0 where
+  pub record HasServed (made : List Made) (to : S) (roll : Roll) (held : List Held) (conns : List Connection) : Type 0 where
     pub more : List Made
     pub after : Roll
     pub worked : HasWorked steps web first (made ++ more) to after
@@ -119,7 +65,7 @@ module _ {S : Type 0} (steps : Steps S) (web : WebAnswers) (refuses : S → Even
       let then_roll = enrolled one.label (here each.1) roll in
       let rest = serves ms patience news held (made ++ map here_now turn.entries) each.0 to then_roll each.2
       (served made from each.0 roll was one.label one.connection each.1 are.0 ms patience news turn)
-      (still_held held one.label each.1 roll are.2 are.1) each.4 in
+      (still_held held one.label (here each.1) roll are.2 are.1) each.4 in
       record {
         more = map here_now turn.entries ++ rest.more;
         after = rest.after;
@@ -131,26 +77,40 @@ module _ {S : Type 0} (steps : Steps S) (web : WebAnswers) (refuses : S → Even
         apart = λ label h. (h.0, rest.apart label h.1);
       }
 
+  -- a turn over some of those that it holds
+  pub serves_turn : (w after : WorkerOf S) (made : List Made) (roll : Roll) (held : List Held) (at : Turn) (conns : List Connection)
+      → HasWorked steps web first made w.server roll → AreHeld held roll → IsTurn steps refuses at w (connections held) after conns
+      → HasServed made after.server roll held conns
+  serves_turn w after made roll held at conns was are turn =
+      let clock = tells_unless (is_known at.ms at.told_ms w.told_ms) at.ms w turn.mid made roll was turn.ticks in
+      let done = serves at.ms turn.mid.patience_ms at.news held (made ++ clock.more) turn.mid.server after.server roll turn.served clock.worked are turn.serves in
+      record {
+        more = clock.more ++ done.more;
+        after = done.after;
+        worked = subst (λ (ms : List Made). HasWorked steps web first ms after.server done.after) (append_assoc made clock.more done.more) done.worked;
+        now = stay done.now;
+        are_held = held_stay done.now done.after done.are_held;
+        same = conns_stay done.now ∙ ap (filter stays) done.same ∙ sym turn.closes;
+        others = done.others;
+        apart = λ label other. other_stays label done.now (done.apart label other);
+      }
+
 module _ {S : Type 0} (steps : Steps S) (web : WebAnswers) (refuses : S → Event → Type 0) where
   pub admissions_are_work : AdmissionsAreWork steps web refuses
-  admissions_are_work first from to made roll held peer label conns was are other new admission = record {
-    more = made_on label (entry (Arrive peer) admission.reply) ∷ [];
-    roll = enrolled label (here admission.newcomer) roll;
-    worked = took_in made from to roll was label new peer admission.reply admission.newcomer admission.step admission.taken_in;
-    held = held ++ held_at label admission.newcomer ∷ [];
-    are_held = held_then held label admission.newcomer roll are other;
-    same = map-append (λ (one : Held). one.connection) held (held_at label admission.newcomer ∷ []) ∙ sym admission.added;
-  }
+  admissions_are_work first from to made roll held peer label conns was are other new admission =
+      let place = here admission.newcomer in
+      record {
+        more = made_on label (entry (Arrive peer) admission.reply) ∷ [];
+        roll = enrolled label place roll;
+        worked = took_in made from to roll was label new peer admission.reply admission.newcomer admission.step admission.taken_in;
+        held = held ++ held_at label admission.newcomer ∷ [];
+        are_held =
+            held_then held (held_at label admission.newcomer) (enrolled label place roll) (still_held held label place roll are other) other
+            (enrolled_here label place roll);
+        same = map-append (λ (one : Held). one.connection) held (held_at label admission.newcomer ∷ []) ∙ sym admission.added;
+      }
 
   pub turns_are_work : TurnsAreWork steps web refuses
   turns_are_work first w after made roll held at conns was are turn =
-      let clock = tells_unless steps web refuses first (is_known at.ms at.told_ms w.told_ms) at.ms w turn.mid made roll was turn.ticks in
-      let done = serves steps web refuses first at.ms turn.mid.patience_ms at.news held (made ++ clock.more) turn.mid.server after.server roll turn.served clock.worked are turn.serves in
-      record {
-        more = clock.more ++ done.more;
-        roll = done.after;
-        worked = subst (λ (ms : List Made). HasWorked steps web first ms after.server done.after) (append_assoc made clock.more done.more) done.worked;
-        held = stay done.now;
-        are_held = held_stay done.now done.after done.are_held;
-        same = conns_stay done.now ∙ ap (filter stays) done.same ∙ sym turn.closes;
-      }
+      let done = serves_turn steps web refuses first w after made roll held at conns was are turn in
+      record { more = done.more; roll = done.after; worked = done.worked; held = done.now; are_held = done.are_held; same = done.same }

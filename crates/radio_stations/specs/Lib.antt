@@ -4,3 +4,4 @@ pub mod Work
 pub mod Rounds
 pub mod Stations
 pub mod Settled
+pub mod Running

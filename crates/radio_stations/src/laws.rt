@@ -1,6 +1,7 @@
 //! Laws on connections over all their turns, and on workers' passes. Each is a function that does nothing, and its contract is the law.
 
 ghost use Rattle.radio_stations.specs.Rounds.{AdmissionsAreWork, TurnsAreWork};
+ghost use Rattle.radio_stations.specs.Running.{RunningStationsHearSlices};
 ghost use Rattle.radio_stations.specs.Settled.{SettledStationsHearSlices};
 ghost use Rattle.radio_stations.specs.Stations.{StationsAddUp, StationsHearSlices};
 ghost use Rattle.radio_answers.specs.declared.web_answers.WebAnswers.{WebAnswers};
@@ -57,4 +58,14 @@ pub fn stations_hear_slices()
     settled_histories_are_woven();
     cuts_do_not_matter();
     settled();
+}
+
+/// Workers worked at the slots of one hall that stores its entries, as [`run_workers`](radio_workers::run_workers) ensures. `W` is a slot, and
+/// no pass had a receipt before. Then there are workers who made these passes, and no label is known to two of them. If `settle` ends
+/// well with the passes at the slots, its history is of the connections of all workers. So its listeners are given slices of what the
+/// lines of their sources' connections brought.
+pub fn running_stations_hear_slices<W>()
+    ensures { RunningStationsHearSlices W }
+{
+    stations_hear_slices();
 }

@@ -2,12 +2,13 @@
 //!
 //! A law is a function that runs no code: [`connections_mean_their_bytes`] is of one connection over all turns in which
 //! a worker served it, [`work_is_of_its_connections`] of all that one worker did, and [`passes_are_of_their_work`] of the
-//! receipts of its pass. [`stations_hear_slices`] is of a history and what the listeners in it are given.
+//! receipts of its pass. [`stations_hear_slices`] is of a history and what the listeners in it are given, and
+//! [`running_stations_hear_slices`] the same of workers in threads, from their slots on.
 #![tactic(auto)]
 
 mod laws;
 
 pub use laws::{
-    connections_mean_their_bytes, passes_are_of_their_work, stations_hear_slices,
-    work_is_of_its_connections,
+    connections_mean_their_bytes, passes_are_of_their_work, running_stations_hear_slices,
+    stations_hear_slices, work_is_of_its_connections,
 };

@@ -1,5 +1,5 @@
 -- What a worker has done, one step after another.
-use Rattle.std.proofs.Common.{◌≡◌, ℕ, Bool, true, false, List, Result, Ok, Err, OnOk, OnErr, sym, subst}
+use Rattle.std.proofs.Common.{◌≡◌, ℕ, Bool, true, false, List, [], Result, Ok, Err, OnOk, OnErr, sym, subst}
 use Rattle.radio_addr.specs.declared.peer.Peer.{Peer}
 use Rattle.radio_events.specs.declared.event.Event.{Event}
 use Rattle.radio_events.specs.Servers.{Steps}
@@ -20,8 +20,8 @@ module _ {S : Type 0} (steps : Steps S) (refuses : S → Event → Type 0) where
   pub done_then : (first second third : ShiftOf S) → WorkerHasDone steps refuses first second → WorkerHasDone steps refuses second third
       → WorkerHasDone steps refuses first third
   done_then first second third before nothing_yet = before
-  done_then first second third before (admitted worker after sources conns conns' was asked peer given taken is) =
-      admitted worker after sources conns conns' (done_then first second (shift_of worker sources conns) before was) asked peer given taken is
+  done_then first second third before (admitted worker after sources conns conns' was asked peer is) =
+      admitted worker after sources conns conns' (done_then first second (shift_of worker sources conns) before was) asked peer is
   done_then first second third before (turned_off worker after sources conns was asked peer is) =
       turned_off worker after sources conns (done_then first second (shift_of worker sources conns) before was) asked peer is
   done_then first second third before (served worker between after sources conns sources' conns' was turn news one other) =
@@ -41,13 +41,15 @@ module _ {S : Type 0} (steps : Steps S) (refuses : S → Event → Type 0) where
 
   -- a connection was taken in, or not
   pub done_admit : {E : Type 0} (result : Result (Unit {0}) E) (worker after : WorkerOf (WatchedOf S)) (sources conns conns' : List Connection) (peer : Peer)
-      (given taken : List ℕ) → HasOnlyAsked worker after
+      (given taken : List ℕ) → given ≡ [] → taken ≡ [] → HasOnlyAsked worker after
       → OnOk result (IsAdmission (WatchedSteps steps) worker.web peer given taken worker.server conns after.server conns')
       → OnErr result (conns' ≡ conns) → OnErr result (IsTurnedOff (WatchedSteps steps) peer worker.server after.server)
       → WorkerHasDone steps refuses (shift_of worker sources conns) (shift_of after sources conns')
-  done_admit (Ok u) worker after sources conns conns' peer given taken asked is same off =
-      admitted worker after sources conns conns' nothing_yet asked peer given taken is
-  done_admit (Err e) worker after sources conns conns' peer given taken asked is same off =
+  done_admit (Ok u) worker after sources conns conns' peer given taken no_reads no_writes asked is same off =
+      admitted worker after sources conns conns' nothing_yet asked peer
+      (subst (λ (xs : List ℕ). IsAdmission (WatchedSteps steps) worker.web peer [] xs worker.server conns after.server conns') no_writes
+      (subst (λ (xs : List ℕ). IsAdmission (WatchedSteps steps) worker.web peer xs taken worker.server conns after.server conns') no_reads is))
+  done_admit (Err e) worker after sources conns conns' peer given taken no_reads no_writes asked is same off =
       subst (λ (xs : List Connection). WorkerHasDone steps refuses (shift_of worker sources conns) (shift_of after sources xs)) (sym same)
       (turned_off worker after sources conns nothing_yet asked peer off)
 

@@ -11,12 +11,14 @@ module _ {S : Type 0} (steps : Steps S) (refuses : S → Event → Type 0) where
   abbrev pub AsksToLeave : S → ℕ → S → Type 0
   AsksToLeave server id server' = ((reply : Reply) × steps server (Leave id) reply server') ⊎ (refuses server (Leave id) × (server' ≡ server))
 
-  -- who has left is asked for nothing, and else its client leaves
+  -- a client that has left is asked for nothing, and else it leaves
+  abbrev pub LeavesUnless : Bool → S → ℕ → S → Type 0
+  LeavesUnless true server id server' = server' ≡ server
+  LeavesUnless false server id server' = AsksToLeave server id server'
+
+  -- the client of a connection leaves, if it has not left
   abbrev pub LeavesIfHere : S → Connection → S → Type 0
-  LeavesIfHere server conn server' = leaves conn.status.has_left where
-    leaves : Bool → Type 0
-    leaves true = server' ≡ server
-    leaves false = AsksToLeave server conn.id server'
+  LeavesIfHere server conn server' = LeavesUnless conn.status.has_left server conn.id server'
 
   -- each in its order
   -- rule: End of a worker

@@ -1,5 +1,5 @@
 -- What a worker does at its slot, from its first turn to the end of its connections.
-use Rattle.std.specs.Prelude.{◌≡◌, ℕ, Bool, true, List, [], Option, None, Some}
+use Rattle.std.specs.Prelude.{◌≡◌, Bool, true, List, [], Option, None, Some}
 use Rattle.radio_addr.specs.declared.peer.Peer.{Peer}
 use Rattle.radio_answers.specs.declared.web_answers.WebAnswers.{WebAnswers}
 use Rattle.radio_events.specs.declared.event.Event.{Event}
@@ -33,13 +33,13 @@ module _ {S : Type 0} (steps : Steps S) (refuses : S → Event → Type 0) where
   abbrev pub MayRefuse : WatchedOf S → Event → Type 0
   MayRefuse watched event = refuses watched.server event
 
-  -- What a worker has done since its shift was so first: it took a connection in behind the others, or did not serve it; it served the connections of sources
-  -- and then the others in a turn; it moved a connection to those of sources; and it closed one that lingered.
+  -- What a worker has done since its shift was so first. It took a connection in behind the others, whose line had given and taken nothing, or did not serve it.
+  -- It served the connections of sources and then the others in a turn. It moved a connection to those of sources, and closed one that lingered.
   pub data WorkerHasDone (first : ShiftOf S) : ShiftOf S → Type 0 where
     nothing_yet : WorkerHasDone first first
     admitted : (worker after : WorkerOf (WatchedOf S)) (sources conns conns' : List Connection) → WorkerHasDone first (shift_of worker sources conns)
-        → HasOnlyAsked worker after → (peer : Peer) (given taken : List ℕ)
-        → IsAdmission (WatchedSteps steps) worker.web peer given taken worker.server conns after.server conns'
+        → HasOnlyAsked worker after → (peer : Peer)
+        → IsAdmission (WatchedSteps steps) worker.web peer [] [] worker.server conns after.server conns'
         → WorkerHasDone first (shift_of after sources conns')
     turned_off : (worker after : WorkerOf (WatchedOf S)) (sources conns : List Connection) → WorkerHasDone first (shift_of worker sources conns)
         → HasOnlyAsked worker after → (peer : Peer) → IsTurnedOff (WatchedSteps steps) peer worker.server after.server

@@ -1,6 +1,6 @@
 //! Where a worker's turns come from.
 
-ghost use Rattle.std.specs.Prelude.{◌≡◌, ◌≤◌, true};
+ghost use Rattle.std.specs.Prelude.{◌≡◌, ◌≤◌, true, [], IfSome};
 
 use radio_addr::Peer;
 use radio_notes::Log;
@@ -41,8 +41,10 @@ pub trait TurnSource<T, L: Line>: Drop {
     /// the moment.
     fn next(&mut self, log: &Log) -> Option<TurnStart>;
 
-    /// Returns the line of a connection that was taken, and its peer. `None` if it can't be served: it is closed then.
-    fn open(&mut self, newcomer: T) -> Option<(L, Peer)>;
+    /// Returns the line of a connection that was taken, and its peer. Nothing was read from the line yet, and it took nothing.
+    /// `None` if the connection can't be served: it is closed then.
+    fn open(&mut self, newcomer: T) -> Option<(L, Peer)>
+        ensures fresh { IfSome result (λ opened. (L.given opened.0 ≡ []) × (L.taken opened.0 ≡ [])) };
 
     /// Returns how many connections may linger, if `lingering` wish to. Of more the worker closes the oldest.
     fn most_lingering(&mut self, lingering: usize) -> usize

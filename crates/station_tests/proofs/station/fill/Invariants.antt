@@ -1,0 +1,6 @@
+use Rattle.std.proofs.Common.{◌≡◌}
+use Rattle.station_tests.proofs.station.fill.Given as goal
+
+-- the pass is of this intake, and has its parts
+abbrev pub invariant-numbers : goal.invariant-numbers
+invariant-numbers g l = (l.hand.intake ≡ l.intake) × (l.hand.parts ≡ l.initial.hand.parts)
