@@ -14,7 +14,7 @@ fn memory_of(block: Block) -> usize {
     }
 }
 
-/// The memory of a block that was made of these bytes, which stood in so much.
+/// Returns how much memory a block keeps that was made of these bytes, in a vector of this capacity.
 fn memory_of_made(alloc: Global, bytes: &[u8], room: usize) -> Result<usize, OutOfMemory> {
     let mut loose = Vec::with_capacity(alloc, room)?;
     loose.extend_from_slice(bytes)?;
@@ -32,7 +32,7 @@ fn memory_of_copied(alloc: Global, bytes: &[u8]) -> Result<usize, OutOfMemory> {
     Ok(memory_of(Block::copied(alloc, bytes)?))
 }
 
-/// Bytes, in how much room they stood, and how much memory a block keeps that was made of them.
+/// Bytes, the capacity of their vector, and how much memory a block keeps that was made of it.
 const MADE: &[(&[u8], usize, usize)] = &[(b"a", 4096, 1), (b"abcd", 8, 8), (b"abcd", 9, 4)];
 
 // no contract of std or of `bytes` says how much memory bytes keep

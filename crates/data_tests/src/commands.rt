@@ -4,7 +4,7 @@ use radio_admin::{AdminFault, Command, OutOfMemory, RawText, read_command, read_
 use radio_values::MountName;
 use std::alloc::Global;
 
-/// A path, a query, and the command or the fault that they come to, as `shown` writes it.
+/// A path, a query, and the command or the fault that is read of them, as `shown` writes it.
 const ROWS: &[(&[u8], &[u8], &str)] = &[
     (b"/admin/stats", b"", "stats"),
     (b"/admin/listmounts", b"mount=a", "list mounts"),
@@ -149,7 +149,7 @@ fn is_path_read(alloc: Global) -> bool {
     }
 }
 
-/// Whether the path and the query come to what is shown so.
+/// Whether the command or the fault of the path and the query is shown so.
 fn is_shown(alloc: Global, path: &[u8], query: &[u8], want: &str) -> bool {
     match shown(alloc, path, query) {
         Ok(got) => got.as_str() == want,

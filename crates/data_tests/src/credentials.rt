@@ -111,7 +111,7 @@ fn least_time<C: Clock>(clock: &C, users: &Users, pair: &Pair) -> u128 {
     least
 }
 
-/// Whether who is listed cannot be told from who is not by the time in which a wrong password is turned away.
+/// Whether a wrong password is refused as fast for a user of the list as for a stranger.
 fn is_time_alike<C: Clock>(clock: &C, alloc: Global) -> bool {
     let (Some(listed), Some(other)) = (
         long_pair(alloc, b"Basic YW5uOmFh"),

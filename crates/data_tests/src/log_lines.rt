@@ -19,7 +19,7 @@ const MOMENTS: &[(u64, &str)] = &[
     (u64::MAX, "9999-12-31T23:59:59Z"),
 ];
 
-/// Whether a line of that moment tells of one lost line.
+/// Whether a line of that moment says that one line was lost.
 fn is_told_at(alloc: Global, seconds: u64, moment: &str) -> bool {
     let note = Note {
         moment: Moment::at(seconds),

@@ -10,14 +10,14 @@ use std::sync::{Arc, Mutex, Wait};
 use std::thread::Threads;
 use std::time::Clock;
 
-/// What a write comes to.
+/// What a write returns.
 #[derive(Clone, Copy)]
 enum Answer {
     Takes(usize),
     Fails(i32),
 }
 
-/// What it comes to, one after the other: all is taken after them.
+/// What its writes return, in this order. After them it takes all.
 const ANSWERS: [Answer; 3] = [Answer::Takes(5), Answer::Fails(28), Answer::Takes(9)];
 
 /// A stream that gives these answers, and keeps what it has taken.

@@ -1,9 +1,10 @@
 //! The command that a target asks for.
-ghost use Rattle.std.specs.Prelude.{◌≡◌, ◌⊎◌, IfOk, codes};
+ghost use Rattle.std.specs.Prelude.{◌≡◌, ◌⊎◌, IfOk};
 ghost use Rattle.percent_encoding.specs.Percent.{percent_decode as decoded_path};
 ghost use Rattle.std.specs.Option.{option_map};
+ghost use Rattle.std.specs.String.{string_bytes};
 ghost use Rattle.radio_admin.specs.Commands.{add_user, command_at, command_in, command_of, users_command};
-ghost use Rattle.radio_admin.specs.Arguments.{argument, both, user_in};
+ghost use Rattle.radio_admin.specs.Arguments.{both};
 
 use crate::arguments::{fallback_in, mount_in, number_in, title_in, user_in};
 use crate::query::argument;
@@ -77,11 +78,11 @@ fn command_of(
         CommandKind::Stats => Ok(Some(Command::Stats)),
         CommandKind::ListMounts => Ok(Some(Command::ListMounts)),
         CommandKind::ListClients => Ok(list_clients(mount)),
-        CommandKind::MoveClients => move_clients(alloc, mount, query),
-        CommandKind::KillClient => kill_client(alloc, mount, query),
+        CommandKind::MoveClients => Ok(move_clients(mount, mount_in(alloc, "destination", query)?)),
+        CommandKind::KillClient => Ok(kill_client(mount, number_in(alloc, "id", query)?)),
         CommandKind::KillSource => Ok(kill_source(mount)),
-        CommandKind::Metadata => set_title(alloc, mount, query),
-        CommandKind::Fallbacks => set_fallback(alloc, mount, query),
+        CommandKind::Metadata => Ok(set_title(mount, title_in(alloc, query)?)),
+        CommandKind::Fallbacks => Ok(set_fallback(mount, fallback_in(alloc, "fallback", query)?)),
         CommandKind::StreamList => Ok(Some(Command::StreamList)),
         CommandKind::Users => change_users(alloc, mount, query),
     }
@@ -101,65 +102,32 @@ fn kill_source(mount: Option<MountName>) -> Option<Command>
     Some(Command::KillSource(mount))
 }
 
-fn move_clients(
-    alloc: Global,
-    mount: Option<MountName>,
-    query: &[u8],
-) -> Result<Option<Command>, OutOfMemory>
-    ensures { IfOk result (λ command. command ≡ command_of CommandKind.MoveClients mount query.now) }
+fn move_clients(mount: Option<MountName>, destination: Option<MountName>) -> Option<Command>
+    ensures { result ≡ both (λ m to. Command.MoveClients (record { mount = m; destination = to })) mount destination }
 {
-    match (mount, mount_in(alloc, "destination", query)?) {
-        (Some(mount), Some(destination)) => Ok(Some(Command::MoveClients(MoveArguments {
-            mount,
-            destination,
-        }))),
-        _ => Ok(None),
-    }
+    let (mount, destination) = (mount?, destination?);
+    Some(Command::MoveClients(MoveArguments { mount, destination }))
 }
 
-fn kill_client(
-    alloc: Global,
-    mount: Option<MountName>,
-    query: &[u8],
-) -> Result<Option<Command>, OutOfMemory>
-    ensures { IfOk result (λ command. command ≡ command_of CommandKind.KillClient mount query.now) }
+fn kill_client(mount: Option<MountName>, id: Option<u64>) -> Option<Command>
+    ensures { result ≡ both (λ m n. Command.KillClient (record { mount = m; id = n })) mount id }
 {
-    match (mount, number_in(alloc, "id", query)?) {
-        (Some(mount), Some(id)) => Ok(Some(Command::KillClient(Kill { mount, id }))),
-        _ => Ok(None),
-    }
+    let (mount, id) = (mount?, id?);
+    Some(Command::KillClient(Kill { mount, id }))
 }
 
-fn set_title(
-    alloc: Global,
-    mount: Option<MountName>,
-    query: &[u8],
-) -> Result<Option<Command>, OutOfMemory>
-    ensures { IfOk result (λ command. command ≡ command_of CommandKind.Metadata mount query.now) }
+fn set_title(mount: Option<MountName>, title: Option<String>) -> Option<Command>
+    ensures { result ≡ both (λ m text. Command.Metadata (record { mount = m; title = text })) mount (option_map (λ text. string_bytes text) title) }
 {
-    match (mount, title_in(alloc, query)?) {
-        (Some(mount), Some(text)) => {
-            let title = RawText::new(text);
-            Ok(Some(Command::Metadata(NewTitle { mount, title })))
-        }
-        _ => Ok(None),
-    }
+    let (mount, title) = (mount?, RawText::new(title?));
+    Some(Command::Metadata(NewTitle { mount, title }))
 }
 
-fn set_fallback(
-    alloc: Global,
-    mount: Option<MountName>,
-    query: &[u8],
-) -> Result<Option<Command>, OutOfMemory>
-    ensures { IfOk result (λ command. command ≡ command_of CommandKind.Fallbacks mount query.now) }
+fn set_fallback(mount: Option<MountName>, fallback: Option<Option<MountName>>) -> Option<Command>
+    ensures { result ≡ both (λ m next. Command.Fallbacks (record { mount = m; fallback = next })) mount fallback }
 {
-    match (mount, fallback_in(alloc, "fallback", query)?) {
-        (Some(mount), Some(fallback)) => Ok(Some(Command::Fallbacks(NewFallback {
-            mount,
-            fallback,
-        }))),
-        _ => Ok(None),
-    }
+    let (mount, fallback) = (mount?, fallback?);
+    Some(Command::Fallbacks(NewFallback { mount, fallback }))
 }
 
 fn change_users(
@@ -184,46 +152,33 @@ fn users_command(
     ensures { IfOk result (λ command. command ≡ users_command action.now mount query.now) }
 {
     if action == "add" {
-        add_user(alloc, mount, query)
+        let user = user_in(alloc, query)?;
+        Ok(add_user(mount, user, argument(alloc, "password", query)?))
     } else if action == "delete" {
-        delete_user(alloc, mount, query)
+        Ok(delete_user(mount, user_in(alloc, query)?))
     } else {
         Ok(None)
     }
 }
 
 fn add_user(
-    alloc: Global,
     mount: Option<MountName>,
-    query: &[u8],
-) -> Result<Option<Command>, OutOfMemory>
-    ensures { IfOk result (λ command. command ≡ add_user mount (user_in query.now) (argument (codes "password") query.now)) }
+    user: Option<String>,
+    password: Option<String>,
+) -> Option<Command>
+    ensures { result ≡ add_user mount (option_map (λ text. string_bytes text) user) (option_map (λ text. string_bytes text) password) }
 {
-    let Some(mount) = mount else {
-        return Ok(None);
-    };
-    match (user_in(alloc, query)?, argument(alloc, "password", query)?) {
-        (Some(user), Some(password)) => Ok(Some(Command::AddUser(NewUser {
-            mount,
-            user: RawText::new(user),
-            password: RawText::new(password),
-        }))),
-        _ => Ok(None),
-    }
+    let (mount, user, password) = (mount?, RawText::new(user?), RawText::new(password?));
+    Some(Command::AddUser(NewUser {
+        mount,
+        user,
+        password,
+    }))
 }
 
-fn delete_user(
-    alloc: Global,
-    mount: Option<MountName>,
-    query: &[u8],
-) -> Result<Option<Command>, OutOfMemory>
-    ensures { IfOk result (λ command. command ≡ both (λ m user. Command.DeleteUser (record { mount = m; user = user })) mount (user_in query.now)) }
+fn delete_user(mount: Option<MountName>, user: Option<String>) -> Option<Command>
+    ensures { result ≡ both (λ m name. Command.DeleteUser (record { mount = m; user = name })) mount (option_map (λ text. string_bytes text) user) }
 {
-    match (mount, user_in(alloc, query)?) {
-        (Some(mount), Some(user)) => Ok(Some(Command::DeleteUser(OldUser {
-            mount,
-            user: RawText::new(user),
-        }))),
-        _ => Ok(None),
-    }
+    let (mount, user) = (mount?, RawText::new(user?));
+    Some(Command::DeleteUser(OldUser { mount, user }))
 }

@@ -1,6 +1,6 @@
 //! The keys of the settings.
 ghost use Rattle.std.specs.Prelude.{◌≡◌};
-ghost use Rattle.radio_keys.specs.Keys.{stream_word, word};
+ghost use Rattle.radio_keys.specs.Keys.{word};
 
 use std::fmt;
 
@@ -101,16 +101,6 @@ impl Key {
             Key::BrowserCommands => "browser-commands",
             Key::LogPolls => "log-polls",
             Key::IcecastHeads => "icecast-heads",
-            _ => self.stream_word(),
-        }
-    }
-
-    /// The word for a key of the tables `[[mount]]`, `[[relay]]` and `[slave]`, or for one of their names.
-    #[tactic(auto, unfolding(crate::specs::Keys::stream_word))]
-    fn stream_word(self) -> &'static str
-        ensures { result.now ≡ stream_word self }
-    {
-        match self {
             Key::Mount => "mount",
             Key::MountName => "mount-name",
             Key::Username => "username",
@@ -139,7 +129,6 @@ impl Key {
             Key::MasterUsername => "master-username",
             Key::MasterPassword => "master-password",
             Key::MasterUpdateInterval => "master-update-interval",
-            _ => "",
         }
     }
 }

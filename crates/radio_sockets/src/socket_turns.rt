@@ -1,6 +1,6 @@
 //! Where a worker's turns come from: its sockets, and what the others report.
 
-ghost use Rattle.std.specs.Prelude.{◌≡◌, ◌≤◌, ◌-◌, ◌&&◌, ◌||◌, ℕ, true, false, IfSome};
+ghost use Rattle.std.specs.Prelude.{◌≡◌, ◌≤◌, ◌-◌, ◌&&◌, ◌||◌, ℕ, true, false, [], IfSome};
 ghost use Rattle.radio_board.specs.declared.idle_wait.IdleWait.TheVariants.{Turn as TakesTurn};
 ghost use Rattle.radio_board.specs.Rests.{is_turn, longest, most_rest};
 ghost use Rattle.radio_board.specs.Serving.{served_by};
@@ -20,7 +20,7 @@ use radio_board::{
 };
 use radio_lines::{Polled, SocketLine, Sockets, moment, moment_us};
 use radio_notes::Log;
-use radio_serving::Turn;
+use radio_serving::{Line, Turn};
 use radio_workers::{Seen, TurnSource, TurnStart};
 use std::sync::Wait;
 use std::time::Clock;
@@ -326,6 +326,7 @@ impl<'a, R: Clock + Wait> TurnSource<Accepted, SocketLine<TcpStream>> for Socket
         ensures called { self.new.called ≡ self.old.called - 1 }
         // the client that its header names is its peer, or else the socket's other end
         ensures peer { IfSome result (λ opened. opened.1 ≡ peer_by newcomer.named newcomer.socket_peer) }
+        ensures fresh { IfSome result (λ opened. (⟦<SocketLine<TcpStream> as Line>⟧.given opened.0 ≡ []) × (⟦<SocketLine<TcpStream> as Line>⟧.taken opened.0 ≡ [])) }
     {
         self.note_taken(1);
         let Accepted {

@@ -58,7 +58,7 @@ impl Entrance<u64> for One {
     }
 }
 
-/// Whether so many failures in a row are noted, and all but the hundredth are borne.
+/// Notes so many failures in a row. Whether the acceptor goes on after each of them.
 fn fails(accepts: &mut Accepts, times: u64) -> bool {
     for _ in 0..times {
         if !accepts.note(AcceptTry::Failed, 0) {

@@ -8,7 +8,7 @@
 //! - `access`: lists of users and of addresses. `rules`: what the policy says.
 //! - `seats`: who sits where. `walks`: where a walk lands, and whom a move carries.
 //! - `sessions`: bytes as events, and replies as bytes. `plays`: scripts, over devices that fail.
-//! - `stations`: a core, a book and a hall, asked alike. `settling`: passes held against entries, and each fault.
+//! - `stations`: a core, a book and a hall, with the same calls. `settling`: passes compared with entries, and each fault.
 //! - `intakes`: connections that wait. `loopback`: a worker's turns over sockets. `workers`: workers in threads.
 #![tactic(auto)]
 

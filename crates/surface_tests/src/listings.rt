@@ -95,7 +95,7 @@ fn has_words(alloc: Global, fault: &AdminFault) -> Result<bool, OutOfMemory> {
     Ok(text.as_str() == "no command")
 }
 
-/// Whether the path of no command is told as such, in words too.
+/// Whether a path without a command has that fault, and its words.
 fn is_none(alloc: Global) -> bool {
     match read_command(alloc, b"/admin/none", b"") {
         Ok(command) => {

@@ -44,7 +44,7 @@ pub struct SocketLine {
     calls: CallCount,
 }
 
-/// Whether a call came to nothing because it would have waited.
+/// Whether a call did nothing because it would have waited.
 fn waits(error: &Error) -> bool {
     matches!(error.kind(), ErrorKind::WouldBlock)
 }
@@ -130,7 +130,7 @@ impl Line for SocketLine {
     fn pass_over(&mut self) {}
 
     fn finish(&mut self) {
-        // A socket that is closed already has nothing to be told.
+        // the peer may have closed it already
         let _ = self.stream.shutdown(Shutdown::Write);
     }
 }
@@ -236,7 +236,7 @@ fn asks<R: Net<Stream = TcpStream>>(
     }
 }
 
-/// Whether a source and a listener hear what they should.
+/// Whether a source and a listener read what they should.
 fn hear<R: Net<Stream = TcpStream>>(rt: &R, address: SocketAddr) -> bool {
     let source = asks(rt, address, SOURCE, SOURCE_HEARS);
     let listener = asks(rt, address, LISTENER, LISTENER_HEARS);

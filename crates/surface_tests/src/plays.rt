@@ -151,7 +151,7 @@ fn is_transcript(told: Result<Transcript, RunFault>) -> Option<bool> {
     }
 }
 
-/// Whether the deliveries come to the transcript; `None` if memory was refused.
+/// Whether the run of the deliveries yields the transcript. `None` if memory was refused.
 fn is_run(alloc: Global, all: &[Delivery]) -> Option<bool> {
     match read_settings(alloc, SETTINGS) {
         Ok(settings) => {

@@ -86,7 +86,7 @@ fn is_sound(items: &[PullItem]) -> bool {
     }
 }
 
-/// Whether an answer that is none of a stream is told as its status, and ends the pull.
+/// Whether an answer without a stream is a fault with its status, and ends the pull.
 fn is_refused(alloc: Global) -> bool {
     let mut pull = Pull::new(alloc);
     let told = pull.feed(b"HTTP/1.0 404 Not Found\r\n\r\n");

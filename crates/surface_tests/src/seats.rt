@@ -60,7 +60,7 @@ fn come_as(
     }
 }
 
-/// Whether the client sits at the mount, in this session, and has heard so far.
+/// Whether the client sits at the mount, in this session, at this place of the stream.
 pub fn sits_at(seats: &Seats, id: u64, mount: &MountName, session: u64, place: u64) -> bool {
     match seats.seat(id) {
         Some(seat) => {

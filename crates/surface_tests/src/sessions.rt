@@ -43,7 +43,7 @@ fn is_taken(alloc: Global) -> Result<bool, OutOfMemory> {
     Ok(is_open && are_request(events.as_slice()))
 }
 
-/// Whether the denial is told in words, and shuts the connection.
+/// Whether the denial is written as an answer, and shuts the connection.
 fn is_given(alloc: Global) -> Result<bool, OutOfMemory> {
     let mut session = session(alloc);
     let mut out = Vec::new(alloc);

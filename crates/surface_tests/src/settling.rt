@@ -1,4 +1,4 @@
-//! The passes of a book held against its entries, and each fault that a caller can meet.
+//! The passes of a book compared with its entries, and each fault that a caller can meet.
 
 ghost use Rattle.std.specs.Prelude.{◌≡◌, ◌^◌};
 ghost use Rattle.radio_hall.specs.Words.{no_lists, opening};

@@ -80,7 +80,7 @@ fn lands(view: &OneLive, seats: &Seats, id: Option<u64>) -> bool {
     landing(view, seats, &who, &view.live).stop().is_none()
 }
 
-/// Who sits at the live mount does not stand in its own way, and in the way of others.
+/// A seat at the live mount counts against other clients, and not against its own.
 fn is_left_out(alloc: Global, view: &OneLive) -> Result<bool, OutOfMemory> {
     let mut seats = Seats::new(alloc);
     come(alloc, &mut seats, &view.live, 3)?;

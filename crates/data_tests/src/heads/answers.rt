@@ -83,7 +83,7 @@ Content-Length: 1048576\r\n\
 Connection: close\r\n\
 \r\n";
 
-/// Whether this body stands whole behind the head of 1 MiB.
+/// Whether the answer with this body of 1 MiB is its head and then the whole body.
 fn is_whole(alloc: Global, body: &[u8]) -> bool {
     let kind = TextKind::Json;
     match write_answer(alloc, &Answer::Text { kind, body }) {

@@ -1,4 +1,4 @@
-//! What the server tells nobody of a request: its query, and which fault it has.
+//! Parts of a request that the server writes nowhere: its query, and which fault it has.
 
 use radio_heads::{HeadFault, Progress, read_request};
 use std::alloc::Global;

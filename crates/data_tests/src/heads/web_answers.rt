@@ -141,7 +141,7 @@ fn answers_for_web_sites(rt: HostRuntime) {
     assert!(rt; are_texts(rt.alloc()));
 }
 
-/// Whether the page of what is on air stands behind its head, to its end, under its policy.
+/// Whether the answer has the policy of the page of what is on air in its head, and then the whole page.
 fn is_page(text: &[u8]) -> bool {
     match read_response(text) {
         Ok(Progress::Whole(head, length)) => {

@@ -5,7 +5,7 @@ ghost use Rattle.std.specs.Prelude.{◌≤◌, length};
 use super::*;
 use radio_icy::{Item, Unweaver, Weaver};
 
-/// Tells items behind what came before: sound as it is, and each text in brackets.
+/// Appends items to what came before: sound as it is, and each text in brackets.
 fn gather(items: &[Item], told: &mut Vec<u8>) -> Result<(), OutOfMemory> {
     for item in items {
         tell(item, told)?;
@@ -47,7 +47,7 @@ fn feed_pieces(
     Ok(())
 }
 
-/// Whether this is told of a stream that is fed in pieces of so many bytes.
+/// Whether a stream that is fed in pieces of so many bytes brings these items.
 fn is_told(
     alloc: Global,
     interval: usize,
@@ -74,7 +74,7 @@ fn feed_two(
     feed(unweaver, pieces.1, told)
 }
 
-/// Whether this is told of a stream that is cut there.
+/// Whether a stream that is cut there brings these items.
 fn is_told_cut(alloc: Global, stream: &[u8], cut: usize, want: &[u8]) -> Result<bool, OutOfMemory>
     requires { cut ≤ length stream.now }
 {
@@ -84,7 +84,7 @@ fn is_told_cut(alloc: Global, stream: &[u8], cut: usize, want: &[u8]) -> Result<
     Ok(told.as_slice() == want)
 }
 
-/// Whether it is told of a stream that is cut at any of its bytes.
+/// Whether a stream brings these items wherever it is cut.
 fn is_told_at_each_cut(alloc: Global, stream: &[u8], want: &[u8]) -> Result<bool, OutOfMemory> {
     for cut in 0..=stream.len() {
         if !is_told_cut(alloc, stream, cut, want)? {
@@ -94,7 +94,7 @@ fn is_told_at_each_cut(alloc: Global, stream: &[u8], want: &[u8]) -> Result<bool
     Ok(true)
 }
 
-/// Whether the longest title is told of its stream, wherever that is cut.
+/// Whether a stream with the longest title brings that title, wherever it is cut.
 fn is_longest_told(alloc: Global) -> Result<bool, OutOfMemory> {
     let stream = enclosed(alloc, b"abcd\xffStreamTitle='", LONGEST, b"';ef")?;
     let want = enclosed(alloc, b"abcd<StreamTitle='", LONGEST, b"';>ef")?;
@@ -116,7 +116,7 @@ fn stream_of(alloc: Global, interval: usize, sound: &[u8]) -> Result<Vec<u8>, Ou
     Ok(out)
 }
 
-/// Whether 1 MiB of sound is told again, whole, of its stream in pieces of 1400 bytes.
+/// Whether a stream of 1 MiB of sound, in pieces of 1400 bytes, brings all of the sound.
 fn is_told_again(alloc: Global, interval: usize) -> Result<bool, OutOfMemory>
     requires { 1 ≤ interval }
 {
@@ -136,7 +136,7 @@ fn a_mebibyte(rt: HostRuntime) {
     }
 }
 
-/// A stream with a title, and what is told of it.
+/// A stream with a title, and the items that it brings.
 const TITLED: &[u8] = b"abcd\x01StreamTitle='X';efgh\0";
 
 const TOLD: &[u8] = b"abcd<StreamTitle='X';>efgh";

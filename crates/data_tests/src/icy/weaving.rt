@@ -1,4 +1,4 @@
-//! Weaving: what no listener can come to today, and how much room is asked for.
+//! Weaving: what happens to no listener today, and how much room is asked for.
 //! Streams and titles are in the end-to-end scripts.
 
 use super::*;

@@ -68,7 +68,7 @@ fn names(alloc: Global, text: &[u8]) -> Result<Vec<MountName>, OutOfMemory> {
     Ok(names)
 }
 
-/// Whether these orders are told so.
+/// Whether this text shows these orders.
 fn are_told(alloc: Global, orders: &[RelayOrder], want: &[u8]) -> Result<bool, OutOfMemory> {
     let mut told = Vec::new(alloc);
     tell_orders(orders, &mut told)?;

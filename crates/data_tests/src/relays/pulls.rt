@@ -3,7 +3,7 @@
 use super::*;
 use radio_relay::Pull;
 
-/// Answers, what is told of them, and their fault.
+/// Answers, what a pull shows of each, and its fault.
 const ANSWERS: &[(&[u8], &[u8], Option<PullFault>)] = &[
     (
         b"HTTP/1.0 200 OK\r\nicy-metaint: 4\r\n\r\nabcd\x01StreamTitle='X';ef",
@@ -90,7 +90,7 @@ const ANSWERS: &[(&[u8], &[u8], Option<PullFault>)] = &[
     ),
 ];
 
-/// Feeds a piece, and tells what it brings; its fault, if it has one.
+/// Feeds a piece, and appends what it brings to the text. Returns its fault, if it has one.
 fn feed(
     pull: &mut Pull,
     piece: &[u8],
@@ -155,7 +155,7 @@ fn pull_all(
     faults
 }
 
-/// Whether this is told of two pieces, and the fault comes once, and then that the pull has failed.
+/// Whether two pieces bring what this text shows. The fault comes once, and after it that the pull has failed.
 fn is_told(
     alloc: Global,
     pieces: (&[u8], &[u8]),
@@ -167,7 +167,7 @@ fn is_told(
     Ok(faults.are(fault) && told.as_slice() == want)
 }
 
-/// Whether it is told so wherever the answer is cut.
+/// Whether an answer brings the same wherever it is cut.
 fn is_told_however_cut(
     alloc: Global,
     answer: &[u8],

@@ -6,7 +6,7 @@ use radio_script::{Counted, PlayFault, Tally, play_with};
 use std::alloc::Global;
 use std::io::{Read, Write};
 
-// The lines of a script, each with what it comes to.
+// The lines of a script, each with the lines that answer it.
 const LINES: &[(&[u8], &[u8])] = &[
     (b"open 1 127.0.0.1\n", b""),
     (b"in 1 ab\\x00\n", b"out 1 ab\\x00\n"),

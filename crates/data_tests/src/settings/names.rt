@@ -4,7 +4,7 @@
 use radio_values::MountName;
 use std::cmp::Ordering;
 
-/// How the first path's name stands to the second's; `None` if one of them names no mount.
+/// Compares the first path's name with the second's. `None` if one of them names no mount.
 const ORDERS: &[(&[u8], &[u8], Option<Ordering>)] = &[
     (b"/a", b"/a", Some(Ordering::Equal)),
     (b"/a", b"/ab", Some(Ordering::Less)),
