@@ -1,4 +1,5 @@
 pub mod Laws
 pub mod Lists
 pub mod Running
+pub mod Threads
 pub mod Turns

@@ -1,12 +1,12 @@
 //! A relay's thread: a pull of its master, again and again.
 
-ghost use Rattle.std.specs.Prelude.{◌≡◌, ◌⊎◌, [], IfOk, IfErr, IfSome, OnOk};
+ghost use Rattle.std.specs.Prelude.{◌≡◌, ◌⊎◌, IfOk, IfErr, IfSome, OnErr, OnOk};
 ghost use Rattle.radio_masters.specs.declared.relay_end.RelayEnd.TheVariants.{NoAnswer, NotWished, OutOfMemory as NoMemory};
 ghost use Rattle.radio_pull.specs.Course.{GoesDown};
-ghost use Rattle.radio_pull.specs.Pulling.{begun};
-ghost use Rattle.radio_relay.specs.Request.{request_text};
 ghost use Rattle.radio_masters.specs.Askers.{AskedSteps};
+ghost use Rattle.radio_masters.specs.Pulls.{RefusesDown};
 ghost use Rattle.radio_serving.specs.Watching.{WatchedSteps, watched_of};
+ghost use Rattle.radio_pullers.specs.Threads.{HasPulled, HasHadTurns, IsLetDown, IsNewPull, IsPullOf};
 ghost use Rattle.radio_pullers.specs.Turns.{MayTurn};
 
 use crate::OutOfMemory;
@@ -55,11 +55,40 @@ pub(crate) fn pull_relay<R: Clock + Wait, N: Network, S: SharedServer>(
     station: &RelayedStation<'_, N, S>,
     relay: &RunningRelay,
 ) {
-    let outcome = match Puller::begun(rt, station, relay) {
-        Some(mut puller) => puller.work(),
+    let outcome = match pull_alone(rt, station, relay) {
+        Some(outcome) => outcome,
         None => not_begun(rt, relay),
     };
     let _ = relay.outcome.lock(rt).replace(outcome);
+}
+
+/// Pulls this relay in with a pass of its own. Returns how its thread has ended; `None` if there is no pass, or memory or a socket
+/// was refused before anything was tried.
+fn pull_alone<R: Clock + Wait, N: Network, S: SharedServer>(
+    rt: &R,
+    station: &RelayedStation<'_, N, S>,
+    relay: &RunningRelay,
+) -> Option<RelayOutcome> {
+    let pass = station.server.pass(rt)?;
+    let (outcome, pass) = pull_with(rt, station, relay, pass)?;
+    drop(pass);
+    Some(outcome)
+}
+
+/// Pulls this relay in with this pass, by which all is applied, and which comes back. Returns how its thread has ended; `None` if
+/// memory or a socket was refused before anything was tried.
+fn pull_with<R: Clock + Wait, N: Network, S: SharedServer>(
+    rt: &R,
+    station: &RelayedStation<'_, N, S>,
+    relay: &RunningRelay,
+    pass: S::Pass,
+) -> Option<(RelayOutcome, S::Pass)>
+    ensures { IfSome result (λ done. HasPulled S.steps S.refuses relay.now.setting pass done.1) }
+{
+    let caller = Caller::new(rt, station.server, pass);
+    let puller = Puller::new(rt, station.net, station.shared, relay, caller).ok()?;
+    let (outcome, caller) = puller.run();
+    Some((outcome, caller.into_pass()))
 }
 
 /// Returns how a relay's thread has ended that was refused memory, a pass or a socket before anything was tried.
@@ -88,21 +117,6 @@ fn asked_for<S: Server + Drop>(
     Ok(asked)
 }
 
-impl<'a, R: Clock + Wait, N: Network, S: SharedServer> Puller<'a, R, N, Caller<'a, R, S>> {
-    /// Returns the thread of this relay, with a pass of its own; `None` if there is none, or memory or a socket was refused.
-    fn begun(
-        rt: &'a R,
-        station: &RelayedStation<'a, N, S>,
-        relay: &'a RunningRelay,
-    ) -> Option<Puller<'a, R, N, Caller<'a, R, S>>>
-        ensures { IfSome result (λ puller. puller.began_ms ≡ 0) }
-    {
-        let pass = station.server.pass(rt)?;
-        let caller = Caller::new(rt, station.server, pass);
-        Puller::new(rt, station.net, station.shared, relay, caller).ok()
-    }
-}
-
 impl<'a, R: Clock + Wait, N: Network, S: Server + Drop> Puller<'a, R, N, S> {
     /// Returns the thread of this relay, which asks this server. The system's fault if it reports nothing of sockets,
     /// or memory was refused.
@@ -114,6 +128,7 @@ impl<'a, R: Clock + Wait, N: Network, S: Server + Drop> Puller<'a, R, N, S> {
         server: S,
     ) -> io::Result<Puller<'a, R, N, S>>
         ensures server { IfOk result (λ puller. puller.asked.server ≡ watched_of server) }
+        ensures relay { IfOk result (λ puller. puller.relay.now ≡ relay.now) }
         ensures began { IfOk result (λ puller. puller.began_ms ≡ 0) }
     {
         let alloc = shared.alloc();
@@ -131,22 +146,36 @@ impl<'a, R: Clock + Wait, N: Network, S: Server + Drop> Puller<'a, R, N, S> {
         })
     }
 
+    /// Pulls until it is to stop, or a pull has not brought it up. Returns how it has ended, and the server, by which all was
+    /// applied.
+    fn run(self) -> (RelayOutcome, S)
+        ensures { HasPulled S.steps S.refuses self.entry.relay.now.setting self.entry.asked.server.server result.1 }
+    {
+        let mut puller = self;
+        let outcome = puller.work();
+        drop(puller.sockets);
+        (outcome, puller.asked.into_server().into_server())
+    }
+
     /// Pulls again and again, until it is to stop, or a pull has not brought it up. Returns how it has ended.
-    fn work(&mut self) -> RelayOutcome {
-        let mut why = RelayEnd::NotWished;
+    #[tactic(auto, using(crate::proofs::ThreadLemmas::pulls_none, crate::proofs::ThreadLemmas::pulls_rest, crate::proofs::ThreadLemmas::pulls_then))]
+    fn work(&mut self) -> RelayOutcome
+        ensures { HasPulled S.steps S.refuses self.old.relay.now.setting self.old.asked.server.server self.new.asked.server.server }
+    {
         'pulls: for _ in self.rt.forever() {
-            why = self.pull();
+            let why = self.pull();
             if !self.goes_on(why) {
-                break;
+                return self.outcome(why);
             }
         }
-        self.outcome(why)
+        unreachable!()
     }
 
     /// Logs that a pull has ended so, and rests. Returns whether another is to follow: the relay was up, and is not to
     /// stop.
     fn goes_on(&mut self, why: RelayEnd) -> bool
         ensures server { self.new.asked.server ≡ self.old.asked.server }
+        ensures relay { self.new.relay.now ≡ self.old.relay.now }
         ensures began { self.new.began_ms ≡ self.old.began_ms }
     {
         let was_up = self.asked.is_up();
@@ -164,7 +193,11 @@ impl<'a, R: Clock + Wait, N: Network, S: Server + Drop> Puller<'a, R, N, S> {
     }
 
     /// Pulls from the first address of the master that answers. Returns why the pull has ended.
-    fn pull(&mut self) -> RelayEnd {
+    #[tactic(auto, using(crate::proofs::ThreadLemmas::pulls_none, crate::proofs::ThreadLemmas::pulls_then))]
+    fn pull(&mut self) -> RelayEnd
+        ensures pulls { HasPulled S.steps S.refuses self.old.relay.now.setting self.old.asked.server.server self.new.asked.server.server }
+        ensures relay { self.new.relay.now ≡ self.old.relay.now }
+    {
         let mut why = RelayEnd::NoAddress;
         'addresses: for address in self.addresses() {
             why = self.pull_at(address);
@@ -184,23 +217,36 @@ impl<'a, R: Clock + Wait, N: Network, S: Server + Drop> Puller<'a, R, N, S> {
     }
 
     /// Pulls from this address. Returns why the pull has ended; then the relay is down.
-    fn pull_at(&mut self, address: SocketAddr) -> RelayEnd {
+    #[tactic(auto, using(crate::proofs::ThreadLemmas::new_pull_of, crate::proofs::ThreadLemmas::pulls_one, crate::proofs::ThreadLemmas::pulls_same))]
+    fn pull_at(&mut self, address: SocketAddr) -> RelayEnd
+        ensures pulls { HasPulled S.steps S.refuses self.old.relay.now.setting self.old.asked.server.server self.new.asked.server.server }
+        ensures relay { self.new.relay.now ≡ self.old.relay.now }
+    {
         self.began_ms = moment(self.rt);
         match self.begin(address) {
-            Ok(mut pull) => {
-                let why = self.turns(&mut pull);
-                self.go_down(&pull);
-                why
-            }
+            Ok(pull) => self.pull_on(pull),
             Err(why) => why,
         }
+    }
+
+    /// Makes the turns of a pull that has just begun. Returns why it has ended; then the relay is down.
+    fn pull_on(&mut self, pull: MountPull<SocketLine<TcpStream>>) -> RelayEnd
+        requires { IsNewPull self.old.relay.now.setting pull }
+        ensures pull { IsPullOf S.steps S.refuses self.old.relay.now.setting self.old.asked.server.server self.new.asked.server.server }
+        ensures relay { self.new.relay.now ≡ self.old.relay.now }
+    {
+        let mut pull = pull;
+        let why = self.turns(&mut pull);
+        self.go_down(&pull);
+        why
     }
 
     /// Begins a pull from this address, of which nothing has come yet. `NoAnswer` if nothing can be connected, `OutOfMemory` if
     /// memory was refused.
     fn begin(&mut self, address: SocketAddr) -> Result<MountPull<SocketLine<TcpStream>>, RelayEnd>
         ensures asked { self.new.asked ≡ self.old.asked }
-        ensures pull { IfOk result (λ pull. (pull.relay ≡ begun self.old.relay.now.setting.local_mount) × (pull.outgoing ≡ request_text self.old.relay.now.setting) × (pull.front ≡ [])) }
+        ensures relay { self.new.relay.now ≡ self.old.relay.now }
+        ensures pull { IfOk result (λ pull. IsNewPull self.old.relay.now.setting pull) }
         ensures why { IfErr result (λ why. (why ≡ NoAnswer) ⊎ (why ≡ NoMemory)) }
     {
         let Ok(line) = self.sockets.connect(self.net, address) else {
@@ -214,19 +260,31 @@ impl<'a, R: Clock + Wait, N: Network, S: Server + Drop> Puller<'a, R, N, S> {
 
     /// Has the relay of a pull that has ended go down. If memory is refused for that, it asks again, until the server ends. Who has
     /// gone down already is not known any more.
-    fn go_down(&mut self, pull: &MountPull<SocketLine<TcpStream>>) {
+    #[tactic(auto, using(crate::proofs::ThreadLemmas::let_down, crate::proofs::ThreadLemmas::refused_same))]
+    fn go_down(&mut self, pull: &MountPull<SocketLine<TcpStream>>)
+        ensures down { IsLetDown S.steps S.refuses pull.now.relay.number self.old.asked.server.server self.new.asked.server.server }
+        ensures relay { self.new.relay.now ≡ self.old.relay.now }
+    {
         'asking: for _ in self.rt.forever() {
-            if self.end(pull).is_ok() || self.shared.is_over() {
+            let Err(_) = self.end(pull) else {
+                return;
+            };
+            if self.shared.is_over() {
                 return;
             }
             let until_ms = after(moment(self.rt), WAIT_MS);
             let _ = waits_until(self.rt, self.shared, None, until_ms);
         }
+        unreachable!()
     }
 
-    /// Has the relay of a pull that has ended go down, if it is up. `OutOfMemory` if memory was refused for that.
+    /// Has the relay of a pull that has ended go down, if it is up. `OutOfMemory` if memory was refused for that; nothing was
+    /// applied then.
     fn end(&mut self, pull: &MountPull<SocketLine<TcpStream>>) -> Result<(), OutOfMemory>
-        ensures { OnOk result (GoesDown (AskedSteps (WatchedSteps S.steps)) pull.now.relay.number self.old.asked self.new.asked) }
+        ensures down { OnOk result (GoesDown (AskedSteps (WatchedSteps S.steps)) pull.now.relay.number self.old.asked self.new.asked) }
+        ensures err { OnErr result (self.new.asked ≡ self.old.asked) }
+        ensures refused { OnErr result (RefusesDown (λ asked event. S.refuses asked.server.server event) pull.now.relay.number self.old.asked) }
+        ensures relay { self.new.relay.now ≡ self.old.relay.now }
     {
         let ended = pull.close(&mut self.asked);
         self.tell_others();
@@ -234,8 +292,11 @@ impl<'a, R: Clock + Wait, N: Network, S: Server + Drop> Puller<'a, R, N, S> {
     }
 
     /// Makes turn after turn, until the pull has ended. Returns why.
+    #[tactic(auto, using(crate::proofs::ThreadLemmas::gone_none, crate::proofs::ThreadLemmas::gone_then, crate::proofs::ThreadLemmas::turned_then))]
     fn turns(&mut self, pull: &mut MountPull<SocketLine<TcpStream>>) -> RelayEnd
-        ensures { self.new.began_ms ≡ self.old.began_ms }
+        ensures turns { HasHadTurns S.steps pull.old self.old.asked.server.server pull.new self.new.asked.server.server }
+        ensures relay { self.new.relay.now ≡ self.old.relay.now }
+        ensures began { self.new.began_ms ≡ self.old.began_ms }
     {
         let mut buffer = [0u8; READ_ROOM];
         'turns: for _ in self.rt.forever() {
@@ -243,7 +304,7 @@ impl<'a, R: Clock + Wait, N: Network, S: Server + Drop> Puller<'a, R, N, S> {
                 return why;
             }
         }
-        RelayEnd::Left
+        unreachable!()
     }
 
     /// Waits until there is something to do, and does it. Returns why the pull has ended, if it has.
@@ -254,6 +315,7 @@ impl<'a, R: Clock + Wait, N: Network, S: Server + Drop> Puller<'a, R, N, S> {
         buffer: &mut [u8],
     ) -> Option<RelayEnd>
         ensures turn { MayTurn (AskedSteps (WatchedSteps S.steps)) self.old.began_ms pull.old self.old.asked result pull.new self.new.asked }
+        ensures relay { self.new.relay.now ≡ self.old.relay.now }
         ensures began { self.new.began_ms ≡ self.old.began_ms }
     {
         let Some(ms) = self.hear() else {
@@ -271,6 +333,7 @@ impl<'a, R: Clock + Wait, N: Network, S: Server + Drop> Puller<'a, R, N, S> {
     /// if the system reports nothing.
     fn hear(&mut self) -> Option<u64>
         ensures asked { self.new.asked ≡ self.old.asked }
+        ensures relay { self.new.relay.now ≡ self.old.relay.now }
         ensures began { self.new.began_ms ≡ self.old.began_ms }
     {
         let wait_ms = self.sockets.activity().wait_ms(WAIT_MS);
@@ -302,6 +365,7 @@ impl<'a, R: Clock + Wait, N: Network, S: Server + Drop> Puller<'a, R, N, S> {
     /// Logs that the pull has ended.
     fn tell_end(&mut self, why: RelayEnd)
         ensures server { self.new.asked.server ≡ self.old.asked.server }
+        ensures relay { self.new.relay.now ≡ self.old.relay.now }
         ensures began { self.new.began_ms ≡ self.old.began_ms }
     {
         let end = pull_end(why, self.began_ms, moment(self.rt));

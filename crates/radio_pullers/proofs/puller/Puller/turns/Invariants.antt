@@ -1,5 +1,10 @@
 use Rattle.std.proofs.Common.{◌≡◌}
+use Rattle.radio_pullers.specs.Threads.{HasGoneOn}
 use Rattle.radio_pullers.proofs.puller.Puller.turns.Given as goal
 
 abbrev pub invariant-turns : goal.invariant-turns
-invariant-turns g l = l.self.began_ms ≡ l.initial.self.began_ms
+invariant-turns g l = record {
+  began : l.self.began_ms ≡ l.initial.self.began_ms;
+  relay : l.self.relay.now ≡ l.initial.self.relay.now;
+  turned : HasGoneOn g.S.Server.steps l.initial.pull l.initial.self.asked.server.server l.pull l.self.asked.server.server;
+}
