@@ -12,7 +12,7 @@ SCRIPTS = ("scripts", "tests", "tests/live", "tests/lib", "bench", "tools")
 
 @cache
 def text_of(file):
-    """The text of a file, by its path from the top, or nothing where there is none."""
+    """The text of a file, by its path from the top, or nothing if there is none."""
     path = TOP / file
     return path.read_text() if path.is_file() else ""
 
