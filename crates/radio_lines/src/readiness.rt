@@ -83,9 +83,7 @@ fn is_readable_by(flags: u64) -> bool
 
 /// Returns the readiness with these flags and moments, in milliseconds.
 fn ready_of(flags: u64, read_from_ms: u64, write_from_ms: u64) -> Ready
-    ensures flags {
-        (ready : Ready) → flags ≡ flags_of ready → result ≡ record ready { read_from_ms = read_from_ms; write_from_ms = write_from_ms }
-    }
+    ensures flags { (ready : Ready) → flags ≡ flags_of ready → result ≡ record ready { read_from_ms = read_from_ms; write_from_ms = write_from_ms } }
 {
     Ready {
         is_readable: is_readable_by(flags),
