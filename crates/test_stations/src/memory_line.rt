@@ -72,8 +72,8 @@ pub struct MemoryLine {
 impl MemoryLine {
     /// Returns a line of these manners, which has given and taken nothing.
     pub fn new(alloc: Global, manners: Manners) -> MemoryLine
-        ensures given { ⟦MemoryLine as Line⟧.given result ≡ [] }
-        ensures taken { ⟦MemoryLine as Line⟧.taken result ≡ [] }
+        ensures given { ⟦<MemoryLine as Line>⟧.given result ≡ [] }
+        ensures taken { ⟦<MemoryLine as Line>⟧.taken result ≡ [] }
     {
         MemoryLine {
             manners,
