@@ -23,6 +23,11 @@ def sources_of(crate):
     return [text_of(file) for file in sorted((CRATES / crate / "src").glob("**/*.rt"))]
 
 
+def is_of_tests(crate):
+    """Whether the crate has tests, or is a library of such crates alone."""
+    return crate.endswith("_tests") or crate.startswith("test_")
+
+
 @cache
 def tests():
     """The names of all tests."""
