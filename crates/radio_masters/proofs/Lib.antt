@@ -1,2 +1,3 @@
 mod Called
 mod Popped
+mod PullEntries

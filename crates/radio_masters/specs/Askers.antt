@@ -1,7 +1,5 @@
 -- A server, as a relay asks it.
 use Rattle.std.specs.Prelude.{◌≡◌}
-use Rattle.radio_events.specs.declared.event.Event.{Event}
-use Rattle.radio_events.specs.declared.reply.Reply.{Reply}
 use Rattle.radio_events.specs.Servers.{Steps}
 use Rattle.radio_masters.specs.Courses.{PullHasEnded, IsSayingOf, begun, due, after_saying}
 use Rattle.radio_masters.specs.declared.relay_course.EndLine.{EndLine}

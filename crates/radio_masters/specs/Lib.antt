@@ -1,3 +1,4 @@
+pub mod Applied
 pub mod Pulls
 pub mod ListAnswers
 pub mod Ends

@@ -2,17 +2,18 @@
 use Rattle.std.specs.Prelude.{◌≡◌, ℕ, suc, Bool, true, false, ◌-◌, List, [], ◌∷◌, ◌++◌, length, take, Option, None, Some, Result, Ok, Err}
 use Rattle.std.specs.Option.{option_map}
 use Rattle.radio_events.specs.declared.event.Event.{Event}
-use Rattle.radio_events.specs.declared.event.Event.TheVariants.{Draw}
+use Rattle.radio_events.specs.declared.event.Event.TheVariants.{Draw, RelayDown}
 use Rattle.radio_events.specs.declared.state.State.{State}
 use Rattle.radio_events.specs.declared.state.State.TheVariants.{Running, Shut}
-use Rattle.radio_events.specs.Servers.{Steps}
+use Rattle.radio_events.specs.declared.entry.Entry.{Entry}
+use Rattle.radio_events.specs.Servers.{Chain, Steps}
 use Rattle.radio_connections.specs.Lines.{Calls}
 use Rattle.radio_heads.specs.declared.outcome.HeadFault.{HeadFault}
 use Rattle.radio_heads.specs.declared.outcome.Progress.{Progress}
 use Rattle.radio_heads.specs.declared.outcome.Progress.TheVariants.{More, Whole}
 use Rattle.radio_heads.specs.Response.{ResponseParts}
 use Rattle.radio_pull.specs.Pulling.{Pulling, Standing}
-use Rattle.radio_pull.specs.Course.{AsksIf, Takes}
+use Rattle.radio_masters.specs.Applied.{AreOfBytes, AreOfEventIf}
 use Rattle.radio_masters.specs.declared.mount_pull.PullTurn.{PullTurn}
 use Rattle.radio_masters.specs.declared.mount_pull.PullTurn.TheVariants.{Running as GoesOn, Shut as IsShut, Closed, Failed, OutOfMemory}
 
@@ -78,19 +79,30 @@ IsCalledIn Closed before now = now.closings ≡ suc before.closings
 IsCalledIn Failed before now = now.faults ≡ suc before.faults
 IsCalledIn turn before now = now.reads ≡ suc before.reads
 
-module _ {S : Type 0} (steps : Steps S) where
-  -- the server is asked whether the relay goes on
-  -- rule: Turn of a pull
-  pub record IsProbed (relay : Pulling) (from : S) (relay' : Pulling) (state : State) (to : S) : Type 0 where
-    pub after : Standing
-    pub asks : AsksIf steps relay.number (probe_of relay.number) from after to
-    pub stands : state ≡ after.state
-    pub numbered : relay' ≡ record relay { number = after.number }
+-- a draw without room, by whose reply the relay goes on or not
+-- rule: Turn of a pull
+pub record IsProbed (relay : Pulling) (entries : List Entry) (relay' : Pulling) (state : State) : Type 0 where
+  pub after : Standing
+  pub asks : AreOfEventIf relay.number (probe_of relay.number) entries after
+  pub stands : state ≡ after.state
+  pub numbered : relay' ≡ record relay { number = after.number }
 
-  -- the bytes that came are pulled in; where nothing came, the server is asked
-  abbrev pub Hears : Pulling → List ℕ → S → Pulling → State → S → Type 0
-  Hears relay [] from relay' state to = IsProbed relay from relay' state to
-  Hears relay (byte ∷ bytes) from relay' state to = Takes steps relay (byte ∷ bytes) from relay' state to
+-- what is applied when these bytes came: what they bring, or the draw if nothing came
+abbrev pub AreOfTurn : Pulling → List ℕ → List Entry → Pulling → State → Type 0
+AreOfTurn relay [] entries relay' state = IsProbed relay entries relay' state
+AreOfTurn relay (byte ∷ bytes) entries relay' state = AreOfBytes relay (byte ∷ bytes) entries relay' state
+
+-- memory is refused for its going down
+abbrev pub RefusesDown : {S : Type 0} → (S → Event → Type 0) → Option ℕ → S → Type 0
+RefusesDown refuses None from = ⊥
+RefusesDown refuses (Some id) from = refuses from (RelayDown id)
+
+module _ {S : Type 0} (steps : Steps S) where
+  -- these events were applied one after another, and no others
+  pub record Hears (relay : Pulling) (bytes : List ℕ) (from : S) (relay' : Pulling) (state : State) (to : S) : Type 0 where
+    pub entries : List Entry
+    pub chain : Chain steps from entries to
+    pub are : AreOfTurn relay bytes entries relay' state
 
   -- its result by the turn's end: if the line is over nothing came, and if memory was refused nothing is said
   -- rule: Turn of a pull
