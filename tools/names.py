@@ -12,7 +12,7 @@ SCRIPTS = ("scripts", "tests", "tests/live", "tests/lib", "bench", "tools")
 
 @cache
 def text_of(file):
-    """The text of a file, by its path from the top, or nothing where there is none."""
+    """The text of a file, by its path from the top, or nothing if there is none."""
     path = TOP / file
     return path.read_text() if path.is_file() else ""
 
@@ -21,6 +21,11 @@ def text_of(file):
 def sources_of(crate):
     """The texts of all source files of a crate."""
     return [text_of(file) for file in sorted((CRATES / crate / "src").glob("**/*.rt"))]
+
+
+def is_of_tests(crate):
+    """Whether the crate has tests, or is a library of such crates alone."""
+    return crate.endswith("_tests") or crate.startswith("test_")
 
 
 @cache

@@ -1,7 +1,7 @@
-# Plays each row of a table of bytes in all its ways, as one script, and writes what that comes to as a transcript.
+# Plays each row of a table of bytes in all its ways, as one script, and writes the transcript that it should yield.
 #   awk -v settings=FILE -v transcript=FILE -f tests/lib/bytes.awk tests/tables/heads.tsv > SCRIPT
-# Bytes stand as in scripts, and {TEXT*N} for N times TEXT. A label is the row's line, then the way, then who it is:
-# so a difference tells which row it is, and how that was cut.
+# Bytes are written as in scripts, and {TEXT*N} is N times TEXT. A label is the row's line, then the way, then who it is:
+# so a difference shows which row it is, and how that was cut.
 
 BEGIN {
     FS = "\t"
@@ -42,7 +42,7 @@ function play_body(told, framing, body, rest,    n, size) {
     for (size = 1; n <= 64 && size <= n; size++) play_pieces(told, framing, n, 10 + size, size, n, rest)
 }
 
-# What ends the session ends the listener's seat too, so of that piece's data nothing is given to him.
+# What ends the session ends the listener's seat too, so of that piece's data nothing is given to it.
 function play_pieces(told, framing, n, way, first, size, rest,    from, to) {
     begin(way)
     feed("/a", framing, "")
@@ -75,7 +75,7 @@ function play_blocks(burst, framing, deliveries, given,    n, i, delivery) {
     leave(source)
 }
 
-# A text as a title, and as a name if a header can hold it: what is shown of both, where metadata come after each byte.
+# A text as a title, and as a name if a header can hold it: what is shown of both, if metadata come after each byte.
 function play_text(text, name, block) {
     begin(0)
     print "in " source " SOURCE /each-byte HTTP/1.0\\r\\n" pair (name == "-" ? "" : "ice-name: " text "\\r\\n") "\\r\\ns"
@@ -118,7 +118,7 @@ function leave(label) {
     print "shut " label " done" > transcript
 }
 
-# somebody whom the deny list has: so it shows what is told before this and what behind it
+# a peer that the deny list has: so it shows what is written before this and what behind it
 function mark() {
     print "open " source + 2 " 10.0.0.9"
     print "shut " source + 2 " address-denied" > transcript

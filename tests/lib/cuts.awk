@@ -1,5 +1,5 @@
 # Plays a case over and over in one script, each time with what comes cut elsewhere. Labels and moments go on from one
-# time to the next, so that no time has to do with another. Writes that script, and the transcript that it comes to.
+# time to the next, so that no time has to do with another. Writes that script, and the transcript that it yields.
 #   awk -v size=N -v script=FILE -v transcript=FILE -f tests/lib/cuts.awk SCRIPT TRANSCRIPT
 # With a size above 0 each delivery comes in pieces of so many bytes, and that once. With 0 one delivery comes in two,
 # and that once for each place in each delivery.
@@ -15,7 +15,7 @@ END {
     }
 }
 
-# how many bytes a line brings: what stands before them is in `front`, and each, as it is written, in `byte`
+# how many bytes a line brings: what is before them is in `front`, and each, as it is written, in `byte`
 function read_bytes(text,    i, n, width) {
     n = 0
     if (!match(text, /^in [0-9]+ /)) return 0

@@ -31,7 +31,7 @@ def is_live(station, mount=b"/a"):
 
 
 class Master:
-    """A master of a few words: what it answers to each request is told by the function `answer` of its head."""
+    """A master of a few words: the function `answer` says what it answers to the head of a request."""
 
     def __init__(self, answer):
         self.answer, self.asked, self.lines = answer, [], []

@@ -1,4 +1,4 @@
-"""A plain model of the server, written from docs/rules and not from the code: what a script's lines come to.
+"""A plain model of the server, written from docs/rules and not from the code: what a script's lines yield.
 
 It knows what `tests/try_random` makes: whole heads of SOURCE and GET, plain bodies, pulls of relays, also on demand, commands, listings, titles of
 ASCII; no address lists.
@@ -79,7 +79,7 @@ class Relay:
 
 
 class Client:
-    """One who was let in. `rule` is the one by which he was finished; a listener who sits has a `mount` and a `session`."""
+    """A client that was admitted. `rule` is the one that finished it; a listener that sits has a `mount` and a `session`."""
 
     def __init__(self, number, peer, now):
         self.number, self.peer, self.arrived, self.state, self.rule = number, peer, now, "new", None
@@ -112,7 +112,7 @@ class Model:
         return name not in self.users or (pair is not None and self.users[name].get(pair[0]) == pair[1])
 
     def heard_at(self, name):
-        """The session of the mount, or an empty one where it waits for one; `None` where it does not."""
+        """The session of the mount, or an empty one if it waits for one; `None` if it does not."""
         return self.live.get(name) or (Session(name, None, self.now) if self.relays.get(name) else None)
 
     # who sits where
@@ -131,7 +131,7 @@ class Model:
         return most is not None and len(self.at(name, but)) >= most
 
     def stop(self, name, pair, but=None):
-        """The rule that keeps one who sends this pair from the mount; `None` where he may sit there."""
+        """The rule that keeps a client with this pair from the mount; `None` if it may sit there."""
         if self.heard_at(name) is None:
             return "not-live"
         if self.is_full(name, but):
@@ -169,7 +169,7 @@ class Model:
                     self.met["moved on" if lands in self.live else "waits again" if lands == name else "moved where one waits"] += 1
 
     def begins(self, name, source):
-        """A session of the mount: those hear it who waited there, and those come home whom the mount calls."""
+        """A session of the mount: the listeners that waited there get it, and those that the mount calls come home."""
         self.live[name] = Session(name, source, self.now)
         for one in self.at(name):
             one.session = self.live[name]

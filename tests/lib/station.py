@@ -43,7 +43,7 @@ FIELDS = {
 
 
 def read_line(line):
-    """The kind of a line of the log, and its fields as bytes by their names. It is a fault where it is no such line."""
+    """The kind of a line of the log, and its fields as bytes by their names. It is a fault if it is no such line."""
     assert LINE.fullmatch(line), line
     _, kind, *words = line.decode("ascii")[:-1].split(" ")
     fields = [word.split("=", 1) for word in words]
@@ -87,7 +87,7 @@ def start(folder, on_terminal):
 
 
 class Station:
-    """A running station. `port` is the one that it has told. Its log is read as it comes, unless `is_read` is false."""
+    """A running station. `port` is the one that its log names. Its log is read as it comes, unless `is_read` is false."""
 
     def __init__(
         self, options="", address="127.0.0.1", port=0, passwords=PASSWORDS, files=(), settings=None, is_read=True, on_terminal=False
@@ -146,7 +146,7 @@ class Station:
         return line
 
     def listener(self, mount=b"/a", more=b""):
-        """A listener who was admitted, and the head that he was told."""
+        """A listener that was admitted, and the head that it read."""
         line = self.ask(b"GET " + mount + b" HTTP/1.0\r\n" + more + b"\r\n")
         return line, head(line)
 
@@ -160,7 +160,7 @@ class Station:
         return line
 
     def listener_with_little_room(self):
-        """A listener whose socket holds a few thousand bytes, and who was admitted."""
+        """A listener whose socket holds a few thousand bytes, and which was admitted."""
         line = self.ask_with_little_room(b"GET /a HTTP/1.0\r\n\r\n")
         head(line)
         return line

@@ -22,6 +22,7 @@ fn relay(number_is_spent: bool) -> Action {
     }))
 }
 
+// rule: Numbers spent
 #[test]
 fn numbers_that_are_spent(rt: HostRuntime) {
     let spent = Verdict::Deny(Rule::NumbersSpent);

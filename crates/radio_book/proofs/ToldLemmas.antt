@@ -1,5 +1,5 @@
 -- What all mounts have in common follows from the entries of the control's list.
-use Rattle.std.proofs.Common.{◌≡◌, ℕ, Bool, true, false, Option, None, Some, inl, inr, List, [], ◌∷◌, ◌++◌, Result, Ok, Err, IfOk, OnErr, refl, ap, sym, ◌∙◌}
+use Rattle.std.proofs.Common.{◌≡◌, ℕ, Bool, true, false, Option, None, Some, inl, inr, List, [], ◌∷◌, ◌++◌, Result, Ok, Err, IfOk, OnErr, refl, ap, sym, subst, ◌∙◌}
 use Rattle.std.specs.Prelude.{MatchOption}
 use Rattle.std.proofs.Math.Logic.{∥∥₁_map}
 use Rattle.std.proofs.lemmas.List.{append-nil}
@@ -18,9 +18,10 @@ use Rattle.radio_seats_rows.specs.Seats.{last_mount_of}
 use Rattle.radio_parts_mount.specs.declared.part.MountPart.{MountPart}
 use Rattle.radio_parts.specs.Lending.{IsTakenOut}
 use Rattle.radio_parts_facts.specs.Wanted.{wanted}
-use Rattle.radio_book.specs.ControlLists.{entries_in, AreWantedThere, IsControlLent, IsControlReply, IsToldBy, WasThere}
-use Rattle.radio_book.specs.LentParts.{AreBack, AreLent, IsBack, IsControlAsBefore, IsControlStep, IsLent, IsRefused}
-use Rattle.radio_book.specs.MountBooks.{AreCuts, BookOfMount}
+use Rattle.radio_book.specs.ControlLists.{entries_in, AreWantedOver, AreWantedThere, CanBe, HasNoPass, IsControlLent, IsControlReply, IsOpening, IsToldBy, WasThere}
+use Rattle.radio_book.specs.ControlLists.CanBe.{opens, stays, steps}
+use Rattle.radio_book.specs.LentParts.{AreBack, AreLent, ControlState, IsBack, IsControlAsBefore, IsControlStep, IsLent, IsRefused}
+use Rattle.radio_book.specs.MountBooks.{at_moment, with_part, AreCuts, BookOfMount}
 use Rattle.radio_book.specs.Receipts.{ReceiptOf}
 
 exchanged_common : (part there : MountPart) (before after : World) → IsLentTo part there before after → common_of after ≡ common_of before
@@ -89,38 +90,73 @@ noted_entries lines cuts books made are =
     (entries_append lines cuts ∙ ap (λ (rest : List Entry). entries_in lines ++ rest) (no_entries books cuts are) ∙ append-nil (entries_in lines))
 
 -- a part was taken out, or none
-pub taken_common : (mount : List ℕ) (before after : World) (result : Result (Option MountPart) AllocError)
+abbrev TakenBack : World → World → Type 0
+TakenBack before after = (books : List BookOfMount) × (back : List BookOfMount) × IsControlAsBefore books before back after
+
+nothing_lent : (before after : World) → after ≡ before → TakenBack before after
+nothing_lent before after same = ([], [], record { lent = []; whole = before; reached = false; lends = refl; takes_back = same })
+
+pub taken_back : (mount : List ℕ) (before after : World) (result : Result (Option MountPart) AllocError)
     → IfOk result (λ out. MatchOption out (after ≡ before) (λ part. IsTakenOut mount part before after)) → OnErr result (after ≡ before)
-    → common_of after ≡ common_of before
-taken_common mount before after (Err refused) out err = ap common_of err
-taken_common mount before after (Ok None) out err = ap common_of out
-taken_common mount before after (Ok (Some part)) out err = exchanged_common out.0 part before after out.2
+    → TakenBack before after
+taken_back mount before after (Err refused) out err = nothing_lent before after err
+taken_back mount before after (Ok None) out err = nothing_lent before after out
+taken_back mount before after (Ok (Some part)) out err =
+    let without : BookOfMount = record { mount = mount; list = 0; part = None; moment = 0; queue = 0 } in
+    let back = with_part (Some part) (at_moment before.station.time without) in (
+      without ∷ [],
+      back ∷ [],
+      record {
+        lent = without ∷ [];
+        whole = before;
+        reached = false;
+        lends = (before, inl (refl, refl, λ its has reached. let no : false ≡ true = reached in cc), refl);
+        takes_back = (after, inr (part, refl, out), refl);
+      },
+    )
+
+-- the mounts are wanted by the control over what it is lent
+pub wanted_over : {A E : Type 0} (names : A → List (List ℕ)) (books lent : List BookOfMount) (before whole : World) (result : Result A E)
+    → AreLent true books lent before whole → IfOk result (λ mounts. names mounts ≡ wanted whole) → IfOk result (λ mounts. AreWantedOver books before (names mounts))
+wanted_over names books lent before whole (Err refused) lends are = tt
+wanted_over names books lent before whole (Ok mounts) lends are = record { lent = lent; whole = whole; lends = lends; are = are }
 
 module _ (keeps : Bool) (opening : World) where
-  pub told_first : (control : World) → control ≡ opening → IsToldBy keeps opening [] control
-  told_first control first = record { entries = []; common = ap common_of first; kept = λ keeps_them. refl }
+  pub told_first : (control : World) → control ≡ opening → IsOpening opening → ∥ IsToldBy keeps opening [] control ∥₁
+  told_first control first opened =
+      let told : IsToldBy keeps opening [] control = record {
+        entries = [];
+        common = ap common_of first;
+        kept = λ keeps_them. refl;
+        comes = subst (CanBe opening) (sym first) (opens opened);
+      } in ∣ told ∣₁
 
-  -- nothing was noted, and nothing has changed
-  pub told_still : (lines lines' : List ControlLine) (before after : World) → lines' ≡ lines → common_of after ≡ common_of before
-      → ∥ IsToldBy keeps opening lines before ∥₁ → ∥ IsToldBy keeps opening lines' after ∥₁
-  told_still lines lines' before after same common told =
+  -- nothing was noted, and nothing has happened
+  pub told_still : (lines lines' : List ControlLine) (books back : List BookOfMount) (before after : World) → lines' ≡ lines
+      → IsControlAsBefore books before back after → ∥ IsToldBy keeps opening lines before ∥₁ → ∥ IsToldBy keeps opening lines' after ∥₁
+  told_still lines lines' books back before after same as_before told =
       ∥∥₁_map told (λ (t : IsToldBy keeps opening lines before).
       let still : IsToldBy keeps opening lines' after = record {
         entries = t.entries;
-        common = common ∙ t.common;
+        common = as_before_common books back before after as_before ∙ t.common;
         kept = λ kept. ap entries_in same ∙ t.kept kept;
+        comes = stays before after t.comes books back as_before;
       } in still)
 
   -- an entry was made
-  pub told_more : (lines lines' : List ControlLine) (before after : World) (made : Entry)
-      → common_of after ≡ common_after (common_of before) made.event made.reply → (keeps ≡ true → entries_in lines' ≡ entries_in lines ++ made ∷ [])
+  pub told_more : (lines lines' : List ControlLine) (books back : List BookOfMount) (before after : World) (made : Entry)
+      → IsControlStep books before made.event made.reply back after → (keeps ≡ true → entries_in lines' ≡ entries_in lines ++ made ∷ [])
       → ∥ IsToldBy keeps opening lines before ∥₁ → ∥ IsToldBy keeps opening lines' after ∥₁
-  told_more lines lines' before after made common noted told =
+  told_more lines lines' books back before after made step noted told =
       ∥∥₁_map told (λ (t : IsToldBy keeps opening lines before).
       let more : IsToldBy keeps opening lines' after = record {
         entries = t.entries ++ made ∷ [];
-        common = common ∙ ap (λ (c : Common). common_after c made.event made.reply) t.common ∙ sym (one_more (common_of opening) t.entries made);
+        common =
+            stepped_common books back before after made.event made.reply step
+            ∙ ap (λ (c : Common). common_after c made.event made.reply) t.common
+            ∙ sym (one_more (common_of opening) t.entries made);
         kept = λ kept. noted kept ∙ ap (λ (front : List Entry). front ++ made ∷ []) (t.kept kept);
+        comes = steps before after t.comes books back made.event made.reply step;
       } in more)
 
   -- an event was answered over what was lent, or memory was refused; nothing is stored
@@ -128,10 +164,9 @@ module _ (keeps : Bool) (opening : World) where
       → keeps ≡ false → IfOk result (λ reply. IsControlStep books before event reply back after) → OnErr result (IsControlAsBefore books before back after)
       → ∥ IsToldBy keeps opening lines before ∥₁ → ∥ IsToldBy keeps opening lines after ∥₁
   told_unkept lines books back before after event (Ok reply) unkept step err told =
-      told_more lines lines before after (entry event reply) (stepped_common books back before after event reply step)
-      (λ kept. let both : true ≡ false = sym kept ∙ unkept in cc) told
+      told_more lines lines books back before after (entry event reply) step (λ kept. let both : true ≡ false = sym kept ∙ unkept in cc) told
   told_unkept lines books back before after event (Err refused) unkept step err told =
-      told_still lines lines before after refl (as_before_common books back before after err) told
+      told_still lines lines books back before after refl err told
 
   -- the mounts are wanted by a control of which its list tells
   pub legal_wanted : {A E : Type 0} (names : A → List (List ℕ)) (lines : List ControlLine) (books lent : List BookOfMount) (before whole : World) (result : Result A E)
@@ -140,7 +175,7 @@ module _ (keeps : Bool) (opening : World) where
   legal_wanted names lines books lent before whole (Err refused) lends are told = tt
   legal_wanted names lines books lent before whole (Ok mounts) lends are told =
       ∥∥₁_map told (λ (t : IsToldBy keeps opening lines before).
-      let is : IsControlLent opening whole = record { entries = t.entries; control = before; common = t.common; books = books; lent = lent; reached = true; lends = lends } in
+      let is : IsControlLent opening whole = record { entries = t.entries; control = before; common = t.common; comes = t.comes; books = books; lent = lent; reached = true; lends = lends } in
       let wants : AreWantedThere opening (names mounts) = record { whole = whole; is = is; reached = refl; are = are } in wants)
 
   -- the reply is that of a control of which its list tells
@@ -150,7 +185,7 @@ module _ (keeps : Bool) (opening : World) where
   legal_reply lines books back before after event (Err refused) step told = tt
   legal_reply lines books back before after event (Ok receipt) step told =
       ∥∥₁_map told (λ (t : IsToldBy keeps opening lines before).
-      let lent : IsControlLent opening step.whole = record { entries = t.entries; control = before; common = t.common; books = books; lent = step.lent; reached = step.reached; lends = step.lends } in
+      let lent : IsControlLent opening step.whole = record { entries = t.entries; control = before; common = t.common; comes = t.comes; books = books; lent = step.lent; reached = step.reached; lends = step.lends } in
       let is : IsControlReply opening event receipt.reply = record { whole = step.whole; is = lent; leaves = step.leaves; replied = step.replied } in is)
 
   -- the listener was there, as a control knows of which its list tells
@@ -158,4 +193,10 @@ module _ (keeps : Bool) (opening : World) where
       → ∥ IsToldBy keeps opening lines control ∥₁ → ∥ WasThere opening id mount ∥₁
   legal_last lines control id mount was told =
       ∥∥₁_map told (λ (t : IsToldBy keeps opening lines control).
-      let there : WasThere opening id mount = record { entries = t.entries; control = control; common = t.common; was = was } in there)
+      let there : WasThere opening id mount = record { entries = t.entries; control = control; common = t.common; comes = t.comes; was = was } in there)
+
+  -- no pass is left
+  pub legal_none : (book : ControlState) → book.passes ≡ 0 → ∥ IsToldBy keeps opening book.lines book.control ∥₁ → ∥ HasNoPass keeps opening ∥₁
+  legal_none book none told =
+      ∥∥₁_map told (λ (t : IsToldBy keeps opening book.lines book.control).
+      let has : HasNoPass keeps opening = record { book = book; told = t; none = none } in has)

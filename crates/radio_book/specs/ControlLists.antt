@@ -9,12 +9,14 @@ use Rattle.radio_events.specs.declared.entry.Entry.{Entry}
 use Rattle.radio_events.specs.declared.event.Event.{Event}
 use Rattle.radio_events.specs.declared.reply.Reply.{Reply}
 use Rattle.radio_parts_facts.specs.Wanted.{wanted}
-use Rattle.radio_parts_station.specs.World.{World}
+use Rattle.radio_access.specs.Lists.{Lists}
+use Rattle.radio_parts_station.specs.World.{World, opening as opening_of}
 use Rattle.radio_parts_station.specs.declared.standing.Standing.{Standing}
 use Rattle.radio_parts_station.specs.declared.standing.Standing.TheVariants.{Feeds}
 use Rattle.radio_seats_rows.specs.Seats.{last_mount_of}
+use Rattle.radio_settings_values.specs.declared.settings.Settings.{Settings}
 use Rattle.radio_book.specs.Clocks.{LeavesParts}
-use Rattle.radio_book.specs.LentParts.{AreLent}
+use Rattle.radio_book.specs.LentParts.{AreLent, ControlState, IsControlAsBefore, IsControlStep}
 use Rattle.radio_book.specs.MountBooks.{BookOfMount}
 
 -- the mount that who stands so feeds, if it feeds one
@@ -28,18 +30,32 @@ entries_in [] = []
 entries_in (Cut list from to ∷ lines) = entries_in lines
 entries_in (Made entry ∷ lines) = entry ∷ entries_in lines
 
+-- a server opens so, of some settings and lists
+abbrev pub IsOpening : World → Type 0
+IsOpening w = (settings : Settings) × (lists : Lists) × (w ≡ opening_of settings lists)
+
+-- The control of a server that opened so can be so: as it was opened, or as it is after a step over parts that were lent, or once parts were lent and taken back.
+-- rule: Legal history
+pub data CanBe (opening : World) : World → Type 0 where
+  opens : IsOpening opening → CanBe opening opening
+  steps : (before after : World) → CanBe opening before → (books back : List BookOfMount) (event : Event) (reply : Reply)
+      → IsControlStep books before event reply back after → CanBe opening after
+  stays : (before after : World) → CanBe opening before → (books back : List BookOfMount) → IsControlAsBefore books before back after → CanBe opening after
+
 -- What all mounts have in common is what these entries have made of that of the opening state. If entries are stored, they are those of the list.
 -- rule: Legal history
 pub record IsToldBy (keeps : Bool) (opening : World) (lines : List ControlLine) (control : World) : Type 0 where
   pub entries : List Entry
   pub common : common_of control ≡ common_by (common_of opening) entries
   pub kept : keeps ≡ true → entries_in lines ≡ entries
+  pub comes : CanBe opening control
 
 -- a control of which entries tell so, and which was lent these parts
 pub record IsControlLent (opening : World) (whole : World) : Type 0 where
   pub entries : List Entry
   pub control : World
   pub common : common_of control ≡ common_by (common_of opening) entries
+  pub comes : CanBe opening control
   pub books : List BookOfMount
   pub lent : List BookOfMount
   pub reached : Bool
@@ -62,10 +78,25 @@ pub record AreWantedThere (opening : World) (mounts : List (List ℕ)) : Type 0 
   pub reached : is.reached ≡ true
   pub are : mounts ≡ wanted whole
 
+-- these mounts are wanted by the control over the parts that it is lent: all that fit
+-- rule: Pulls on demand
+pub record AreWantedOver (books : List BookOfMount) (control : World) (mounts : List (List ℕ)) : Type 0 where
+  pub lent : List BookOfMount
+  pub whole : World
+  pub lends : AreLent true books lent control whole
+  pub are : mounts ≡ wanted whole
+
+-- a book of which its list tells has no pass left
+pub record HasNoPass (keeps : Bool) (opening : World) : Type 0 where
+  pub book : ControlState
+  pub told : IsToldBy keeps opening book.lines book.control
+  pub none : book.passes ≡ 0
+
 -- the listener sits there, or sat there last, as a control knows of which entries tell so
 -- rule: Last mount
 pub record WasThere (opening : World) (id : ℕ) (mount : Option (List ℕ)) : Type 0 where
   pub entries : List Entry
   pub control : World
   pub common : common_of control ≡ common_by (common_of opening) entries
+  pub comes : CanBe opening control
   pub was : mount ≡ last_mount_of control.seats id

@@ -1,5 +1,5 @@
 -- Parts of mounts that are lent to the control, and taken back.
-use Rattle.std.specs.Prelude.{◌≡◌, ◌⊎◌, Bool, true, false, List, [], ◌∷◌, None, Some}
+use Rattle.std.specs.Prelude.{◌≡◌, ◌⊎◌, ℕ, Bool, true, false, List, [], ◌∷◌, None, Some}
 use Rattle.radio_chronicle.specs.declared.line.ControlLine.{ControlLine}
 use Rattle.radio_events.specs.declared.event.Event.{Event}
 use Rattle.radio_events.specs.declared.reply.Reply.{Reply}
@@ -45,6 +45,8 @@ pub record ControlState : Type 0 where
   pub control : World
   -- the lines that are stored
   pub lines : List ControlLine
+  -- how many passes are left
+  pub passes : ℕ
 
 -- the control has replied so to the event, over the parts that it was lent: all that fit, unless the event leaves parts as they are
 pub record IsControlStep (books : List BookOfMount) (before : World) (event : Event) (reply : Reply) (back : List BookOfMount) (after : World) : Type 0 where

@@ -10,6 +10,10 @@ use Rattle.radio_book.specs.declared.newcomer.Newcomer.{Newcomer}
 use Rattle.radio_book.specs.declared.newcomer.Newcomer.TheVariants.{Client, Relay}
 use Rattle.radio_book.specs.Receipts.{ReceiptOf}
 
+abbrev pub number_of : Newcomer → ℕ
+number_of (Client id) = id
+number_of (Relay id) = id
+
 abbrev pub is_same : Newcomer → Newcomer → Bool
 is_same (Client a) (Client b) = b == a
 is_same (Relay a) (Relay b) = b == a

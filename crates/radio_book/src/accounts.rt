@@ -1,9 +1,9 @@
 //! The control, its list, and what is owed.
 
-ghost use Rattle.std.specs.Prelude.{◌≡◌, ◌+◌, ◌-◌, ◌≤◌, ◌<◌, ◌^◌, ◌∷◌, [], ◌++◌, length, true, false, IsOk, IsSome, IfOk, IfSome, OnOk, OnErr, vec_len, vec_capacity};
+ghost use Rattle.std.specs.Prelude.{◌≡◌, ◌+◌, ◌-◌, ◌≤◌, ◌<◌, ◌^◌, ◌∷◌, [], ◌++◌, length, true, false, IsOk, IsSome, IfOk, IfSome, IfNone, OnOk, OnErr, vec_len, vec_capacity};
 ghost use Rattle.radio_events.specs.Events.{EventTakesNoMemory};
 ghost use Rattle.radio_chronicle.specs.Stamps.{stamp};
-ghost use Rattle.radio_book.specs.ControlLists.{AreWantedThere, IsToldBy};
+ghost use Rattle.radio_book.specs.ControlLists.{AreWantedOver, AreWantedThere, IsOpening, IsToldBy};
 ghost use Rattle.radio_book.specs.LentParts.{IsControlAsBefore, IsControlStep, IsRefused};
 ghost use Rattle.radio_book.specs.MountBooks.{lines_for, AreNoted};
 ghost use Rattle.radio_book.specs.Newcomers.{is_arrival, room_for};
@@ -29,7 +29,7 @@ pub(crate) struct Accounts<C: Chronicle, H: Origin> {
     pub(crate) lines: Notes<ControlLine>,
     debt: Debt<H>,
     spare: Share<H>,
-    passes_left: u64,
+    pub(crate) passes_left: u64,
     of: PhantomData<C>,
     ghost keeps: { lines.keeps ≡ C.KEEPS },
     ghost room: { debt.owed + debt.owed ≤ lines.room },
@@ -40,6 +40,7 @@ pub(crate) struct Accounts<C: Chronicle, H: Origin> {
 }
 
 impl<C: Chronicle, H: Origin> Accounts<C, H> {
+    #[tactic(auto, using(crate::proofs::ToldLemmas::told_first))]
     pub(crate) fn new(
         alloc: Global,
         control: Control,
@@ -48,10 +49,12 @@ impl<C: Chronicle, H: Origin> Accounts<C, H> {
         passes_left: u64,
     ) -> Accounts<C, H>
         requires opening { control ≡ H.opening }
+        requires opened { IsOpening H.opening }
         requires none { debt.owed ≡ 0 }
         requires spare { (spare.parts ≡ passes_left) × (spare.amount ≡ 0) }
         ensures control { result.control ≡ control }
         ensures lines { result.lines.items ≡ [] }
+        ensures passes { result.passes_left ≡ passes_left }
     {
         Accounts {
             control,
@@ -66,6 +69,8 @@ impl<C: Chronicle, H: Origin> Accounts<C, H> {
     /// Empty holdings. `None` if all were taken.
     pub(crate) fn holdings(&mut self, alloc: Global) -> Option<Holdings<H>>
         ensures empty { IfSome result (λ holdings. holdings.receipts.items ≡ []) }
+        ensures none { IfNone result (self.old.passes_left ≡ 0) }
+        ensures left { self.new.passes_left ≡ self.old.passes_left - 1 }
         ensures same { (self.new.control ≡ self.old.control) × (self.new.lines ≡ self.old.lines) }
     {
         if self.passes_left == 0 {
@@ -93,6 +98,7 @@ impl<C: Chronicle, H: Origin> Accounts<C, H> {
         &mut self,
         lent: &mut [MountBook<C>],
     ) -> Result<Vec<MountName>, OutOfMemory>
+        ensures over { IfOk result (λ mounts. AreWantedOver lent.old self.old.control mounts.items) }
         ensures legal { IfOk result (λ mounts. ∥ AreWantedThere H.opening mounts.items ∥₁) }
         ensures lent { IsControlAsBefore lent.old self.old.control lent.new self.new.control }
         ensures lines { self.new.lines.items ≡ self.old.lines.items }

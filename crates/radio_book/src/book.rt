@@ -1,11 +1,11 @@
 //! The book of all that is not one mount's.
 
-ghost use Rattle.std.specs.Prelude.{◌≡◌, ◌≤◌, ◌^◌, ◌∷◌, [], ◌++◌, length, map, true, false, Some, IsOk, IfOk, IfSome, OnErr};
+ghost use Rattle.std.specs.Prelude.{◌≡◌, ◌-◌, ◌≤◌, ◌^◌, ◌∷◌, [], ◌++◌, length, map, true, false, Some, IsOk, IfOk, IfSome, IfNone, OnErr};
 ghost use Rattle.radio_parts_station.specs.World.{opening, standing_of};
 ghost use Rattle.radio_events.specs.Events.{EventTakesNoMemory};
 ghost use Rattle.radio_chronicle.specs.Stamps.{stamp};
 ghost use Rattle.radio_seats_rows.specs.Seats.{last_mount_of};
-ghost use Rattle.radio_book.specs.ControlLists.{mount_fed, AreWantedThere, IsControlReply, IsToldBy, WasThere};
+ghost use Rattle.radio_book.specs.ControlLists.{mount_fed, AreWantedOver, AreWantedThere, HasNoPass, IsControlReply, IsToldBy, WasThere};
 ghost use Rattle.radio_book.specs.LentParts.{IsControlAsBefore, IsControlStep, IsRefused};
 ghost use Rattle.radio_book.specs.MountBooks.{mount_and_list, AreNoted};
 ghost use Rattle.radio_book.specs.Newcomers.{is_here, leaver_of};
@@ -29,8 +29,8 @@ use std::sync::ledger::Blank;
 /// How many passes a book gives.
 pub const PASSES: u64 = 1 << 32;
 
-/// The control, to which mounts' parts are lent, with its list. Contracts see the control and the lines that are
-/// stored.
+/// The control, to which mounts' parts are lent, with its list. Contracts see the control, the lines that are stored, and how
+/// many passes are left.
 pub struct Book<C: Chronicle, H: Origin> {
     alloc: Global,
     accounts: Accounts<C, H>,
@@ -52,7 +52,7 @@ impl<C: Chronicle, H: Origin> Model for Book<C, H> {
 
     ghost coded = { Prim.hlevel (codes, the_control.the_row.coded) };
 
-    ghost view = { λ b. record { control = b.accounts.control; lines = b.accounts.lines.items } };
+    ghost view = { λ b. record { control = b.accounts.control; lines = b.accounts.lines.items; passes = b.accounts.passes_left } };
 }
 
 impl<C: Chronicle, H: Origin> Book<C, H> {
@@ -62,6 +62,7 @@ impl<C: Chronicle, H: Origin> Book<C, H> {
         requires ledger { (blank.name ≡ H.name) × (blank.parts ≡ H.parts) × (blank.parts ≡ 2 ^ 32) }
         ensures control { result.control ≡ opening settings lists }
         ensures lines { result.lines ≡ [] }
+        ensures passes { result.passes ≡ 2 ^ 32 }
     {
         let (book, spare) = blank.open::<H>();
         let mut control = Control::new(alloc, settings, lists);
@@ -77,9 +78,15 @@ impl<C: Chronicle, H: Origin> Book<C, H> {
     /// Returns a pass with no receipt yet. `None` only once [`PASSES`] were taken.
     pub fn pass(&mut self) -> Option<Pass<C, H>>
         ensures empty { IfSome result (λ pass. pass ≡ []) }
-        ensures same { self.new ≡ self.old }
+        // there is one as long as one is left
+        ensures none { IfNone result (self.old.passes ≡ 0) }
+        ensures left { self.new ≡ record self.old { passes = self.old.passes - 1 } }
+        // it says so of a book of which its list tells, whatever was called before
+        ensures legal { IfNone result (∥ HasNoPass C.KEEPS H.opening ∥₁) }
     {
-        let holdings = self.accounts.holdings(self.alloc)?;
+        let Some(holdings) = self.accounts.holdings(self.alloc) else {
+            return None;
+        };
         Some(Pass::new(self.alloc, holdings))
     }
 
@@ -128,6 +135,8 @@ impl<C: Chronicle, H: Origin> Book<C, H> {
     /// lent. It makes no entry. `OutOfMemory` if memory was refused.
     // rule: Pulls on demand
     pub fn wanted(&mut self, lent: &mut [MountBook<C>]) -> Result<Vec<MountName>, OutOfMemory>
+        ensures over { IfOk result (λ mounts. AreWantedOver lent.old self.old.control mounts.items) }
+        // they are those of a control of which its list tells, whatever was called before
         ensures legal { IfOk result (λ mounts. ∥ AreWantedThere H.opening mounts.items ∥₁) }
         // the same books in the same order
         ensures same { map mount_and_list lent.new ≡ map mount_and_list lent.old }

@@ -5,7 +5,7 @@ ghost use Rattle.radio_chronicle.specs.OwnSteps.{is_own};
 ghost use Rattle.radio_book.specs.Newcomers.{present_by, present_of, is_arrival, leaver_of, newcomer_by, place_of, room_by, room_for};
 
 use crate::debt::Debt;
-use crate::newcomer::Newcomer;
+use crate::newcomer::{Newcomer, leaver_of};
 use crate::{OutOfMemory, Receipt};
 use radio_events::{Event, Reply};
 use std::alloc::Global;
@@ -171,26 +171,6 @@ fn room_for_others(event: &Event) -> usize
     ensures { result ≡ room_by None (is_arrival event.now) [] }
 {
     if is_arrival(event) { 2 } else { 1 }
-}
-
-/// Returns whose end the event is.
-fn leaver_of(event: &Event) -> Option<Newcomer>
-    ensures { result ≡ leaver_of event.now }
-{
-    match event {
-        Event::Leave { id } => Some(Newcomer::Client(*id)),
-        Event::RelayDown { id } => Some(Newcomer::Relay(*id)),
-        Event::Arrive { .. }
-        | Event::Source(_)
-        | Event::Push { .. }
-        | Event::SourceEnd { .. }
-        | Event::Title { .. }
-        | Event::Listen(_)
-        | Event::Draw { .. }
-        | Event::Command(_)
-        | Event::RelayUp { .. }
-        | Event::Clock { .. } => None,
-    }
 }
 
 /// Returns whether somebody comes: a connection, or a relay that comes up.

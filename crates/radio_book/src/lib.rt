@@ -22,7 +22,7 @@ mod receipt;
 
 pub use book::{Book, PASSES};
 pub use mount_book::{MountBook, Own};
-pub use newcomer::Newcomer;
+pub use newcomer::{Newcomer, leaver_of};
 pub use pass::Pass;
 pub use radio_chronicle::{Chronicle, ControlLine, Kept, Origin, Stamp, Unkept, histories_add_up};
 pub use radio_events::Entry;

@@ -75,20 +75,10 @@ impl Receipt {
     pub(crate) fn feeds_by(&self, id: u64) -> bool
         ensures { result ≡ feeds_by id self.now.event self.now.reply }
     {
-        match &self.event {
-            Event::Source(asked) => asked.id == id && matches!(self.reply, Reply::Feeding),
-            Event::Arrive { .. }
-            | Event::Push { .. }
-            | Event::SourceEnd { .. }
-            | Event::Title { .. }
-            | Event::Listen(_)
-            | Event::Draw { .. }
-            | Event::Command(_)
-            | Event::Leave { .. }
-            | Event::RelayUp { .. }
-            | Event::RelayDown { .. }
-            | Event::Clock { .. } => false,
-        }
+        let Event::Source(asked) = &self.event else {
+            return false;
+        };
+        asked.id == id && matches!(self.reply, Reply::Feeding)
     }
 
     /// Returns the server's reply, and drops the rest.

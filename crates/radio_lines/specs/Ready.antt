@@ -1,5 +1,5 @@
 -- What a socket is ready for.
-use Rattle.std.specs.Prelude.{ℕ, Bool, true, false, not, ◌&&◌, ◌||◌, nat_le, if◌then◌else◌}
+use Rattle.std.specs.Prelude.{ℕ, Bool, true, false, not, ◌&&◌, ◌||◌, ◌+◌, nat_le, if◌then◌else◌}
 use Rattle.mio.specs.declared.event.event.Event.{Event}
 use Rattle.mio.specs.Event.{is_readable, is_writable, is_error, is_read_closed, is_write_closed}
 use Rattle.radio_connections.specs.Moments.{later}
@@ -58,3 +58,11 @@ may_write ms r = r.is_writable || nat_le r.write_from_ms ms
 -- what an event of the system reports: it is over if it has failed, or a side of it was closed
 abbrev pub notice_of : Event → SocketReport
 notice_of e = record { reads = is_readable e; writes = is_writable e; is_over = is_error e || is_read_closed e || is_write_closed e }
+
+-- what a flag adds to the number of all flags
+abbrev pub flag_if : Bool → ℕ → ℕ
+flag_if is_set weight = if is_set then weight else 0
+
+-- the flags in one number, by which they are shared
+abbrev pub flags_of : Ready → ℕ
+flags_of r = flag_if r.is_readable 1 + flag_if r.is_writable 2 + flag_if r.is_over 4 + flag_if r.is_passed_over 8

@@ -1,9 +1,13 @@
 //! What the system has reported of sockets.
 
+ghost use Rattle.std.specs.Prelude.{◌≡◌};
+ghost use Rattle.radio_lines.specs.declared.ready.Ready.{Ready};
+ghost use Rattle.radio_lines.specs.Ready.{flag_if, flags_of};
+
 use crate::ready::Ready;
 use std::sync::atomic::{AtomicU64, Ordering};
 
-/// The flags of a [`Ready`], each of which has a bit of one number.
+/// What each flag of a [`Ready`] adds to the number of all flags, if it is set.
 const READABLE: u64 = 1;
 
 const WRITABLE: u64 = 2;
@@ -33,20 +37,16 @@ impl Readiness {
 
     /// Returns whether the socket may have something to read.
     pub(crate) fn is_readable(&self) -> bool {
-        self.flags.load(Ordering::SeqCst) & READABLE != 0
+        is_readable_by(self.flags.load(Ordering::SeqCst))
     }
 
     /// Returns what the socket is ready for.
     pub(crate) fn load(&self) -> Ready {
-        let flags = self.flags.load(Ordering::SeqCst);
-        Ready {
-            is_readable: flags & READABLE != 0,
-            is_writable: flags & WRITABLE != 0,
-            is_over: flags & OVER != 0,
-            is_passed_over: flags & PASSED_OVER != 0,
-            read_from_ms: self.read_from_ms.load(Ordering::SeqCst),
-            write_from_ms: self.write_from_ms.load(Ordering::SeqCst),
-        }
+        ready_of(
+            self.flags.load(Ordering::SeqCst),
+            self.read_from_ms.load(Ordering::SeqCst),
+            self.write_from_ms.load(Ordering::SeqCst),
+        )
     }
 
     /// Sets what the socket is ready for.
@@ -57,17 +57,42 @@ impl Readiness {
     }
 }
 
-/// Returns the flags as a number.
-fn flags_of(ready: Ready) -> u64 {
+/// Returns the flags in one number.
+fn flags_of(ready: Ready) -> u64
+    ensures { result ≡ flags_of ready }
+{
     flag_if(ready.is_readable, READABLE)
-        | flag_if(ready.is_writable, WRITABLE)
-        | flag_if(ready.is_over, OVER)
-        | flag_if(ready.is_passed_over, PASSED_OVER)
+        + flag_if(ready.is_writable, WRITABLE)
+        + flag_if(ready.is_over, OVER)
+        + flag_if(ready.is_passed_over, PASSED_OVER)
 }
 
-/// Returns the flag if it is set, else 0.
-fn flag_if(is_set: bool, flag: u64) -> u64 {
-    if is_set { flag } else { 0 }
+/// Returns what a flag adds if it is set, else 0.
+fn flag_if(is_set: bool, weight: u64) -> u64
+    ensures { result ≡ flag_if is_set weight }
+{
+    if is_set { weight } else { 0 }
+}
+
+/// Returns whether a readiness with these flags may have something to read.
+fn is_readable_by(flags: u64) -> bool
+    ensures { (ready : Ready) → flags ≡ flags_of ready → result ≡ ready.is_readable }
+{
+    flags / READABLE % 2 == 1
+}
+
+/// Returns the readiness with these flags and moments, in milliseconds.
+fn ready_of(flags: u64, read_from_ms: u64, write_from_ms: u64) -> Ready
+    ensures flags { (ready : Ready) → flags ≡ flags_of ready → result ≡ record ready { read_from_ms = read_from_ms; write_from_ms = write_from_ms } }
+{
+    Ready {
+        is_readable: is_readable_by(flags),
+        is_writable: flags / WRITABLE % 2 == 1,
+        is_over: flags / OVER % 2 == 1,
+        is_passed_over: flags / PASSED_OVER % 2 == 1,
+        read_from_ms,
+        write_from_ms,
+    }
 }
 
 /// Stores a number. A store costs much more than a load.

@@ -48,7 +48,7 @@ where
         &mut || -> bool
             requires { (pass.now.intake ≡ intake.now) × (all_parts ≤ pass.now.parts + 1) }
             ensures { pass.exit.now.intake ≡ intake.entry.now }
-        { work_beside_relays(station, intake, pass, sockets) },
+        { work_with(station, intake, pass, sockets) },
     )
 }
 
@@ -68,47 +68,9 @@ where
     acceptor.work(station.rt, station.shared, intake, hand)
 }
 
-/// Runs the workers with these sockets, and keeps relays running meanwhile, if the settings wish some. Returns whether
-/// there was memory for the workers' slots.
-fn work_beside_relays<R, N, S>(
-    station: &ServedStation<'_, R, N, S>,
-    intake: &Intake<Accepted>,
-    pass: &mut IntakePass<Accepted>,
-    sockets: &mut Vec<Sockets>,
-) -> bool
-where
-    R: Clock + Threads + Wait + Sync,
-    N: Network + Sync,
-    S: SharedServer + Sync,
-    S::Pass: Send,
-    requires own { pass.old.intake ≡ intake.now }
-    requires parts { all_parts ≤ pass.old.parts + 1 }
-    ensures { pass.new.intake ≡ intake.now }
-{
-    if !has_relays(station.settings) {
-        return work_at(station, intake, pass, sockets);
-    }
-    let (_, are_seated) = join_mut(
-        station.rt,
-        &mut || {
-            keep_relays(
-                station.rt,
-                station.net,
-                station.server,
-                station.shared,
-                station.settings,
-            )
-        },
-        &mut || -> bool
-            requires { (pass.now.intake ≡ intake.now) × (all_parts ≤ pass.now.parts + 1) }
-            ensures { pass.exit.now.intake ≡ intake.entry.now }
-        { work_at(station, intake, pass, sockets) },
-    );
-    are_seated
-}
-
-/// The workers with these sockets work, until all are to stop. Whether there was memory for their slots.
-fn work_at<R, N, S>(
+/// Runs the workers with these sockets until all are to stop. Returns whether there was memory for their slots: if not,
+/// nothing runs, and all are to stop.
+fn work_with<R, N, S>(
     station: &ServedStation<'_, R, N, S>,
     intake: &Intake<Accepted>,
     pass: &mut IntakePass<Accepted>,
@@ -132,7 +94,7 @@ where
         sockets,
     ) {
         Ok(mut slots) => {
-            run_at(station, intake, slots.as_mut_slice());
+            run_beside_relays(station, intake, slots.as_mut_slice());
             true
         }
         Err(_) => {
@@ -140,6 +102,43 @@ where
             false
         }
     }
+}
+
+/// Runs workers at these slots until all are to stop, and keeps relays running meanwhile, if the settings wish some.
+fn run_beside_relays<R, N, S>(
+    station: &ServedStation<'_, R, N, S>,
+    intake: &Intake<Accepted>,
+    slots: &mut [WorkerSlot<S::Pass, Accepted, SocketTurns<'_, R>>],
+)
+where
+    R: Clock + Threads + Wait + Sync,
+    N: Network + Sync,
+    S: SharedServer + Sync,
+    S::Pass: Send,
+    requires { All (λ slot. slot.hand.intake ≡ intake.now) slots.old }
+    // the note of each goes on from before with what was taken at its slot
+    ensures { (i : ℕ) (d : _) → i < length slots.old → HasTakenMore (slice_index_or slots.old i d).hand (slice_index_or slots.new i d).hand }
+{
+    if !has_relays(station.settings) {
+        return run_at(station, intake, slots);
+    }
+    join_mut(
+        station.rt,
+        &mut || {
+            keep_relays(
+                station.rt,
+                station.net,
+                station.server,
+                station.shared,
+                station.settings,
+            )
+        },
+        &mut ||
+            requires { All (λ slot. slot.hand.intake ≡ intake.now) slots.now }
+            ensures { (i : ℕ) (d : _) → i < length slots.entry.now
+                → HasTakenMore (slice_index_or slots.entry.now i d).hand (slice_index_or slots.exit.now i d).hand }
+        { run_at(station, intake, slots) },
+    );
 }
 
 /// Workers at these slots work, until all are to stop.

@@ -1,5 +1,8 @@
 //! A hall, as its callers ask it.
 
+ghost use Rattle.std.specs.Prelude.{◌≡◌, [], IfOk, IfSome, IfNone};
+ghost use Rattle.radio_book.specs.ControlLists.{AreWantedThere, HasNoPass, WasThere};
+
 use crate::{Hall, OutOfMemory};
 use radio_book::{Chronicle, Origin, Pass};
 use radio_events::{Event, Reply, SharedServer};
@@ -15,7 +18,10 @@ impl<C: Chronicle, H: Origin> SharedServer for Hall<C, H> {
 
     ghost refuses = { MayBeRefused C.KEEPS };
 
-    fn pass<R: Wait>(&self, rt: &R) -> Option<Pass<C, H>> {
+    fn pass<R: Wait>(&self, rt: &R) -> Option<Pass<C, H>>
+        ensures empty { IfSome result (λ pass. pass ≡ []) }
+        ensures none { IfNone result (∥ HasNoPass C.KEEPS H.opening ∥₁) }
+    {
         Hall::pass(self, rt)
     }
 
@@ -34,12 +40,16 @@ impl<C: Chronicle, H: Origin> SharedServer for Hall<C, H> {
     }
 
     // rule: Last mount
-    fn last_mount<R: Wait>(&self, rt: &R, id: u64) -> Option<MountName> {
+    fn last_mount<R: Wait>(&self, rt: &R, id: u64) -> Option<MountName>
+        ensures { ∥ WasThere H.opening id result ∥₁ }
+    {
         Hall::last_mount(self, rt, id)
     }
 
     // rule: Pulls on demand
-    fn wanted<R: Wait>(&self, rt: &R) -> Result<Vec<MountName>, OutOfMemory> {
+    fn wanted<R: Wait>(&self, rt: &R) -> Result<Vec<MountName>, OutOfMemory>
+        ensures { IfOk result (λ mounts. ∥ AreWantedThere H.opening mounts.items ∥₁) }
+    {
         Hall::wanted(self, rt)
     }
 }

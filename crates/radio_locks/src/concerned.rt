@@ -38,23 +38,6 @@ pub(crate) fn own_client(event: &Event) -> Option<u64>
     }
 }
 
-/// Returns the client or relay whose connection the event closes.
-pub(crate) fn leaver(event: &Event) -> Option<u64> {
-    match event {
-        Event::Leave { id } | Event::RelayDown { id } => Some(*id),
-        Event::Arrive { .. }
-        | Event::Source(_)
-        | Event::Push { .. }
-        | Event::SourceEnd { .. }
-        | Event::Title { .. }
-        | Event::Listen(_)
-        | Event::Draw { .. }
-        | Event::Command(_)
-        | Event::RelayUp { .. }
-        | Event::Clock { .. } => None,
-    }
-}
-
 /// Returns the mount that the event names, if a session or a listener may begin there.
 pub(crate) fn mount_in(event: &Event) -> Option<MountName>
     ensures { EventTakesNoMemory event.now → result ≡ None }

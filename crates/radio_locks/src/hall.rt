@@ -1,7 +1,7 @@
 //! The locks of a server.
 
-ghost use Rattle.std.specs.Prelude.{◌≡◌, ◌≤◌, ◌^◌, [], true, false, Some, IsOk, IfOk, IfSome, OnErr, vec_len};
-ghost use Rattle.radio_book.specs.ControlLists.{AreWantedThere, WasThere};
+ghost use Rattle.std.specs.Prelude.{◌≡◌, ◌≤◌, ◌^◌, [], true, false, Some, IsOk, IfOk, IfSome, IfNone, OnErr, vec_len};
+ghost use Rattle.radio_book.specs.ControlLists.{AreWantedThere, HasNoPass, WasThere};
 ghost use Rattle.radio_book.specs.MountBooks.{noted_own, IsNowhere, IsOf};
 ghost use Rattle.radio_book.specs.Newcomers.{is_here, leaver_of};
 ghost use Rattle.radio_book.specs.declared.newcomer.Newcomer.{Newcomer};
@@ -11,12 +11,12 @@ ghost use Rattle.radio_locks.specs.Callers.{IsResultOfCall, MayBeRefused};
 ghost use Rattle.radio_locks.specs.Replies.{IsTried};
 
 use crate::OutOfMemory;
-use crate::concerned::{leaver, mount_in, own_client};
+use crate::concerned::{mount_in, own_client};
 use crate::locked_control::LockedControl;
 use crate::mount_lists::MountLists;
 use crate::mount_locks::MountLock;
 use radio_access::Lists;
-use radio_book::{Book, Chronicle, MountBook, Origin, Own, Pass, Receipt};
+use radio_book::{Book, Chronicle, MountBook, Origin, Own, Pass, Receipt, leaver_of};
 use radio_connections::Gate;
 use radio_events::{Asked, Command, Event, Reply};
 use radio_settings_values::Settings;
@@ -73,7 +73,9 @@ impl<C: Chronicle, H: Origin> Hall<C, H> {
 
     /// Returns a pass with no receipt yet. `None` only once [`PASSES`](radio_book::PASSES) were taken.
     pub fn pass<R: Wait>(&self, rt: &R) -> Option<Pass<C, H>>
-        ensures { IfSome result (λ pass. pass ≡ []) }
+        ensures empty { IfSome result (λ pass. pass ≡ []) }
+        // there is none only if the control's book, of which its list tells, has no pass left
+        ensures none { IfNone result (∥ HasNoPass C.KEEPS H.opening ∥₁) }
     {
         self.control.lock(rt).control.pass()
     }
@@ -365,7 +367,7 @@ fn is_fallback_set(applied: &Result<Receipt, OutOfMemory>) -> bool {
 fn forget_leaver<C: Chronicle, H: Origin>(pass: &mut Pass<C, H>, event: &Event)
     ensures { pass.new ≡ pass.old }
 {
-    if let Some(id) = leaver(event) {
-        pass.forget(id);
+    if let Some(gone) = leaver_of(event) {
+        pass.forget(gone.id());
     }
 }

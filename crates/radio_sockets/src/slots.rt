@@ -59,7 +59,7 @@ fn add_desk<N: Network>(
     Ok(())
 }
 
-/// Seats for the workers with these sockets, over this server. `OutOfMemory` if memory was refused.
+/// Returns slots for the workers with these sockets, over this server, or `OutOfMemory` if memory was refused.
 pub fn slots_of<'a, R: Clock + Wait, S: SharedServer>(
     rt: &'a R,
     server: &S,

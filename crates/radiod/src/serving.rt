@@ -4,6 +4,7 @@ ghost use Rattle.std.specs.Prelude.{◌≡◌, ◌^◌, IfErr};
 ghost use Rattle.std.specs.Option.{option_map};
 ghost use Rattle.radio_log.specs.Moments.{offset_text};
 ghost use Rattle.radio_parts_station.specs.World.{opening};
+ghost use Rattle.radio_sockets.specs.declared.fault.ServeFault.TheVariants.{OutOfMemory as NoMemory};
 ghost use Rattle.radiod.specs.Binding.{IsNotBound};
 ghost use Rattle.radiod.specs.Ends.{EndsService};
 ghost use Rattle.radiod.specs.declared.fault.NotBound.{NotBound as NotBoundOf};
@@ -11,7 +12,9 @@ ghost use Rattle.radiod.specs.declared.fault.NotBound.{NotBound as NotBoundOf};
 use crate::fault::{Fault, NotBound};
 use crate::log::{ProgramLog, say_unknown};
 use radio_book::{Origin, PASSES, Unkept};
-use radio_listening::{BindFault, Listening, ServeFault, Service, SystemNet, WebAnswers};
+use radio_listening::{
+    BindFault, Listening, OutOfMemory, ServeFault, Service, SystemNet, WebAnswers,
+};
 use radio_locks::Hall;
 use radio_log::Moment;
 use radio_outlet::LogQueue;
@@ -134,9 +137,26 @@ fn serve_in<W: Clock + Threads + Wait + Sync, H: Origin + Send + Sync>(
     } = station;
     let listening = listening.behind(proxies);
     let service = service_of(again, answers, moment_now(waits));
-    match Hall::<Unkept, H>::new(rt.alloc(), settings, lists, blank) {
+    let hall = Hall::<Unkept, H>::new(rt.alloc(), settings, lists, blank);
+    serve_through(rt, waits, hall, again, service, listening, log)
+}
+
+/// Serves connections in this hall, with this queue of the log. `OutOfMemory` if memory was refused for the hall.
+fn serve_through<W: Clock + Threads + Wait + Sync, H: Origin + Send + Sync>(
+    rt: &HostRuntime,
+    waits: &W,
+    hall: Result<Hall<Unkept, H>, OutOfMemory>,
+    settings: &Settings,
+    service: Service,
+    listening: Listening,
+    log: Arc<LogQueue>,
+) -> ServeFault
+    ensures { IfErr hall (λ _. result ≡ NoMemory) }
+{
+    match hall {
         Ok(hall) => {
-            let fault = serve_through(rt, waits, &hall, again, service, listening, log);
+            let net = SystemNet::new(rt);
+            let fault = listening.serve(waits, &net, &hall, settings, service, log);
             drop(hall);
             fault
         }
@@ -146,20 +166,6 @@ fn serve_in<W: Clock + Threads + Wait + Sync, H: Origin + Send + Sync>(
             ServeFault::OutOfMemory
         }
     }
-}
-
-/// Serves connections in this hall, with this queue of the log.
-fn serve_through<W: Clock + Threads + Wait + Sync, H: Origin + Send + Sync>(
-    rt: &HostRuntime,
-    waits: &W,
-    hall: &Hall<Unkept, H>,
-    settings: &Settings,
-    service: Service,
-    listening: Listening,
-    log: Arc<LogQueue>,
-) -> ServeFault {
-    let net = SystemNet::new(rt);
-    listening.serve(waits, &net, hall, settings, service, log)
 }
 
 /// What the settings say of the service, which starts at this moment: as many may linger as may be clients.

@@ -11,7 +11,8 @@ fn account_of(alloc: Global, told: Told) -> Account {
     account
 }
 
-/// Whether a client that is gone, to which this was replied, has so many lines with this word, however often it is told.
+/// Whether a client that is gone, to which this was replied, has so many lines with this word, however often the account
+/// writes it.
 fn has_lines(alloc: Global, log: &Log, account: &Account, word: &str, count: usize) -> bool {
     let peer = Peer::of_v4(0x7f00_0001);
     account.tell_source(log, peer, 3000);

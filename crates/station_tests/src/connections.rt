@@ -10,7 +10,13 @@ use std::sync::Mutex;
 pub const SOURCES: usize = 4;
 
 /// How many listeners come, behind the sources.
-pub const LISTENERS: usize = 12;
+const LISTENERS: usize = 12;
+
+/// How many ask for a mount that nobody feeds, behind the listeners.
+const STRANGERS: usize = 4;
+
+/// How many connections come.
+pub const CONNECTIONS: usize = SOURCES + LISTENERS + STRANGERS;
 
 /// How many bytes of data each source sends.
 const DATA: usize = 9000;
@@ -30,6 +36,9 @@ const LISTENS: [&[u8]; SOURCES] = [
     b"GET /c HTTP/1.0\r\n\r\n",
     b"GET /d HTTP/1.0\r\n\r\n",
 ];
+
+/// What a stranger asks for.
+const ASKS: &[u8] = b"GET /nowhere HTTP/1.0\r\n\r\n";
 
 /// What a line gave and took.
 #[derive(Drop)]
@@ -63,13 +72,13 @@ pub struct Connections {
 }
 
 impl Connections {
-    /// Returns those of a station with this seed: its sources, and then its listeners. `OutOfMemory` if memory was refused.
+    /// Returns those of a station with this seed: its sources, then its listeners, and then strangers. `OutOfMemory` if memory was refused.
     pub fn new(alloc: Global, seed: u64) -> Result<Connections, OutOfMemory> {
         let mut connections = Connections {
             plans: Vec::new(alloc),
             tapes: Vec::new(alloc),
         };
-        'all: for number in 0..SOURCES + LISTENERS {
+        'all: for number in 0..CONNECTIONS {
             let plan = plan_of(alloc, seed, number)?;
             add(alloc, &mut connections, plan)?;
         }
@@ -92,6 +101,11 @@ pub fn is_source(number: usize) -> bool {
     number < SOURCES
 }
 
+/// Returns whether the connection of this number asks for a mount that nobody feeds.
+pub fn is_stranger(number: usize) -> bool {
+    number >= SOURCES + LISTENERS
+}
+
 /// Returns the peer of the connection of this number.
 pub fn peer_of(number: usize) -> Peer {
     Peer::of_v4(0x0a00_0000u32.wrapping_add((number % 256) as u32))
@@ -99,7 +113,9 @@ pub fn peer_of(number: usize) -> Peer {
 
 /// Returns what the connection of this number asks for.
 fn head_of(number: usize) -> &'static [u8] {
-    if is_source(number) {
+    if is_stranger(number) {
+        ASKS
+    } else if is_source(number) {
         FEEDS[number % SOURCES]
     } else {
         LISTENS[number % SOURCES]
@@ -135,7 +151,7 @@ fn begins_at(number: usize, dice: &mut Dice) -> u64 {
 
 /// Returns at which write the connection of this number fails, counted from 0: each third listener does at some write.
 fn fails_at(number: usize, dice: &mut Dice) -> u64 {
-    if is_source(number) || number % 3 != 0 {
+    if is_source(number) || is_stranger(number) || number % 3 != 0 {
         u64::MAX
     } else {
         dice.throw() % 20

@@ -1,6 +1,8 @@
 //! What the history says of each connection, next to what its line gave and took.
 
-use crate::connections::{Connections, LISTENERS, Plan, SOURCES, Tape, behind, peer_of};
+use crate::connections::{
+    CONNECTIONS, Connections, Plan, SOURCES, Tape, behind, is_stranger, peer_of,
+};
 use radio_events::{Entry, Event, Reply};
 use radio_locks::OutOfMemory;
 use std::alloc::Global;
@@ -8,6 +10,9 @@ use std::sync::Wait;
 
 /// How many listeners are to have heard something, so that it shows anything.
 const LEAST_HEARING: usize = 3;
+
+/// What is answered to who asks for a mount that nobody feeds.
+const ANSWER: &[u8] = b"denied: no-mount\n";
 
 /// Returns whether what was done for each connection is as its line gave and took, and enough listeners have heard something.
 pub fn is_all_as_it_came<R: Wait>(
@@ -17,7 +22,7 @@ pub fn is_all_as_it_came<R: Wait>(
     connections: &Connections,
 ) -> bool {
     let mut hearing = 0usize;
-    'numbers: for number in 0..SOURCES + LISTENERS {
+    'numbers: for number in 0..CONNECTIONS {
         match heard_by(rt, alloc, history, connections, number) {
             Ok(Some(heard)) => hearing = hearing.saturating_add((heard > 0) as usize),
             Ok(None) => return false,
@@ -39,12 +44,18 @@ fn heard_by<R: Wait>(
     let Some(id) = id_of(history, number) else {
         return Ok(None);
     };
+    if !leaves_last(history, id) {
+        return Ok(None);
+    }
     let (Some(plan), Some(tape)) = (connections.plans.get(number), connections.tapes.get(number))
     else {
         return Ok(None);
     };
     let tape = tape.lock(rt);
     let tape = &*tape;
+    if is_stranger(number) && body_of(tape.taken.as_slice()) != ANSWER {
+        return Ok(None);
+    }
     let delivered = delivered_by(alloc, history, id)?;
     let drawn = drawn_by(alloc, history, id)?;
     let source = delivered_to(alloc, history, number)?;
@@ -65,6 +76,38 @@ fn id_of(history: &[Entry], number: usize) -> Option<u64> {
         }
     }
     None
+}
+
+/// Returns whether the client leaves, and nothing is applied for it after that.
+fn leaves_last(history: &[Entry], id: u64) -> bool {
+    let mut has_left = false;
+    for entry in history {
+        if is_of(&entry.event, id) {
+            if has_left {
+                return false;
+            }
+            has_left = matches!(entry.event, Event::Leave { .. });
+        }
+    }
+    has_left
+}
+
+/// Returns whether the event is one of this client, after its arrival.
+fn is_of(event: &Event, id: u64) -> bool {
+    match event {
+        Event::Source(asked) => asked.id == id,
+        Event::Listen(asked) => asked.id == id,
+        Event::Command(asked) => asked.id == id,
+        Event::Push { id: other, .. }
+        | Event::SourceEnd { id: other }
+        | Event::Title { id: other, .. }
+        | Event::Draw { id: other, .. }
+        | Event::Leave { id: other } => *other == id,
+        Event::Arrive { .. }
+        | Event::RelayUp { .. }
+        | Event::RelayDown { .. }
+        | Event::Clock { .. } => false,
+    }
 }
 
 /// Returns the data that the line of a source gave behind its head.

@@ -5,7 +5,7 @@ ghost use Rattle.radio_access.specs.Lists.{no_lists};
 ghost use Rattle.radio_intake.specs.Passes.{all_parts};
 ghost use Rattle.radio_parts_station.specs.World.{opening};
 
-use crate::connections::{Connections, LISTENERS, SOURCES, peer_of};
+use crate::connections::{CONNECTIONS, Connections, peer_of};
 use crate::dice::Dice;
 use crate::hearing::is_all_as_it_came;
 use crate::line::DicedLine;
@@ -145,7 +145,7 @@ fn fill<R: Wait>(rt: &R, intake: &Intake<usize>, hand: &mut IntakePass<usize>) -
     ensures own { hand.new.intake ≡ intake.now }
     ensures parts { hand.new.parts ≡ hand.old.parts }
 {
-    'numbers: for number in 0..SOURCES + LISTENERS {
+    'numbers: for number in 0..CONNECTIONS {
         if intake.put(rt, hand, number).is_err() {
             return false;
         }

@@ -1,6 +1,7 @@
 //! Each call by which a caller reaches a layer of the server, made by name with ample memory, and its answer compared. The
 //! tests name the crates that callers use, and no other.
-//! What the layers below read and cut is in `data_tests`; how the parts work together is in `server_tests`.
+//! What the layers below read and cut is in `data_tests`; how the parts work together is in `core_tests`,
+//! `turn_tests`, `book_tests` and `hall_tests`.
 //!
 //! - `texts`: users of a list, peers of texts, a body without an end.
 //! - `heads`: heads of both sides. `streams`: blocks, and titles between bytes. `listings`: listings, and commands of targets.

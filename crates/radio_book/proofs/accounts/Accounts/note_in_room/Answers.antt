@@ -1,11 +1,12 @@
-use Rattle.std.proofs.Common.{◌≡◌, ◌∙◌, ◌++◌, ◌∷◌, [], true, List, refl, ap, sym}
+use Rattle.std.proofs.Common.{◌≡◌, ◌∙◌, ◌++◌, ◌∷◌, [], true, List, refl, ap, sym, subst}
 use Rattle.radio_chronicle.specs.declared.line.ControlLine.{ControlLine}
 use Rattle.radio_chronicle.specs.declared.line.ControlLine.TheVariants.{Made}
-use Rattle.radio_parts.specs.Common.{common_after, common_of}
 use Rattle.radio_events.specs.Events.{entry}
 use Rattle.radio_events.specs.declared.event.Event.{Event}
+use Rattle.radio_events.specs.declared.reply.Reply.{Reply}
 use Rattle.radio_book.specs.ControlLists.{entries_in}
-use Rattle.radio_book.proofs.ToldLemmas.{as_before_common, noted_entries, stepped_common, told_more, told_still}
+use Rattle.radio_book.specs.LentParts.{IsControlStep}
+use Rattle.radio_book.proofs.ToldLemmas.{noted_entries, told_more, told_still}
 use Rattle.radio_book.proofs.accounts.Accounts.note_in_room.Goals as goal
 
 pub invariant_of-self-clause-by_entries : goal.invariant_of-self-clause-by_entries
@@ -18,10 +19,14 @@ invariant_of-self-clause-by_entries g c =
     let step = c.in-Ok.ensures.step in
     let replies = sym c.apart-first.ensures ∙ step.1 in
     let first : c.apart-first.result.0 ≡ step.0 = cc in
-    let before = common_of c.args.self.now.control in
-    told_more g.C.Chronicle.KEEPS g.H.Origin.opening lines.items c.note.new.self.items c.args.self.now.control c.step3_over.new.control made
-    (stepped_common c.args.lent.now c.step3_over.new.lent c.args.self.now.control c.step3_over.new.control c.args.event step.0 step.2
-    ∙ ap (λ (e : Event). common_after before e step.0) (sym c.requires.copies.0) ∙ ap (common_after before c.args.copies.noted) (sym first))
+    let before = c.args.self.now.control in
+    let books = c.args.lent.now in
+    let back = c.step3_over.new.lent in
+    let after = c.step3_over.new.control in
+    let noted_so : IsControlStep books before c.args.copies.noted step.0 back after =
+    subst (λ (e : Event). IsControlStep books before e step.0 back after) (sym c.requires.copies.0) step.2 in
+    told_more g.C.Chronicle.KEEPS g.H.Origin.opening lines.items c.note.new.self.items books back before after made
+    (subst (λ (r : Reply). IsControlStep books before c.args.copies.noted r back after) (sym first) noted_so)
     (λ kept. ap entries_in noted ∙ noted_entries lines.items cuts.0 c.step3_over.new.lent made cuts.1) c.args.self.now.by_entries
 
 pub invariant_of-self-in-Err-1 : goal.invariant_of-self-in-Err-1
@@ -33,6 +38,6 @@ invariant_of-self-in-Err-1 g c =
       left = before.left;
       none = before.none;
       by_entries =
-          told_still g.C.Chronicle.KEEPS g.H.Origin.opening before.lines.items before.lines.items before.control c.step3_over.new.control refl
-          (as_before_common c.args.lent.now c.step3_over.new.lent before.control c.step3_over.new.control c.in-Err.ensures.err) before.by_entries;
+          told_still g.C.Chronicle.KEEPS g.H.Origin.opening before.lines.items before.lines.items c.args.lent.now c.step3_over.new.lent before.control
+          c.step3_over.new.control refl c.in-Err.ensures.err before.by_entries;
     }
