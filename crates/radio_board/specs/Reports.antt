@@ -55,8 +55,8 @@ abbrev pub has_to_do : Step → WorkerState → ℕ → Bool
 has_to_do step state newcomers = not (waits (after step state)) || nat_lt 0 newcomers
 
 -- the number of the state after a step, if that is another
-abbrev pub number_after : Step → WorkerState → Option ℕ
-number_after step state = if number_of (after step state) == number_of state then None else Some (number_of (after step state))
+abbrev pub changed_number : Step → WorkerState → Option ℕ
+changed_number step state = if number_of (after step state) == number_of state then None else Some (number_of (after step state))
 
 -- whether so many bytes that came are much for its listeners: they have to draw so many of them still
 abbrev pub is_much : ℕ → ℕ → Report → Bool

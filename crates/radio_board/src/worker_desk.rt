@@ -121,7 +121,7 @@ impl WorkerDesk {
         let taken = self
             .state
             .fetch_update(Ordering::SeqCst, Ordering::SeqCst, |number| {
-                WorkerState::number_after(number, step)
+                WorkerState::changed_number(number, step)
             });
         match taken {
             Ok(number) | Err(number) => WorkerState::of(number),

@@ -1,7 +1,7 @@
 //! What a worker does, as the threads see it that give it news, and wake it.
 
 ghost use Rattle.std.specs.Prelude.{◌≡◌, ◌&&◌, not, if◌then◌else◌};
-ghost use Rattle.radio_board.specs.Reports.{has_to_do, number_after, step_of_news, step_to_wait};
+ghost use Rattle.radio_board.specs.Reports.{has_to_do, changed_number, step_of_news, step_to_wait};
 ghost use Rattle.radio_board.specs.States.{has_news, waits, has_drawn, after, number_of};
 ghost use Rattle.radio_board.specs.declared.worker_state.Step.TheVariants.{News, MuchNews, Wake, LieDown, Pause, EndRound};
 
@@ -234,8 +234,8 @@ impl WorkerState {
     }
 
     /// Returns the number of the state after a step, of the state of this number. `None` if it is the same.
-    pub(crate) fn number_after(number: u64, step: Step) -> Option<u64>
-        ensures { (state : WorkerState) → number ≡ number_of state → result ≡ number_after step state }
+    pub(crate) fn changed_number(number: u64, step: Step) -> Option<u64>
+        ensures { (state : WorkerState) → number ≡ number_of state → result ≡ changed_number step state }
     {
         let after = WorkerState::of(number).after(step).number();
         if after == number { None } else { Some(after) }

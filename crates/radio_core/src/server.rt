@@ -50,7 +50,7 @@ impl Model for Core {
 
 impl Core {
     /// Returns a server to which nothing has happened yet. It takes no memory.
-    #[tactic(auto, using(crate::proofs::StepLemmas::opening_represents))]
+    #[tactic(auto, using(crate::proofs::Kept::StepLemmas::opening_represents))]
     pub fn new(alloc: Global, settings: Settings, lists: Lists) -> Core
         // it represents the opening state of these settings and lists
         ensures { Represents result (opening settings lists) }

@@ -49,7 +49,7 @@ use Rattle.radio_headline.proofs.Connections.{arrival, AsksForMount, AsksNothing
 use Rattle.radio_headline.proofs.Connections.{Facts, HasAskedNothing, HasSentGet, IsClosed, IsSource, IsPulling, IsGreeted}
 use Rattle.radio_headline.proofs.HeardLemmas.{delivers_by}
 use Rattle.radio_headline.proofs.ClientEvents.{behind_is_his, idle_asks_nothing, idle_pushes_nothing}
-use Rattle.radio_headline.proofs.RelayWords.{OwnRelay, relay_asks_not}
+use Rattle.radio_headline.proofs.Relays.RelayWords.{OwnRelay, relay_asks_not}
 use Rattle.radio_headline.proofs.ListenerLemmas.{on_his}
 use Rattle.radio_headline.proofs.GetLogs.{Waited, waited, by_get, get_is_of, orderly_second, parted_at_get}
 use Rattle.radio_headline.proofs.SourceLemmas.{orderly_is_cut, Front, IsHisOrNotesNothing, NotesNothing, brings_front, delivered_gathered, given_before, no_block, noted, noted_of, nothing_noted}

@@ -25,6 +25,7 @@ use Rattle.radio_session.specs.Asking.{asks_to_feed, asks_by_get}
 use Rattle.radio_session.specs.Conversation.{Conversation, asking}
 use Rattle.radio_session.specs.Framing.{is_source, framing_of, start_of}
 use Rattle.radio_session.specs.Told.{told}
+use Rattle.radio_pull.specs.Applied.{number_after}
 use Rattle.radio_pull.specs.Pulling.{Pulling}
 use Rattle.radio_floor.specs.declared.labelled.Connection.{Connection}
 use Rattle.radio_floor.specs.declared.labelled.Connection.TheVariants.{Client, Relay}
@@ -32,7 +33,7 @@ use Rattle.radio_headline.specs.Sources.{pushed}
 use Rattle.radio_headline.proofs.Logs.{replies, Each}
 use Rattle.radio_headline.proofs.AppliedLemmas.{said_all, IsOpen, IsNotLast, IsOrderly}
 use Rattle.radio_headline.proofs.Greetings.{Greeted}
-use Rattle.radio_headline.proofs.RelayWords.{IsCut, IsNotRefused, IsNoUp, OwnRelay, number_after}
+use Rattle.radio_headline.proofs.Relays.RelayWords.{IsCut, IsNotRefused, IsNoUp, OwnRelay}
 use Rattle.radio_headline.proofs.ReplyForms.{IsIdle}
 use Rattle.radio_headline.proofs.RunLemmas.{IsOwn, IsIdling}
 use Rattle.radio_answers.specs.declared.web_answers.WebAnswers.{WebAnswers}

@@ -44,19 +44,19 @@ use Rattle.radio_floor.specs.ScriptState.{ScriptState, Performed, AsksOn, ComesT
 use Rattle.radio_floor.specs.ScriptState.{connects, exchanges, for_new_label, kept_unless, last_word, on_connection, told_lines, opens, with_connection, pulled_on, relay_named, taken_in}
 use Rattle.radio_headline.specs.Course.{ComesToNoted, Happening, Happens, HappensThere, IsAsked, Noted, and_then, applied, arrivals, events_in, noting, nothing_noted, on, entry, log_on}
 use Rattle.radio_headline.specs.Scripts.{brought, bytes_in}
-use Rattle.radio_headline.specs.Sources.{pushed}
+use Rattle.radio_headline.specs.Sources.{pushed_by}
 use Rattle.radio_headline.proofs.Logs.{entries, log_joined, after_joined, events_joined}
 use Rattle.radio_headline.proofs.AppliedLemmas.{applied_lead}
-use Rattle.radio_headline.proofs.RelayLogs.{at, asks_lifts, down}
-use Rattle.radio_headline.proofs.RelayWords.{IsNoUp, OfRelay}
+use Rattle.radio_headline.proofs.Relays.RelayLogs.{asks_if_lifts, at, down_lifts}
+use Rattle.radio_headline.proofs.Relays.RelayWords.{IsNoUp, OfRelay}
 use Rattle.radio_headline.proofs.Connections.{HasAskedNothing, IsClosed, IsClient, IsRelay, IsSo, AtAnswer, AtHead}
 use Rattle.radio_headline.proofs.ConnectionSteps.{data_come, idle_comes, end_comes}
-use Rattle.radio_headline.proofs.PullSteps.{idles_so, more_facts, takes_so}
+use Rattle.radio_headline.proofs.Relays.PullSteps.{asks_so, down_so, more_facts, takes_so}
 use Rattle.radio_heads.specs.Response.{ShowsResponse}
 use Rattle.radio_relay.proofs.CutLemmas.{AfterPieces, HeardInPieces}
 use Rattle.radio_relay.specs.declared.pull.PullStage.TheVariants.{Head}
 use Rattle.radio_headline.proofs.LabelLemmas.{answer, answer_here, answer_elsewhere, answer_written, opened_here, opened_elsewhere, with_here, with_elsewhere}
-use Rattle.radio_headline.proofs.Standing.{brought_joined, brought_here, brought_elsewhere, front_none, IsSo_as, Stands, nowhere_joined, Changes, then_stands}
+use Rattle.radio_headline.proofs.Standing.{brought_joined, brought_here, brought_elsewhere, IsSo_as, Stands, nowhere_joined, Changes, then_stands}
 use Rattle.radio_answers.specs.declared.web_answers.WebAnswers.{WebAnswers}
 
 module _ (web : WebAnswers) (settings : Settings) (lists : Lists) (settled : IsSettled ShowsRequest) (within : HeadsLieWithin ShowsRequest)
@@ -306,37 +306,44 @@ module _ (web : WebAnswers) (settings : Settings) (lists : Lists) (settled : IsS
 
     -- something comes to a relay's connection
     module _ (label : ℕ) (pulling : Pulling) (known : connection_of state.connections label ≡ Some (Some (Relay pulling))) where
-      asks_next : (input : Input) (event : ℕ → Event) → ((id : ℕ) → OfRelay (Some id) (event id)) → ((id : ℕ) → pushed (event id ∷ []) ≡ [])
-          → ((id : ℕ) → IsNoUp (event id)) → bytes_in input ≡ [] → ((after : Standing) (done : Noted) → AsksIf noting pulling.number (option_map event pulling.number) (nothing_noted state.world) after done
+      no_bytes_came : (input : Input) → bytes_in input ≡ [] → (connection : Option Connection) (events : List Event)
+          → IsSo web (Some connection) (brought done label) (log_on w0 past label ++ entries state.world events) (given lines label ++ [])
+          → IsSo web (Some connection) (brought done label ++ bytes_in input) (log_on w0 past label ++ entries state.world events) (given lines label ++ [])
+      no_bytes_came input none connection events so =
+          subst (λ (bytes : List ℕ). IsSo web (Some connection) bytes (log_on w0 past label ++ entries state.world events) (given lines label ++ []))
+          (sym (ap (λ (xs : List ℕ). brought done label ++ xs) none ∙ append-nil (brought done label))) so
+
+      asks_next : (input : Input) (event : ℕ → Event) → ((id : ℕ) → OfRelay (Some id) (event id)) → ((id : ℕ) → pushed_by (event id) ≡ [])
+          → ((id : ℕ) → IsNoUp (event id)) → bytes_in input ≡ []
+          → ((after : Standing) (done : Noted) → AsksIf noting pulling.number (option_map event pulling.number) (nothing_noted state.world) after done
           → ComesToNoted state.world pulling input done)
           → (p : Performed) → AsksOn state label pulling (option_map event pulling.number) p → (text : List ℕ) → p.lines ≡ Some text
           → Next (To label input) text p.state
       asks_next input event his silent plain no_bytes comes p h text told =
-          let l = asks_lifts pulling.number event state.world h.1 [] h.0 his silent h.2 plain in
+          let l = asks_if_lifts pulling.number (option_map event pulling.number) state.world h.1 [] h.0 h.2 in
           next_as (To label input) text p _ (sym h.3) told
           (pulls_next label input pulling known (record pulling { number = h.0.number }) h.0.state h.1 l.events (comes h.0 (at h.1 l.events) l.lifted) l.leads
-          (subst (λ (xs : List ℕ). IsSo web (Some (connection_unless (Some (Relay (record pulling { number = h.0.number }))) h.0.state)) (brought done label ++ xs)
-          (log_on w0 past label ++ entries state.world l.events) (given lines label ++ [])) (sym no_bytes)
-          (idles_so web settled_answers within_answers joined none_blocks in_pieces afters state.world (brought done label) (log_on w0 past label) pulling
-          (relay label input pulling known) l.events (given lines label ++ []) (record pulling { number = h.0.number }) h.0.state l.own l.stands refl l.quiet
-          l.holds l.cut (front_none (pushed l.events) l.rest l.front))))
+          (no_bytes_came input no_bytes (connection_unless (Some (Relay (record pulling { number = h.0.number }))) h.0.state) l.events
+          (asks_so web settled_answers within_answers joined none_blocks in_pieces afters state.world (brought done label) (log_on w0 past label) pulling
+          (relay label input pulling known) (given lines label ++ []) event l.events h.0 his silent plain l.are)))
 
       relay_next : (input : Input) (p : Performed) → ComesToRelay state label pulling input p → (text : List ℕ) → p.lines ≡ Some text
           → Next (To label input) text p.state
       relay_next (Data bytes) p h text told =
           let t = takes_so web settled_answers within_answers joined none_blocks in_pieces afters state.world (brought done label) (log_on w0 past label) pulling
-          (relay label (Data bytes) pulling known) bytes (given lines label ++ []) h.0 h.1 h.2 h.3 in
+          (relay label (Data bytes) pulling known) (given lines label ++ []) bytes h.0 h.1 h.2 h.3 in
           next_as (To label (Data bytes)) text p _ (sym h.4) told (pulls_next label (Data bytes) pulling known h.0 h.1 h.2 t.events t.done t.leads t.so)
       relay_next (Room room) p h text told =
           asks_next (Room room) (λ id. Draw id room) (λ id. refl) (λ id. refl) (λ id. tt) refl (λ after done a. (after, a)) p h text told
       relay_next (Named name) p h text told =
           asks_next (Named name) (λ id. Title id (cleaned max_title name)) (λ id. refl) (λ id. refl) (λ id. tt) refl (λ after done a. (after, a)) p h text told
       relay_next End p h text told =
-          let d = down Done pulling.number state.world h.0 [] h.1 in
+          let d = down_lifts pulling.number state.world h.0 [] h.1 in
           next_as (To label End) text p _ (sym h.2) told
           (pulls_next label End pulling known pulling (Shut Done) h.0 d.events d.lifted d.leads
-          (idles_so web settled_answers within_answers joined none_blocks in_pieces afters state.world (brought done label) (log_on w0 past label) pulling
-          (relay label End pulling known) d.events (given lines label ++ []) pulling (Shut Done) d.own (λ run. cc) refl (λ run. cc) d.plain d.cut d.silent))
+          (no_bytes_came End refl None d.events
+          (down_so web settled_answers within_answers joined none_blocks in_pieces afters state.world (brought done label) (log_on w0 past label) pulling
+          (relay label End pulling known) (given lines label ++ []) Done d.events d.are)))
 
     -- nothing happens on a connection that was shut
     shut_next : (label : ℕ) (input : Input) → connection_of state.connections label ≡ Some None → (text : List ℕ) → Some [] ≡ Some text

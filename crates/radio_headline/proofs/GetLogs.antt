@@ -30,7 +30,7 @@ use Rattle.radio_headline.proofs.RunLemmas.{IsIdling}
 use Rattle.radio_headline.proofs.Connections.{arrival, AsksForMount, AsksNothing, ByGet, Feeds as IsFeeding, IsIdleOrLeaving, IsBehindRequest, IsNoRequest}
 use Rattle.radio_headline.proofs.Connections.{Facts, HasAskedNothing, HasSentGet, IsSource, IsPulling}
 use Rattle.radio_headline.proofs.ClientEvents.{idle_asks_nothing, idle_is_his}
-use Rattle.radio_headline.proofs.RelayWords.{OwnRelay, relay_asks_not}
+use Rattle.radio_headline.proofs.Relays.RelayWords.{OwnRelay, relay_asks_not}
 use Rattle.radio_headline.proofs.Partings.{none_there, parted}
 use Rattle.radio_answers.specs.declared.web_answers.WebAnswers.{WebAnswers}
 

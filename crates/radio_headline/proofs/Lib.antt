@@ -3,8 +3,7 @@ mod Gathered
 mod ReplyForms
 pub mod AppliedLemmas
 mod Greetings
-mod RelayWords
-mod RelayLogs
+mod Relays
 mod RunLemmas
 mod OwnLogs
 mod Connections
@@ -13,8 +12,6 @@ mod HeardLemmas
 mod Settling
 mod HeadSteps
 mod ConnectionSteps
-mod PullParts
-mod PullSteps
 mod LabelLemmas
 mod FaultLemmas
 mod Standing

@@ -8,7 +8,7 @@ use Rattle.radio_events.specs.declared.reply.Reply.TheVariants.{Arrived, Feeding
 use Rattle.radio_events.specs.Events.{client_in}
 use Rattle.radio_pull.specs.Pulling.{answered}
 use Rattle.radio_headline.proofs.Logs.{Each}
-use Rattle.radio_headline.proofs.RelayWords.{OfRelay, OwnRelay, number_stays}
+use Rattle.radio_headline.proofs.Relays.RelayWords.{OfRelay, OwnRelay, number_stays}
 use Rattle.radio_headline.proofs.RunLemmas.{HasNumber, IsOwn, number_before, number_behind}
 
 -- a relay's events come on the connection on which it was given its number

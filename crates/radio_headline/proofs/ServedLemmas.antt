@@ -1,4 +1,4 @@
--- What the course of a client's connection comes to, that is served event by event.
+-- The course of a connection that is served event by event: a client's, or a relay's.
 use Rattle.std.proofs.Common.{◌≡◌, inr, ℕ, Bool, true, false, List, [], ◌∷◌, ◌++◌, None, Some, refl, sym, ap, subst, ◌∙◌}
 use Rattle.std.specs.Prelude.{if◌then◌else◌}
 use Rattle.std.specs.List.{AllByRecursion, concat}
@@ -21,6 +21,7 @@ use Rattle.radio_core.specs.Handing.{is_number}
 use Rattle.radio_parts.specs.Step.{reply_to, world_after}
 use Rattle.radio_relay.specs.Answer.{shown_by}
 use Rattle.radio_answers.specs.declared.web_answers.WebAnswers.{WebAnswers}
+use Rattle.radio_pull.specs.Applied.{PullCourse, PullSoFar}
 use Rattle.radio_session.specs.declared.session.Says.{Says}
 use Rattle.radio_session.specs.Asking.{asks_by_get, asks_to_feed}
 use Rattle.radio_session.specs.Conversation.{asking}
@@ -32,7 +33,7 @@ use Rattle.radio_connections.specs.declared.conn.Fate.TheVariants.{Open, Ended, 
 use Rattle.radio_connections.specs.Course.{Arrival, Course as ConnectionCourse, IsOver, IsQuiet, LetsNobodyIn, Standing, answered, fate_by, newcomer}
 use Rattle.radio_connections.specs.Course.{arrives, turned_away, hears, has_room, applies, closes, is_cut, passes_over, leaves}
 use Rattle.radio_headline.specs.Course.{Happening, entry, entry_on, log_on}
-use Rattle.radio_headline.specs.Served.{HasCourse, HasHappened, HasLabelOrMoment, NothingWas, WasLetGo, WasServed, WasTurnedAway}
+use Rattle.radio_headline.specs.Served.{HasCourse, HasHappened, HasLabelOrMoment, NothingWas, WasLetGo, WasPulled, WasServed, WasTurnedAway}
 use Rattle.radio_headline.specs.Sources.{pushed}
 use Rattle.radio_headline.proofs.AppliedLemmas.{IsLeaving, IsNotLast, IsOrderly, closes_nothing, last_shuts, leaves_silently, orderly_joined}
 use Rattle.radio_headline.proofs.ClientEvents.{client_owns, events_of_joined, feeds_with, get_with, pushed_joined}
@@ -264,23 +265,27 @@ module _ (settled : IsSettled ShowsRequest) (within : HeadsLieWithin ShowsReques
       (subst (λ (bs : List ℕ). Known h.arrival.peer id bs h.standing.entries h.standing.text) h.same_given
       (came h.arrival id h.let_in h.answers h.standing h.course (subst (Each LeavesSo) (sym h.same_entries) so)).known))
 
-  pub closed_of : (bytes : List ℕ) (entries : List Entry) (text : List ℕ) → Each LeavesSo entries → HasHappened web bytes entries text → IsClosed web bytes entries text
-  closed_of bytes entries text so (NothingWas none) = record {
+  pub closed_of : ((mount : List ℕ) (pull : PullSoFar) → PullCourse mount pull → (text : List ℕ) → IsClosed web pull.given pull.entries text)
+      → (bytes : List ℕ) (entries : List Entry) (text : List ℕ) → Each LeavesSo entries → HasHappened web bytes entries text → IsClosed web bytes entries text
+  closed_of pulls bytes entries text so (NothingWas none) = record {
     own = subst (λ (xs : List Entry). Each (IsOwn xs) xs) (sym none) tt;
     facts = HasAskedNothing (subst (Each AsksNothing) (sym none) tt);
   }
-  closed_of bytes entries text so (WasTurnedAway peer reply nobody e) = record {
+  closed_of pulls bytes entries text so (WasTurnedAway peer reply nobody e) = record {
     own = subst (λ (xs : List Entry). Each (IsOwn xs) xs) (sym e) ((λ him h. cc), tt);
     facts = HasAskedNothing (subst (Each AsksNothing) (sym e) ((λ a. a), tt));
   }
-  closed_of bytes entries text so (WasServed id h) = closed_known h.arrival.peer id bytes entries text (known_by id bytes entries text h so)
-  closed_of bytes entries text so (WasLetGo id made reply h e) =
+  closed_of pulls bytes entries text so (WasServed id h) = closed_known h.arrival.peer id bytes entries text (known_by id bytes entries text h so)
+  closed_of pulls bytes entries text so (WasLetGo id made reply h e) =
       let left = entry_of (Leave id) reply ∷ [] in
       let both = subst (Each LeavesSo) e so in
       subst (λ (es : List Entry). IsClosed web bytes es text) (sym e)
       (closed_known h.arrival.peer id bytes (made ++ left) text
       (left_known h.arrival.peer id bytes made text (known_by id bytes made text h (each_first LeavesSo made left both)) reply
       ((each_second LeavesSo made left both).0 id refl)))
+  closed_of pulls bytes entries text so (WasPulled mount pull course same_given same_entries none) =
+      subst (λ (bs : List ℕ). IsClosed web bs entries text) same_given
+      (subst (λ (es : List Entry). IsClosed web pull.given es text) same_entries (pulls mount pull course text))
 
 -- what comes on no connection tells a moment
 pub nowhere_told : (course : List Happening) → AllByRecursion HasLabelOrMoment course → AllNowhere (λ h. IsMoment h.event) course

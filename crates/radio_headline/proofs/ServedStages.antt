@@ -24,7 +24,6 @@ use Rattle.radio_session.specs.declared.session.Says.{Says}
 use Rattle.radio_session.specs.Asking.{asks_by_get, asks_to_feed}
 use Rattle.radio_session.specs.Conversation.{Conversation, asking, saying_now}
 use Rattle.radio_session.specs.Framing.{framing_of, is_source, start_of}
-use Rattle.radio_session.specs.Hearing.{greeted}
 use Rattle.radio_session.specs.Saying.{Said, said}
 use Rattle.radio_session.specs.Told.{told}
 use Rattle.radio_connections.specs.Course.{Standing, answered, pending_by}

@@ -28,7 +28,7 @@ use Rattle.radio_headline.specs.Course.{Happening, events_in, on, entry, log_on}
 use Rattle.radio_headline.specs.Sources.{DeliversItsSound, RelaysDeliverTheirSound, pushed}
 use Rattle.radio_headline.proofs.Gathered.{IsOnIt}
 use Rattle.radio_headline.proofs.Logs.{log_parted, Each, each_as, each_joined}
-use Rattle.radio_headline.proofs.RelayWords.{IsCut, IsNoUp, OfRelay, OwnRelay, number_stays}
+use Rattle.radio_headline.proofs.Relays.RelayWords.{IsCut, IsNoUp, OfRelay, OwnRelay, number_stays}
 use Rattle.radio_headline.proofs.RunLemmas.{AllNowhere, IsMoment, HasNumber, IsIdling, Reached, given_here, reached_after, reached_all, reached_opening}
 use Rattle.radio_headline.proofs.Connections.{AsksForMount, AsksNothing, ByGet, Facts, Feeds, HasAskedNothing, HasSentGet, IsClosed}
 use Rattle.radio_headline.proofs.Connections.{IsBehindRequest, IsIdleOrLeaving, IsNoRequest, IsPulling, IsSource, Pulls, events_of}

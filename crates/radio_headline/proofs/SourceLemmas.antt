@@ -27,7 +27,7 @@ use Rattle.radio_headline.specs.Sources.{pushed, pushed_by}
 use Rattle.radio_headline.proofs.Logs.{Each}
 use Rattle.radio_headline.proofs.AppliedLemmas.{IsLast, IsLeaving, IsOrderly}
 use Rattle.radio_headline.proofs.ReplyForms.{noted_block, brings_noted, PushReply, PushIsStray, PushIsLast, PushIsDenied, PushIsNoted, push_reply, feeds_push}
-use Rattle.radio_headline.proofs.RelayWords.{IsCut, IsGoing, IsRefusal}
+use Rattle.radio_headline.proofs.Relays.RelayWords.{IsCut, IsGoing, IsRefusal}
 use Rattle.radio_headline.proofs.RunLemmas.{HasNumber, Reached, last_stays, given_here, reached_after, steps_at}
 use Rattle.radio_headline.proofs.Connections.{IsBehindRequest, IsNoRequest, events_of}
 use Rattle.radio_headline.proofs.Gathered.{IsOnIt, brought_to, gathered}

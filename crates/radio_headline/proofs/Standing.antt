@@ -34,10 +34,6 @@ pub brought_elsewhere : (label other : ℕ) (input : Input) → (label ≡ other
 brought_elsewhere label other input apart =
     append-nil (if label == other then bytes_in input else []) ∙ ap (λ (b : Bool). if b then bytes_in input else []) (other_number label other apart)
 
-pub front_none : (xs ys : List ℕ) → xs ++ ys ≡ [] → xs ≡ []
-front_none [] ys e = refl
-front_none (x ∷ xs) ys e = cc
-
 pub IsSo_as : (web : WebAnswers) (c c' : Option (Option Connection)) (b b' : List ℕ) (l l' : List Entry) (g g' : List ℕ) → c ≡ c' → b ≡ b' → l ≡ l' → g ≡ g'
     → IsSo web c b l g → IsSo web c' b' l' g'
 IsSo_as web c c' b b' l l' g g' ec eb el eg h =

@@ -11,6 +11,7 @@ use Rattle.radio_events.specs.declared.reply.Reply.TheVariants.{Arrived}
 use Rattle.radio_events.specs.Events.{entry}
 use Rattle.radio_parts_station.specs.World.{opening}
 use Rattle.radio_answers.specs.declared.web_answers.WebAnswers.{WebAnswers}
+use Rattle.radio_pull.specs.Applied.{PullCourse, PullSoFar}
 use Rattle.radio_connections.specs.Course.{Arrival, Course as ConnectionCourse, LetsNobodyIn, Standing}
 use Rattle.radio_headline.specs.Course.{Happening, log_on}
 use Rattle.radio_headline.specs.Listeners.{CourseHearsSlices}
@@ -38,13 +39,16 @@ pub data HasHappened (web : WebAnswers) (bytes : List ℕ) (entries : List Entry
   -- the course of its connection, and that its client was let go behind that
   WasLetGo : (id : ℕ) (made : List Entry) (reply : Reply) → HasCourse web id bytes made text → entries ≡ made ++ entry (Leave id) reply ∷ []
       → HasHappened web bytes entries text
+  -- the course of a relay's pull, whose master's answer gave these bytes
+  WasPulled : (mount : List ℕ) (pull : PullSoFar) → PullCourse mount pull → pull.given ≡ bytes → pull.entries ≡ entries → text ≡ []
+      → HasHappened web bytes entries text
 
 -- it comes on a connection, or gives a moment
 abbrev pub HasLabelOrMoment : Happening → Type 0
 HasLabelOrMoment happening = happening.label ≡ None → (ms : ℕ) × (happening.event ≡ Clock ms)
 
--- Over any course from the opening state whose events are, under each label, those of a connection that is served event by event: its listeners are given
--- slices of what its sources' connections brought.
+-- Over any course from the opening state whose events are, under each label, those of a connection that is served event by event, or of a relay's pull: its
+-- listeners are given slices of what the connections of its sources and relays brought.
 abbrev pub ServedCoursesHearSlices : Type 0
 ServedCoursesHearSlices = (web : WebAnswers) (settings : Settings) (lists : Lists) (course : List Happening) (brought given : ℕ → List ℕ)
     → AllByRecursion HasLabelOrMoment course

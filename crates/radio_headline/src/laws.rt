@@ -77,10 +77,11 @@ pub fn histories_are_lawful()
     draws_are_stretches();
 }
 
-/// The law from bytes to bytes, over every script and over every course whose connections are served event by event. Behind
-/// its head each listener is given slices of what came on the connections of the sources in whose sessions it sat, in that
-/// order, with a metadata block after each interval if it asked for metadata. A client that is denied reads the first rule
-/// that denied it.
+/// The law from bytes to bytes, over every script, and over every course that is served event by event. In such a course the
+/// events under each label are those of a client's connection or of a relay's pull. Behind its head each listener is given
+/// slices of what came on the connections of the sources and relays in whose sessions it sat. They come in the order of
+/// these sessions. If the listener asked for metadata, a metadata block follows each interval. A client that is denied reads
+/// the first rule that denied it.
 // rule: Without gap or repeat
 pub fn listeners_hear_slices()
     ensures scripts { ListenersHearSlices }

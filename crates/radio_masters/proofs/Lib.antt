@@ -1,3 +1,4 @@
 mod Called
 mod Popped
 mod PullEntries
+mod AtMostEntries

@@ -8,9 +8,10 @@ use Rattle.radio_events.specs.declared.state.State.{State}
 use Rattle.radio_events.specs.declared.state.State.TheVariants.{Running, Shut}
 use Rattle.radio_events.specs.Events.{entry}
 use Rattle.radio_events.specs.Servers.{Chain, Steps}
-use Rattle.radio_masters.specs.Applied.{AreOfBytes, AreOfEvent, AreOfEventAnd, AreOfEventIf, AreOfItems, AreOfPulled, IsDownIfShut, IsGoingDown}
-use Rattle.radio_masters.specs.Pulls.{Comes, Hears, probe_of, turn_of}
-use Rattle.radio_pull.specs.Course.{Asks, AsksIf, Brings, ComesOf, Follows, GoesDown, GoesDownIfShut, Onwards, Takes}
+use Rattle.radio_masters.specs.Pulls.{Comes, Hears, HearsAtMost, turn_of}
+use Rattle.radio_pull.specs.Applied.{AreAtMostOfTurn, AreOfBytes, AreOfEvent, AreOfEventAnd, AreOfEventIf, AreOfItems, AreOfPulled, IsDownIfShut, IsGoingDown}
+use Rattle.radio_pull.specs.Applied.{number_after, probe_of}
+use Rattle.radio_pull.specs.Course.{Asks, AsksAtMost, AsksAtMostIf, AsksIf, Brings, BringsAtMost, ComesOf, Follows, GoesDown, GoesDownIfShut, Onwards, OnwardsAtMost, Takes, TakesAtMost}
 use Rattle.radio_pull.specs.Pulling.{Pulling, Standing, event_for}
 use Rattle.radio_relay.specs.declared.items.PullItem.{PullItem}
 use Rattle.radio_relay.specs.Items.{items_of}
@@ -31,7 +32,7 @@ module _ {S : Type 0} (steps : Steps S) where
   shut_entries Running number from to same = ([], same, refl)
   shut_entries (Shut ending) number from to down = down_entries number from to down
 
-  event_entries : (number : Option ℕ) (event : Event) (from : S) (after : Standing) (to : S) → Asks steps number event from after to
+  pub event_entries : (number : Option ℕ) (event : Event) (from : S) (after : Standing) (to : S) → Asks steps number event from after to
       → Applied from to (λ entries. AreOfEvent number event entries after)
   event_entries number event from after to asks =
       let down = shut_entries after.state after.number asks.mid to asks.goes in

@@ -1,4 +1,3 @@
-pub mod Applied
 pub mod Pulls
 pub mod ListAnswers
 pub mod Ends

@@ -1,8 +1,5 @@
 -- A relay's connection to its master, turn after turn.
 use Rattle.std.specs.Prelude.{◌≡◌, ℕ, suc, Bool, true, false, ◌-◌, List, [], ◌∷◌, ◌++◌, length, take, Option, None, Some, Result, Ok, Err}
-use Rattle.std.specs.Option.{option_map}
-use Rattle.radio_events.specs.declared.event.Event.{Event}
-use Rattle.radio_events.specs.declared.event.Event.TheVariants.{Draw, RelayDown}
 use Rattle.radio_events.specs.declared.state.State.{State}
 use Rattle.radio_events.specs.declared.state.State.TheVariants.{Running, Shut}
 use Rattle.radio_events.specs.declared.entry.Entry.{Entry}
@@ -12,8 +9,8 @@ use Rattle.radio_heads.specs.declared.outcome.HeadFault.{HeadFault}
 use Rattle.radio_heads.specs.declared.outcome.Progress.{Progress}
 use Rattle.radio_heads.specs.declared.outcome.Progress.TheVariants.{More, Whole}
 use Rattle.radio_heads.specs.Response.{ResponseParts}
-use Rattle.radio_pull.specs.Pulling.{Pulling, Standing}
-use Rattle.radio_masters.specs.Applied.{AreOfBytes, AreOfEventIf}
+use Rattle.radio_pull.specs.Applied.{AreAtMostOfTurn, AreOfTurn, number_after}
+use Rattle.radio_pull.specs.Pulling.{Pulling}
 use Rattle.radio_masters.specs.declared.mount_pull.PullTurn.{PullTurn}
 use Rattle.radio_masters.specs.declared.mount_pull.PullTurn.TheVariants.{Running as GoesOn, Shut as IsShut, Closed, Failed, OutOfMemory}
 
@@ -57,10 +54,6 @@ abbrev pub turn_of : State → PullTurn
 turn_of Running = GoesOn
 turn_of (Shut ending) = IsShut ending
 
--- a draw without room, where the relay is up
-abbrev pub probe_of : Option ℕ → Option Event
-probe_of number = option_map (λ id. Draw id 0) number
-
 -- the front of the answer is kept, unless memory was refused
 abbrev pub KeepsFront : PullTurn → List ℕ → List ℕ → List ℕ → Type 0
 KeepsFront OutOfMemory front bytes front' = Unit {0}
@@ -79,24 +72,6 @@ IsCalledIn Closed before now = now.closings ≡ suc before.closings
 IsCalledIn Failed before now = now.faults ≡ suc before.faults
 IsCalledIn turn before now = now.reads ≡ suc before.reads
 
--- a draw without room, by whose reply the relay goes on or not
--- rule: Turn of a pull
-pub record IsProbed (relay : Pulling) (entries : List Entry) (relay' : Pulling) (state : State) : Type 0 where
-  pub after : Standing
-  pub asks : AreOfEventIf relay.number (probe_of relay.number) entries after
-  pub stands : state ≡ after.state
-  pub numbered : relay' ≡ record relay { number = after.number }
-
--- what is applied when these bytes came: what they bring, or the draw if nothing came
-abbrev pub AreOfTurn : Pulling → List ℕ → List Entry → Pulling → State → Type 0
-AreOfTurn relay [] entries relay' state = IsProbed relay entries relay' state
-AreOfTurn relay (byte ∷ bytes) entries relay' state = AreOfBytes relay (byte ∷ bytes) entries relay' state
-
--- memory is refused for its going down
-abbrev pub RefusesDown : {S : Type 0} → (S → Event → Type 0) → Option ℕ → S → Type 0
-RefusesDown refuses None from = ⊥
-RefusesDown refuses (Some id) from = refuses from (RelayDown id)
-
 module _ {S : Type 0} (steps : Steps S) where
   -- these events were applied one after another, and no others
   pub record Hears (relay : Pulling) (bytes : List ℕ) (from : S) (relay' : Pulling) (state : State) (to : S) : Type 0 where
@@ -104,14 +79,21 @@ module _ {S : Type 0} (steps : Steps S) where
     pub chain : Chain steps from entries to
     pub are : AreOfTurn relay bytes entries relay' state
 
-  -- its result by the turn's end: if the line is over nothing came, and if memory was refused nothing is said
+  -- memory was refused: at most the first of these events were applied, and no others
+  pub record HearsAtMost (relay : Pulling) (bytes : List ℕ) (from : S) (relay' : Pulling) (to : S) : Type 0 where
+    pub entries : List Entry
+    pub chain : Chain steps from entries to
+    pub are : AreAtMostOfTurn relay bytes entries
+    pub numbered : relay'.number ≡ number_after relay.number entries
+
+  -- its result by the turn's end; if the line is over nothing came
   -- rule: Turn of a pull
   abbrev pub Comes : Pulling → List ℕ → S → PullTurn → Pulling → S → Type 0
   Comes relay bytes from GoesOn relay' to = Hears relay bytes from relay' Running to
   Comes relay bytes from (IsShut ending) relay' to = Hears relay bytes from relay' (Shut ending) to
   Comes relay bytes from Closed relay' to = (bytes ≡ []) × (relay' ≡ relay) × (to ≡ from)
   Comes relay bytes from Failed relay' to = (bytes ≡ []) × (relay' ≡ relay) × (to ≡ from)
-  Comes relay bytes from OutOfMemory relay' to = Unit {0}
+  Comes relay bytes from OutOfMemory relay' to = HearsAtMost relay bytes from relay' to
 
   -- a turn: the line takes the front of what is pending and is read from once, unless it has failed by then, and the result of what it
   -- gave

@@ -3,21 +3,19 @@
 ghost use Rattle.std.specs.Prelude.{◌≡◌, ◌<◌, ℕ, List, [], length, Option, Result, IfOk, OnErr, OnOk};
 ghost use Rattle.radio_relay.specs.Request.{request_text};
 ghost use Rattle.radio_pull.specs.Pulling.{begun};
-ghost use Rattle.radio_pull.specs.Course.{GoesDown};
+ghost use Rattle.radio_pull.specs.Course.{GoesDown, RefusesDown};
 ghost use Rattle.radio_heads.specs.declared.outcome.HeadFault.{HeadFault};
 ghost use Rattle.radio_heads.specs.declared.outcome.Progress.{Progress};
 ghost use Rattle.radio_heads.specs.Reading.{IsReading};
 ghost use Rattle.radio_heads.specs.Response.{ResponseParts, ShowsResponse};
-ghost use Rattle.radio_events.specs.declared.reply.Reply.{Reply as ReplyOf};
-ghost use Rattle.radio_masters.specs.Pulls.{Comes, GoesOnHere, IsTurn, KeepsFront, RefusesDown, front_with, status_in, turn_of};
-ghost use Rattle.radio_events.specs.declared.event.Event.TheVariants.{RelayDown};
+ghost use Rattle.radio_masters.specs.Pulls.{Comes, GoesOnHere, IsTurn, KeepsFront, front_with, status_in, turn_of};
 
 use crate::OutOfMemory;
 use crate::asking::Asking;
 use radio_connections::{Line, Received};
 use radio_events::Event;
 use radio_heads::{MAX_HEAD, Progress, read_response};
-use radio_pull::{RelayPull, ask, take};
+use radio_pull::{RelayPull, ask, close, take};
 use radio_relay::request_text;
 use radio_session::{Ending, Server, State};
 use radio_settings_values::RelaySetting;
@@ -35,7 +33,7 @@ pub enum PullTurn {
     Closed,
     /// The line has failed; the relay is to go down.
     Failed,
-    /// Memory was refused, and what came is lost; the relay is to go down.
+    /// Memory was refused: what came brought its first events at most, and the rest is lost. The relay is to go down.
     OutOfMemory,
 }
 
@@ -127,25 +125,7 @@ impl<L: Line> MountPull<L> {
         ensures err { OnErr result (server.new ≡ server.old) }
         ensures refused { OnErr result (RefusesDown S.refuses self.now.relay.number server.old) }
     {
-        match self.relay.number() {
-            Some(id) => go_down(server, id),
-            None => Ok(()),
-        }
-    }
-}
-
-/// The relay of this number goes down. `OutOfMemory` if memory was refused for that; nothing was applied then.
-fn go_down<S: Server>(server: &mut S, id: u64) -> Result<(), OutOfMemory>
-    ensures down { OnOk result ((reply : ReplyOf) × S.steps server.old (RelayDown id) reply server.new) }
-    ensures err { OnErr result (server.new ≡ server.old) }
-    ensures refused { OnErr result (S.refuses server.old (RelayDown id)) }
-{
-    match server.apply(Event::RelayDown { id }) {
-        Ok(reply) => {
-            drop(reply);
-            Ok(())
-        }
-        Err(refused) => Err(refused),
+        close(server, &self.relay)
     }
 }
 
@@ -186,7 +166,7 @@ fn hear<S: Server>(server: &mut S, relay: &mut RelayPull, bytes: &[u8]) -> PullT
     hear_some(server, relay, bytes)
 }
 
-#[tactic(auto, using(crate::proofs::PullEntries::taken_comes))]
+#[tactic(auto, using(crate::proofs::PullEntries::taken_comes, crate::proofs::AtMostEntries::taken_at_most))]
 fn hear_some<S: Server>(server: &mut S, relay: &mut RelayPull, bytes: &[u8]) -> PullTurn
     requires { 0 < length bytes.now }
     ensures comes { Comes S.steps relay.old bytes.now server.old result relay.new server.new }

@@ -1,11 +1,12 @@
 -- The result of a pull, whoever applies its events.
-use Rattle.std.specs.Prelude.{◌≡◌, ℕ, List, [], ◌∷◌, Option, None, Some}
+use Rattle.std.specs.Prelude.{◌≡◌, ◌⊎◌, ℕ, List, [], ◌∷◌, Option, None, Some}
 use Rattle.radio_events.specs.declared.event.Event.{Event}
 use Rattle.radio_events.specs.declared.event.Event.TheVariants.{RelayDown}
 use Rattle.radio_events.specs.declared.reply.Reply.{Reply}
 use Rattle.radio_relay.specs.declared.items.PullItem.{PullItem}
+use Rattle.radio_relay.specs.declared.pull.PullStage.{PullStage}
 use Rattle.radio_relay.specs.declared.pull.PullStage.TheVariants.{Over}
-use Rattle.radio_relay.specs.Items.{items_of}
+use Rattle.radio_relay.specs.Items.{IsAnswered, items_of}
 use Rattle.radio_relay.specs.Pulled.{GoesOn, IsPulledAt, Pulled, Standing as AnswerStanding, Stops}
 use Rattle.radio_events.specs.declared.state.State.{State}
 use Rattle.radio_events.specs.declared.state.State.TheVariants.{Running, Shut}
@@ -17,6 +18,11 @@ use Rattle.radio_pull.specs.Pulling.{Pulling, Standing, answered, event_for, goi
 abbrev pub Follows : State → Type 0 → Type 0 → Type 0
 Follows Running rest last = rest
 Follows (Shut ending) rest last = last
+
+-- memory may be refused for the going down of a relay that is up
+abbrev pub RefusesDown : {S : Type 0} → (S → Event → Type 0) → Option ℕ → S → Type 0
+RefusesDown refuses None from = ⊥
+RefusesDown refuses (Some id) from = refuses from (RelayDown id)
 
 module _ {S : Type 0} (steps : Steps S) where
   -- a relay that is up goes down
@@ -71,3 +77,34 @@ module _ {S : Type 0} (steps : Steps S) where
   Takes pulling bytes from pulling' state to =
       (pulled : Pulled) × IsPulledAt pulling.stage bytes pulled
       × ComesOf pulling (items_of pulled.parts) pulled.standing from pulling' state to
+
+  -- memory was refused for an event, or for the relay's going down behind it
+  abbrev pub AsksAtMost : Option ℕ → Event → S → Option ℕ → S → Type 0
+  AsksAtMost number event from number' to =
+      ((number' ≡ number) × (to ≡ from)) ⊎ ((reply : Reply) × steps from event reply to × (number' ≡ (answered number reply).number))
+
+  -- the same, if the relay asks for an event
+  abbrev pub AsksAtMostIf : Option ℕ → Option Event → S → Option ℕ → S → Type 0
+  AsksAtMostIf number None from number' to = (number' ≡ number) × (to ≡ from)
+  AsksAtMostIf number (Some event) from number' to = AsksAtMost number event from number' to
+
+  -- memory was refused for an event, or for the rest
+  abbrev pub OnwardsAtMost : Option ℕ → Option Event → S → (Option ℕ → S → Type 0) → Option ℕ → S → Type 0
+  OnwardsAtMost number None from Rest number' to = (number' ≡ number) × (to ≡ from)
+  OnwardsAtMost number (Some event) from Rest number' to =
+      AsksAtMost number event from number' to
+      ⊎ ((now : Standing) × (mid : S) × Asks number event from now mid × (now.state ≡ Running) × Rest now.number mid)
+
+  -- memory was refused for one of these items: the first of them came about
+  abbrev pub BringsAtMost : List ℕ → Option ℕ → List PullItem → S → Option ℕ → S → Type 0
+  BringsAtMost mount number [] from number' to = (number' ≡ number) × (to ≡ from)
+  BringsAtMost mount number (item ∷ items) from number' to =
+      OnwardsAtMost number (event_for mount number item) from (λ now mid. BringsAtMost mount now items mid number' to) number' to
+
+  -- memory was refused when the next bytes of the master's answer came, and the relay has this number now
+  -- rule: Pulled stream
+  abbrev pub TakesAtMost : Pulling → List ℕ → S → Option ℕ → S → Type 0
+  TakesAtMost pulling bytes from number' to =
+      ((number' ≡ pulling.number) × (to ≡ from))
+      ⊎ ((items : List PullItem) × (stage : PullStage) × IsAnswered pulling.stage bytes items stage
+      × BringsAtMost pulling.mount pulling.number items from number' to)

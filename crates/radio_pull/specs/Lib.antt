@@ -1,3 +1,4 @@
 pub mod Pulling
 pub mod Course
+pub mod Applied
 pub mod Laws

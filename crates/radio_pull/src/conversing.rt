@@ -1,11 +1,13 @@
 //! What arrives on the pull of a relay, and the events that are applied for it.
 
-ghost use Rattle.std.specs.Prelude.{◌≡◌, ◌≢◌, IfOk, OnOk};
+ghost use Rattle.std.specs.Prelude.{◌≡◌, ◌≢◌, IfOk, OnErr, OnOk};
 ghost use Rattle.radio_relay.specs.declared.fault.PullFault.TheVariants.{OutOfMemory as NoMemory};
 ghost use Rattle.radio_events.specs.declared.state.State.TheVariants.{Shut};
 ghost use Rattle.radio_events.specs.declared.state.Ending.TheVariants.{BadPull};
+ghost use Rattle.radio_events.specs.declared.event.Event.TheVariants.{RelayDown};
+ghost use Rattle.radio_events.specs.declared.reply.Reply.{Reply as ReplyOf};
 ghost use Rattle.radio_pull.specs.Pulling.{Standing};
-ghost use Rattle.radio_pull.specs.Course.{Asks, AsksIf, Brings, GoesDown, Takes};
+ghost use Rattle.radio_pull.specs.Course.{Asks, AsksAtMost, AsksAtMostIf, AsksIf, Brings, BringsAtMost, GoesDown, RefusesDown, Takes, TakesAtMost};
 
 use crate::OutOfMemory;
 use crate::relay_pull::RelayPull;
@@ -17,15 +19,15 @@ use std::alloc::AllocError;
 /// The next bytes of the master's answer come: what they bring is applied, one event after another.
 /// It answers whether the pull goes on. A relay that is up, and whose pull is shut, goes down.
 ///
-/// `OutOfMemory`: memory was refused; nothing is said of the server then, and the pull is to be
-/// closed.
+/// `OutOfMemory`: memory was refused. The first of what the bytes bring was applied, or nothing; the pull is to be closed.
 // rule: Head of a master
 pub fn take<S: Server>(
     server: &mut S,
     relay: &mut RelayPull,
     bytes: &[u8],
 ) -> Result<State, OutOfMemory>
-    ensures { IfOk result (λ state. Takes S.steps relay.old bytes.now server.old relay.new state server.new) }
+    ensures ok { IfOk result (λ state. Takes S.steps relay.old bytes.now server.old relay.new state server.new) }
+    ensures err { OnErr result (TakesAtMost S.steps relay.old bytes.now server.old relay.new.number server.new) }
 {
     match relay.pull.feed(bytes) {
         Ok(items) => bring(server, relay, items),
@@ -34,13 +36,14 @@ pub fn take<S: Server>(
 }
 
 /// The answer has this fault: the pull is shut. `OutOfMemory` if it is want of memory, or more of
-/// it was wanted.
+/// it was wanted; nothing was applied then.
 fn give_up<S: Server>(
     server: &mut S,
     relay: &RelayPull,
     fault: PullFault,
 ) -> Result<State, OutOfMemory>
-    ensures { IfOk result (λ state. (fault ≢ NoMemory) × GoesDown S.steps relay.now.number server.old server.new
+    ensures err { OnErr result (server.new ≡ server.old) }
+    ensures ok { IfOk result (λ state. (fault ≢ NoMemory) × GoesDown S.steps relay.now.number server.old server.new
         × (state ≡ Shut BadPull)) }
 {
     match fault {
@@ -52,13 +55,15 @@ fn give_up<S: Server>(
     }
 }
 
-/// What the items ask for is applied, one after another, until the pull is shut.
+/// What the items ask for is applied, one after another, until the pull is shut. `OutOfMemory` if memory was refused; what the first
+/// of them ask for was applied then.
 fn bring<S: Server>(
     server: &mut S,
     relay: &mut RelayPull,
     items: Vec<PullItem>,
 ) -> Result<State, OutOfMemory>
-    ensures { IfOk result (λ state. (after : Standing)
+    ensures err { OnErr result (BringsAtMost S.steps relay.old.mount relay.old.number items.items server.old relay.new.number server.new) }
+    ensures ok { IfOk result (λ state. (after : Standing)
         × Brings S.steps relay.old.mount relay.old.number items.items server.old after server.new
         × (state ≡ after.state) × (relay.new ≡ record relay.old { number = after.number })) }
 {
@@ -76,15 +81,15 @@ fn bring<S: Server>(
 /// An event of the relay is applied, if there is one. It answers whether the pull goes on. A relay
 /// that is up, and whose pull is shut, goes down.
 ///
-/// `OutOfMemory`: memory was refused; nothing is said of the server then, and the pull is to be
-/// closed.
+/// `OutOfMemory`: memory was refused. The event was applied, or nothing; the pull is to be closed.
 // rule: Relay goes down
 pub fn ask<S: Server>(
     server: &mut S,
     relay: &mut RelayPull,
     event: Option<Event>,
 ) -> Result<State, OutOfMemory>
-    ensures { IfOk result (λ state. (after : Standing)
+    ensures err { OnErr result (AsksAtMostIf S.steps relay.old.number event server.old relay.new.number server.new) }
+    ensures ok { IfOk result (λ state. (after : Standing)
         × AsksIf S.steps relay.old.number event server.old after server.new
         × (state ≡ after.state) × (relay.new ≡ record relay.old { number = after.number })) }
 {
@@ -94,13 +99,14 @@ pub fn ask<S: Server>(
     }
 }
 
-/// One event of the relay is applied.
+/// One event of the relay is applied. `OutOfMemory` if memory was refused for that, or for its going down behind it.
 fn ask_for<S: Server>(
     server: &mut S,
     relay: &mut RelayPull,
     event: Event,
 ) -> Result<State, OutOfMemory>
-    ensures { IfOk result (λ state. (after : Standing)
+    ensures err { OnErr result (AsksAtMost S.steps relay.old.number event server.old relay.new.number server.new) }
+    ensures ok { IfOk result (λ state. (after : Standing)
         × Asks S.steps relay.old.number event server.old after server.new
         × (state ≡ after.state) × (relay.new ≡ record relay.old { number = after.number })) }
 {
@@ -113,14 +119,31 @@ fn ask_for<S: Server>(
     Ok(state)
 }
 
-/// The connection to the master is closed: the relay goes down, if it is up. `OutOfMemory` where
-/// whoever applies it is refused memory.
+/// The connection to the master is closed: the relay goes down, if it is up. `OutOfMemory` if memory was refused for that; nothing
+/// was applied then.
 // rule: Relay goes down
 pub fn close<S: Server>(server: &mut S, relay: &RelayPull) -> Result<(), OutOfMemory>
-    ensures { OnOk result (GoesDown S.steps relay.now.number server.old server.new) }
+    ensures down { OnOk result (GoesDown S.steps relay.now.number server.old server.new) }
+    ensures err { OnErr result (server.new ≡ server.old) }
+    ensures refused { OnErr result (RefusesDown S.refuses relay.now.number server.old) }
 {
-    if let Some(id) = relay.number() {
-        drop(server.apply(Event::RelayDown { id })?);
+    match relay.number() {
+        Some(id) => go_down(server, id),
+        None => Ok(()),
     }
-    Ok(())
+}
+
+/// The relay of this number goes down. `OutOfMemory` if memory was refused for that; nothing was applied then.
+fn go_down<S: Server>(server: &mut S, id: u64) -> Result<(), OutOfMemory>
+    ensures down { OnOk result ((reply : ReplyOf) × S.steps server.old (RelayDown id) reply server.new) }
+    ensures err { OnErr result (server.new ≡ server.old) }
+    ensures refused { OnErr result (S.refuses server.old (RelayDown id)) }
+{
+    match server.apply(Event::RelayDown { id }) {
+        Ok(reply) => {
+            drop(reply);
+            Ok(())
+        }
+        Err(refused) => Err(refused),
+    }
 }

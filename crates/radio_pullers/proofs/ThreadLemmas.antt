@@ -7,8 +7,8 @@ use Rattle.radio_masters.specs.Askers.{AskedOf, AskedSteps}
 use Rattle.radio_masters.specs.declared.mount_pull.PullTurn.{PullTurn}
 use Rattle.radio_masters.specs.declared.mount_pull.PullTurn.TheVariants.{Running, Shut, Closed, Failed, OutOfMemory}
 use Rattle.radio_masters.specs.declared.relay_end.RelayEnd.{RelayEnd}
-use Rattle.radio_masters.specs.Pulls.{Comes, IsTurn, PullOver, RefusesDown}
-use Rattle.radio_pull.specs.Course.{GoesDown}
+use Rattle.radio_masters.specs.Pulls.{Comes, IsTurn, PullOver}
+use Rattle.radio_pull.specs.Course.{GoesDown, RefusesDown}
 use Rattle.radio_pull.specs.Pulling.{Pulling}
 use Rattle.radio_pullers.specs.Running.{Begun}
 use Rattle.radio_pullers.specs.Threads.{HasGoneOn, HasPulled, HasHadTurns, IsLetDown, IsNewPull, IsPullOf, no_pull, no_turn, one_pull, one_turn}
@@ -39,7 +39,8 @@ module _ {S : Type 0} (steps : Steps S) where
       record { entries = comes.entries; chain = chain_within from to comes.entries comes.chain; are = comes.are }
   comes_within relay relay' bytes from to Closed (none, same, stays) = (none, same, ap (λ (a : Asker). a.server.server) stays)
   comes_within relay relay' bytes from to Failed (none, same, stays) = (none, same, ap (λ (a : Asker). a.server.server) stays)
-  comes_within relay relay' bytes from to OutOfMemory comes = tt
+  comes_within relay relay' bytes from to OutOfMemory comes =
+      record { entries = comes.entries; chain = chain_within from to comes.entries comes.chain; are = comes.are; numbered = comes.numbered }
 
   turn_within : (pull pull' : PullOver) (from to : Asker) (turn : PullTurn) → IsTurn asks pull from turn pull' to
       → IsTurn steps pull from.server.server turn pull' to.server.server

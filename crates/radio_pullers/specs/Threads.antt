@@ -4,8 +4,8 @@ use Rattle.radio_events.specs.declared.event.Event.{Event}
 use Rattle.radio_events.specs.Servers.{Steps}
 use Rattle.radio_masters.specs.declared.mount_pull.PullTurn.{PullTurn}
 use Rattle.radio_masters.specs.declared.mount_pull.PullTurn.TheVariants.{Running}
-use Rattle.radio_masters.specs.Pulls.{IsTurn, PullOver, RefusesDown}
-use Rattle.radio_pull.specs.Course.{GoesDown}
+use Rattle.radio_masters.specs.Pulls.{IsTurn, PullOver}
+use Rattle.radio_pull.specs.Course.{GoesDown, RefusesDown}
 use Rattle.radio_pull.specs.Pulling.{begun}
 use Rattle.radio_relay.specs.Request.{request_text}
 use Rattle.radio_settings_values.specs.declared.settings.RelaySetting.{RelaySetting}

@@ -2,9 +2,8 @@
 
 ghost use Rattle.std.specs.Prelude.{◌≡◌, ◌⊎◌, IfOk, IfErr, IfSome, OnErr, OnOk};
 ghost use Rattle.radio_masters.specs.declared.relay_end.RelayEnd.TheVariants.{NoAnswer, NotWished, OutOfMemory as NoMemory};
-ghost use Rattle.radio_pull.specs.Course.{GoesDown};
+ghost use Rattle.radio_pull.specs.Course.{GoesDown, RefusesDown};
 ghost use Rattle.radio_masters.specs.Askers.{AskedSteps};
-ghost use Rattle.radio_masters.specs.Pulls.{RefusesDown};
 ghost use Rattle.radio_serving.specs.Watching.{WatchedSteps, watched_of};
 ghost use Rattle.radio_pullers.specs.Threads.{HasPulled, HasHadTurns, IsLetDown, IsNewPull, IsPullOf};
 ghost use Rattle.radio_pullers.specs.Turns.{MayTurn};

@@ -8,6 +8,8 @@ mod WorkLemmas
 mod HeldLemmas
 mod RoundLemmas
 mod ShiftLemmas
+mod PullLemmas
+mod RelayLemmas
 mod StationLemmas
 mod SettledLemmas
 mod RunningLemmas

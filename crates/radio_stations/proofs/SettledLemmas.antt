@@ -22,8 +22,8 @@ same_first x y xs ys e = cc
 same_others : (x y : Entry) (xs ys : List Entry) → x ∷ xs ≡ y ∷ ys → xs ≡ ys
 same_others x y xs ys e = cc
 
-both_then : (x y : Entry) (xs ys : List Entry) → x ≡ y → xs ≡ ys → x ∷ xs ≡ y ∷ ys
-both_then x y xs ys first others = ap (λ (z : Entry). z ∷ xs) first ∙ ap (λ (zs : List Entry). y ∷ zs) others
+pub both_then : {A : Type 0} (x y : A) (xs ys : List A) → x ≡ y → xs ≡ ys → x ∷ xs ≡ y ∷ ys
+both_then {A} x y xs ys first others = ap (λ (z : A). z ∷ xs) first ∙ ap (λ (zs : List A). y ∷ zs) others
 
 lifted : (es fs history : List Entry) → IsWoven es fs history → (one other : List Made) → entries_in one ≡ es → entries_in other ≡ fs → IsWovenOf one other history
 lifted es fs history nothing_left [] [] first second = record { made = []; woven = nothing_left; same = refl }

@@ -32,6 +32,10 @@ pub record HasLabelsIn (from next : ℕ) (roll : Roll) : Type 0 where
   pub below : (label : ℕ) → label < from → roll label ≡ unknown
   pub above : (label : ℕ) → next ≤ label → roll label ≡ unknown
 
+-- no label was given
+pub no_labels : (from : ℕ) → HasLabelsIn from from nobody_came
+no_labels from = record { in_order = omega arith; below = λ label low. refl; above = λ label high. refl }
+
 not_itself : (next label : ℕ) → (label < next) → label ≡ next → ⊥
 not_itself next label low same = omega (arith, low, same)
 
@@ -39,7 +43,7 @@ not_past : (next label : ℕ) → suc next ≤ label → label ≡ next → ⊥
 not_past next label high same = omega (arith, high, same)
 
 -- the next label was given
-labels_then : (from next : ℕ) (place : UnderLabel) (roll : Roll) → HasLabelsIn from next roll → HasLabelsIn from (suc next) (enrolled next place roll)
+pub labels_then : (from next : ℕ) (place : UnderLabel) (roll : Roll) → HasLabelsIn from next roll → HasLabelsIn from (suc next) (enrolled next place roll)
 labels_then from next place roll h = record {
   in_order = let order = h.in_order in omega (arith, order);
   below = λ label low.
@@ -94,7 +98,7 @@ module _ {S : Type 0} (steps : Steps S) (refuses : S → Event → Type 0) (web 
     same_sources = refl;
     same_others = refl;
     next = from;
-    labels = record { in_order = omega arith; below = λ label low. refl; above = λ label high. refl };
+    labels = no_labels from;
   }
 
   took : (worker after : WorkerOf (WatchedOf S)) (sources conns conns' : List Connection) (peer : _) → ShiftMade (shift_of worker sources conns)
@@ -323,7 +327,7 @@ module _ {S : Type 0} (steps : Steps S) (refuses : S → Event → Type 0) (web 
         others = λ label h. rest.others label h.1 ∙ first.others label (h.0, tt);
       }
 
--- what the worker of a slot made, with labels in a range
+-- what the worker of a slot, or a relay's thread, made, with labels in a range
 pub record SlotMade {S : Type 0} (steps : Steps S) (web : WebAnswers) (from : ℕ) (first last : S) : Type 0 where
   pub made : List Made
   pub roll : Roll

@@ -1,4 +1,4 @@
--- From the connections of a history to what its listeners are given.
+-- From the connections and pulls of a history to what its listeners are given.
 use Rattle.std.proofs.Common.{◌≡◌, inl, inr, ℕ, true, false, List, [], ◌∷◌, ◌++◌, refl, sym, ap, subst, ◌∙◌}
 use Rattle.std.specs.Prelude.{if◌then◌else◌}
 use Rattle.std.specs.List.{AllByRecursion}
@@ -19,11 +19,12 @@ use Rattle.radio_connections.specs.Connections.{Connection}
 use Rattle.radio_connections.specs.Course.{LetsNobodyIn}
 use Rattle.radio_connections.specs.Serving.{IsHanded}
 use Rattle.radio_headline.specs.Course.{log_on}
-use Rattle.radio_headline.specs.Served.{HasCourse, HasHappened, HasLabelOrMoment, NothingWas, ServedCoursesHearSlices, WasLetGo, WasServed, WasTurnedAway}
+use Rattle.radio_headline.specs.Served.{HasCourse, HasHappened, HasLabelOrMoment, NothingWas, ServedCoursesHearSlices, WasLetGo, WasPulled, WasServed, WasTurnedAway}
 use Rattle.radio_settling.specs.Woven.{IsWoven, nothing_left, takes_one, takes_other}
 use Rattle.radio_stations.specs.Stations.{IsHandedTo, StationsAddUp, StationsHearSlices, both_rolls, course_of, either_has, given_by}
 use Rattle.radio_stations.specs.Turns.{IsServedThrough, IsOnlyAnswered}
-use Rattle.radio_stations.specs.Work.{IsOfItsConnection, IsServedBy, IsUnder, Made, UnderLabel, closed, entries_in, entries_on, entry_on, gone, happening, here, unknown}
+use Rattle.radio_stations.specs.Work.{IsOfItsConnection, IsServedBy, IsUnder, Made, UnderLabel}
+use Rattle.radio_stations.specs.Work.{closed, entries_in, entries_on, entry_on, gone, happening, here, pulled, unknown}
 
 -- the replies of a run are those that its entries note
 same_entry : (w : World) (e : Entry) → e.reply ≡ reply_to w e.event → entry e.event (reply_to w e.event) ≡ e
@@ -108,6 +109,8 @@ known web (gone c) entries (before, reply, stayed, all, of) =
       happened = subst (λ (es : List Entry). HasHappened web c.given es k.text) (sym all) (k.let_go stayed reply);
     }
 known web closed entries (peer, reply, nobody, all) = record { text = []; handed = refl; happened = WasTurnedAway peer reply nobody all }
+known web (pulled given) entries of =
+    record { text = []; handed = refl; happened = WasPulled of.mount of.pull of.course of.same_given of.same_entries refl }
 
 pub hear_slices : ServedCoursesHearSlices → StationsHearSlices
 hear_slices law web settings lists made roll run of =
@@ -151,6 +154,7 @@ of_one unknown other none = sym none
 of_one (here c) other none = refl
 of_one (gone c) other none = refl
 of_one closed other none = refl
+of_one (pulled given) other none = refl
 
 of_other : (place other : UnderLabel) → place ≡ unknown → other ≡ either_has place other
 of_other place other none = ap (λ (p : UnderLabel). either_has p other) (sym none)

@@ -1,4 +1,4 @@
--- What a worker made, as a chain of its server's steps, and label by label.
+-- What a worker or a relay's thread made, as a chain of its server's steps, and label by label.
 use Rattle.std.proofs.Common.{◌≡◌, ℕ, ◌==◌, Bool, true, false, List, [], ◌∷◌, ◌++◌, refl, sym, ap, subst, ◌∙◌}
 use Rattle.std.specs.Prelude.{map, if◌then◌else◌}
 use Rattle.std.specs.List.{AllByRecursion}
@@ -13,6 +13,7 @@ use Rattle.radio_events.specs.declared.reply.Reply.TheVariants.{Arrived, Feeding
 use Rattle.radio_events.specs.Events.{entry}
 use Rattle.radio_events.specs.Servers.{Steps, Chain}
 use Rattle.radio_locks.specs.Callers.{IsCalled, PassesGainWhatWasApplied}
+use Rattle.radio_pull.specs.Applied.{PullCourse, PullSoFar}
 use Rattle.radio_connections.specs.Admission.{IsTakenIn}
 use Rattle.radio_connections.specs.Connections.{Connection}
 use Rattle.radio_connections.specs.Course.{LetsNobodyIn}
@@ -22,8 +23,9 @@ use Rattle.radio_headline.specs.Served.{HasLabelOrMoment}
 use Rattle.radio_headline.proofs.Logs.{itself}
 use Rattle.radio_tables.proofs.KeyLaws.{by_number}
 use Rattle.radio_stations.specs.Turns.{AreTurnsOf, ConnectionTurn, ConnectionsMeanTheirBytes, StrangersAreOnlyAnswered, applied_in}
-use Rattle.radio_stations.specs.Work.{HasWorked, IsOfItsConnection, IsServedBy, IsUnder, Made, PassesAreOfTheirWork, UnderLabel, Roll, WorkIsOfItsConnections}
-use Rattle.radio_stations.specs.Work.{closed, entries_in, entries_on, entry_on, gone, happening, here, let_go, made_on, moment, nothing_yet, enrolled, served, told, took_in, turned_off, unknown}
+use Rattle.radio_stations.specs.Work.{HasWorked, IsOfItsConnection, IsOfItsPull, IsServedBy, IsUnder, Made, PassesAreOfTheirWork, Roll, UnderLabel}
+use Rattle.radio_stations.specs.Work.{closed, enrolled, entries_in, entries_on, entry_on, gone, happening, here, let_go, made_on, moment, nothing_yet, pulled, pulled_in}
+use Rattle.radio_stations.specs.Work.{WorkIsOfItsConnections, served, told, took_in, turned_off, unknown}
 
 entries_joined : (made more : List Made) → entries_in (made ++ more) ≡ entries_in made ++ entries_in more
 entries_joined made more = map-append (λ (m : Made). m.done) made more
@@ -58,6 +60,9 @@ module _ {S : Type 0} (steps : Steps S) (web : WebAnswers) where
       (subst (λ (es : List Entry). Chain steps from es last) (sym (entries_of label turn.entries)) turn.chain)
   worked first last made roll (let_go before from to was done label c there stayed reply step) =
       leads_one first from last before (made_on label (entry (Leave c.id) reply)) (worked first from before was done) step
+  worked first last made roll (pulled_in before from to was done label new mount pull course chain) =
+      leads_then first from last before (map (made_on label) pull.entries) (worked first from before was done)
+      (subst (λ (es : List Entry). Chain steps from es last) (sym (entries_of label pull.entries)) chain)
 
 -- a watched server steps as it does unwatched
 module _ {S : Type 0} (steps : Steps S) where
@@ -95,6 +100,8 @@ module _ {S : Type 0} (steps : Steps S) (web : WebAnswers) where
       all_placed before (map (made_on label) turn.entries) (are_moments first from before was done) (labelled label turn.entries)
   are_moments first last made roll (let_go before from to was done label c there stayed reply step) =
       all_placed before (made_on label (entry (Leave c.id) reply) ∷ []) (are_moments first from before was done) (labelled label (entry (Leave c.id) reply ∷ []))
+  are_moments first last made roll (pulled_in before from to was done label new mount pull course chain) =
+      all_placed before (map (made_on label) pull.entries) (are_moments first from before was done) (labelled label pull.entries)
 
 -- what is under one label
 on_joined : (label : ℕ) (made more : List Made) → entries_on label (made ++ more) ≡ entries_on label made ++ entries_on label more
@@ -154,6 +161,7 @@ module _ {S : Type 0} (steps : Steps S) (web : WebAnswers) where
   IsAt entries (here c) = Came entries c
   IsAt entries (gone c) = Went entries c
   IsAt entries closed = (peer : Peer) × (reply : Reply) × LetsNobodyIn reply × (entries ≡ entry (Arrive peer) reply ∷ [])
+  IsAt entries (pulled given) = IsOfItsPull given entries
 
   abbrev IsAll : List Made → Roll → Type 0
   IsAll made roll = (label : ℕ) → IsAt (entries_on label made) (roll label)
@@ -207,6 +215,16 @@ module _ {S : Type 0} (steps : Steps S) (web : WebAnswers) where
         flat_map-append (λ (t : ConnectionTurn steps). t.serves.entries) turns (turn ∷ [])
         ∙ ap (λ (es : List Entry). applied_in steps turns ++ es) (append-nil turn.serves.entries)
 
+  pull_of : (entries : List Entry) (label : ℕ) (mount : List ℕ) (pull : PullSoFar) → entries ≡ [] → PullCourse mount pull
+      → IsOfItsPull pull.given (entries ++ entries_on label (map (made_on label) pull.entries))
+  pull_of entries label mount pull none course = record {
+    mount = mount;
+    pull = pull;
+    course = course;
+    same_given = refl;
+    same_entries = sym (ap (λ (es : List Entry). es ++ entries_on label (map (made_on label) pull.entries)) none ∙ all_here label pull.entries);
+  }
+
   at_place : (entries : List Entry) (place other : UnderLabel) → place ≡ other → IsAt entries place → IsAt entries other
   at_place entries place other e at = subst (IsAt entries) e at
 
@@ -245,6 +263,11 @@ module _ {S : Type 0} (steps : Steps S) (web : WebAnswers) where
         came = at_place (entries_on label before) (was label) (here c) there (so_far first from before was done label);
         all = ap (λ (es : List Entry). entries_on label before ++ es) (on_here label (entry (Leave c.id) reply));
       })
+  so_far first last made roll (pulled_in before from to was done label new mount pull course chain) =
+      under label before (map (made_on label) pull.entries) (pulled pull.given) was (so_far first from before was done)
+      (λ other apart. all_elsewhere label other pull.entries apart)
+      (pull_of (entries_on label before) label mount pull
+      (at_place (entries_on label before) (was label) unknown new (so_far first from before was done label)) course)
 
   module _ (clients : ConnectionsMeanTheirBytes steps) (strangers : StrangersAreOnlyAnswered steps) where
     served_by : (peer : Peer) (reply : Reply) (first last : Connection) (turns : List (ConnectionTurn steps))
@@ -274,6 +297,7 @@ module _ {S : Type 0} (steps : Steps S) (web : WebAnswers) where
     of_place entries (here c) came = of_came entries c came
     of_place entries (gone c) went = (went.before, went.reply, went.stayed, went.all, of_came went.before c went.came)
     of_place entries closed at = at
+    of_place entries (pulled given) at = at
 
     pub work_of_connections : WorkIsOfItsConnections steps web
     work_of_connections first last made roll done = record {

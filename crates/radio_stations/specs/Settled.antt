@@ -1,4 +1,4 @@
--- Workers over one hall whose passes are settled, their one history, and what the listeners in it are given.
+-- Workers and relays' threads over one hall whose passes are settled, their one history, and what the listeners in it are given.
 use Rattle.std.specs.Prelude.{◌≡◌, true, List, [], ◌∷◌, length, map, sum_by}
 use Rattle.radio_settings_values.specs.declared.settings.Settings.{Settings}
 use Rattle.radio_access.specs.Lists.{Lists}
@@ -16,7 +16,7 @@ use Rattle.radio_serving.specs.Watching.{WatchedOf, WatchedSteps}
 use Rattle.radio_stations.specs.Stations.{AreApart, StationHearsSlices, both_rolls}
 use Rattle.radio_stations.specs.Work.{HasWorked, IsOfConnections, Made, Roll, entries_in, nobody_came}
 
--- What a worker did from this state of a hall that stores its entries, with these settings of answers. Its pass had no receipt as it began.
+-- What a worker or a relay's thread did from this state of a hall that stores its entries, with these settings of answers. Its pass had no receipt as it began.
 pub record WorkAtHall (start : World) (web : WebAnswers) : Type 0 where
   pub made : List Made
   pub roll : Roll
@@ -44,7 +44,7 @@ module _ {start : World} {web : WebAnswers} where
   HaveOwnLabels [] = Unit {0}
   HaveOwnLabels (worker ∷ workers) = AreApart worker.roll (joint_roll workers) × HaveOwnLabels workers
 
--- The history is woven of what each worker made. So it is of the connections of all of them, and its listeners are given slices of what their sources' lines
+-- The history is woven of what each of these made. So it is of the connections and pulls of all of them, and its listeners are given slices of what their sources
 -- brought.
 pub record IsOfWorkers {start : World} {web : WebAnswers} (settings : Settings) (lists : Lists) (workers : List (WorkAtHall start web)) (history : List Entry) : Type 0 where
   pub made : List Made
@@ -53,8 +53,8 @@ pub record IsOfWorkers {start : World} {web : WebAnswers} (settings : Settings) 
   pub of_connections : IsOfConnections web made (joint_roll workers)
   pub hears : StationHearsSlices web settings lists made (joint_roll workers)
 
--- If `settle` ends well with these workers' passes, and no label is known to two workers, then its history is of the workers. The last three premises are what
--- `settle` ensures of its history.
+-- If `settle` ends well with the passes of these, and no label is known to two of them, then its history is of them. The last three premises are what `settle`
+-- ensures of its history.
 abbrev pub SettledStationsHearSlices : Type 0
 SettledStationsHearSlices = (start : World) (web : WebAnswers) (settings : Settings) (lists : Lists) (workers : List (WorkAtHall start web))
     (control : List ControlLine) (mounts : List (List MountItem)) (history : List Entry)

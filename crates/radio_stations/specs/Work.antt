@@ -1,4 +1,4 @@
--- All that a worker did, one after another, and the receipts of its pass.
+-- All that a worker or a relay's thread did, one after another, and the receipts of its pass.
 use Rattle.std.specs.Prelude.{◌≡◌, ◌==◌, if◌then◌else◌, ℕ, Bool, true, false, List, [], ◌∷◌, ◌++◌, map, flat_map, Option, None, Some}
 use Rattle.std.specs.List.{AllByRecursion}
 use Rattle.radio_addr.specs.declared.peer.Peer.{Peer}
@@ -9,10 +9,11 @@ use Rattle.radio_events.specs.declared.event.Event.TheVariants.{Arrive, Clock, L
 use Rattle.radio_events.specs.declared.reply.Reply.{Reply}
 use Rattle.radio_events.specs.declared.reply.Reply.TheVariants.{Arrived}
 use Rattle.radio_events.specs.Events.{entry}
-use Rattle.radio_events.specs.Servers.{Steps}
+use Rattle.radio_events.specs.Servers.{Chain, Steps}
 use Rattle.radio_parts_station.specs.World.{World}
 use Rattle.radio_book.specs.Receipts.{ReceiptOf, entry_of}
 use Rattle.radio_locks.specs.Callers.{IsCalled}
+use Rattle.radio_pull.specs.Applied.{PullCourse, PullSoFar}
 use Rattle.radio_connections.specs.Admission.{IsTakenIn}
 use Rattle.radio_connections.specs.Connections.{Connection}
 use Rattle.radio_connections.specs.Course.{LetsNobodyIn}
@@ -22,12 +23,14 @@ use Rattle.radio_headline.specs.Course.{Happening}
 use Rattle.radio_headline.specs.Served.{HasLabelOrMoment}
 use Rattle.radio_stations.specs.Turns.{IsServedThrough, IsOnlyAnswered}
 
--- what a worker has under a label: nothing yet, a connection, one that it has let go, or none, since that was closed as it came
+-- what a worker has under a label: nothing yet, a connection, one that it has let go, none, since that was closed as it came, or the bytes of a master's answer
+-- in one pull of a relay
 pub data UnderLabel : Type 0 where
   unknown : UnderLabel
   here : Connection → UnderLabel
   gone : Connection → UnderLabel
   closed : UnderLabel
+  pulled : List ℕ → UnderLabel
 
 -- under each label
 abbrev pub Roll : Type 0
@@ -39,7 +42,7 @@ nobody_came label = unknown
 abbrev pub enrolled : ℕ → UnderLabel → Roll → Roll
 enrolled label place roll = λ other. if label == other then place else roll other
 
--- an event that was applied, with its reply, and the label of the connection for which it was; a moment is told for none
+-- an event that was applied, with its reply, and the label of the connection or pull for which it was; a moment is told for none
 pub record Made : Type 0 where
   pub label : Option ℕ
   pub done : Entry
@@ -57,7 +60,7 @@ entries_in made = map (λ (m : Made). m.done) made
 abbrev pub entry_on : ℕ → Made → List Entry
 entry_on label m = if is_number label m.label then m.done ∷ [] else []
 
--- what was made for the connection of the label
+-- what was made under the label
 abbrev pub entries_on : ℕ → List Made → List Entry
 entries_on label made = flat_map (entry_on label) made
 
@@ -74,20 +77,29 @@ pub record IsOfItsConnection (web : WebAnswers) (entries : List Entry) (c : Conn
   pub in_order : entries ≡ entry (Arrive peer) reply ∷ applied
   pub served : IsServedBy web peer reply c applied
 
+-- one pull of a relay, in which its master's answer gave these bytes, has these entries
+pub record IsOfItsPull (given : List ℕ) (entries : List Entry) : Type 0 where
+  pub mount : List ℕ
+  pub pull : PullSoFar
+  pub course : PullCourse mount pull
+  pub same_given : pull.given ≡ given
+  pub same_entries : pull.entries ≡ entries
+
 -- These entries are those under a label: none where nobody came; those of its connection; behind them the leaving of its client, if that was let go; the
--- arrival alone, if the connection was closed as it came.
+-- arrival alone, if the connection was closed as it came; those of a relay's pull.
 abbrev pub IsUnder : WebAnswers → UnderLabel → List Entry → Type 0
 IsUnder web unknown entries = entries ≡ []
 IsUnder web (here c) entries = IsOfItsConnection web entries c
 IsUnder web (gone c) entries =
     (before : List Entry) × (reply : Reply) × (c.status.has_left ≡ false) × (entries ≡ before ++ entry (Leave c.id) reply ∷ []) × IsOfItsConnection web before c
 IsUnder web closed entries = (peer : Peer) × (reply : Reply) × LetsNobodyIn reply × (entries ≡ entry (Arrive peer) reply ∷ [])
+IsUnder web (pulled given) entries = IsOfItsPull given entries
 
 abbrev pub happening : Made → Happening
 happening m = record { label = m.label; event = m.done.event }
 
--- Of connections that are answered by these settings: what was made under each label is that of the connection there, and what was made under none tells
--- moments.
+-- Of connections that are answered by these settings, and of pulls: what was made under each label is that of the connection or the pull there, and what was
+-- made under none tells moments.
 pub record IsOfConnections (web : WebAnswers) (made : List Made) (roll : Roll) : Type 0 where
   pub labels : (label : ℕ) → IsUnder web (roll label) (entries_on label made)
   pub moments : AllByRecursion (λ m. HasLabelOrMoment (happening m)) made
@@ -95,7 +107,7 @@ pub record IsOfConnections (web : WebAnswers) (made : List Made) (roll : Roll) :
 module _ {S : Type 0} (steps : Steps S) (web : WebAnswers) where
   -- What a worker made over a server, by these settings of answers, and what it then has under each label. It told the moment; it took in a connection under a
   -- new label, or closed it as it came; it served one of its connections in a turn; and as it stopped, it let clients go that
-  -- had not left.
+  -- had not left. A relay's thread made a pull under a new label.
   pub data HasWorked (first : S) : List Made → S → Roll → Type 0 where
     nothing_yet : HasWorked first [] first nobody_came
     told : (made : List Made) (from to : S) (roll : Roll) → HasWorked first made from roll → (ms : ℕ) (reply : Reply) → steps from (Clock ms) reply to
@@ -113,12 +125,15 @@ module _ {S : Type 0} (steps : Steps S) (web : WebAnswers) where
     let_go : (made : List Made) (from to : S) (roll : Roll) → HasWorked first made from roll → (label : ℕ) (c : Connection) → roll label ≡ here c
         → c.status.has_left ≡ false → (reply : Reply) → steps from (Leave c.id) reply to
         → HasWorked first (made ++ made_on label (entry (Leave c.id) reply) ∷ []) to (enrolled label (gone c) roll)
+    pulled_in : (made : List Made) (from to : S) (roll : Roll) → HasWorked first made from roll → (label : ℕ) → roll label ≡ unknown
+        → (mount : List ℕ) (pull : PullSoFar) → PullCourse mount pull → Chain steps from pull.entries to
+        → HasWorked first (made ++ map (made_on label) pull.entries) to (enrolled label (pulled pull.given) roll)
 
-  -- Whatever a worker did, what it made is of the connections that it then has.
+  -- Whatever a worker or a relay's thread did, what it made is of the connections and pulls that it then has.
   abbrev pub WorkIsOfItsConnections : Type 0
   WorkIsOfItsConnections = (first last : S) (made : List Made) (roll : Roll) → HasWorked first made last roll → IsOfConnections web made roll
 
--- Of a hall that stores its entries: what a worker's pass gained are the receipts of all that it made, in that order, and no others.
+-- Of a hall that stores its entries: what the pass of a worker or a relay's thread gained are the receipts of all that it made, in that order, and no others.
 abbrev pub PassesAreOfTheirWork : Type 0
 PassesAreOfTheirWork = (opening : World) (web : WebAnswers) (first last : WatchedOf (List ReceiptOf)) (made : List Made) (roll : Roll)
     → HasWorked (WatchedSteps (IsCalled true opening)) web first made last roll

@@ -1,6 +1,7 @@
-//! Laws on connections over all their turns, and on workers' passes. Each is a function that does nothing, and its contract is the law.
+//! Laws on connections over all their turns, on pulls of relays, and on passes. Each is a function that does nothing, and its contract is the law.
 
 ghost use Rattle.radio_stations.specs.Rounds.{AdmissionsAreWork, TurnsAreWork};
+ghost use Rattle.radio_stations.specs.Relays.{PullsMeanTheirBytes};
 ghost use Rattle.radio_stations.specs.Running.{RunningStationsHearSlices};
 ghost use Rattle.radio_stations.specs.Settled.{SettledStationsHearSlices};
 ghost use Rattle.radio_stations.specs.Stations.{StationsAddUp, StationsHearSlices};
@@ -29,6 +30,7 @@ pub fn connections_mean_their_bytes<S: Server>()
 
 /// A worker applies the arrival of each connection that it takes in. In each turn it applies the clock's event, if that is due, and then the
 /// events of one of its connections after another. The events under a connection's label are those that the bytes of this connection mean.
+/// Those under the label of a relay's pull are those of its course.
 pub fn work_is_of_its_connections<S: Server>()
     ensures admissions { (web : WebAnswers) → AdmissionsAreWork S.steps web S.refuses }
     ensures turns { (web : WebAnswers) → TurnsAreWork S.steps web S.refuses }
@@ -37,17 +39,25 @@ pub fn work_is_of_its_connections<S: Server>()
     connections_mean_their_bytes::<S>();
 }
 
-/// If a hall stores its entries, a worker's pass gains the receipts of all events that the worker applied, in that order, and no others.
+/// In one pull a relay's thread applies the events that the bytes of its master's answer mean, turn after turn, and no others. The bytes
+/// are all that the line gave. In a turn without bytes the thread applies a draw without room, if the relay is up. The going down comes
+/// last, if at all. If memory is refused in a turn, the thread applies the first of its events, and then nothing but the going down.
+pub fn pulls_mean_their_bytes<S: Server>()
+    ensures { PullsMeanTheirBytes S.steps S.refuses }
+{}
+
+/// If a hall stores its entries, the pass of a worker or a relay's thread gains the receipts of all events that it applied, in that order,
+/// and no others.
 pub fn passes_are_of_their_work()
     ensures { PassesAreOfTheirWork }
 {
     passes_gain_what_was_applied();
 }
 
-/// In a history that is a run from the opening state, whose entries under each label are those of the connection there, each listener is
-/// given slices of what the lines of its sources' connections brought. Each line takes what the replies say, or a front of it. What two
-/// workers made is such a list however it is woven, if each has labels of its own. If `settle` ends well with the passes of workers, its
-/// history is such a history, of the connections of all of them.
+/// In a history that is a run from the opening state, whose entries under each label are those of the connection or the pull there, each
+/// listener is given slices of what its sources brought: the lines of their connections, or the answers of relays' masters. Each line of a
+/// client takes what the replies say, or a front of it. What two workers made is such a list however it is woven, if each has labels of its
+/// own. If `settle` ends well with the passes of workers and relays' threads, its history is such a history, of all of them.
 pub fn stations_hear_slices()
     ensures slices { StationsHearSlices }
     ensures woven { StationsAddUp }
@@ -60,10 +70,11 @@ pub fn stations_hear_slices()
     settled();
 }
 
-/// Workers worked at the slots of one hall that stores its entries, as [`run_workers`](radio_workers::run_workers) ensures. `W` is a slot, and
-/// no pass had a receipt before. Then there are workers who made these passes, and no label is known to two of them. If `settle` ends
-/// well with the passes at the slots, its history is of the connections of all workers. So its listeners are given slices of what the
-/// lines of their sources' connections brought.
+/// Workers worked at the slots of one hall that stores its entries, as [`run_workers`](radio_workers::run_workers) ensures. `W` is a slot. Threads
+/// pulled relays in over the same hall, each with a pass of its own, as `pull_with` of `radio_pullers` ensures. No pass had a receipt
+/// before. Then all of them have labels of their own. If `settle` ends well with all these passes, its history is of the connections of all
+/// workers and of all pulls. So its listeners are given slices of what their sources brought: the lines of their connections, or the
+/// answers of relays' masters.
 pub fn running_stations_hear_slices<W>()
     ensures { RunningStationsHearSlices W }
 {

@@ -1,14 +1,15 @@
-//! What holds of a station that is served by workers in threads: from the bytes of its connections to what was applied for them.
+//! What holds of a station that workers and relays' threads serve: from the bytes of its connections and pulls to what was applied for them.
 //!
 //! A law is a function that runs no code: [`connections_mean_their_bytes`] is of one connection over all turns in which
-//! a worker served it, [`work_is_of_its_connections`] of all that one worker did, and [`passes_are_of_their_work`] of the
-//! receipts of its pass. [`stations_hear_slices`] is of a history and what the listeners in it are given, and
-//! [`running_stations_hear_slices`] the same of workers in threads, from their slots on.
+//! a worker served it, [`work_is_of_its_connections`] of all that one worker did, [`pulls_mean_their_bytes`] of one pull of a
+//! relay, and [`passes_are_of_their_work`] of the receipts of a pass. [`stations_hear_slices`] is of a history and what the
+//! listeners in it are given, and [`running_stations_hear_slices`] the same of workers and relays in threads, from the workers'
+//! slots on.
 #![tactic(auto)]
 
 mod laws;
 
 pub use laws::{
-    connections_mean_their_bytes, passes_are_of_their_work, running_stations_hear_slices,
-    stations_hear_slices, work_is_of_its_connections,
+    connections_mean_their_bytes, passes_are_of_their_work, pulls_mean_their_bytes,
+    running_stations_hear_slices, stations_hear_slices, work_is_of_its_connections,
 };

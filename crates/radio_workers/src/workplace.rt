@@ -1,6 +1,7 @@
 //! What workers share, and what each has.
 
-ghost use Rattle.std.specs.Prelude.{◌≡◌, ◌-◌, ◌<◌, All, OnOk, OnErr};
+ghost use Rattle.std.specs.Prelude.{◌≡◌, ◌-◌, ◌<◌, ◌++◌, ◌∷◌, [], All, OnOk, OnErr};
+ghost use Rattle.radio_intake.specs.Passes.{unused};
 
 use crate::OutOfMemory;
 use radio_intake::{Intake, IntakePass};
@@ -48,6 +49,7 @@ pub fn add_slot<A: Drop, T: Drop, P: Drop>(
     requires own { hand.old.intake ≡ intake.now }
     requires parts { 1 < hand.old.parts }
     ensures part { OnOk result (hand.new ≡ record hand.old { parts = hand.old.parts - 1 }) }
+    ensures added { OnOk result (slots.new.items ≡ slots.old.items ++ record { pass = pass; hand = unused intake.now 1; turn_source = turn_source } ∷ []) }
     ensures slots { All (λ slot. slot.hand.intake ≡ intake.now) slots.old.items → OnOk result (All (λ slot. slot.hand.intake ≡ intake.now) slots.new.items) }
     ensures whole { OnErr result (hand.new ≡ hand.old) }
     ensures same { OnErr result (slots.new.items ≡ slots.old.items) }

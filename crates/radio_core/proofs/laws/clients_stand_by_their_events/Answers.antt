@@ -1,7 +1,7 @@
 use Rattle.radio_core.specs.Run.{run_after}
-use Rattle.radio_core.proofs.ArrivalLemmas.{arrivals_stay}
-use Rattle.radio_core.proofs.ClientSteps.{clients_step}
-use Rattle.radio_core.proofs.SoundRuns.{sound_run}
+use Rattle.radio_core.proofs.Clients.ArrivalLemmas.{arrivals_stay}
+use Rattle.radio_core.proofs.Clients.ClientSteps.{clients_step}
+use Rattle.radio_core.proofs.Sound.SoundRuns.{sound_run}
 use Rattle.radio_core.proofs.laws.clients_stand_by_their_events.Goals as goal
 
 pub returns-clause-steps : goal.returns-clause-steps

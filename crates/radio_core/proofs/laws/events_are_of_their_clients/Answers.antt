@@ -1,8 +1,8 @@
 use Rattle.radio_core.specs.Run.{run_after}
-use Rattle.radio_core.proofs.SoundRuns.{sound_run}
-use Rattle.radio_core.proofs.FinishLemmas.{others_hold}
-use Rattle.radio_core.proofs.LostSeats.{loses_no_seat_else}
-use Rattle.radio_core.proofs.ReplyLemmas.{replies_fit}
+use Rattle.radio_core.proofs.Sound.SoundRuns.{sound_run}
+use Rattle.radio_core.proofs.Clients.FinishLemmas.{others_hold}
+use Rattle.radio_core.proofs.Seats.LostSeats.{loses_no_seat_else}
+use Rattle.radio_core.proofs.Clients.ReplyLemmas.{replies_fit}
 use Rattle.radio_core.proofs.laws.events_are_of_their_clients.Goals as goal
 
 pub returns-clause-own : goal.returns-clause-own

@@ -1,4 +1,4 @@
-use Rattle.radio_core.proofs.KeptRuns.{near_run}
+use Rattle.radio_core.proofs.Kept.KeptRuns.{near_run}
 use Rattle.radio_core.proofs.laws.nobody_lags.Goals as goal
 
 pub returns : goal.returns

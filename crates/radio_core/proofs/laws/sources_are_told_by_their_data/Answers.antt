@@ -1,4 +1,4 @@
-use Rattle.radio_core.proofs.SourceReplyLemmas as lemmas
+use Rattle.radio_core.proofs.Kept.SourceReplyLemmas as lemmas
 use Rattle.radio_core.proofs.laws.sources_are_told_by_their_data.Goals as goal
 
 pub returns : goal.returns

@@ -1,4 +1,4 @@
-use Rattle.radio_core.proofs.TotalLemmas.{adds_up_run}
+use Rattle.radio_core.proofs.Numbers.TotalLemmas.{adds_up_run}
 use Rattle.radio_core.proofs.totals.clients_and_seats_add_up.Goals as goal
 
 pub returns : goal.returns

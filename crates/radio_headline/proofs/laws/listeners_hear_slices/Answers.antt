@@ -11,7 +11,8 @@ use Rattle.radio_headline.specs.Scripts.{brought}
 use Rattle.radio_headline.proofs.Connections.{IsClosed}
 use Rattle.radio_headline.proofs.LabelFacts.{known_of}
 use Rattle.radio_headline.proofs.OfCourses.{course_hears}
-use Rattle.radio_headline.proofs.PullSteps.{more_facts}
+use Rattle.radio_headline.proofs.Relays.PullCourses.{closed_pull}
+use Rattle.radio_headline.proofs.Relays.PullSteps.{more_facts}
 use Rattle.radio_headline.proofs.RunOfCourses.{comes, nothing_stands}
 use Rattle.radio_headline.proofs.RunLemmas.{AllNowhere, IsMoment}
 use Rattle.radio_headline.proofs.ServedLemmas.{all_leave_so, closed_of, nowhere_told}
@@ -98,7 +99,8 @@ returns c =
       served = λ web settings lists course brings told moments happened.
           let w = opening settings lists in
           hears web settings lists brings told course
-          (λ (label : ℕ). closed_of settled within joined places found web (more web) (brings label) (log_on w course label) (told label)
+          (λ (label : ℕ). closed_of settled within joined places found web (more web)
+          (closed_pull settled_answers within_answers joined none_blocks in_pieces afters web) (brings label) (log_on w course label) (told label)
           (all_leave_so w course label) (happened label))
           (nowhere_told course moments);
     }

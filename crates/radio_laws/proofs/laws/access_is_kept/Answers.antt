@@ -1,8 +1,8 @@
 use Rattle.radio_core.specs.Run.{run_after}
-use Rattle.radio_laws.proofs.ListsLemmas.{lists_run}
-use Rattle.radio_laws.proofs.LimitLemmas.{within_run}
-use Rattle.radio_core.proofs.SoundRuns.{sound_run}
-use Rattle.radio_laws.proofs.AccessLemmas.{access_holds}
+use Rattle.radio_laws.proofs.Seats.ListsLemmas.{lists_run}
+use Rattle.radio_laws.proofs.Seats.LimitLemmas.{within_run}
+use Rattle.radio_core.proofs.Sound.SoundRuns.{sound_run}
+use Rattle.radio_laws.proofs.Seats.AccessLemmas.{access_holds}
 use Rattle.radio_laws.proofs.laws.access_is_kept.Goals as goal
 
 pub returns : goal.returns

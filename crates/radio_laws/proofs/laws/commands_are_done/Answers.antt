@@ -1,8 +1,8 @@
 use Rattle.radio_core.specs.Run.{run_after}
-use Rattle.radio_core.proofs.SoundRuns.{sound_run}
-use Rattle.radio_laws.proofs.CommandLaws.{only_who_may, commands_are_kept, killed_hear_nothing}
-use Rattle.radio_laws.proofs.CommandService.{who_may_is_served}
-use Rattle.radio_laws.proofs.FallbackLemmas.{fallbacks_stay}
+use Rattle.radio_core.proofs.Sound.SoundRuns.{sound_run}
+use Rattle.radio_laws.proofs.Commands.CommandLaws.{only_who_may, commands_are_kept, killed_hear_nothing}
+use Rattle.radio_laws.proofs.Commands.CommandService.{who_may_is_served}
+use Rattle.radio_laws.proofs.Ends.FallbackLemmas.{fallbacks_stay}
 use Rattle.radio_laws.proofs.laws.commands_are_done.Goals as goal
 
 pub returns-clause-may : goal.returns-clause-may

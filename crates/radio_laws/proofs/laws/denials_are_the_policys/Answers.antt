@@ -1,7 +1,7 @@
 use Rattle.radio_core.specs.Run.{run_after}
-use Rattle.radio_laws.proofs.DeniedLemmas.{policy_denies}
-use Rattle.radio_laws.proofs.DenialLemmas.{denials_hold, addresses_hold, only_sources_feed, known_mounts}
-use Rattle.radio_laws.proofs.StopLemmas.{stopped_in_order}
+use Rattle.radio_laws.proofs.Denials.DeniedLemmas.{policy_denies}
+use Rattle.radio_laws.proofs.Denials.DenialLemmas.{denials_hold, addresses_hold, only_sources_feed, known_mounts}
+use Rattle.radio_laws.proofs.Denials.StopLemmas.{stopped_in_order}
 use Rattle.radio_laws.proofs.laws.denials_are_the_policys.Goals as goal
 
 pub returns-clause-denied : goal.returns-clause-denied

@@ -1,4 +1,4 @@
-use Rattle.radio_laws.proofs.ToldLemmas.{finished_hold}
+use Rattle.radio_laws.proofs.Ends.ToldLemmas.{finished_hold}
 use Rattle.radio_laws.proofs.laws.finished_are_told.Goals as goal
 
 pub returns : goal.returns

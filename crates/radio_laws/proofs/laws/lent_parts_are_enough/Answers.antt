@@ -1,8 +1,8 @@
 use Rattle.std.proofs.Common.{◌∙◌}
-use Rattle.radio_core.proofs.StepLemmas.{replies_alike}
+use Rattle.radio_core.proofs.Kept.StepLemmas.{replies_alike}
 use Rattle.radio_parts.proofs.PlannedLemmas.{told_by_plan}
-use Rattle.radio_laws.proofs.LentPartLemmas.{lent_agree}
-use Rattle.radio_laws.proofs.LocalityLemmas.{answers_alike}
+use Rattle.radio_laws.proofs.Locality.LentPartLemmas.{lent_agree}
+use Rattle.radio_laws.proofs.Locality.LocalityLemmas.{answers_alike}
 use Rattle.radio_laws.proofs.laws.lent_parts_are_enough.Goals as goal
 
 pub returns-clause-others : goal.returns-clause-others

@@ -1,4 +1,4 @@
-use Rattle.radio_laws.proofs.TitleLemmas.{titles_hold}
+use Rattle.radio_laws.proofs.Streams.TitleLemmas.{titles_hold}
 use Rattle.radio_laws.proofs.laws.listeners_are_told_titles.Goals as goal
 
 pub returns : goal.returns

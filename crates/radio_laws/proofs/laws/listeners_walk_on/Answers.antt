@@ -1,8 +1,8 @@
-use Rattle.radio_core.proofs.SoundRuns.{sound_run}
+use Rattle.radio_core.proofs.Sound.SoundRuns.{sound_run}
 use Rattle.radio_core.specs.Run.{run_after}
-use Rattle.radio_laws.proofs.LimitLemmas.{within_run}
-use Rattle.radio_laws.proofs.ListsLemmas.{sitters_run}
-use Rattle.radio_laws.proofs.WalkingOnLemmas.{walk_on, moves_are_whole}
+use Rattle.radio_laws.proofs.Seats.LimitLemmas.{within_run}
+use Rattle.radio_laws.proofs.Seats.ListsLemmas.{sitters_run}
+use Rattle.radio_laws.proofs.Seats.WalkingOnLemmas.{walk_on, moves_are_whole}
 use Rattle.radio_laws.proofs.laws.listeners_walk_on.Goals as goal
 
 pub returns-clause-turns : goal.returns-clause-turns

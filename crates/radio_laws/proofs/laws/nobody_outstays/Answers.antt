@@ -1,8 +1,8 @@
 use Rattle.radio_core.specs.Run.{run_after}
-use Rattle.radio_core.proofs.SoundRuns.{sound_run}
-use Rattle.radio_laws.proofs.LimitLemmas.{within_run}
-use Rattle.radio_laws.proofs.ListsLemmas.{sitters_run}
-use Rattle.radio_laws.proofs.TickEnds.{nobody_outstays}
+use Rattle.radio_core.proofs.Sound.SoundRuns.{sound_run}
+use Rattle.radio_laws.proofs.Seats.LimitLemmas.{within_run}
+use Rattle.radio_laws.proofs.Seats.ListsLemmas.{sitters_run}
+use Rattle.radio_laws.proofs.Ends.TickEnds.{nobody_outstays}
 use Rattle.radio_parts_station.proofs.TimeoutLemmas.{tests_are_in_numbers}
 use Rattle.radio_laws.proofs.laws.nobody_outstays.Goals as goal
 

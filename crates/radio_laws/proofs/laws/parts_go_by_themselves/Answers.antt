@@ -1,6 +1,6 @@
 use Rattle.radio_core.specs.Run.{run_after}
-use Rattle.radio_core.proofs.SoundRuns.{sound_run}
-use Rattle.radio_laws.proofs.PartLemmas.{parts_draw, parts_receive, parts_titled}
+use Rattle.radio_core.proofs.Sound.SoundRuns.{sound_run}
+use Rattle.radio_laws.proofs.Locality.PartLemmas.{parts_draw, parts_receive, parts_titled}
 use Rattle.radio_laws.proofs.laws.parts_go_by_themselves.Goals as goal
 
 pub returns-clause-draws : goal.returns-clause-draws

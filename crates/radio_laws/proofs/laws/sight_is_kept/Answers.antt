@@ -1,7 +1,7 @@
 use Rattle.radio_core.specs.Run.{run_after}
-use Rattle.radio_laws.proofs.ListingLaws.{only_who_may_is_shown, who_may_is_shown}
-use Rattle.radio_laws.proofs.SightLemmas.{hidden_are_left_out, hidden_are_not_told_on_the_web, sight_is_kept}
-use Rattle.radio_laws.proofs.WebLaws.{who_visits_is_shown, nobody_feeds_a_path}
+use Rattle.radio_laws.proofs.Listings.ListingLaws.{only_who_may_is_shown, who_may_is_shown}
+use Rattle.radio_laws.proofs.Listings.SightLemmas.{hidden_are_left_out, hidden_are_not_told_on_the_web, sight_is_kept}
+use Rattle.radio_laws.proofs.Listings.WebLaws.{who_visits_is_shown, nobody_feeds_a_path}
 use Rattle.radio_laws.proofs.laws.sight_is_kept.Goals as goal
 
 pub returns-clause-may : goal.returns-clause-may

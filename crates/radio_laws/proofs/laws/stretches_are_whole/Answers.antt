@@ -1,7 +1,7 @@
 use Rattle.radio_core.specs.Run.{run_after}
-use Rattle.radio_core.proofs.SoundRuns.{sound_run}
-use Rattle.radio_laws.proofs.MountLemmas.{mounts_kept}
-use Rattle.radio_laws.proofs.StretchLemmas.{stretches_cut, stretches_hold}
+use Rattle.radio_core.proofs.Sound.SoundRuns.{sound_run}
+use Rattle.radio_laws.proofs.Seats.MountLemmas.{mounts_kept}
+use Rattle.radio_laws.proofs.Streams.StretchLemmas.{stretches_cut, stretches_hold}
 use Rattle.radio_laws.proofs.laws.stretches_are_whole.Goals as goal
 
 pub returns-clause-stretches : goal.returns-clause-stretches

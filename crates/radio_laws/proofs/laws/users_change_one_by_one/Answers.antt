@@ -1,7 +1,7 @@
 use Rattle.radio_core.specs.Run.{run_after}
-use Rattle.radio_core.proofs.SoundRuns.{sound_run}
-use Rattle.radio_laws.proofs.ListsLemmas.{sitters_run}
-use Rattle.radio_laws.proofs.UserChanges.{users_step}
+use Rattle.radio_core.proofs.Sound.SoundRuns.{sound_run}
+use Rattle.radio_laws.proofs.Seats.ListsLemmas.{sitters_run}
+use Rattle.radio_laws.proofs.Commands.UserChanges.{users_step}
 use Rattle.radio_laws.proofs.laws.users_change_one_by_one.Goals as goal
 
 pub returns-clause-steps : goal.returns-clause-steps

@@ -1,6 +1,6 @@
 use Rattle.radio_core.specs.Run.{run_after}
-use Rattle.radio_core.proofs.SoundRuns.{sound_run}
-use Rattle.radio_laws.proofs.ServiceLemmas.{service_holds, changes_nothing}
+use Rattle.radio_core.proofs.Sound.SoundRuns.{sound_run}
+use Rattle.radio_laws.proofs.Denials.ServiceLemmas.{service_holds, changes_nothing}
 use Rattle.radio_laws.proofs.laws.whoever_may_is_served.Goals as goal
 
 pub returns-clause-served : goal.returns-clause-served

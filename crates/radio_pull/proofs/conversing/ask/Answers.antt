@@ -4,8 +4,8 @@ use Rattle.radio_pull.specs.Pulling.{going_on}
 use Rattle.radio_pull.specs.Course.{AsksIf}
 use Rattle.radio_pull.proofs.conversing.ask.Goals as goal
 
-pub returns-in-None : goal.returns-in-None
-returns-in-None g c =
+pub returns-in-None-clause-ok : goal.returns-in-None-clause-ok
+returns-in-None-clause-ok g c =
     let number = c.args.relay.now.number in
     let server = c.args.server.now in (
       going_on number,

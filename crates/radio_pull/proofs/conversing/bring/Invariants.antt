@@ -1,7 +1,7 @@
-use Rattle.std.proofs.Common.{◌≡◌}
+use Rattle.std.proofs.Common.{◌≡◌, ℕ, Option}
 use Rattle.std.specs.Vec.Iter.{into_iter_items}
 use Rattle.radio_pull.specs.Pulling.{Standing}
-use Rattle.radio_pull.specs.Course.{Brings}
+use Rattle.radio_pull.specs.Course.{Brings, BringsAtMost}
 use Rattle.radio_pull.proofs.conversing.bring.Given as goal
 
 -- whatever the items that are left come to from here, all items come to from the start
@@ -11,4 +11,7 @@ invariant-loop-item g l = record {
   all : (after : Standing) (to : g.row.S.Denot)
       → Brings g.S.Server.steps l.initial.relay.mount l.relay.number (into_iter_items l.item-iterator) l.server after to
       → Brings g.S.Server.steps l.initial.relay.mount l.initial.relay.number l.fn.items.items l.initial.server after to;
+  at_most : (number : Option ℕ) (to : g.row.S.Denot)
+      → BringsAtMost g.S.Server.steps l.initial.relay.mount l.relay.number (into_iter_items l.item-iterator) l.server number to
+      → BringsAtMost g.S.Server.steps l.initial.relay.mount l.initial.relay.number l.fn.items.items l.initial.server number to;
 }

@@ -9,8 +9,8 @@ use Rattle.radio_pull.specs.Pulling.{Pulling}
 use Rattle.radio_pull.specs.Course.{GoesDown, Takes}
 use Rattle.radio_pull.proofs.conversing.take.Goals as goal
 
-pub returns-in-Err : goal.returns-in-Err
-returns-in-Err g c =
+pub returns-in-Err-clause-ok : goal.returns-in-Err-clause-ok
+returns-in-Err-clause-ok g c =
     let steps = g.S.Server.steps in
     let fault = c.in-Err.fault in
     let inside = c.relay.inside in
@@ -25,4 +25,4 @@ returns-in-Err g c =
     (λ state given.
     subst (λ (p : Pulling). Takes steps p bytes from after state to) c.relay.view_is
     (stops fault, c.in-Err.ensures.fault given.0, (given.1, given.2, ap with_stage c.in-Err.ensures.fails)))
-    c.give_up.ensures
+    c.give_up.ensures.ok

@@ -1,6 +1,6 @@
 use Rattle.std.proofs.Common.{sym, subst}
 use Rattle.radio_core.specs.Represents.{StandsForSome}
-use Rattle.radio_core.proofs.StepLemmas.{opening_stands}
+use Rattle.radio_core.proofs.Kept.StepLemmas.{opening_stands}
 use Rattle.radio_core.proofs.server.Core.new.Goals as goal
 
 pub invariant_of-result : goal.invariant_of-result

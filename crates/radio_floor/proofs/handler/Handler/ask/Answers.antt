@@ -30,4 +30,4 @@ returns c =
             ∙ ap (λ (x : State). pulled_on (script_state_of w connections) label now x d.0) (sym asked.2),
       ),
     ))
-    c.ask.ensures
+    c.ask.ensures.ok

@@ -20,4 +20,4 @@ returns c =
     (λ ends takes w stands.
     let d = c.cores_pull_as_their_states.ensures.takes before after bytes ends old new takes w stands in
     (d.0, d.1, λ connections label. (after, ends, d.0, d.2, refl)))
-    c.take.ensures
+    c.take.ensures.ok

@@ -1,0 +1,39 @@
+-- who sits, and its seat
+use Rattle.std.proofs.Common.{◌≡◌, ℕ, Option, Some, None, refl}
+use Rattle.radio_addr.specs.declared.peer.Peer.{Peer}
+use Rattle.radio_seats_rows.specs.declared.seat.Listener.{Listener}
+use Rattle.radio_seats_rows.specs.declared.seat.Seat.{Seat}
+use Rattle.radio_seats_rows.specs.declared.seat.Seating.{Seating}
+use Rattle.radio_seats_rows.specs.declared.seat.Seating.TheVariants.{Sits as HasSeat, Finished as HasFinished}
+use Rattle.radio_seats_rows.specs.Seats.{listener_of, seat_of, seat_in, seat_held}
+use Rattle.radio_parts_station.specs.declared.clients.ClientState.{ClientState}
+use Rattle.radio_parts_station.specs.declared.clients.ClientState.TheVariants.{Undecided as IsNew, Feeds as IsSource, Listens, Answered, Ended}
+use Rattle.radio_parts_station.specs.declared.standing.Standing.TheVariants.{Sits}
+use Rattle.radio_parts_station.specs.Clients.{Client, client_of}
+use Rattle.radio_parts_station.specs.Relays.{Relay, relay_of}
+use Rattle.radio_core.proofs.Clients.Standings.{no_relay_sits}
+use Rattle.radio_parts_station.specs.World.{World, standing_of, standing_in, standing_by, standing_of_listener, standing_seated}
+
+-- who sits has a seat
+held_seat : (seating : Seating) → standing_seated seating ≡ Sits → (seat : Seat) × (seat_held seating ≡ Some seat)
+held_seat (HasSeat seat) e = (seat, refl)
+held_seat (HasFinished rule mount) e = cc
+
+listener_seat : (listener : Option Listener) → standing_of_listener listener ≡ Sits → (seat : Seat) × (seat_in listener ≡ Some seat)
+listener_seat None e = cc
+listener_seat (Some listener) e = held_seat listener.seating e
+
+by_state : (listener : Option Listener) (peer : Peer) (state : ClientState) → standing_by listener peer state ≡ Sits
+    → (seat : Seat) × (seat_in listener ≡ Some seat)
+by_state listener peer IsNew e = cc
+by_state listener peer (IsSource mount) e = cc
+by_state listener peer Listens e = listener_seat listener e
+by_state listener peer Answered e = cc
+by_state listener peer (Ended rule) e = cc
+
+by_client : (relay : Option Relay) (listener : Option Listener) (client : Option Client) → standing_in relay listener client ≡ Sits → (seat : Seat) × (seat_in listener ≡ Some seat)
+by_client relay listener None e = absurd (no_relay_sits relay e)
+by_client relay listener (Some client) e = by_state listener client.peer client.state e
+
+pub seat_of_sitting : (w : World) (id : ℕ) → standing_of w id ≡ Sits → (seat : Seat) × (seat_of w.seats id ≡ Some seat)
+seat_of_sitting w id e = by_client (relay_of w.station.relays id) (listener_of w.seats id) (client_of w.station.clients id) e

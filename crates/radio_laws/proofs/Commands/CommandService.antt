@@ -1,0 +1,128 @@
+-- whoever may give a command is served
+use Rattle.std.proofs.Common.{◌≡◌, Bool, true, false, ℕ, Option, Some, None, is_some, List, [], ◌∷◌, refl, ap, sym, ◌∙◌}
+use Rattle.std.specs.Prelude.{◌&&◌, ◌||◌, not}
+use Rattle.std.specs.Option.{option_map_or}
+use Rattle.std.specs.Str.{bytes_eq}
+use Rattle.std.proofs.lemmas.Slice.Eq.{bytes_eq-Decides}
+use Rattle.radio_policy.specs.declared.rule.Rule.{Rule}
+use Rattle.radio_policy.specs.declared.rule.Rule.TheVariants.{NoMount, NoDestination, SameMount, NoClient, NoUsers, NoUser}
+use Rattle.radio_policy.specs.declared.judgement.Verdict.TheVariants.{Allow}
+use Rattle.radio_policy.specs.Table.{Row, row, needs_rows, password_rule, command_rows}
+use Rattle.radio_policy.specs.Verdicts.{verdict_in}
+use Rattle.radio_creds.specs.Credentials.{Credentials}
+use Rattle.radio_settings_values.specs.declared.settings.Login.{Login}
+use Rattle.radio_access.specs.SourcePair.{is_login}
+use Rattle.radio_access.specs.CommandPairs.{is_admin_pair}
+use Rattle.radio_tables.proofs.KeyLaws.{by_name}
+use Rattle.radio_seats_rows.specs.declared.seat.Seat.{Seat}
+use Rattle.radio_events.specs.declared.command.Asked.{Asked}
+use Rattle.radio_events.specs.declared.command.Command.{Command as TheCommand}
+use Rattle.radio_events.specs.declared.command.Command.TheVariants.{MoveClients, KillClient, KillSource, SetTitle, SetFallback, AddUser, DeleteUser}
+use Rattle.radio_events.specs.declared.event.Event.TheVariants.{Command}
+use Rattle.radio_parts.specs.Command.{said_of}
+use Rattle.radio_parts_facts.specs.CommandFacts.{opened_by, opener_in, opens, opens_as_source, is_live, sits_at, needs_of, facts_asked}
+use Rattle.radio_parts_changes.specs.Counts.{counts_by}
+use Rattle.radio_fallback.specs.declared.moves.Carried.{Carried}
+use Rattle.radio_events.specs.Texts.{IsShort}
+use Rattle.radio_core.specs.Sound.{IsSound}
+use Rattle.radio_parts_station.specs.World.{World}
+use Rattle.radio_laws.specs.Commanded.{IsLive, IsThere, MayGive, AsTheAdmin, ItsTitle, ItsFallback, WhoMayIsServed}
+use Rattle.radio_laws.proofs.Commands.CommandSteps.{told_so}
+use Rattle.radio_creds.specs.UserList.{has_user}
+use Rattle.radio_access.specs.declared.lists.MountUsers.{MountUsers}
+use Rattle.radio_access.specs.Lists.{users_at, has_users}
+
+-- a login is the user and the password that it has
+pub is_its : (login : Login) (pair : Credentials) → pair.user ≡ login.username → pair.password ≡ login.password → is_login login pair ≡ true
+is_its login pair user password =
+    ap (λ (b : Bool). b && bytes_eq login.password pair.password) ((bytes_eq-Decides login.username pair.user).1 (sym user))
+    ∙ (bytes_eq-Decides login.password pair.password).1 (sym password)
+
+-- what is said of a command is no listing
+pub said_short : (command : TheCommand) (counts : Carried) → IsShort (said_of command counts)
+said_short (MoveClients mount destination) counts = tt
+said_short (KillClient mount listener) counts = tt
+said_short (KillSource mount) counts = tt
+said_short (SetTitle mount text) counts = tt
+said_short (SetFallback mount fallback) counts = tt
+said_short (AddUser mount user password) counts = tt
+said_short (DeleteUser mount user) counts = tt
+
+pub or_true : (a : Bool) → (a || true) ≡ true
+or_true true = refl
+or_true false = refl
+
+module _ (w : World) where
+  opens_by : (command : TheCommand) (pair : Credentials) → MayGive w pair command → opens w.station.settings (opened_by command) (Some pair) ≡ true
+  opens_by command pair (AsTheAdmin _ admin) =
+      ap (λ (b : Bool). b || opens_as_source w.station.settings (opened_by command) (Some pair))
+      (is_its w.station.settings.access.admin pair admin.user admin.password)
+  opens_by command pair (ItsTitle mount text source) =
+      ap (λ (b : Bool). is_admin_pair w.station.settings (Some pair) || b) (is_its _ pair source.user source.password)
+      ∙ or_true (is_admin_pair w.station.settings (Some pair))
+  opens_by command pair (ItsFallback mount fallback source) =
+      ap (λ (b : Bool). is_admin_pair w.station.settings (Some pair) || b) (is_its _ pair source.user source.password)
+      ∙ or_true (is_admin_pair w.station.settings (Some pair))
+
+  pub lives : (mount : List ℕ) → IsLive w mount → is_live w.station mount ≡ true
+  lives mount live = ap is_some live.1
+
+  pub with_mount : (live : Bool) → live ≡ true → verdict_in (row NoMount (not live) ∷ []) ≡ Allow
+  with_mount true e = refl
+  with_mount false e = cc
+
+  with_client : (live sits : Bool) → live ≡ true → sits ≡ true → verdict_in (row NoMount (not live) ∷ row NoClient (not sits) ∷ []) ≡ Allow
+  with_client true true e f = refl
+  with_client true false e f = cc
+  with_client false sits e f = cc
+
+  with_users : (has_users : Bool) → has_users ≡ true → verdict_in (row NoUsers (not has_users) ∷ []) ≡ Allow
+  with_users true e = refl
+  with_users false e = cc
+
+  -- a mount that has this user has users
+  with_user : (listed : Option MountUsers) (user : List ℕ) → option_map_or (λ (l : MountUsers). has_user l.users user) listed false ≡ true
+      → verdict_in (row NoUsers (not (is_some listed)) ∷ row NoUser (not (option_map_or (λ (l : MountUsers). has_user l.users user) listed false)) ∷ []) ≡ Allow
+  with_user None user e = cc
+  with_user (Some listed) user e = rw e refl
+
+  with_destination : (live there same : Bool) → live ≡ true → there ≡ true → same ≡ false
+      → verdict_in (row NoMount (not live) ∷ row NoDestination (not there) ∷ row SameMount same ∷ []) ≡ Allow
+  with_destination true true false e f g = refl
+  with_destination true true true e f g = cc
+  with_destination true false same e f g = cc
+  with_destination false there same e f g = cc
+
+  needs_are_there : (command : TheCommand) → IsThere w command → verdict_in (needs_rows (needs_of w command)) ≡ Allow
+  needs_are_there (MoveClients mount destination) there =
+      with_destination (is_live w.station mount) (is_live w.station destination) (bytes_eq mount destination) (lives mount there.0) (lives destination there.1)
+      (by_name mount destination (λ same. absurd (there.2 same)) (λ apart. apart))
+  needs_are_there (KillClient mount listener) there =
+      with_client (is_live w.station mount) (sits_at w.seats mount listener) (lives mount there.0)
+      (ap (λ (found : Option Seat). option_map_or (λ (seat : Seat). bytes_eq seat.mount mount) found false) there.2
+      ∙ (bytes_eq-Decides there.1.mount mount).1 there.3)
+  needs_are_there (KillSource mount) there = with_mount (is_live w.station mount) (lives mount there)
+  needs_are_there (SetTitle mount text) there = with_mount (is_live w.station mount) (lives mount there)
+  needs_are_there (SetFallback mount fallback) there = with_mount (is_live w.station mount) (lives mount there)
+  needs_are_there (AddUser mount user password) there = with_users (has_users w.station.lists mount) there
+  needs_are_there (DeleteUser mount user) there = with_user (users_at w.station.lists mount) user there
+
+  -- an open command is judged by what it needs
+  pub judged : (rule : Rule) (opened : Bool) (rows : List Row) → opened ≡ true → verdict_in rows ≡ Allow → verdict_in (row rule (not opened) ∷ rows) ≡ Allow
+  judged rule true rows e v = v
+  judged rule false rows e v = cc
+
+  pub who_may_is_served : IsSound w → WhoMayIsServed w
+  who_may_is_served s asked peer command pair undecided is_asked sent may there = (
+    said_of command (counts_by w command),
+    told_so w (Command asked) (record { asked = asked; is_event = refl; is_asked = is_asked; peer = peer; undecided = undecided; allowed = allowed }),
+    said_short command (counts_by w command),
+  ) where
+    opened : opens w.station.settings (opened_by command) asked.pair ≡ true
+    opened = ap (opens w.station.settings (opened_by command)) sent ∙ opens_by command pair may
+
+    allowed : verdict_in (command_rows (facts_asked w asked.asked asked.pair)) ≡ Allow
+    allowed =
+        ap (λ (a : Asked). verdict_in (command_rows (facts_asked w a asked.pair))) is_asked
+        ∙ judged (password_rule (opener_in (opened_by command))) (opens w.station.settings (opened_by command) asked.pair) (needs_rows (needs_of w command)) opened
+        (needs_are_there command there)
