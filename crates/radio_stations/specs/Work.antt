@@ -42,7 +42,7 @@ nobody_came label = unknown
 abbrev pub enrolled : ℕ → UnderLabel → Roll → Roll
 enrolled label place roll = λ other. if label == other then place else roll other
 
--- an event that was applied, with its reply, and the label of the connection or pull for which it was; a moment is told for none
+-- an event that was applied, with its reply, and the label of the connection or pull for which it was; a clock event has none
 pub record Made : Type 0 where
   pub label : Option ℕ
   pub done : Entry
@@ -99,7 +99,7 @@ abbrev pub happening : Made → Happening
 happening m = record { label = m.label; event = m.done.event }
 
 -- Of connections that are answered by these settings, and of pulls: what was made under each label is that of the connection or the pull there, and what was
--- made under none tells moments.
+-- made under none are clock events.
 pub record IsOfConnections (web : WebAnswers) (made : List Made) (roll : Roll) : Type 0 where
   pub labels : (label : ℕ) → IsUnder web (roll label) (entries_on label made)
   pub moments : AllByRecursion (λ m. HasLabelOrMoment (happening m)) made

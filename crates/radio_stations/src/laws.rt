@@ -54,7 +54,7 @@ pub fn passes_are_of_their_work()
     passes_gain_what_was_applied();
 }
 
-/// In a history that is a run from the opening state, whose entries under each label are those of the connection or the pull there, each
+/// A history is a run from the opening state, and its entries under each label are those of the connection or the pull there. Then each
 /// listener is given slices of what its sources brought: the lines of their connections, or the answers of relays' masters. Each line of a
 /// client takes what the replies say, or a front of it. What two workers made is such a list however it is woven, if each has labels of its
 /// own. If `settle` ends well with the passes of workers and relays' threads, its history is such a history, of all of them.
