@@ -71,25 +71,25 @@ fn all_come(
     Ok(())
 }
 
-/// Whether the listener sits, in this session, and has heard so far.
-fn has_heard(listeners: &Listeners, id: u64, session: u64, place: u64) -> bool {
+/// Whether the listener sits, in this session, and has read so far.
+fn has_read(listeners: &Listeners, id: u64, session: u64, place: u64) -> bool {
     match listeners.seat(id) {
         Some(seat) => seat.session == session && seat.place.bytes_before() == place,
         None => false,
     }
 }
 
-/// Who lags loses its seat, and one who has heard more keeps it.
+/// Who lags loses its seat, and one who has read more keeps it.
 fn laggards_end(listeners: &mut Listeners, even: &MountName) -> bool {
     listeners.advance(6, Place::new(5_000));
     listeners.end_lagging(even, 5_100, 1_000);
-    listeners.count(even) == 1 && has_heard(listeners, 6, 1, 5_000)
+    listeners.count(even) == 1 && has_read(listeners, 6, 1, 5_000)
 }
 
 /// A session that begins leaves each where it is.
 fn session_begins(listeners: &mut Listeners, odd: &MountName) -> bool {
     listeners.give_session(odd, 9);
-    has_heard(listeners, 7, 9, 700) && has_heard(listeners, 39, 9, 3_900)
+    has_read(listeners, 7, 9, 700) && has_read(listeners, 39, 9, 3_900)
 }
 
 /// Those end who have come by then, at one mount and then everywhere.

@@ -1,9 +1,9 @@
 //! Intakes with ample memory, of one thread and of two. A line is a number here.
 
 ghost use Rattle.std.specs.Prelude.{◌≡◌, ◌-◌};
-ghost use Rattle.radio_intake.specs.Passes.{all_parts};
+ghost use Rattle.radio_workers.specs.Passes.{all_parts};
 
-use radio_intake::{Intake, IntakePass, ROOM};
+use radio_workers::{Intake, IntakePass, ROOM};
 use std::alloc::Global;
 use std::sync::Wait;
 use std::thread::{Threads, join, yield_now};

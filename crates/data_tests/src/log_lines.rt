@@ -20,7 +20,7 @@ const MOMENTS: &[(u64, &str)] = &[
 ];
 
 /// Whether a line of that moment says that one line was lost.
-fn is_told_at(alloc: Global, seconds: u64, moment: &str) -> bool {
+fn is_written_at(alloc: Global, seconds: u64, moment: &str) -> bool {
     let note = Note {
         moment: Moment::at(seconds),
         fact: Fact::Lost { lines: 1 },
@@ -35,12 +35,12 @@ fn is_told_at(alloc: Global, seconds: u64, moment: &str) -> bool {
 #[test]
 fn moments_are_told(rt: HostRuntime) {
     for (seconds, moment) in MOMENTS {
-        assert!(rt; is_told_at(rt.alloc(), *seconds, moment));
+        assert!(rt; is_written_at(rt.alloc(), *seconds, moment));
     }
 }
 
 /// Whether the line of a fact, behind its moment, is this one.
-fn is_told(alloc: Global, fact: Fact<'_>, told: &str) -> bool {
+fn is_written(alloc: Global, fact: Fact<'_>, text: &str) -> bool {
     let note = Note {
         moment: Moment::at(1_795_596_229),
         fact,
@@ -48,8 +48,8 @@ fn is_told(alloc: Global, fact: Fact<'_>, told: &str) -> bool {
     match line(alloc, &note) {
         Ok(line) => {
             line.starts_with(b"2026-11-25T08:43:49Z ")
-                && line.ends_with(told.as_bytes())
-                && line.len() == 21 + told.len()
+                && line.ends_with(text.as_bytes())
+                && line.len() == 21 + text.len()
         }
         Err(_) => false,
     }
@@ -72,16 +72,16 @@ fn client<'a>(user: &'a [u8], agent: &'a [u8]) -> Fact<'a> {
 
 #[test]
 fn clients_are_told(rt: HostRuntime) {
-    let told =
+    let text =
         "client peer=10.0.0.3 method=GET path=/live mount=/live status=200 why=left user= seconds=12 bytes=38400 agent=VLC/3.0.20%20LibVLC/3.0.20\n";
-    assert!(rt; is_told(rt.alloc(), client(b"", b"VLC/3.0.20 LibVLC/3.0.20"), told));
+    assert!(rt; is_written(rt.alloc(), client(b"", b"VLC/3.0.20 LibVLC/3.0.20"), text));
 }
 
 // rule: Line of the log
 #[test]
 fn forged_lines_are_not(rt: HostRuntime) {
-    let told =
+    let text =
         "client peer=10.0.0.3 method=GET path=/live mount=/live status=200 why=left user=a%20seconds=9%25 seconds=12 bytes=38400 agent=x%0A2026-11-25T08:43:49Z%20ended%20why=%C3%A4%7F\n";
     let agent = b"x\n2026-11-25T08:43:49Z ended why=\xc3\xa4\x7f";
-    assert!(rt; is_told(rt.alloc(), client(b"a seconds=9%", agent), told));
+    assert!(rt; is_written(rt.alloc(), client(b"a seconds=9%", agent), text));
 }

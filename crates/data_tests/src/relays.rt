@@ -12,32 +12,32 @@ use radio_values::{About, Shown};
 use std::alloc::{AllocError, Global};
 
 /// Appends these parts.
-fn tell_parts(parts: &[&[u8]], told: &mut Vec<u8>) -> Result<(), OutOfMemory> {
+fn append_parts(parts: &[&[u8]], out: &mut Vec<u8>) -> Result<(), OutOfMemory> {
     for part in parts {
-        told.extend_from_slice(part)?;
+        out.extend_from_slice(part)?;
     }
     Ok(())
 }
 
 /// Appends what an item is: in braces what a head shows, in angle brackets a title, and sound as it is.
-fn tell(item: &PullItem, told: &mut Vec<u8>) -> Result<(), OutOfMemory> {
+fn append_item(item: &PullItem, out: &mut Vec<u8>) -> Result<(), OutOfMemory> {
     match item {
-        PullItem::Up(shown) => tell_shown(shown, told),
-        PullItem::Sound(block) => told.extend_from_slice(block.as_bytes()),
-        PullItem::Title(title) => tell_parts(&[b"<", title.as_slice(), b">"], told),
+        PullItem::Up(shown) => append_shown(shown, out),
+        PullItem::Sound(block) => out.extend_from_slice(block.as_bytes()),
+        PullItem::Title(title) => append_parts(&[b"<", title.as_slice(), b">"], out),
     }
 }
 
-fn tell_shown(shown: &Shown, told: &mut Vec<u8>) -> Result<(), OutOfMemory> {
+fn append_shown(shown: &Shown, out: &mut Vec<u8>) -> Result<(), OutOfMemory> {
     let content_type = shown.content_type.as_bytes();
     let (name, genre) = (shown.name.as_bytes(), shown.genre.as_bytes());
-    tell_parts(&[b"{", content_type, b"|", name, b"|", genre], told)?;
-    tell_about(&shown.about, told)?;
-    told.extend_from_slice(b"}")
+    append_parts(&[b"{", content_type, b"|", name, b"|", genre], out)?;
+    append_about(&shown.about, out)?;
+    out.extend_from_slice(b"}")
 }
 
 /// Appends what else a stream says of itself, if it says anything.
-fn tell_about(about: &About, told: &mut Vec<u8>) -> Result<(), OutOfMemory> {
+fn append_about(about: &About, out: &mut Vec<u8>) -> Result<(), OutOfMemory> {
     let (description, url) = (about.description.as_bytes(), about.url.as_bytes());
     let (bitrate, audio_info) = (about.bitrate.as_bytes(), about.audio_info.as_bytes());
     let says_nothing = [description, url, bitrate, audio_info]
@@ -46,15 +46,15 @@ fn tell_about(about: &About, told: &mut Vec<u8>) -> Result<(), OutOfMemory> {
     if says_nothing {
         return Ok(());
     }
-    tell_parts(
+    append_parts(
         &[b"|", description, b"|", url, b"|", bitrate, audio_info],
-        told,
+        out,
     )
 }
 
-fn tell_all(items: &[PullItem], told: &mut Vec<u8>) -> Result<(), OutOfMemory> {
+fn append_items(items: &[PullItem], out: &mut Vec<u8>) -> Result<(), OutOfMemory> {
     for item in items {
-        tell(item, told)?;
+        append_item(item, out)?;
     }
     Ok(())
 }

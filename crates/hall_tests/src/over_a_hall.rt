@@ -138,7 +138,7 @@ fn is_free_in_turns<H: Origin, R: Wait>(
         let turn = Turn {
             ms,
             news: true,
-            told_ms: 0,
+            clock_ms: 0,
         };
         station.turn(&gate, turn);
     }

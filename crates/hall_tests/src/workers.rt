@@ -3,16 +3,15 @@
 mod seats;
 
 ghost use Rattle.std.specs.Prelude.{◌≡◌, All};
-ghost use Rattle.radio_intake.specs.Passes.{all_parts};
+ghost use Rattle.radio_workers.specs.Passes.{all_parts};
 
 use crate::halls::{PassCaller, Visit, is_well_visited};
 use crate::workers::seats::{MemoryPost, add_passes, seats_for};
 use radio_book::{Entry, Kept, Origin, Pass};
 use radio_events::{Event, Reply};
-use radio_intake::{Intake, IntakePass, ROOM};
 use radio_locks::{Hall, OutOfMemory};
 use radio_serving::{Gate, WebAnswers};
-use radio_workers::{WorkerSlot, Workplace, run_workers};
+use radio_workers::{Intake, IntakePass, ROOM, WorkerSlot, Workplace, run_workers};
 use std::alloc::Global;
 use std::sync::Wait;
 use std::sync::atomic::{AtomicBool, AtomicU64, Ordering};
@@ -229,7 +228,7 @@ fn is_emptied<H: Origin + Send + Sync, R: Threads + Wait + Clock + Sync>(
     rush: Rush,
 ) -> bool
     requires own { pass.old.intake ≡ intake.now }
-    requires seats { All (λ seat. seat.hand.intake ≡ intake.now) seats.old }
+    requires seats { All (λ seat. seat.intake_pass.intake ≡ intake.now) seats.old }
 {
     let is_filled = rush.fill(rt, intake, pass);
     let has_seen_others = work(rt, alloc, hall, intake, seats, rush);
@@ -246,7 +245,7 @@ fn work<H: Origin + Send + Sync, R: Threads + Wait + Clock + Sync>(
     seats: &mut [WorkerSlot<Pass<Kept, H>, Manners, MemoryPost>],
     rush: Rush,
 ) -> bool
-    requires seats { All (λ seat. seat.hand.intake ≡ intake.now) seats.old }
+    requires seats { All (λ seat. seat.intake_pass.intake ≡ intake.now) seats.old }
 {
     let gate = HoldsFirst {
         rt,

@@ -16,7 +16,7 @@ use Rattle.radio_creds.specs.UserList.{UserList, with_user, without_user}
 use Rattle.radio_tables.specs.Lists.{update_first}
 use Rattle.radio_tables.proofs.FindLaws.{find_here, find_later, find_apart}
 use Rattle.radio_access.specs.declared.lists.MountUsers.{MountUsers}
-use Rattle.radio_access.specs.Lists.{Lists, is_of, users_at, has_users, is_digest_of, accepts, lets_in}
+use Rattle.radio_access.specs.Lists.{Lists, is_users_of_mount, users_at, has_users, is_digest_of, accepts, lets_in}
 
 -- the users of one mount have changed
 module _ (lists : Lists) (mount : List ℕ) (change : UserList → UserList) where
@@ -24,26 +24,26 @@ module _ (lists : Lists) (mount : List ℕ) (change : UserList → UserList) whe
   with_change listed = record listed { users = change listed.users }
 
   abbrev pub with_changed : Lists
-  with_changed = record lists { users = update_first (is_of mount) with_change lists.users }
+  with_changed = record lists { users = update_first (is_users_of_mount mount) with_change lists.users }
 
   -- those of another are as they were
   pub beside_it : (other : List ℕ) → bytes_eq mount other ≡ false → users_at with_changed other ≡ users_at lists other
-  beside_it other apart = find_apart (is_of other) (is_of mount) with_change (λ x e. (not_its x e, not_its x e)) lists.users where
-    not_its : (listed : MountUsers) → is_of mount listed ≡ true → is_of other listed ≡ false
+  beside_it other apart = find_apart (is_users_of_mount other) (is_users_of_mount mount) with_change (λ x e. (not_its x e, not_its x e)) lists.users where
+    not_its : (listed : MountUsers) → is_users_of_mount mount listed ≡ true → is_users_of_mount other listed ≡ false
     not_its listed e = ap (λ (m : List ℕ). bytes_eq m other) ((bytes_eq-Decides listed.mount mount).0 e) ∙ apart
 
-  there_at : (listed : MountUsers) (all : List MountUsers) (b : Bool) → is_of mount listed ≡ b
-      → find (is_of mount) (update_first (is_of mount) with_change all) ≡ option_map with_change (find (is_of mount) all)
-      → find (is_of mount) (if b then with_change listed ∷ all else listed ∷ update_first (is_of mount) with_change all)
-      ≡ option_map with_change (find (is_of mount) (listed ∷ all))
-  there_at listed all true e later = find_here (is_of mount) (with_change listed) all e ∙ ap (option_map with_change) (sym (find_here (is_of mount) listed all e))
+  there_at : (listed : MountUsers) (all : List MountUsers) (b : Bool) → is_users_of_mount mount listed ≡ b
+      → find (is_users_of_mount mount) (update_first (is_users_of_mount mount) with_change all) ≡ option_map with_change (find (is_users_of_mount mount) all)
+      → find (is_users_of_mount mount) (if b then with_change listed ∷ all else listed ∷ update_first (is_users_of_mount mount) with_change all)
+      ≡ option_map with_change (find (is_users_of_mount mount) (listed ∷ all))
+  there_at listed all true e later = find_here (is_users_of_mount mount) (with_change listed) all e ∙ ap (option_map with_change) (sym (find_here (is_users_of_mount mount) listed all e))
   there_at listed all false e later =
-      find_later (is_of mount) listed (update_first (is_of mount) with_change all) e ∙ later
-      ∙ ap (option_map with_change) (sym (find_later (is_of mount) listed all e))
+      find_later (is_users_of_mount mount) listed (update_first (is_users_of_mount mount) with_change all) e ∙ later
+      ∙ ap (option_map with_change) (sym (find_later (is_users_of_mount mount) listed all e))
 
-  there_among : (all : List MountUsers) → find (is_of mount) (update_first (is_of mount) with_change all) ≡ option_map with_change (find (is_of mount) all)
+  there_among : (all : List MountUsers) → find (is_users_of_mount mount) (update_first (is_users_of_mount mount) with_change all) ≡ option_map with_change (find (is_users_of_mount mount) all)
   there_among [] = refl
-  there_among (listed ∷ all) = there_at listed all (is_of mount listed) refl (there_among all)
+  there_among (listed ∷ all) = there_at listed all (is_users_of_mount mount listed) refl (there_among all)
 
   pub there : users_at with_changed mount ≡ option_map with_change (users_at lists mount)
   there = there_among lists.users

@@ -41,19 +41,19 @@ is_allowed lists peer = option_map_or (λ ranges. is_listed ranges peer) lists.a
 abbrev pub passes : Lists → Address → Bool
 passes lists peer = not (is_denied lists peer) && is_allowed lists peer
 
-abbrev pub is_of : List ℕ → MountUsers → Bool
-is_of mount listed = bytes_eq listed.mount mount
+abbrev pub is_users_of_mount : List ℕ → MountUsers → Bool
+is_users_of_mount mount listed = bytes_eq listed.mount mount
 
 -- the users of the mount, if it has a list of them
 abbrev pub users_at : Lists → List ℕ → Option MountUsers
-users_at lists mount = find (is_of mount) lists.users
+users_at lists mount = find (is_users_of_mount mount) lists.users
 
-abbrev pub by_mount : MountUsers → MountUsers → Ordering
-by_mount a b = slice_cmp nat_cmp a.mount b.mount
+abbrev pub order_of_mounts : MountUsers → MountUsers → Ordering
+order_of_mounts a b = slice_cmp nat_cmp a.mount b.mount
 
 -- the mount has these users from now on
 abbrev pub with_users : Lists → List ℕ → UserList → Lists
-with_users lists mount users = record lists { users = placed by_mount (record { mount = mount; users = users }) lists.users }
+with_users lists mount users = record lists { users = placed order_of_mounts (record { mount = mount; users = users }) lists.users }
 
 -- the mount has users
 abbrev pub has_users : Lists → List ℕ → Bool
@@ -73,11 +73,11 @@ unlisting user listed = record listed { users = without_user listed.users user }
 
 -- the users of the mount, if it has users, let this one in with this password, and no more as they did before
 abbrev pub with_user_at : Lists → List ℕ → List ℕ → List ℕ → Lists
-with_user_at lists mount user password = record lists { users = update_first (is_of mount) (listing user password) lists.users }
+with_user_at lists mount user password = record lists { users = update_first (is_users_of_mount mount) (listing user password) lists.users }
 
 -- the users of the mount do not let this one in
 abbrev pub without_user_at : Lists → List ℕ → List ℕ → Lists
-without_user_at lists mount user = record lists { users = update_first (is_of mount) (unlisting user) lists.users }
+without_user_at lists mount user = record lists { users = update_first (is_users_of_mount mount) (unlisting user) lists.users }
 
 -- a digest is listed, and is that of the password
 abbrev pub is_digest_of : List ℕ → Option (List ℕ) → Bool

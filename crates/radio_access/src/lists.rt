@@ -30,11 +30,11 @@ impl Row for MountUsers {
     type Key = MountName;
 
     ghost use Rattle.radio_tables.proofs.KeyLaws.{name_is};
-    ghost use Rattle.radio_access.specs.Lists.{is_of};
+    ghost use Rattle.radio_access.specs.Lists.{is_users_of_mount};
 
     ghost key = { λ listed. listed.mount };
 
-    ghost has_key = { is_of };
+    ghost has_key = { is_users_of_mount };
 
     ghost has_key_is = { λ mount listed. name_is mount listed.mount };
 

@@ -13,8 +13,8 @@ use Rattle.radio_admin.specs.declared.command.Command.TheVariants as asks
 use Rattle.radio_admin.specs.declared.kind.CommandKind.{CommandKind}
 use Rattle.radio_admin.specs.declared.kind.CommandKind.TheVariants as kind
 use Rattle.radio_admin.specs.declared.fault.AdminFault.TheVariants.{NoCommand, MissingArgument}
-use Rattle.radio_admin.specs.Kinds.{path_of, kinds, kind_of}
-use Rattle.radio_admin.specs.Arguments.{both, argument, is_named, text_of, mount_in, number_in, fallback_in, title_in, user_in}
+use Rattle.radio_admin.specs.Kinds.{command_path, kinds, kind_of}
+use Rattle.radio_admin.specs.Arguments.{both, argument, is_argument_named, text_of, mount_in, number_argument, fallback_in, title_in, user_argument}
 use Rattle.radio_admin.specs.Commands.{add_user, users_command, command_of, command_at, command_in, kind_in}
 use Rattle.radio_admin.specs.Laws.{AreBytes, AsksFor, LacksAnArgument, NamesNoCommand, first_value}
 
@@ -27,11 +27,11 @@ found_passes : {X : Type 0} (p : X → Bool) (xs : List X) (y : X) → find p xs
 found_passes p [] y e = absurd (cc)
 found_passes p (x ∷ xs) y e = found_at p x y (find p xs) (p x) refl (found_passes p xs y) e
 
-pub path_of_kind : (path : List ℕ) (k : CommandKind) → kind_of path ≡ Some k → path ≡ path_of k
+pub path_of_kind : (path : List ℕ) (k : CommandKind) → kind_of path ≡ Some k → path ≡ command_path k
 unfolding kind_of
-path_of_kind path k e = (bytes_eq-Decides path (path_of k)).0 (found_passes (λ k'. bytes_eq path (path_of k')) kinds k e)
+path_of_kind path k e = (bytes_eq-Decides path (command_path k)).0 (found_passes (λ k'. bytes_eq path (command_path k')) kinds k e)
 
-kind_at : (k : CommandKind) → kind_of (path_of k) ≡ Some k
+kind_at : (k : CommandKind) → kind_of (command_path k) ≡ Some k
 unfolding kind_of
 kind_at kind.Status = refl
 kind_at kind.Stats = refl
@@ -45,7 +45,7 @@ kind_at kind.Fallbacks = refl
 kind_at kind.StreamList = refl
 kind_at kind.Users = refl
 
-pub kind_of_path : (path : List ℕ) (k : CommandKind) → path ≡ path_of k → kind_of path ≡ Some k
+pub kind_of_path : (path : List ℕ) (k : CommandKind) → path ≡ command_path k → kind_of path ≡ Some k
 kind_of_path path k e = ap kind_of e ∙ kind_at k
 
 -- what an argument makes, and what two make, is some value of the function
@@ -66,11 +66,11 @@ add_made (Some m) None password command e = absurd (cc)
 add_made None user password command e = absurd (cc)
 
 users_made : (mount : Option (List ℕ)) (query : List ℕ) (command : Command) (add delete : Bool)
-    → (if add then add_user mount (user_in query) (argument (codes "password") query)
-    else if delete then both (λ m user. asks.DeleteUser (record { mount = m; user = user })) mount (user_in query) else None) ≡ Some command
+    → (if add then add_user mount (user_argument query) (argument (codes "password") query)
+    else if delete then both (λ m user. asks.DeleteUser (record { mount = m; user = user })) mount (user_argument query) else None) ≡ Some command
     → kind_in command ≡ kind.Users
-users_made mount query command true delete e = add_made mount (user_in query) (argument (codes "password") query) command e
-users_made mount query command false true e = both_makes (λ (c : Command). kind_in c ≡ kind.Users) _ (λ m u. refl) mount (user_in query) command e
+users_made mount query command true delete e = add_made mount (user_argument query) (argument (codes "password") query) command e
+users_made mount query command false true e = both_makes (λ (c : Command). kind_in c ≡ kind.Users) _ (λ m u. refl) mount (user_argument query) command e
 users_made mount query command false false e = absurd (cc)
 
 action_made : (mount : Option (List ℕ)) (query : List ℕ) (command : Command) (action : Option (List ℕ))
@@ -85,7 +85,7 @@ kind_made kind.Stats mount query command e = let same : asks.Stats ≡ command =
 kind_made kind.ListMounts mount query command e = let same : asks.ListMounts ≡ command = cc in ap kind_in (sym same)
 kind_made kind.ListClients mount query command e = map_makes (λ (c : Command). kind_in c ≡ kind.ListClients) (λ m. asks.ListClients m) (λ m. refl) mount command e
 kind_made kind.MoveClients mount query command e = both_makes (λ (c : Command). kind_in c ≡ kind.MoveClients) _ (λ m d. refl) mount (mount_in (codes "destination") query) command e
-kind_made kind.KillClient mount query command e = both_makes (λ (c : Command). kind_in c ≡ kind.KillClient) _ (λ m d. refl) mount (number_in (codes "id") query) command e
+kind_made kind.KillClient mount query command e = both_makes (λ (c : Command). kind_in c ≡ kind.KillClient) _ (λ m d. refl) mount (number_argument (codes "id") query) command e
 kind_made kind.KillSource mount query command e = map_makes (λ (c : Command). kind_in c ≡ kind.KillSource) (λ m. asks.KillSource m) (λ m. refl) mount command e
 kind_made kind.Metadata mount query command e = both_makes (λ (c : Command). kind_in c ≡ kind.Metadata) _ (λ m d. refl) mount (title_in query) command e
 kind_made kind.Fallbacks mount query command e = both_makes (λ (c : Command). kind_in c ≡ kind.Fallbacks) _ (λ m d. refl) mount (fallback_in (codes "fallback") query) command e
@@ -149,7 +149,7 @@ lacking_at path query (Some found) e k mount h =
     let kind_same : found ≡ k = cc in
     let mount_same : mount_of query ≡ mount = cc in
     record {
-      path_is = path_of_kind path found e ∙ ap path_of kind_same;
+      path_is = path_of_kind path found e ∙ ap command_path kind_same;
       mount_is = sym mount_same;
       arguments = ap (λ m. command_of k m query) (sym mount_same) ∙ ap (λ k'. command_of k' (mount_of query) query) (sym kind_same) ∙ none;
     }
@@ -178,11 +178,11 @@ abbrev decoded_pairs : List (List ℕ × List ℕ) → List (List ℕ × List �
 decoded_pairs pairs = map (λ (n, v). (decode n, decode v)) pairs
 
 found_decoded : (name : List ℕ) (pairs : List (List ℕ × List ℕ))
-    → option_map (λ pair. text_of pair.1) (find (is_named name) pairs) ≡ first_value name (decoded_pairs pairs)
+    → option_map (λ pair. text_of pair.1) (find (is_argument_named name) pairs) ≡ first_value name (decoded_pairs pairs)
 unfolding text_of
 found_decoded name [] = refl
 found_decoded name (pair ∷ pairs) =
-    decoded_at name pair (is_named name pair) (find (is_named name) pairs) (find (λ p. bytes_eq (utf8_lossy p.0) name) (decoded_pairs pairs))
+    decoded_at name pair (is_argument_named name pair) (find (is_argument_named name) pairs) (find (λ p. bytes_eq (utf8_lossy p.0) name) (decoded_pairs pairs))
     (found_decoded name pairs)
 
 pub first_written : (pairs : List (List ℕ × List ℕ)) (name : List ℕ) → All AreBytes pairs → argument name (extend_pairs [] pairs) ≡ first_value name pairs

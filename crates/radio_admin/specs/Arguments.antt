@@ -13,13 +13,13 @@ unfoldable pub text_of : List ℕ → List ℕ
 text_of bytes = utf8_lossy (decode bytes)
 
 -- the pair has this name
-abbrev pub is_named : List ℕ → List ℕ × List ℕ → Bool
-is_named name pair = bytes_eq (text_of pair.0) name
+abbrev pub is_argument_named : List ℕ → List ℕ × List ℕ → Bool
+is_argument_named name pair = bytes_eq (text_of pair.0) name
 
 -- the first argument of a name
 -- rule: Missing argument; First argument
 unfoldable pub argument : List ℕ → List ℕ → Option (List ℕ)
-argument name query = option_map (λ pair. text_of pair.1) (find (is_named name) (raw_pairs query))
+argument name query = option_map (λ pair. text_of pair.1) (find (is_argument_named name) (raw_pairs query))
 
 -- what two arguments make, where both are there
 abbrev pub both : {A B C : Type 0} → (A → B → C) → Option A → Option B → Option C
@@ -44,8 +44,8 @@ abbrev pub mount_in : List ℕ → List ℕ → Option (List ℕ)
 mount_in name query = option_and_then as_mount (argument name query)
 
 -- the number that an argument writes
-abbrev pub number_in : List ℕ → List ℕ → Option ℕ
-number_in name query = option_and_then as_number (argument name query)
+abbrev pub number_argument : List ℕ → List ℕ → Option ℕ
+number_argument name query = option_and_then as_number (argument name query)
 
 -- the fallback that an argument names
 -- rule: Fallbacks
@@ -79,5 +79,5 @@ abbrev pub as_user : List ℕ → Option (List ℕ)
 as_user text = if is_user_name text then Some text else None
 
 -- the user that a query names
-abbrev pub user_in : List ℕ → Option (List ℕ)
-user_in query = option_and_then as_user (argument (codes "username") query)
+abbrev pub user_argument : List ℕ → Option (List ℕ)
+user_argument query = option_and_then as_user (argument (codes "username") query)

@@ -8,7 +8,7 @@ use Rattle.radio_admin.specs.declared.kind.CommandKind.{CommandKind}
 use Rattle.radio_admin.specs.declared.kind.CommandKind.TheVariants as kind
 use Rattle.radio_admin.specs.declared.fault.AdminFault.{AdminFault}
 use Rattle.radio_admin.specs.declared.fault.AdminFault.TheVariants.{NoCommand, MissingArgument}
-use Rattle.radio_admin.specs.Arguments.{argument, both, mount_in, number_in, fallback_in, title_in, user_in}
+use Rattle.radio_admin.specs.Arguments.{argument, both, mount_in, number_argument, fallback_in, title_in, user_argument}
 use Rattle.radio_admin.specs.Kinds.{kind_of}
 
 -- the user is to be added where all three are there
@@ -21,8 +21,8 @@ add_user None user password = None
 -- a user is added with a password, which may be empty, or is deleted; there is no other action
 abbrev pub users_command : List ℕ → Option (List ℕ) → List ℕ → Option Command
 users_command action mount query =
-    if bytes_eq action (codes "add") then add_user mount (user_in query) (argument (codes "password") query) else
-    if bytes_eq action (codes "delete") then both (λ m user. asks.DeleteUser (record { mount = m; user = user })) mount (user_in query) else
+    if bytes_eq action (codes "add") then add_user mount (user_argument query) (argument (codes "password") query) else
+    if bytes_eq action (codes "delete") then both (λ m user. asks.DeleteUser (record { mount = m; user = user })) mount (user_argument query) else
     None
 
 -- the command of a kind, with its arguments, of which `mount` has been read
@@ -36,7 +36,7 @@ command_of kind.MoveClients mount query =
     both (λ m destination. asks.MoveClients (record { mount = m; destination = destination }))
     mount (mount_in (codes "destination") query)
 command_of kind.KillClient mount query =
-    both (λ m id. asks.KillClient (record { mount = m; id = id })) mount (number_in (codes "id") query)
+    both (λ m id. asks.KillClient (record { mount = m; id = id })) mount (number_argument (codes "id") query)
 command_of kind.KillSource mount query = option_map (λ m. asks.KillSource m) mount
 command_of kind.Metadata mount query =
     both (λ m title. asks.Metadata (record { mount = m; title = title })) mount (title_in query)

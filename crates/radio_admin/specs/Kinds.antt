@@ -8,18 +8,18 @@ use Rattle.radio_admin.specs.declared.kind.CommandKind.TheVariants.{KillSource, 
 
 -- the path of each command
 -- rule: Public status
-abbrev pub path_of : CommandKind → List ℕ
-path_of Status = codes "/status.json"
-path_of Stats = codes "/admin/stats"
-path_of ListMounts = codes "/admin/listmounts"
-path_of ListClients = codes "/admin/listclients"
-path_of MoveClients = codes "/admin/moveclients"
-path_of KillClient = codes "/admin/killclient"
-path_of KillSource = codes "/admin/killsource"
-path_of Metadata = codes "/admin/metadata"
-path_of Fallbacks = codes "/admin/fallbacks"
-path_of StreamList = codes "/admin/streamlist.txt"
-path_of Users = codes "/admin/users"
+abbrev pub command_path : CommandKind → List ℕ
+command_path Status = codes "/status.json"
+command_path Stats = codes "/admin/stats"
+command_path ListMounts = codes "/admin/listmounts"
+command_path ListClients = codes "/admin/listclients"
+command_path MoveClients = codes "/admin/moveclients"
+command_path KillClient = codes "/admin/killclient"
+command_path KillSource = codes "/admin/killsource"
+command_path Metadata = codes "/admin/metadata"
+command_path Fallbacks = codes "/admin/fallbacks"
+command_path StreamList = codes "/admin/streamlist.txt"
+command_path Users = codes "/admin/users"
 
 -- every command
 abbrev pub kinds : List CommandKind
@@ -29,4 +29,4 @@ kinds =
 
 -- the command that a path names
 unfoldable pub kind_of : List ℕ → Option CommandKind
-kind_of path = find (λ kind. bytes_eq path (path_of kind)) kinds
+kind_of path = find (λ kind. bytes_eq path (command_path kind)) kinds

@@ -6,22 +6,22 @@ use Rattle.std.specs.Str.{bytes_eq}
 use Rattle.std.specs.Str.Lossy.{utf8_lossy}
 use Rattle.radio_admin.specs.declared.command.Command.{Command}
 use Rattle.radio_admin.specs.declared.kind.CommandKind.{CommandKind}
-use Rattle.radio_admin.specs.Kinds.{path_of}
+use Rattle.radio_admin.specs.Kinds.{command_path}
 use Rattle.radio_admin.specs.Arguments.{mount_in}
 use Rattle.radio_admin.specs.Commands.{command_of}
 
 -- the path is that of no command
 abbrev pub NamesNoCommand : List ℕ → Type 0
-NamesNoCommand path = (kind : CommandKind) → path ≢ path_of kind
+NamesNoCommand path = (kind : CommandKind) → path ≢ command_path kind
 
 -- the path is that of this kind, whose arguments the query has, and they make this command
 pub record AsksFor (path query : List ℕ) (kind : CommandKind) (command : Command) : Type 0 where
-  pub path_is : path ≡ path_of kind
+  pub path_is : path ≡ command_path kind
   pub arguments : command_of kind (mount_in (codes "mount") query) query ≡ Some command
 
 -- the path is that of this kind, the query names this mount or none, and it lacks an argument
 pub record LacksAnArgument (path query : List ℕ) (kind : CommandKind) (mount : Option (List ℕ)) : Type 0 where
-  pub path_is : path ≡ path_of kind
+  pub path_is : path ≡ command_path kind
   pub mount_is : mount ≡ mount_in (codes "mount") query
   pub arguments : command_of kind mount query ≡ None
 

@@ -3,7 +3,7 @@ ghost use Rattle.std.specs.Prelude.{◌≡◌, ◌==◌, ◌||◌, ◌++◌, IfO
 ghost use Rattle.std.specs.List.{list_any};
 ghost use Rattle.std.specs.Option.{option_map};
 ghost use Rattle.std.specs.String.{string_bytes};
-ghost use Rattle.radio_admin.specs.Arguments.{argument, as_fallback, fallback_in, is_user_name, mount_in, number_in, song_title, title_in, user_in};
+ghost use Rattle.radio_admin.specs.Arguments.{argument, as_fallback, fallback_in, is_user_name, mount_in, number_argument, song_title, title_in, user_argument};
 
 use crate::OutOfMemory;
 use crate::query::argument;
@@ -29,7 +29,7 @@ pub fn mount_in(alloc: Global, name: &str, query: &[u8]) -> Result<Option<MountN
 
 /// The number that an argument writes; `None` if it is absent, or is no whole number of 64 bits in digits alone.
 pub fn number_in(alloc: Global, name: &str, query: &[u8]) -> Result<Option<u64>, OutOfMemory>
-    ensures { IfOk result (λ found. found ≡ number_in name.now query.now) }
+    ensures { IfOk result (λ found. found ≡ number_argument name.now query.now) }
 {
     match argument(alloc, name, query)? {
         Some(text) => Ok(read_number(text.as_bytes(), 10, u64::MAX)),
@@ -67,7 +67,7 @@ fn as_fallback(text: &[u8]) -> Option<Option<MountName>>
 /// Returns the user that a query names, as `username`. `None` if it is absent, or no file of users can name it so. It
 /// has 1 to 255 bytes, of which none is a colon or a line end, and the first is no `#`.
 pub fn user_in(alloc: Global, query: &[u8]) -> Result<Option<String>, OutOfMemory>
-    ensures { IfOk result (λ found. option_map (λ text. string_bytes text) found ≡ user_in query.now) }
+    ensures { IfOk result (λ found. option_map (λ text. string_bytes text) found ≡ user_argument query.now) }
 {
     match argument(alloc, "username", query)? {
         Some(text) if is_user_name(text.as_bytes()) => Ok(Some(text)),

@@ -3,7 +3,7 @@ ghost use Rattle.std.specs.Prelude.{◌≡◌};
 ghost use Rattle.std.specs.List.{find};
 ghost use Rattle.std.specs.Option.{option_copied};
 ghost use Rattle.std.specs.Str.{bytes_eq};
-ghost use Rattle.radio_admin.specs.Kinds.{kind_of, kinds, path_of};
+ghost use Rattle.radio_admin.specs.Kinds.{command_path, kind_of, kinds};
 
 use std::fmt;
 
@@ -52,7 +52,7 @@ const KINDS: [CommandKind; 11] = [
 impl CommandKind {
     /// Its path, as [`read_path`](crate::read_path) gives it.
     pub fn path(self) -> &'static str
-        ensures { result.now ≡ path_of self }
+        ensures { result.now ≡ command_path self }
     {
         match self {
             CommandKind::Status => "/status.json",
@@ -79,7 +79,7 @@ impl CommandKind {
 }
 
 fn find_kind(path: &[u8]) -> Option<&'static CommandKind>
-    ensures { option_copied result ≡ find (λ kind. bytes_eq path.now (path_of kind)) kinds }
+    ensures { option_copied result ≡ find (λ kind. bytes_eq path.now (command_path kind)) kinds }
 {
     KINDS.iter().find(|kind| path == kind.path().as_bytes())
 }
@@ -87,7 +87,7 @@ fn find_kind(path: &[u8]) -> Option<&'static CommandKind>
 impl fmt::Display for CommandKind {
     ghost use Rattle.std.specs.Prelude.{Some};
 
-    ghost output = { λ kind. Some (path_of kind) };
+    ghost output = { λ kind. Some (command_path kind) };
 
     fn fmt<W: fmt::Write>(&self, f: &mut fmt::Formatter<W>) -> fmt::Result {
         f.write_str(self.path())

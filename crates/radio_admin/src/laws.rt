@@ -9,12 +9,12 @@ ghost use Rattle.radio_admin.specs.declared.fault.AdminFault.TheVariants.{Missin
 ghost use Rattle.radio_admin.specs.declared.kind.CommandKind.{CommandKind as KindOf};
 ghost use Rattle.radio_admin.specs.Arguments.{argument};
 ghost use Rattle.radio_admin.specs.Commands.{command_in, kind_in};
-ghost use Rattle.radio_admin.specs.Kinds.{kind_of, path_of};
+ghost use Rattle.radio_admin.specs.Kinds.{kind_of, command_path};
 ghost use Rattle.radio_admin.specs.Laws.{AreBytes, AsksFor, LacksAnArgument, NamesNoCommand, first_value};
 
 /// Each command is found by its own path, and by no other.
 pub fn paths_name_commands()
-    ensures { (path : List ℕ) (kind : KindOf) → (kind_of path ≡ Some kind) ↔ (path ≡ path_of kind) }
+    ensures { (path : List ℕ) (kind : KindOf) → (kind_of path ≡ Some kind) ↔ (path ≡ command_path kind) }
 {}
 
 /// A path and a query are read as a command exactly if the path is that of its kind and the arguments are there.

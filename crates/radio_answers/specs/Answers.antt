@@ -11,8 +11,8 @@ use Rattle.radio_values.specs.declared.about.About.{About}
 use Rattle.radio_heads.specs.declared.answer.AboutHeaders.{AboutHeaders}
 use Rattle.radio_heads.specs.Answer.{denial_text, sized_text, content_type}
 use Rattle.radio_heads.specs.declared.answer.TextKind.TheVariants.{Plain, Json as InJson}
-use Rattle.radio_heads.specs.WebAnswer.{shared_text, stream_text}
-use Rattle.radio_page.specs.Page.{page_answer}
+use Rattle.radio_heads.specs.WebAnswer.{shared_text, stream_head_text}
+use Rattle.radio_answers.specs.Page.{page_answer}
 use Rattle.radio_answers.specs.declared.web_answers.WebAnswers.{WebAnswers}
 use Rattle.radio_answers.specs.WebAnswers.{answered_by, stream_by}
 
@@ -26,10 +26,10 @@ denial web rule = denial_with web (status_of rule) rule
 
 -- after how many bytes of data a block is sent, if any is; an interval of none has no blocks
 -- rule: Metadata interval
-abbrev pub interval_told : Option ℕ → Option ℕ
-interval_told None = None
-interval_told (Some zero) = None
-interval_told (Some (suc n)) = Some (suc n)
+abbrev pub sent_interval : Option ℕ → Option ℕ
+sent_interval None = None
+sent_interval (Some zero) = None
+sent_interval (Some (suc n)) = Some (suc n)
 
 -- a text, or none of it
 abbrev pub text_if : Bool → List ℕ → List ℕ
@@ -49,12 +49,12 @@ about_told web about = record {
 -- rule: Allow origin
 -- rule: Icecast heads
 abbrev pub head_text : WebAnswers → Option ℕ → StreamHead → List ℕ
-head_text web interval head = stream_by web head.shown.content_type (stream_text head.allow_origin (record {
+head_text web interval head = stream_by web head.shown.content_type (stream_head_text head.allow_origin (record {
   content_type = head.shown.content_type;
   name = head.shown.name;
   genre = head.shown.genre;
   about = about_told web head.shown.about;
-  interval = interval_told interval;
+  interval = sent_interval interval;
 }))
 
 -- a line of what was done to listeners, and to how many

@@ -4,7 +4,7 @@ ghost use Rattle.std.specs.Prelude.{◌≡◌, ◌≤◌, ◌++◌, IfSome, OnOk
 ghost use Rattle.radio_heads.specs.Additions.{with_additions};
 ghost use Rattle.radio_heads.specs.Answer.{answer_text, continue_text};
 ghost use Rattle.radio_heads.specs.WebAnswer.{web_answer_text};
-ghost use Rattle.radio_answers.specs.Answers.{about_told, denial, head_text, interval_told, text_if};
+ghost use Rattle.radio_answers.specs.Answers.{about_told, denial, head_text, sent_interval, text_if};
 ghost use Rattle.radio_answers.specs.WebAnswers.{answered_by};
 
 use crate::{OutOfMemory, WebAnswers};
@@ -115,7 +115,7 @@ fn value_if(shows: bool, field: &Field) -> FieldValue<'_>
 /// Returns after how many bytes of data a metadata block is sent, if any is (ICY convention). An interval of none has
 /// no blocks.
 pub fn metadata_interval(interval: Option<u32>) -> Option<u32>
-    ensures told { result ≡ interval_told interval }
+    ensures told { result ≡ sent_interval interval }
     ensures some { IfSome result (λ n. 1 ≤ n) }
 {
     match interval {

@@ -4,15 +4,14 @@ ghost use Rattle.std.specs.Prelude.{◌≡◌, ◌++◌, OnOk, OnErr};
 ghost use Rattle.radio_heads.specs.Answer.{sized_text, content_type};
 ghost use Rattle.radio_heads.specs.WebAnswer.{shared_text};
 ghost use Rattle.radio_heads.specs.declared.answer.TextKind.{TextKind};
-ghost use Rattle.radio_page.specs.Page.{page_answer};
+ghost use Rattle.radio_answers.specs.Page.{page_answer};
 ghost use Rattle.radio_answers.specs.Answers.{count_line, text_answer};
 ghost use Rattle.radio_answers.specs.WebAnswers.{answered_by};
 
 use crate::answers::{append_answer, append_shared};
-use crate::{OutOfMemory, WebAnswers};
+use crate::{OutOfMemory, WebAnswers, page};
 use radio_events::ReplyText;
 use radio_heads::{Answer, TextKind, WebAnswer};
-use radio_page::page;
 use radio_values::AllowedOrigin;
 use std::alloc::Global;
 

@@ -14,8 +14,8 @@ abbrev pub spacing_for : ℕ → ℕ
 spacing_for workers = max (as_moment (workers * 10)) 20
 
 -- news waits so long at most
-abbrev pub most_wait : ℕ
-most_wait = 250000
+abbrev pub most_news_wait : ℕ
+most_news_wait = 250000
 
 -- when the last round began, and how long the last eight took, the latest first. Whether the news of the last one came before
 -- its pause had ended. And how many times the shortest passes from one to the next
@@ -41,17 +41,17 @@ pause_end rounds = as_moment (rounds.began + as_moment (shortest rounds.took * r
 -- for how long news that came at that moment waits still at this one: not at all if much has come
 -- rule: News waits
 abbrev pub wait_left : ℕ → ℕ → Bool → Rounds → ℕ
-wait_left now came is_much rounds = if is_much then 0 else min (pause_end rounds - now) (as_moment (came + most_wait) - now)
+wait_left now came is_much rounds = if is_much then 0 else min (pause_end rounds - now) (as_moment (came + most_news_wait) - now)
 
 -- a round begins at this moment, for news that came at that one
 -- rule: News waits
-abbrev pub begun : ℕ → ℕ → Rounds → Rounds
-begun now came rounds = record rounds { began = now; was_early = nat_lt came (pause_end rounds) }
+abbrev pub round_begun : ℕ → ℕ → Rounds → Rounds
+round_begun now came rounds = record rounds { began = now; was_early = nat_lt came (pause_end rounds) }
 
 -- it ends at this moment
 -- rule: News waits
-abbrev pub ended : ℕ → Rounds → Rounds
-ended now rounds = record rounds { took = (now - rounds.began) ∷ take 7 rounds.took }
+abbrev pub round_ended : ℕ → Rounds → Rounds
+round_ended now rounds = record rounds { took = (now - rounds.began) ∷ take 7 rounds.took }
 
 -- whether it is for the listeners of the worker of this number
 abbrev pub is_for : NewsFor → ℕ → Bool

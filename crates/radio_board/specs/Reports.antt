@@ -8,7 +8,7 @@ use Rattle.radio_board.specs.declared.worker_state.Step.{Step}
 use Rattle.radio_board.specs.declared.worker_state.Step.TheVariants.{News, MuchNews, LieDown, Pause}
 use Rattle.radio_board.specs.Serving.{is_served}
 use Rattle.radio_board.specs.News.{is_for}
-use Rattle.radio_board.specs.States.{has_drawn, has_news, waits, after, number_of}
+use Rattle.radio_board.specs.States.{has_drawn, has_news, waits, state_after_step, state_number}
 use Rattle.radio_board.specs.Sums.{drawn_after, first_come, least_of, most_of, load_of, left_to_draw}
 
 -- a worker holds up the end of a source as long as its listeners have not drawn all news, and it is served
@@ -51,20 +51,20 @@ abbrev pub step_of_news : Bool → Step
 step_of_news is_much = if is_much then MuchNews else News
 
 -- whether a worker that takes a step to wait in this state has something to do all the same: it does not wait, or newcomers do
-abbrev pub has_to_do : Step → WorkerState → ℕ → Bool
-has_to_do step state newcomers = not (waits (after step state)) || nat_lt 0 newcomers
+abbrev pub has_work_after_step : Step → WorkerState → ℕ → Bool
+has_work_after_step step state newcomers = not (waits (state_after_step step state)) || nat_lt 0 newcomers
 
 -- the number of the state after a step, if that is another
 abbrev pub changed_number : Step → WorkerState → Option ℕ
-changed_number step state = if number_of (after step state) == number_of state then None else Some (number_of (after step state))
+changed_number step state = if state_number (state_after_step step state) == state_number state then None else Some (state_number (state_after_step step state))
 
 -- whether so many bytes that came are much for its listeners: they have to draw so many of them still
 abbrev pub is_much : ℕ → ℕ → Report → Bool
 is_much much received report = nat_le much (left_to_draw received report.drawn report.has_listeners)
 
 -- whether the worker of this number gets news: its listeners may have some, and it has listeners
-abbrev pub is_told : NewsFor → ℕ → Report → Bool
-is_told news number report = is_for news number && report.has_listeners
+abbrev pub gets_news : NewsFor → ℕ → Report → Bool
+gets_news news number report = is_for news number && report.has_listeners
 
 -- when the news came that waits; this moment, if none does
 abbrev pub news_came : ℕ → Report → ℕ
@@ -72,8 +72,8 @@ news_came now report = if has_news report.state then report.came_us else now
 
 -- what a worker reports once a turn had this result: what its listeners have drawn, and what it
 -- serves
-abbrev pub after_turn : TurnDone → Report → Report
-after_turn done report = record report {
+abbrev pub report_after_turn : TurnDone → Report → Report
+report_after_turn done report = record report {
   drawn = drawn_after report.drawn done.received done.has_more;
   connections = done.connections;
   has_listeners = done.has_listeners;

@@ -12,8 +12,8 @@ most_rest = 100
 -- how it waits: its lines let it wait for so many milliseconds, news waits for so many microseconds more, and is there or expected
 -- it makes a turn as soon as a line wants one, and no news wakes it that would have to wait
 -- rule: News wakes once
-abbrev pub rest_of : ℕ → ℕ → Bool → IdleWait
-rest_of lines left expected =
+abbrev pub idle_wait_for : ℕ → ℕ → Bool → IdleWait
+idle_wait_for lines left expected =
     if nat_lt lines most_rest then Turn lines
     else if nat_lt 0 left && expected then Paused (min most_rest (left / 1000 + 1))
     else Asleep most_rest

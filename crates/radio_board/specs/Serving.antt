@@ -24,12 +24,12 @@ grown clock s = min (2 ^ 64 - 1) (s.served + min most_step (clock - s.clock))
 -- counts, but no more than a step, and only up to a step beyond what all have read
 -- rule: Server time
 abbrev pub served_by : ℕ → ℕ → Served → Served
-served_by clock told s = record { clock = clock; served = max s.served (min (grown clock s) (min (2 ^ 64 - 1) (told + most_step))) }
+served_by clock all_read s = record { clock = clock; served = max s.served (min (grown clock s) (min (2 ^ 64 - 1) (all_read + most_step))) }
 
 -- the moment that all may get: it is as long ago as a worker waits at most
 -- rule: Server time
-abbrev pub settled : Served → ℕ
-settled s = s.served - most_rest
+abbrev pub common_moment : Served → ℕ
+common_moment s = s.served - most_rest
 
 -- a worker that began its last turn at one moment is served, if no worker has begun one so long after it
 abbrev pub is_served : ℕ → ℕ → Bool

@@ -31,43 +31,43 @@ has_drawn (Paused false) = true
 
 -- its state after a step
 -- rule: News wakes once
-abbrev pub after : Step → WorkerState → WorkerState
-after News (Awake news) = Awake true
-after News (Drawing news) = Drawing true
-after News Asleep = Awake true
-after News (Paused news) = Paused true
-after MuchNews (Awake news) = Awake true
-after MuchNews (Drawing news) = Drawing true
-after MuchNews Asleep = Awake true
-after MuchNews (Paused news) = Awake true
-after Wake (Awake news) = Awake news
-after Wake (Drawing news) = Drawing news
-after Wake Asleep = Awake false
-after Wake (Paused news) = Awake news
-after LieDown (Awake true) = Awake true
-after LieDown (Awake false) = Asleep
-after LieDown (Drawing news) = Drawing news
-after LieDown Asleep = Asleep
-after LieDown (Paused news) = Paused news
-after Pause (Awake news) = Paused news
-after Pause (Drawing news) = Drawing news
-after Pause Asleep = Asleep
-after Pause (Paused news) = Paused news
-after BeginRound (Awake news) = Drawing false
-after BeginRound (Drawing news) = Drawing false
-after BeginRound Asleep = Drawing false
-after BeginRound (Paused news) = Drawing false
-after EndRound (Awake news) = Awake news
-after EndRound (Drawing news) = Awake news
-after EndRound Asleep = Asleep
-after EndRound (Paused news) = Paused news
+abbrev pub state_after_step : Step → WorkerState → WorkerState
+state_after_step News (Awake news) = Awake true
+state_after_step News (Drawing news) = Drawing true
+state_after_step News Asleep = Awake true
+state_after_step News (Paused news) = Paused true
+state_after_step MuchNews (Awake news) = Awake true
+state_after_step MuchNews (Drawing news) = Drawing true
+state_after_step MuchNews Asleep = Awake true
+state_after_step MuchNews (Paused news) = Awake true
+state_after_step Wake (Awake news) = Awake news
+state_after_step Wake (Drawing news) = Drawing news
+state_after_step Wake Asleep = Awake false
+state_after_step Wake (Paused news) = Awake news
+state_after_step LieDown (Awake true) = Awake true
+state_after_step LieDown (Awake false) = Asleep
+state_after_step LieDown (Drawing news) = Drawing news
+state_after_step LieDown Asleep = Asleep
+state_after_step LieDown (Paused news) = Paused news
+state_after_step Pause (Awake news) = Paused news
+state_after_step Pause (Drawing news) = Drawing news
+state_after_step Pause Asleep = Asleep
+state_after_step Pause (Paused news) = Paused news
+state_after_step BeginRound (Awake news) = Drawing false
+state_after_step BeginRound (Drawing news) = Drawing false
+state_after_step BeginRound Asleep = Drawing false
+state_after_step BeginRound (Paused news) = Drawing false
+state_after_step EndRound (Awake news) = Awake news
+state_after_step EndRound (Drawing news) = Awake news
+state_after_step EndRound Asleep = Asleep
+state_after_step EndRound (Paused news) = Paused news
 
 -- the number of a state where it is shared
-abbrev pub number_of : WorkerState → ℕ
-number_of (Awake false) = 0
-number_of (Awake true) = 1
-number_of (Drawing false) = 2
-number_of (Drawing true) = 3
-number_of Asleep = 4
-number_of (Paused false) = 5
-number_of (Paused true) = 6
+abbrev pub state_number : WorkerState → ℕ
+state_number (Awake false) = 0
+state_number (Awake true) = 1
+state_number (Drawing false) = 2
+state_number (Drawing true) = 3
+state_number Asleep = 4
+state_number (Paused false) = 5
+state_number (Paused true) = 6

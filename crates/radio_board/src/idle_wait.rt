@@ -1,7 +1,7 @@
 //! How a worker waits until its next turn.
 
 ghost use Rattle.std.specs.Prelude.{◌≡◌};
-ghost use Rattle.radio_board.specs.Rests.{rest_of, longest, is_turn, step_behind};
+ghost use Rattle.radio_board.specs.Rests.{idle_wait_for, longest, is_turn, step_behind};
 
 use crate::worker_state::Step;
 
@@ -54,7 +54,7 @@ impl IdleWait {
 /// there, or came within the last pause too.
 // rule: News wakes once
 pub fn rest_for(lines_ms: u64, left_us: u64, is_expected: bool) -> IdleWait
-    ensures { result ≡ rest_of lines_ms left_us is_expected }
+    ensures { result ≡ idle_wait_for lines_ms left_us is_expected }
 {
     if lines_ms < MOST_REST_MS {
         return IdleWait::Turn(lines_ms);

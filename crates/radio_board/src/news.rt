@@ -2,7 +2,7 @@
 
 ghost use Rattle.std.specs.Prelude.{◌≡◌, if◌then◌else◌};
 ghost use Rattle.radio_board.specs.declared.news.NewsFor.TheVariants.{Nobody, All};
-ghost use Rattle.radio_board.specs.News.{is_for_some, no_rounds, spacing_for, shortest, pause_end, wait_left, begun, ended, is_for};
+ghost use Rattle.radio_board.specs.News.{is_for_some, no_rounds, spacing_for, shortest, pause_end, wait_left, round_begun, round_ended, is_for};
 
 use std::marker::Model;
 
@@ -124,7 +124,7 @@ impl NewsPause {
     /// Notes that a round begins at `now_us`, for news that came at `came_us`.
     // rule: News waits
     pub fn begin(&mut self, now_us: u64, came_us: u64)
-        ensures { self.new ≡ begun now_us came_us self.old }
+        ensures { self.new ≡ round_begun now_us came_us self.old }
     {
         self.was_early = came_us < self.end_us();
         self.began_us = now_us;
@@ -133,7 +133,7 @@ impl NewsPause {
     /// Notes that the round ends at `now_us`.
     // rule: News waits
     pub fn end(&mut self, now_us: u64)
-        ensures { self.new ≡ ended now_us self.old }
+        ensures { self.new ≡ round_ended now_us self.old }
     {
         let took_us = now_us.saturating_sub(self.began_us);
         let [a, b, c, d, e, f, g, _] = self.took_us;

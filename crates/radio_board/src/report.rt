@@ -1,7 +1,7 @@
 //! What the desk of a worker reports, and what follows from it.
 
 ghost use Rattle.std.specs.Prelude.{◌≡◌};
-ghost use Rattle.radio_board.specs.Reports.{after_turn, drawn_with, holds_up, is_much, is_told, least_read, load_taken, loses_newcomers, most_behind, news_came, step_between};
+ghost use Rattle.radio_board.specs.Reports.{report_after_turn, drawn_with, holds_up, is_much, gets_news, least_read, load_taken, loses_newcomers, most_behind, news_came, step_between};
 
 use crate::news::NewsFor;
 use crate::served::is_served;
@@ -108,8 +108,8 @@ impl Report {
     }
 
     /// Returns whether the worker of this number gets news: its listeners may have some, and it has listeners.
-    pub(crate) fn is_told(&self, news: NewsFor, number: usize) -> bool
-        ensures { result ≡ is_told news number self.now }
+    pub(crate) fn gets_news(&self, news: NewsFor, number: usize) -> bool
+        ensures { result ≡ gets_news news number self.now }
     {
         news.is_for(number) && self.has_listeners
     }
@@ -127,7 +127,7 @@ impl Report {
 
     /// Returns what is reported once a turn had this result.
     pub(crate) fn after_turn(self, done: TurnDone) -> Report
-        ensures { result ≡ after_turn done self }
+        ensures { result ≡ report_after_turn done self }
     {
         Report {
             drawn: drawn_after(self.drawn, done.received, done.has_more),

@@ -1,7 +1,7 @@
 //! The time that was served.
 
 ghost use Rattle.std.specs.Prelude.{◌≡◌, ◌≤◌, ◌+◌, max};
-ghost use Rattle.radio_board.specs.Serving.{Served, is_served, most_step, served_by, settled};
+ghost use Rattle.radio_board.specs.Serving.{Served, is_served, most_step, served_by, common_moment};
 
 use crate::idle_wait::MOST_REST_MS;
 use std::marker::Model;
@@ -41,20 +41,20 @@ impl ServedTime {
     }
 
     /// Notes that the system's clock is at `clock_ms`, when the sockets were asked again, and that all workers have read up
-    /// to `told_ms`. Returns the served time when they were asked before: all that had come by then has been read since.
+    /// to `all_read_ms`. Returns the served time when they were asked before: all that had come by then has been read since.
     // rule: Server time
-    pub fn advance(&mut self, clock_ms: u64, told_ms: u64) -> u64
+    pub fn advance(&mut self, clock_ms: u64, all_read_ms: u64) -> u64
         ensures read { result ≡ self.old.served }
-        ensures served { self.new ≡ served_by clock_ms told_ms self.old }
+        ensures served { self.new ≡ served_by clock_ms all_read_ms self.old }
         // it never goes back, and grows by a step at most
         ensures step { (self.old.served ≤ self.new.served) × (self.new.served ≤ self.old.served + most_step) }
         // it gets no further ahead of what all have read than a step
-        ensures together { self.new.served ≤ max self.old.served (told_ms + most_step) }
+        ensures together { self.new.served ≤ max self.old.served (all_read_ms + most_step) }
     {
         let read_ms = self.served_ms;
         let passed_ms = clock_ms.saturating_sub(self.clock_ms);
         let grown_ms = read_ms.saturating_add(passed_ms.min(MOST_STEP_MS));
-        let most_ms = told_ms.saturating_add(MOST_STEP_MS);
+        let most_ms = all_read_ms.saturating_add(MOST_STEP_MS);
         self.clock_ms = clock_ms;
         self.served_ms = read_ms.max(grown_ms.min(most_ms));
         read_ms
@@ -71,7 +71,7 @@ impl ServedTime {
     /// each moment is given as late as every other, however long workers wait.
     // rule: Server time
     pub fn settled_ms(&self) -> u64
-        ensures { result ≡ settled self.now }
+        ensures { result ≡ common_moment self.now }
     {
         self.served_ms.saturating_sub(MOST_REST_MS)
     }

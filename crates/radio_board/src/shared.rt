@@ -38,7 +38,7 @@ pub struct NewsCounts {
     /// How many bytes have come from sources.
     pub received: u64,
     /// How often workers got news.
-    pub told: u64,
+    pub raised: u64,
 }
 
 /// What the workers and the acceptor report to each other. It is shared by reference.
@@ -61,7 +61,7 @@ pub struct Shared {
     /// How many bytes have come from sources.
     received: AtomicU64,
     /// How often workers got news.
-    told: AtomicU64,
+    raised: AtomicU64,
     /// Whether all are to stop.
     is_over: AtomicBool,
     /// Whether a connection was closed.
@@ -106,7 +106,7 @@ impl Shared {
             moment_ms: AtomicU64::new(0),
             server_ms: AtomicU64::new(0),
             received: AtomicU64::new(0),
-            told: AtomicU64::new(0),
+            raised: AtomicU64::new(0),
             is_over: AtomicBool::new(false),
             has_closed: AtomicBool::new(false),
             wants_closing: AtomicBool::new(false),
@@ -166,41 +166,41 @@ impl Shared {
             self.received.fetch_add(count, Ordering::SeqCst);
         }
         if news.is_for_some() {
-            self.tell_news(news, now_us);
+            self.raise_news(news, now_us);
         }
     }
 
     /// Gives news to the workers whose listeners may have some.
-    fn tell_news(&self, news: NewsFor, now_us: u64) {
+    fn raise_news(&self, news: NewsFor, now_us: u64) {
         for (number, desk) in self.desks.iter().enumerate() {
-            if desk.report().is_told(news, number) {
-                desk.tell_news(self.is_much(desk), now_us);
+            if desk.report().gets_news(news, number) {
+                desk.note_news(self.is_much(desk), now_us);
             }
         }
         // A thread that sees this count sees the news at each desk.
-        self.told.fetch_add(1, Ordering::SeqCst);
+        self.raised.fetch_add(1, Ordering::SeqCst);
     }
 
     /// Returns how many bytes have come from sources, and how often workers got news.
     pub fn counts(&self) -> NewsCounts {
         NewsCounts {
             received: self.received.load(Ordering::SeqCst),
-            told: self.told.load(Ordering::SeqCst),
+            raised: self.raised.load(Ordering::SeqCst),
         }
     }
 
     /// Returns how often workers got news, and up to which of these times the listeners of each have drawn. A worker
     /// that is not served holds up nobody.
     pub fn news_count(&self) -> NewsCount
-        ensures { result.drawn ≤ result.told }
+        ensures { result.drawn ≤ result.raised }
     {
-        let told = self.counts().told;
+        let raised = self.counts().raised;
         let latest_ms = self.latest_ms();
-        let mut drawn = told;
+        let mut drawn = raised;
         'desks: for desk in &self.desks {
             drawn = desk.report().drawn_with(drawn, latest_ms);
         }
-        NewsCount { told, drawn }
+        NewsCount { raised, drawn }
     }
 
     /// Returns whether so much has come from sources which this worker's listeners have still to draw that they get
@@ -276,7 +276,7 @@ impl Shared {
         self.desks.get(number)?.report().load_taken(latest_ms)
     }
 
-    /// Hands the newcomers of each worker that is not served to others, if there are any that are.
+    /// Moves the newcomers of each worker that is not served to others, if there are any that are.
     pub fn move_newcomers(&self) {
         let latest_ms = self.latest_ms();
         for (number, desk) in self.desks.iter().enumerate() {
@@ -286,7 +286,7 @@ impl Shared {
         }
     }
 
-    /// Hands the newcomers of this worker, which is not served, to others.
+    /// Moves the newcomers of this worker, which is not served, to others.
     fn move_from(&self, number: usize, desk: &WorkerDesk) {
         for _ in 0..desk.take_newcomers(usize::MAX) {
             let taker = taker_of(self.next_desk(number), number);

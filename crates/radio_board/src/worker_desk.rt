@@ -1,7 +1,7 @@
 //! What one worker reports to the others, and what they report to it.
 
 ghost use Rattle.std.specs.Prelude.{◌≡◌, ◌≤◌, ℕ};
-ghost use Rattle.radio_board.specs.Reports.{has_to_do, step_to_wait};
+ghost use Rattle.radio_board.specs.Reports.{has_work_after_step, step_to_wait};
 ghost use Rattle.radio_board.specs.declared.worker_state.WorkerState.{WorkerState as StateOf};
 
 use crate::report::{Report, TurnDone};
@@ -140,7 +140,7 @@ impl WorkerDesk {
     /// order matters: who puts a connection for it looks at the mark afterwards.
     pub fn lies_down(&self, is_paused: bool) -> bool
         // by the state that it had, and the newcomers that wait then
-        ensures { (state : StateOf) × (newcomers : ℕ) × (result ≡ has_to_do (step_to_wait is_paused) state newcomers) }
+        ensures { (state : StateOf) × (newcomers : ℕ) × (result ≡ has_work_after_step (step_to_wait is_paused) state newcomers) }
     {
         let step = Step::to_wait(is_paused);
         let before = self.take(step);
@@ -149,16 +149,16 @@ impl WorkerDesk {
 
     /// Notes that the worker's listeners may have news since `now_us`, in microseconds, and whether much has come for them. Ends
     /// its wait if it waits for that.
-    pub(crate) fn tell_news(&self, is_much: bool, now_us: u64) {
+    pub(crate) fn note_news(&self, is_much: bool, now_us: u64) {
         if !self.report().state.has_news() {
             self.came_us.store(now_us, Ordering::SeqCst);
         }
         self.take_and_wake(Step::of_news(is_much));
     }
 
-    /// Notes that the round is over, if there is one. When it began workers had got news `told` times.
-    pub fn end_round(&self, told: u64) {
-        self.drawn_news.store(told, Ordering::SeqCst);
+    /// Notes that the round is over, if there is one. When it began workers had got news `raised` times.
+    pub fn end_round(&self, raised: u64) {
+        self.drawn_news.store(raised, Ordering::SeqCst);
         let _ = self.take(Step::EndRound);
     }
 

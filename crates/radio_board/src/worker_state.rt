@@ -1,8 +1,8 @@
 //! What a worker does, as the threads see it that give it news, and wake it.
 
 ghost use Rattle.std.specs.Prelude.{◌≡◌, ◌&&◌, not, if◌then◌else◌};
-ghost use Rattle.radio_board.specs.Reports.{has_to_do, changed_number, step_of_news, step_to_wait};
-ghost use Rattle.radio_board.specs.States.{has_news, waits, has_drawn, after, number_of};
+ghost use Rattle.radio_board.specs.Reports.{has_work_after_step, changed_number, step_of_news, step_to_wait};
+ghost use Rattle.radio_board.specs.States.{has_news, waits, has_drawn, state_after_step, state_number};
 ghost use Rattle.radio_board.specs.declared.worker_state.Step.TheVariants.{News, MuchNews, Wake, LieDown, Pause, EndRound};
 
 /// What a worker does, in one word that all threads share. Each step of it is one change of that word:
@@ -84,11 +84,11 @@ impl WorkerState {
     /// Returns the state after a step.
     // rule: News wakes once
     pub fn after(self, step: Step) -> WorkerState
-        ensures { result ≡ after step self }
+        ensures { result ≡ state_after_step step self }
     {
         match step {
-            Step::News => self.told(false),
-            Step::MuchNews => self.told(true),
+            Step::News => self.with_news(false),
+            Step::MuchNews => self.with_news(true),
             Step::Wake => self.woken(),
             Step::LieDown => self.laid_down(),
             Step::Pause => self.paused(),
@@ -98,8 +98,8 @@ impl WorkerState {
     }
 
     /// Returns the state once it got news.
-    fn told(self, is_much: bool) -> WorkerState
-        ensures { result ≡ (if is_much then after MuchNews self else after News self) }
+    fn with_news(self, is_much: bool) -> WorkerState
+        ensures { result ≡ (if is_much then state_after_step MuchNews self else state_after_step News self) }
     {
         match self {
             WorkerState::Awake { .. } | WorkerState::Asleep => WorkerState::Awake {
@@ -113,7 +113,7 @@ impl WorkerState {
 
     /// Returns the state once it waits no more.
     fn woken(self) -> WorkerState
-        ensures { result ≡ after Wake self }
+        ensures { result ≡ state_after_step Wake self }
     {
         match self {
             WorkerState::Awake { .. } | WorkerState::Drawing { .. } => self,
@@ -124,7 +124,7 @@ impl WorkerState {
 
     /// Returns the state once it has lain down, unless it has news.
     fn laid_down(self) -> WorkerState
-        ensures { result ≡ after LieDown self }
+        ensures { result ≡ state_after_step LieDown self }
     {
         match self {
             WorkerState::Awake { has_news: false } => WorkerState::Asleep,
@@ -135,7 +135,7 @@ impl WorkerState {
 
     /// Returns the state once it has lain down, with news or without.
     fn paused(self) -> WorkerState
-        ensures { result ≡ after Pause self }
+        ensures { result ≡ state_after_step Pause self }
     {
         match self {
             WorkerState::Awake { has_news } => WorkerState::Paused { has_news },
@@ -145,7 +145,7 @@ impl WorkerState {
 
     /// Returns the state once a round is over.
     fn drawn(self) -> WorkerState
-        ensures { result ≡ after EndRound self }
+        ensures { result ≡ state_after_step EndRound self }
     {
         match self {
             WorkerState::Drawing { has_news } => WorkerState::Awake { has_news },
@@ -176,7 +176,7 @@ impl WorkerState {
 
     /// Returns whether a step ends its wait.
     pub(crate) fn is_woken_by(self, step: Step) -> bool
-        ensures { result ≡ (waits self && not (waits (after step self))) }
+        ensures { result ≡ (waits self && not (waits (state_after_step step self))) }
     {
         self.waits() && !self.after(step).waits()
     }
@@ -184,7 +184,7 @@ impl WorkerState {
     /// Returns whether a worker that takes a step to wait has something to do all the same: it does not wait after it, or newcomers
     /// wait for it.
     pub(crate) fn has_to_do(self, step: Step, newcomers: usize) -> bool
-        ensures { result ≡ has_to_do step self newcomers }
+        ensures { result ≡ has_work_after_step step self newcomers }
     {
         !self.after(step).waits() || newcomers > 0
     }
@@ -204,7 +204,7 @@ impl WorkerState {
 
     /// Returns the number of the state, by which it is shared.
     pub(crate) fn number(self) -> u64
-        ensures { result ≡ number_of self }
+        ensures { result ≡ state_number self }
     {
         match self {
             WorkerState::Awake { has_news: false } => 0,
@@ -219,7 +219,7 @@ impl WorkerState {
 
     /// Returns the state of this number: one that has news, if there is none.
     pub(crate) fn of(number: u64) -> WorkerState
-        ensures { (state : WorkerState) → number ≡ number_of state → result ≡ state }
+        ensures { (state : WorkerState) → number ≡ state_number state → result ≡ state }
     {
         match number {
             0 => WorkerState::Awake { has_news: false },
@@ -235,7 +235,7 @@ impl WorkerState {
 
     /// Returns the number of the state after a step, of the state of this number. `None` if it is the same.
     pub(crate) fn changed_number(number: u64, step: Step) -> Option<u64>
-        ensures { (state : WorkerState) → number ≡ number_of state → result ≡ changed_number step state }
+        ensures { (state : WorkerState) → number ≡ state_number state → result ≡ changed_number step state }
     {
         let after = WorkerState::of(number).after(step).number();
         if after == number { None } else { Some(after) }

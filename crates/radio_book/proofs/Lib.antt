@@ -2,5 +2,5 @@ pub mod Newcomers
 pub mod Threads
 pub mod OwnLemmas
 pub mod MountBookLemmas
-mod ToldLemmas
+mod HistoryLemmas
 mod ClockLemmas

@@ -7,10 +7,10 @@ use Rattle.radio_chronicle.specs.declared.line.ControlLine.{ControlLine}
 use Rattle.radio_parts_station.specs.World.{World}
 use Rattle.radio_events.specs.declared.event.Event.{Event}
 use Rattle.radio_events.specs.declared.reply.Reply.{Reply}
-use Rattle.radio_book.specs.LentParts.{AreBack, AreLent, IsBack, IsControlStep, IsLent, IsRefused}
+use Rattle.radio_book.specs.LentParts.{AreBack, AreLent, IsBack, IsControlStep, IsLentOrStays, IsRefused}
 use Rattle.radio_book.specs.MountBooks.{mount_and_list, AreCuts, BookOfMount, IsCut}
 
-lent_same : (reached : Bool) (book lent : BookOfMount) (before after : World) → IsLent reached book lent before after → mount_and_list lent ≡ mount_and_list book
+lent_same : (reached : Bool) (book lent : BookOfMount) (before after : World) → IsLentOrStays reached book lent before after → mount_and_list lent ≡ mount_and_list book
 lent_same reached book lent before after (inl is) = ap mount_and_list is.0
 lent_same reached book lent before after (inr is) = ap mount_and_list is.3
 

@@ -9,12 +9,12 @@ use Rattle.radio_events.specs.declared.event.Event.{Event}
 use Rattle.radio_events.specs.declared.event.Event.TheVariants.{Arrive, RelayUp, Push, Title, Draw}
 use Rattle.radio_events.specs.declared.reply.Reply.{Reply}
 use Rattle.radio_events.specs.declared.reply.Reply.TheVariants.{Arrived}
-use Rattle.radio_chronicle.specs.OwnSteps.{is_own}
+use Rattle.radio_chronicle.specs.OwnSteps.{is_part_event}
 use Rattle.radio_book.specs.Receipts.{ReceiptOf}
 use Rattle.radio_book.specs.declared.newcomer.Newcomer.{Newcomer}
 use Rattle.radio_book.specs.declared.newcomer.Newcomer.TheVariants.{Client, Relay}
 use Rattle.radio_book.specs.Newcomers.{present_after, present_from, present_of, present_by, is_arrival, is_same, leaver_of, newcomer_by, with_newcomer}
-use Rattle.radio_book.specs.Newcomers.{without_at, place_of, room_by, room_for}
+use Rattle.radio_book.specs.Newcomers.{position_among, room_by, room_for, without_newcomer}
 
 present_from_more : (ids : List Newcomer) (stamps : List ReceiptOf) (s : ReceiptOf)
     → present_from ids (stamps ++ s ∷ []) ≡ present_after (present_from ids stamps) s.event s.reply
@@ -35,8 +35,8 @@ enough_for_newcomer (RelayUp mount shown) (Arrived id) ids = omega (arith, lengt
 enough_for_newcomer (RelayUp mount shown) reply ids = omega arith
 enough_for_newcomer event reply ids = omega arith
 
-enough_for_leaver : (gone : Newcomer) (came : Bool) (ids : List Newcomer) (place : Option ℕ) → place_of gone ids ≡ place
-    → length (without_at (place_of gone ids) ids) + 1 ≤ length ids + room_by (Some gone) came ids
+enough_for_leaver : (gone : Newcomer) (came : Bool) (ids : List Newcomer) (place : Option ℕ) → position_among gone ids ≡ place
+    → length (without_newcomer (position_among gone ids) ids) + 1 ≤ length ids + room_by (Some gone) came ids
 enough_for_leaver gone came ids None at = rw at (omega arith)
 enough_for_leaver gone came ids (Some i) at =
     let here = position-Some (λ other. is_same gone other) ids i gone at in rw at (omega (arith, length-remove ids i here.0))
@@ -45,9 +45,9 @@ enough_for_leaver gone came ids (Some i) at =
 pub enough : (leaver : Option Newcomer) (event : Event) (reply : Reply) (ids : List Newcomer)
     → length (present_by leaver (newcomer_by event reply) ids) + 1 ≤ length ids + room_by leaver (is_arrival event) ids
 enough None event reply ids = enough_for_newcomer event reply ids
-enough (Some gone) event reply ids = enough_for_leaver gone (is_arrival event) ids (place_of gone ids) refl
+enough (Some gone) event reply ids = enough_for_leaver gone (is_arrival event) ids (position_among gone ids) refl
 
-stays_by_own : (ids : List Newcomer) (event : Event) (reply : Reply) → is_own event ≡ true → present_after ids event reply ≡ ids
+stays_by_own : (ids : List Newcomer) (event : Event) (reply : Reply) → is_part_event event ≡ true → present_after ids event reply ≡ ids
 stays_by_own ids (Push id block) reply own = refl
 stays_by_own ids (Title id text) reply own = refl
 stays_by_own ids (Draw id room) reply own = refl
@@ -55,7 +55,7 @@ stays_by_own ids event reply own = absurd (false≢true own)
 
 -- nobody comes or goes by a block, a title or a draw
 pub own_noted : (stamps stamps' : List ReceiptOf) (s : ReceiptOf) (ids : List Newcomer) → ids ≡ present_of stamps → stamps' ≡ stamps ++ s ∷ []
-    → is_own s.event ≡ true → ids ≡ present_of stamps'
+    → is_part_event s.event ≡ true → ids ≡ present_of stamps'
 own_noted stamps stamps' s ids here more own =
     here ∙ sym (ap present_of more ∙ present_of_more stamps s ∙ stays_by_own (present_of stamps) s.event s.reply own)
 

@@ -10,7 +10,7 @@ use Rattle.radio_chronicle.specs.OwnSteps.{answered_here, once, part_here, CanDr
 use Rattle.radio_chronicle.specs.Stamps.{stamp}
 use Rattle.radio_chronicle.specs.declared.own_steps.Twice.{Twice}
 use Rattle.radio_chronicle.specs.declared.stamp.Stamp.{Stamp}
-use Rattle.radio_book.specs.MountBooks.{once_in, own_in, reply_in, with_part, BookOfMount, CanOwn, IsDone, IsInList, IsNotHere, IsNowhere, IsOf, IsOwnStep, IsReplyHere}
+use Rattle.radio_book.specs.MountBooks.{once_in, own_in, reply_in, with_mount_part, BookOfMount, CanOwn, IsDone, IsInList, IsNotHere, IsNowhere, IsOf, IsOwnStep, IsReplyHere}
 use Rattle.radio_book.specs.declared.mount_book.Own.{Own}
 
 -- the answer of the part of this book, which becomes that
@@ -20,20 +20,20 @@ record IsAnswerOf (book : BookOfMount) (later : Option MountPart) (event : Event
   kept : IfOk answered (λ answer. IsKeptUnlessReplied answer book.part later)
 
 module _ (book : BookOfMount) (later : Option MountPart) (event : Event) where
-  replied_here : (reply : Reply) → IsAnswerOf book later event (Ok (Replied reply)) → IsOwnStep book event reply (with_part later book)
-  replied_here reply is = record { replied = sym is.answer; becomes = ap (λ (part : Option MountPart). with_part part book) is.becomes }
+  replied_here : (reply : Reply) → IsAnswerOf book later event (Ok (Replied reply)) → IsOwnStep book event reply (with_mount_part later book)
+  replied_here reply is = record { replied = sym is.answer; becomes = ap (λ (part : Option MountPart). with_mount_part part book) is.becomes }
 
-  not_here : (other : Event) → IsAnswerOf book later event (Ok (Elsewhere other)) → IsNotHere book event (with_part later book)
-  not_here other is = record { elsewhere = (other, sym is.answer); unchanged = ap (λ (part : Option MountPart). with_part part book) is.kept }
+  not_here : (other : Event) → IsAnswerOf book later event (Ok (Elsewhere other)) → IsNotHere book event (with_mount_part later book)
+  not_here other is = record { elsewhere = (other, sym is.answer); unchanged = ap (λ (part : Option MountPart). with_mount_part part book) is.kept }
 
-  done_so : (place : Stamp) (told : Event) (answered : Result PartAnswer AllocError) → IsAnswerOf book later event answered
-      → IfOk (own_in place told answered) (λ own. IsDone book event own (with_part later book))
-  done_so place told (Ok (Replied reply)) is = replied_here reply is
-  done_so place told (Ok (Elsewhere other)) is = not_here other is
-  done_so place told (Err refused) is = tt
+  done_so : (place : Stamp) (copy : Event) (answered : Result PartAnswer AllocError) → IsAnswerOf book later event answered
+      → IfOk (own_in place copy answered) (λ own. IsDone book event own (with_mount_part later book))
+  done_so place copy (Ok (Replied reply)) is = replied_here reply is
+  done_so place copy (Ok (Elsewhere other)) is = not_here other is
+  done_so place copy (Err refused) is = tt
 
   reply_so : (answered : Result PartAnswer AllocError) → IsAnswerOf book later event answered
-      → IfOk (reply_in answered) (λ reply. IsReplyHere book event reply (with_part later book))
+      → IfOk (reply_in answered) (λ reply. IsReplyHere book event reply (with_mount_part later book))
   reply_so (Ok (Replied reply)) is = replied_here reply is
   reply_so (Ok (Elsewhere other)) is = not_here other is
   reply_so (Err refused) is = tt
@@ -48,23 +48,23 @@ module _ (book : BookOfMount) (later : Option MountPart) (event : Event) where
   answer_of answered is can = record { answer = is.0 can; becomes = is.1 can; kept = is.2 can }
 
   -- a book that is seen as this one has done so
-  pub done_here : (now : BookOfMount) (place : Stamp) (told : Event) (answered : Result PartAnswer AllocError) (result : Result Own AllocError)
-      → book ≡ now → result ≡ own_in place told answered → Answers answered
-      → CanOwn now event → IfOk result (λ own. IsDone now event own (with_part later book))
-  done_here now place told answered result is comes answers can =
+  pub done_here : (now : BookOfMount) (place : Stamp) (copy : Event) (answered : Result PartAnswer AllocError) (result : Result Own AllocError)
+      → book ≡ now → result ≡ own_in place copy answered → Answers answered
+      → CanOwn now event → IfOk result (λ own. IsDone now event own (with_mount_part later book))
+  done_here now place copy answered result is comes answers can =
       let can_it : CanOwn book event = subst (λ (b : BookOfMount). CanOwn b event) (sym is) can in
-      subst (λ (b : BookOfMount). IfOk result (λ own. IsDone b event own (with_part later book))) is
-      (subst (λ (r : Result Own AllocError). IfOk r (λ own. IsDone book event own (with_part later book))) (sym comes)
-      (done_so place told answered (answer_of answered answers can_it)))
+      subst (λ (b : BookOfMount). IfOk result (λ own. IsDone b event own (with_mount_part later book))) is
+      (subst (λ (r : Result Own AllocError). IfOk r (λ own. IsDone book event own (with_mount_part later book))) (sym comes)
+      (done_so place copy answered (answer_of answered answers can_it)))
 
   -- or replied so
   pub reply_here : (now : BookOfMount) (answered : Result PartAnswer AllocError) (result : Result (Option Reply) AllocError)
       → book ≡ now → result ≡ reply_in answered → Answers answered
-      → CanOwn now event → IfOk result (λ reply. IsReplyHere now event reply (with_part later book))
+      → CanOwn now event → IfOk result (λ reply. IsReplyHere now event reply (with_mount_part later book))
   reply_here now answered result is comes answers can =
       let can_it : CanOwn book event = subst (λ (b : BookOfMount). CanOwn b event) (sym is) can in
-      subst (λ (b : BookOfMount). IfOk result (λ reply. IsReplyHere b event reply (with_part later book))) is
-      (subst (λ (r : Result (Option Reply) AllocError). IfOk r (λ reply. IsReplyHere book event reply (with_part later book))) (sym comes)
+      subst (λ (b : BookOfMount). IfOk result (λ reply. IsReplyHere b event reply (with_mount_part later book))) is
+      (subst (λ (r : Result (Option Reply) AllocError). IfOk r (λ reply. IsReplyHere book event reply (with_mount_part later book))) (sym comes)
       (reply_so answered (answer_of answered answers can_it)))
 
 -- the event of another is not done here
@@ -84,17 +84,17 @@ pub once_kept : (before after : Option MountPart) (stepped : Result Twice AllocE
 once_kept before after (Ok twice) is = is
 once_kept before after (Err refused) is = tt
 
-pub of_it : (place : Stamp) (event told : Event) (answered : Result PartAnswer AllocError) → told ≡ event → IfOk (own_in place told answered) (λ own. IsOf event own)
-of_it place event told (Ok (Replied reply)) same = same
-of_it place event told (Ok (Elsewhere other)) same = same
-of_it place event told (Err refused) same = tt
+pub of_it : (place : Stamp) (event copy : Event) (answered : Result PartAnswer AllocError) → copy ≡ event → IfOk (own_in place copy answered) (λ own. IsOf event own)
+of_it place event copy (Ok (Replied reply)) same = same
+of_it place event copy (Ok (Elsewhere other)) same = same
+of_it place event copy (Err refused) same = tt
 
-pub nowhere : (told : Event) (answered : Result PartAnswer AllocError) → IfOk (own_in (stamp 0 0) told answered) (λ own. IsNowhere own)
-nowhere told (Ok (Replied reply)) = refl
-nowhere told (Ok (Elsewhere other)) = tt
-nowhere told (Err refused) = tt
+pub nowhere : (copy : Event) (answered : Result PartAnswer AllocError) → IfOk (own_in (stamp 0 0) copy answered) (λ own. IsNowhere own)
+nowhere copy (Ok (Replied reply)) = refl
+nowhere copy (Ok (Elsewhere other)) = tt
+nowhere copy (Err refused) = tt
 
-pub in_its_list : (place : Stamp) (told : Event) (answered : Result PartAnswer AllocError) → IfOk (own_in place told answered) (λ own. IsInList place.list own)
-in_its_list place told (Ok (Replied reply)) = refl
-in_its_list place told (Ok (Elsewhere other)) = tt
-in_its_list place told (Err refused) = tt
+pub in_its_list : (place : Stamp) (copy : Event) (answered : Result PartAnswer AllocError) → IfOk (own_in place copy answered) (λ own. IsInList place.list own)
+in_its_list place copy (Ok (Replied reply)) = refl
+in_its_list place copy (Ok (Elsewhere other)) = tt
+in_its_list place copy (Err refused) = tt

@@ -1,4 +1,4 @@
--- What the control's list tells of it, and whose reply the control's is.
+-- How entries make the control, and whose reply the control's is.
 use Rattle.std.specs.Prelude.{◌≡◌, ℕ, Bool, true, false, List, [], ◌∷◌, Option, None, Some}
 use Rattle.radio_chronicle.specs.declared.line.ControlLine.{ControlLine}
 use Rattle.radio_chronicle.specs.declared.line.ControlLine.TheVariants.{Cut, Made}
@@ -44,13 +44,13 @@ pub data CanBe (opening : World) : World → Type 0 where
 
 -- What all mounts have in common is what these entries have made of that of the opening state. If entries are stored, they are those of the list.
 -- rule: Legal history
-pub record IsToldBy (keeps : Bool) (opening : World) (lines : List ControlLine) (control : World) : Type 0 where
+pub record IsMadeByEntries (keeps : Bool) (opening : World) (lines : List ControlLine) (control : World) : Type 0 where
   pub entries : List Entry
   pub common : common_of control ≡ common_by (common_of opening) entries
   pub kept : keeps ≡ true → entries_in lines ≡ entries
   pub comes : CanBe opening control
 
--- a control of which entries tell so, and which was lent these parts
+-- a control that entries have made, and which was lent these parts
 pub record IsControlLent (opening : World) (whole : World) : Type 0 where
   pub entries : List Entry
   pub control : World
@@ -86,13 +86,13 @@ pub record AreWantedOver (books : List BookOfMount) (control : World) (mounts : 
   pub lends : AreLent true books lent control whole
   pub are : mounts ≡ wanted whole
 
--- a book of which its list tells has no pass left
+-- a book that its entries have made has no pass left
 pub record HasNoPass (keeps : Bool) (opening : World) : Type 0 where
   pub book : ControlState
-  pub told : IsToldBy keeps opening book.lines book.control
+  pub made : IsMadeByEntries keeps opening book.lines book.control
   pub none : book.passes ≡ 0
 
--- the listener sits there, or sat there last, as a control knows of which entries tell so
+-- the listener sits there, or sat there last, as a control has it that entries have made
 -- rule: Last mount
 pub record WasThere (opening : World) (id : ℕ) (mount : Option (List ℕ)) : Type 0 where
   pub entries : List Entry

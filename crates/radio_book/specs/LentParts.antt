@@ -12,28 +12,28 @@ use Rattle.radio_parts.specs.Common.{common_after, common_of}
 use Rattle.radio_parts.specs.ControlSteps.{control_after, control_reply}
 use Rattle.radio_parts.specs.Lending.{IsTakenOut}
 use Rattle.radio_book.specs.Clocks.{LeavesParts}
-use Rattle.radio_book.specs.MountBooks.{at_moment, with_part, BookOfMount}
+use Rattle.radio_book.specs.MountBooks.{with_moment, with_mount_part, BookOfMount}
 
 -- if the event reaches parts, a part stays with its book only because it cannot take its mount's place
 abbrev pub MayStay : Bool → BookOfMount → World → Type 0
 MayStay reached book w = (part : MountPart) → book.part ≡ Some part → reached ≡ true → IsUnfit part w.station.live
 
 -- the book's part is in the place of the one that was there; or it has none, or that stays
-abbrev pub IsLent : Bool → BookOfMount → BookOfMount → World → World → Type 0
-IsLent reached book lent before after = ((lent ≡ book) × (after ≡ before) × MayStay reached book before) ⊎
-    ((part : MountPart) × (there : MountPart) × (book.part ≡ Some part) × (lent ≡ with_part None book) × IsLentTo part there before after)
+abbrev pub IsLentOrStays : Bool → BookOfMount → BookOfMount → World → World → Type 0
+IsLentOrStays reached book lent before after = ((lent ≡ book) × (after ≡ before) × MayStay reached book before) ⊎
+    ((part : MountPart) × (there : MountPart) × (book.part ≡ Some part) × (lent ≡ with_mount_part None book) × IsLentTo part there before after)
 
 -- one book after the other
 abbrev pub AreLent : Bool → List BookOfMount → List BookOfMount → World → World → Type 0
 AreLent reached [] [] before after = after ≡ before
 AreLent reached (book ∷ books) (one ∷ lent) before after =
-    (between : World) × IsLent reached book one before between × AreLent reached books lent between after
+    (between : World) × IsLentOrStays reached book one before between × AreLent reached books lent between after
 AreLent reached books lent before after = ⊥
 
 -- the mount's part is taken out again; or the book has it, or the mount has none, or memory is refused. The book has the control's time.
 abbrev pub IsBack : BookOfMount → BookOfMount → World → World → Type 0
-IsBack lent back before after = ((back ≡ at_moment before.station.time lent) × (after ≡ before)) ⊎
-    ((part : MountPart) × (back ≡ with_part (Some part) (at_moment before.station.time lent)) × IsTakenOut lent.mount part before after)
+IsBack lent back before after = ((back ≡ with_moment before.station.time lent) × (after ≡ before)) ⊎
+    ((part : MountPart) × (back ≡ with_mount_part (Some part) (with_moment before.station.time lent)) × IsTakenOut lent.mount part before after)
 
 abbrev pub AreBack : List BookOfMount → List BookOfMount → World → World → Type 0
 AreBack [] [] before after = after ≡ before

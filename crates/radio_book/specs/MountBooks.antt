@@ -10,7 +10,7 @@ use Rattle.radio_events.specs.declared.reply.Reply.{Reply}
 use Rattle.radio_parts_mount.specs.declared.part.MountPart.{MountPart}
 use Rattle.radio_parts_mount.specs.declared.step.PartAnswer.{PartAnswer}
 use Rattle.radio_parts_mount.specs.declared.step.PartAnswer.TheVariants.{Replied, Elsewhere as GivenBack}
-use Rattle.radio_book.specs.Receipts.{entry_of}
+use Rattle.radio_book.specs.Receipts.{receipt_entry}
 use Rattle.radio_chronicle.specs.OwnSteps.{answered_here, once, part_here, CanDrawHere}
 use Rattle.radio_book.specs.Receipts.{ReceiptOf, receipt_of}
 use Rattle.radio_chronicle.specs.declared.own_steps.Twice.{Twice}
@@ -24,7 +24,7 @@ pub record BookOfMount : Type 0 where
   pub list : ℕ
   -- its part, if that is not with the control
   pub part : Option MountPart
-  -- the time that the control was told last
+  -- the last moment that the control has
   pub moment : ℕ
   -- of the mount's stream at least so many bytes are kept
   pub queue : ℕ
@@ -44,11 +44,11 @@ pub record IsOwnStep (before : BookOfMount) (event : Event) (reply : Reply) (aft
   pub replied : answered_here before.part event ≡ Replied reply
   pub becomes : after ≡ record before { part = part_here before.queue before.moment before.part event }
 
-abbrev pub with_part : Option MountPart → BookOfMount → BookOfMount
-with_part part book = record book { part = part }
+abbrev pub with_mount_part : Option MountPart → BookOfMount → BookOfMount
+with_mount_part part book = record book { part = part }
 
-abbrev pub at_moment : ℕ → BookOfMount → BookOfMount
-at_moment moment book = record book { moment = moment }
+abbrev pub with_moment : ℕ → BookOfMount → BookOfMount
+with_moment moment book = record book { moment = moment }
 
 abbrev pub mount_and_list : BookOfMount → List ℕ × ℕ
 mount_and_list book = (book.mount, book.list)
@@ -66,7 +66,7 @@ AreCuts books lines = ⊥
 
 -- the lines with a cut for each of these books, and the entry of the receipt behind them
 abbrev pub AreNoted : List ControlLine → List BookOfMount → ReceiptOf → List ControlLine → Type 0
-AreNoted lines lent receipt lines' = (cuts : List ControlLine) × AreCuts lent cuts × (lines' ≡ (lines ++ cuts) ++ Made (entry_of receipt) ∷ [])
+AreNoted lines lent receipt lines' = (cuts : List ControlLine) × AreCuts lent cuts × (lines' ≡ (lines ++ cuts) ++ Made (receipt_entry receipt) ∷ [])
 
 -- it is the event
 abbrev pub IsOf : Event → Own → Type 0
@@ -118,6 +118,6 @@ abbrev pub IsNowhere : Own → Type 0
 IsNowhere (DoneHere receipt) = receipt.stamp ≡ stamp 0 0
 IsNowhere (Elsewhere same) = Unit {0}
 
--- for how many lines there has to be room before an entry that is lent so many parts, where so many ends are owed and so many more may be
+-- for how many lines there has to be room before an entry that is lent so many parts, where so many ends are reserved and so many more may be
 abbrev pub lines_for : ℕ → ℕ → ℕ → ℕ
-lines_for owed more lent = (owed + more) + (owed + more) + (lent - 1)
+lines_for reserved more lent = (reserved + more) + (reserved + more) + (lent - 1)

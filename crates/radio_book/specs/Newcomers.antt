@@ -1,4 +1,4 @@
--- Who came by a caller's calls, and what is owed for each: an entry for its end.
+-- Who came by a caller's calls, and what is reserved for each: an entry for its end.
 use Rattle.std.specs.Prelude.{ℕ, Bool, true, false, List, [], ◌∷◌, ◌++◌, ◌==◌, Option, None, Some, if◌then◌else◌}
 use Rattle.std.specs.List.{position, remove}
 use Rattle.std.specs.Option.{is_some}
@@ -10,9 +10,9 @@ use Rattle.radio_book.specs.declared.newcomer.Newcomer.{Newcomer}
 use Rattle.radio_book.specs.declared.newcomer.Newcomer.TheVariants.{Client, Relay}
 use Rattle.radio_book.specs.Receipts.{ReceiptOf}
 
-abbrev pub number_of : Newcomer → ℕ
-number_of (Client id) = id
-number_of (Relay id) = id
+abbrev pub newcomer_number : Newcomer → ℕ
+newcomer_number (Client id) = id
+newcomer_number (Relay id) = id
 
 abbrev pub is_same : Newcomer → Newcomer → Bool
 is_same (Client a) (Client b) = b == a
@@ -38,12 +38,12 @@ newcomer_by (RelayUp mount shown) (Arrived id) = Some (Relay id)
 newcomer_by event reply = None
 
 -- where it stands among these
-abbrev pub place_of : Newcomer → List Newcomer → Option ℕ
-place_of one present = position (λ other. is_same one other) present
+abbrev pub position_among : Newcomer → List Newcomer → Option ℕ
+position_among one present = position (λ other. is_same one other) present
 
-abbrev pub without_at : Option ℕ → List Newcomer → List Newcomer
-without_at None present = present
-without_at (Some i) present = remove present i
+abbrev pub without_newcomer : Option ℕ → List Newcomer → List Newcomer
+without_newcomer None present = present
+without_newcomer (Some i) present = remove present i
 
 abbrev pub with_newcomer : Option Newcomer → List Newcomer → List Newcomer
 with_newcomer None present = present
@@ -51,7 +51,7 @@ with_newcomer (Some newcomer) present = present ++ newcomer ∷ []
 
 abbrev pub present_by : Option Newcomer → Option Newcomer → List Newcomer → List Newcomer
 present_by None newcomer present = with_newcomer newcomer present
-present_by (Some gone) newcomer present = without_at (place_of gone present) present
+present_by (Some gone) newcomer present = without_newcomer (position_among gone present) present
 
 -- who is there after a call, of those who were there before it: who was let in has come, and whose end it was has gone
 abbrev pub present_after : List Newcomer → Event → Reply → List Newcomer
@@ -68,12 +68,12 @@ present_of stamps = present_from [] stamps
 -- it was let in by these calls, and has not gone by them
 -- rule: Reserved ends
 abbrev pub is_here : Newcomer → List ReceiptOf → Bool
-is_here one stamps = is_some (place_of one (present_of stamps))
+is_here one stamps = is_some (position_among one (present_of stamps))
 
 -- for how many entries room must be found before an event: its own, and that of the end of who may be let in; the end of who is here has its room
 abbrev pub room_by : Option Newcomer → Bool → List Newcomer → ℕ
 room_by None came present = if came then 2 else 1
-room_by (Some gone) came present = if is_some (place_of gone present) then 0 else 1
+room_by (Some gone) came present = if is_some (position_among gone present) then 0 else 1
 
 -- rule: Reserved ends
 abbrev pub room_for : List Newcomer → Event → ℕ

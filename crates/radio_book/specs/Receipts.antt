@@ -18,8 +18,8 @@ pub record ReceiptOf : Type 0 where
 
 -- its event, with its reply
 -- rule: Receipts
-abbrev pub entry_of : ReceiptOf → Entry
-entry_of receipt = entry receipt.event receipt.reply
+abbrev pub receipt_entry : ReceiptOf → Entry
+receipt_entry receipt = entry receipt.event receipt.reply
 
 abbrev pub receipt_of : Stamp → Event → Reply → ReceiptOf
 receipt_of stamp event reply = record { stamp = stamp; event = event; reply = reply }

@@ -1,17 +1,17 @@
-//! The control, its list, and what is owed.
+//! The control, its list, and for how many ends room is reserved.
 
 ghost use Rattle.std.specs.Prelude.{◌≡◌, ◌+◌, ◌-◌, ◌≤◌, ◌<◌, ◌^◌, ◌∷◌, [], ◌++◌, length, true, false, IsOk, IsSome, IfOk, IfSome, IfNone, OnOk, OnErr, vec_len, vec_capacity};
 ghost use Rattle.radio_events.specs.Events.{EventTakesNoMemory};
 ghost use Rattle.radio_chronicle.specs.Stamps.{stamp};
-ghost use Rattle.radio_book.specs.ControlLists.{AreWantedOver, AreWantedThere, IsOpening, IsToldBy};
+ghost use Rattle.radio_book.specs.ControlLists.{AreWantedOver, AreWantedThere, IsMadeByEntries, IsOpening};
 ghost use Rattle.radio_book.specs.LentParts.{IsControlAsBefore, IsControlStep, IsRefused};
 ghost use Rattle.radio_book.specs.MountBooks.{lines_for, AreNoted};
 ghost use Rattle.radio_book.specs.Newcomers.{is_arrival, room_for};
 
-use crate::debt::Debt;
 use crate::holdings::Holdings;
 use crate::lending::{apart, lend_each, note_cuts, step_over, step3_over, take_back_each};
 use crate::receipt::NOWHERE;
+use crate::reserved_ends::ReservedEnds;
 use crate::{Chronicle, Entry, MountBook, Origin, OutOfMemory, Receipt, Stamp};
 use radio_chronicle::{ControlLine, Copies, Notes, thrice};
 use radio_core::{Control, ListedPart};
@@ -21,36 +21,36 @@ use std::alloc::{AllocError, Global};
 use std::marker::PhantomData;
 use std::sync::ledger::Share;
 
-/// The control and its list, and what is owed: there is room for two lines for each end that is owed, a cut and an entry.
+/// The control and its list, and for how many ends room is reserved: two lines for each, a cut and an entry.
 /// What no caller has of the ledger yet is cut into as many parts as there are passes left.
 #[derive(Drop)]
 pub(crate) struct Accounts<C: Chronicle, H: Origin> {
     pub(crate) control: Control,
     pub(crate) lines: Notes<ControlLine>,
-    debt: Debt<H>,
+    ends: ReservedEnds<H>,
     spare: Share<H>,
     pub(crate) passes_left: u64,
     of: PhantomData<C>,
     ghost keeps: { lines.keeps ≡ C.KEEPS },
-    ghost room: { debt.owed + debt.owed ≤ lines.room },
-    ghost fits: { debt.owed + debt.owed < 2 ^ 64 },
+    ghost room: { ends.reserved + ends.reserved ≤ lines.room },
+    ghost fits: { ends.reserved + ends.reserved < 2 ^ 64 },
     ghost left: { spare.parts ≡ passes_left },
     ghost none: { spare.amount ≡ 0 },
-    ghost by_entries: { ∥ IsToldBy C.KEEPS H.opening lines.items control ∥₁ },
+    ghost by_entries: { ∥ IsMadeByEntries C.KEEPS H.opening lines.items control ∥₁ },
 }
 
 impl<C: Chronicle, H: Origin> Accounts<C, H> {
-    #[tactic(auto, using(crate::proofs::ToldLemmas::told_first))]
+    #[tactic(auto, using(crate::proofs::HistoryLemmas::made_first))]
     pub(crate) fn new(
         alloc: Global,
         control: Control,
-        debt: Debt<H>,
+        ends: ReservedEnds<H>,
         spare: Share<H>,
         passes_left: u64,
     ) -> Accounts<C, H>
         requires opening { control ≡ H.opening }
         requires opened { IsOpening H.opening }
-        requires none { debt.owed ≡ 0 }
+        requires none { ends.reserved ≡ 0 }
         requires spare { (spare.parts ≡ passes_left) × (spare.amount ≡ 0) }
         ensures control { result.control ≡ control }
         ensures lines { result.lines.items ≡ [] }
@@ -59,7 +59,7 @@ impl<C: Chronicle, H: Origin> Accounts<C, H> {
         Accounts {
             control,
             lines: Notes::new(alloc, C::KEEPS),
-            debt,
+            ends,
             spare,
             passes_left,
             of: PhantomData,
@@ -116,12 +116,12 @@ impl<C: Chronicle, H: Origin> Accounts<C, H> {
         let Accounts {
             control,
             lines,
-            debt,
+            ends,
             spare,
             ..
         } = self;
         drop(control);
-        drop(debt);
+        drop(ends);
         drop(spare);
         lines.into_items()
     }
@@ -141,10 +141,10 @@ impl<C: Chronicle, H: Origin> Accounts<C, H> {
         ensures frees { EventTakesNoMemory event → IsOk result }
     {
         match event.again() {
-            Ok(told) => match step_over(&mut self.control, lent, event) {
-                Ok(reply) => Ok(Receipt::new(NOWHERE, told, reply)),
+            Ok(copy) => match step_over(&mut self.control, lent, event) {
+                Ok(reply) => Ok(Receipt::new(NOWHERE, copy, reply)),
                 Err(refused) => {
-                    drop(told);
+                    drop(copy);
                     Err(refused)
                 }
             },
@@ -181,7 +181,7 @@ impl<C: Chronicle, H: Origin> Accounts<C, H> {
         }
     }
 
-    /// Makes room for an event that is lent so many parts, and for the ends that are owed then, and copies of the event.
+    /// Makes room for an event that is lent so many parts, and for the ends that are reserved then, and copies of the event.
     /// `OutOfMemory` if memory was refused.
     fn prepare(
         &mut self,
@@ -189,9 +189,9 @@ impl<C: Chronicle, H: Origin> Accounts<C, H> {
         lent: usize,
         event: &Event,
     ) -> Result<Copies, OutOfMemory>
-        ensures copies { IfOk result (λ copies. (copies.noted ≡ event.now) × (copies.held ≡ event.now) × (copies.told ≡ event.now)) }
-        ensures some { OnOk result (0 < self.new.debt.owed + room_for holdings.new.present.items event.now) }
-        ensures lines { OnOk result (lines_for self.new.debt.owed (room_for holdings.new.present.items event.now) lent ≤ self.new.lines.room) }
+        ensures copies { IfOk result (λ copies. (copies.noted ≡ event.now) × (copies.held ≡ event.now) × (copies.returned ≡ event.now)) }
+        ensures some { OnOk result (0 < self.new.ends.reserved + room_for holdings.new.present.items event.now) }
+        ensures lines { OnOk result (lines_for self.new.ends.reserved (room_for holdings.new.present.items event.now) lent ≤ self.new.lines.room) }
         ensures most { OnOk result (self.new.lines.room < 2 ^ 64) }
         ensures receipts { OnOk result
             (vec_len holdings.new.receipts + vec_len holdings.new.present + room_for holdings.new.present.items event.now
@@ -205,7 +205,7 @@ impl<C: Chronicle, H: Origin> Accounts<C, H> {
         thrice(event)
     }
 
-    /// Makes room for an event that is lent so many parts, and for the ends that are owed then. `OutOfMemory` if memory was
+    /// Makes room for an event that is lent so many parts, and for the ends that are reserved then. `OutOfMemory` if memory was
     /// refused.
     fn make_room(
         &mut self,
@@ -213,8 +213,8 @@ impl<C: Chronicle, H: Origin> Accounts<C, H> {
         lent: usize,
         event: &Event,
     ) -> Result<(), OutOfMemory>
-        ensures some { OnOk result (0 < self.new.debt.owed + room_for holdings.new.present.items event.now) }
-        ensures lines { OnOk result (lines_for self.new.debt.owed (room_for holdings.new.present.items event.now) lent ≤ self.new.lines.room) }
+        ensures some { OnOk result (0 < self.new.ends.reserved + room_for holdings.new.present.items event.now) }
+        ensures lines { OnOk result (lines_for self.new.ends.reserved (room_for holdings.new.present.items event.now) lent ≤ self.new.lines.room) }
         ensures most { OnOk result (self.new.lines.room < 2 ^ 64) }
         ensures receipts { OnOk result
             (vec_len holdings.new.receipts + vec_len holdings.new.present + room_for holdings.new.present.items event.now
@@ -225,8 +225,8 @@ impl<C: Chronicle, H: Origin> Accounts<C, H> {
         ensures held { (holdings.new.receipts.items ≡ holdings.old.receipts.items) × (holdings.new.present.items ≡ holdings.old.present.items) }
     {
         let more = holdings.room_for(event);
-        holdings.audit(&mut self.debt);
-        let Some(lines) = lines_for(self.debt.owed, more, lent) else {
+        holdings.audit(&mut self.ends);
+        let Some(lines) = lines_for(self.ends.reserved, more, lent) else {
             return Err(AllocError);
         };
         self.lines.reserve(lines)?;
@@ -242,9 +242,9 @@ impl<C: Chronicle, H: Origin> Accounts<C, H> {
         copies: Copies,
     ) -> Result<Receipt, OutOfMemory>
         requires keeps { C.KEEPS ≡ true }
-        requires copies { (copies.noted ≡ event) × (copies.held ≡ event) × (copies.told ≡ event) }
-        requires some { 0 < self.old.debt.owed + room_for holdings.old.present.items event }
-        requires lines { lines_for self.old.debt.owed (room_for holdings.old.present.items event) (length lent.old) ≤ self.old.lines.room }
+        requires copies { (copies.noted ≡ event) × (copies.held ≡ event) × (copies.returned ≡ event) }
+        requires some { 0 < self.old.ends.reserved + room_for holdings.old.present.items event }
+        requires lines { lines_for self.old.ends.reserved (room_for holdings.old.present.items event) (length lent.old) ≤ self.old.lines.room }
         requires most { self.old.lines.room < 2 ^ 64 }
         requires receipts { vec_len holdings.old.receipts + vec_len holdings.old.present + room_for holdings.old.present.items event
             ≤ vec_capacity holdings.old.receipts }
@@ -260,7 +260,11 @@ impl<C: Chronicle, H: Origin> Accounts<C, H> {
     {
         match step3_over(&mut self.control, lent, event) {
             Ok(replies) => {
-                let Copies { noted, held, told } = copies;
+                let Copies {
+                    noted,
+                    held,
+                    returned,
+                } = copies;
                 let (first, second, third) = apart(replies);
                 note_cuts(&mut self.lines, lent);
                 self.lines.note(ControlLine::Made(Entry {
@@ -271,8 +275,8 @@ impl<C: Chronicle, H: Origin> Accounts<C, H> {
                     list: 0,
                     serial: self.lines.len() as u64,
                 };
-                holdings.note(&mut self.debt, Receipt::new(stamp, held, second));
-                Ok(Receipt::new(stamp, told, third))
+                holdings.note(&mut self.ends, Receipt::new(stamp, held, second));
+                Ok(Receipt::new(stamp, returned, third))
             }
             Err(refused) => {
                 drop(copies);
@@ -283,11 +287,11 @@ impl<C: Chronicle, H: Origin> Accounts<C, H> {
 }
 
 /// Returns for how many lines there has to be room before an entry that is lent so many parts: for it and its cuts, and then for
-/// two lines for each end that is owed, of which so many more may be owed.
-fn lines_for(owed: usize, more: usize, lent: usize) -> Option<usize>
-    ensures value { IfSome result (λ lines. lines ≡ lines_for owed more lent) }
-    ensures some { more ≡ 0 → lent ≤ 1 → owed + owed < 2 ^ 64 → IsSome result }
+/// two lines for each end that is reserved, of which so many more may be reserved.
+fn lines_for(reserved: usize, more: usize, lent: usize) -> Option<usize>
+    ensures value { IfSome result (λ lines. lines ≡ lines_for reserved more lent) }
+    ensures some { more ≡ 0 → lent ≤ 1 → reserved + reserved < 2 ^ 64 → IsSome result }
 {
-    let ends = owed.checked_add(more)?;
+    let ends = reserved.checked_add(more)?;
     ends.checked_add(ends)?.checked_add(lent.saturating_sub(1))
 }

@@ -5,14 +5,14 @@ ghost use Rattle.radio_parts_station.specs.World.{opening, standing_of};
 ghost use Rattle.radio_events.specs.Events.{EventTakesNoMemory};
 ghost use Rattle.radio_chronicle.specs.Stamps.{stamp};
 ghost use Rattle.radio_seats_rows.specs.Seats.{last_mount_of};
-ghost use Rattle.radio_book.specs.ControlLists.{mount_fed, AreWantedOver, AreWantedThere, HasNoPass, IsControlReply, IsToldBy, WasThere};
+ghost use Rattle.radio_book.specs.ControlLists.{mount_fed, AreWantedOver, AreWantedThere, HasNoPass, IsControlReply, IsMadeByEntries, WasThere};
 ghost use Rattle.radio_book.specs.LentParts.{IsControlAsBefore, IsControlStep, IsRefused};
 ghost use Rattle.radio_book.specs.MountBooks.{mount_and_list, AreNoted};
 ghost use Rattle.radio_book.specs.Newcomers.{is_here, leaver_of};
 ghost use Rattle.radio_book.specs.declared.newcomer.Newcomer.{Newcomer};
 
 use crate::accounts::Accounts;
-use crate::debt::Debt;
+use crate::reserved_ends::ReservedEnds;
 use crate::{Chronicle, Kept, MountBook, Origin, OutOfMemory, Pass, Receipt};
 use radio_access::Lists;
 use radio_chronicle::ControlLine;
@@ -71,7 +71,7 @@ impl<C: Chronicle, H: Origin> Book<C, H> {
         }
         Book {
             alloc,
-            accounts: Accounts::new(alloc, control, Debt::new(book), spare, PASSES),
+            accounts: Accounts::new(alloc, control, ReservedEnds::new(book), spare, PASSES),
         }
     }
 
@@ -81,7 +81,7 @@ impl<C: Chronicle, H: Origin> Book<C, H> {
         // there is one as long as one is left
         ensures none { IfNone result (self.old.passes ≡ 0) }
         ensures left { self.new ≡ record self.old { passes = self.old.passes - 1 } }
-        // it says so of a book of which its list tells, whatever was called before
+        // it says so of a book that its entries have made, whatever was called before
         ensures legal { IfNone result (∥ HasNoPass C.KEEPS H.opening ∥₁) }
     {
         let Some(holdings) = self.accounts.holdings(self.alloc) else {
@@ -105,7 +105,7 @@ impl<C: Chronicle, H: Origin> Book<C, H> {
         ensures event { IfOk result (λ receipt. receipt.event ≡ event) }
         // the reply is the control's over what it is lent
         ensures step { IfOk result (λ receipt. IsControlStep lent.old self.old.control event receipt.reply lent.new self.new.control) }
-        // it is that of a control of which its list tells, whatever was called before
+        // it is that of a control that its entries have made, whatever was called before
         ensures legal { IfOk result (λ receipt. ∥ IsControlReply H.opening event receipt.reply ∥₁) }
         // the same books in the same order
         ensures same { map mount_and_list lent.new ≡ map mount_and_list lent.old }
@@ -136,7 +136,7 @@ impl<C: Chronicle, H: Origin> Book<C, H> {
     // rule: Pulls on demand
     pub fn wanted(&mut self, lent: &mut [MountBook<C>]) -> Result<Vec<MountName>, OutOfMemory>
         ensures over { IfOk result (λ mounts. AreWantedOver lent.old self.old.control mounts.items) }
-        // they are those of a control of which its list tells, whatever was called before
+        // they are those of a control that its entries have made, whatever was called before
         ensures legal { IfOk result (λ mounts. ∥ AreWantedThere H.opening mounts.items ∥₁) }
         // the same books in the same order
         ensures same { map mount_and_list lent.new ≡ map mount_and_list lent.old }
@@ -156,7 +156,7 @@ impl<C: Chronicle, H: Origin> Book<C, H> {
     /// Returns the mount where the listener of this number sits, or sat last, if there is one. It takes no memory.
     pub fn last_mount(&self, id: u64) -> Option<MountName>
         ensures control { result ≡ last_mount_of self.now.control.seats id }
-        // as a control knows of which its list tells, whatever was called before
+        // as a control has it that its entries have made, whatever was called before
         ensures legal { ∥ WasThere H.opening id result ∥₁ }
     {
         self.accounts.control.last_mount(id).copied()
@@ -188,8 +188,8 @@ impl<C: Chronicle, H: Origin> Book<C, H> {
     /// Some entries have made what all mounts have in common what it is, whatever was called; if entries are stored,
     /// they are those of the list. Runs no code.
     // rule: Legal history
-    pub fn is_told(&self)
-        ensures { ∥ IsToldBy C.KEEPS H.opening self.now.lines self.now.control ∥₁ }
+    pub fn is_made_by_entries(&self)
+        ensures { ∥ IsMadeByEntries C.KEEPS H.opening self.now.lines self.now.control ∥₁ }
     {
         let _accounts = &self.accounts;
     }

@@ -1,25 +1,25 @@
 //! What a caller holds.
 
 ghost use Rattle.std.specs.Prelude.{◌≡◌, ◌+◌, ◌≤◌, ◌<◌, ◌^◌, ◌∷◌, [], ◌++◌, ℕ, true, false, IsOk, IsSome, OnOk, vec_len, vec_capacity};
-ghost use Rattle.radio_chronicle.specs.OwnSteps.{is_own};
-ghost use Rattle.radio_book.specs.Newcomers.{present_by, present_of, is_arrival, leaver_of, newcomer_by, place_of, room_by, room_for};
+ghost use Rattle.radio_chronicle.specs.OwnSteps.{is_part_event};
+ghost use Rattle.radio_book.specs.Newcomers.{present_by, present_of, is_arrival, leaver_of, newcomer_by, position_among, room_by, room_for};
 
-use crate::debt::Debt;
 use crate::newcomer::{Newcomer, leaver_of};
+use crate::reserved_ends::ReservedEnds;
 use crate::{OutOfMemory, Receipt};
 use radio_events::{Event, Reply};
 use std::alloc::Global;
 use std::sync::ledger::{Ledger, Share};
 
 /// The receipts of a caller's calls, and who came by them and has not gone by them, for each of whom
-/// the book owes it an entry. There is room for the receipt of each such end.
+/// the book has an entry reserved. There is room for the receipt of each such end.
 #[derive(Drop)]
 pub(crate) struct Holdings<L: Ledger> {
     pub(crate) receipts: Vec<Receipt>,
     pub(crate) present: Vec<Newcomer>,
     share: Share<L>,
     pub(crate) ghost here: { present.items ≡ present_of receipts.items },
-    ghost owed: { share.amount ≡ vec_len present },
+    ghost reserved: { share.amount ≡ vec_len present },
     ghost some_part: { 0 < share.parts },
     ghost room: { vec_len receipts + vec_len present ≤ vec_capacity receipts },
 }
@@ -63,18 +63,18 @@ impl<L: Ledger> Holdings<L> {
         Ok(())
     }
 
-    /// Shows that no more is owed to its caller than the book owes in all. It changes nothing.
-    pub(crate) fn audit(&mut self, debt: &mut Debt<L>)
-        ensures bound { vec_len self.old.present ≤ debt.old.owed }
-        ensures owed { debt.new.owed ≡ debt.old.owed }
+    /// Shows that no more is reserved for its caller than the book has reserved in all. It changes nothing.
+    pub(crate) fn audit(&mut self, ends: &mut ReservedEnds<L>)
+        ensures bound { vec_len self.old.present ≤ ends.old.reserved }
+        ensures reserved { ends.new.reserved ≡ ends.old.reserved }
         ensures same { (self.new.receipts ≡ self.old.receipts) × (self.new.present ≡ self.old.present) }
     {
-        debt.audit(&mut self.share);
+        ends.audit(&mut self.share);
     }
 
     /// Adds the receipt of a block, a title or a draw, for which there is room.
     pub(crate) fn note_own(&mut self, receipt: Receipt)
-        requires own { is_own receipt.event ≡ true }
+        requires own { is_part_event receipt.event ≡ true }
         requires room { vec_len self.old.receipts + vec_len self.old.present < vec_capacity self.old.receipts }
         ensures { self.new.receipts.items ≡ self.old.receipts.items ++ receipt ∷ [] }
     {
@@ -82,13 +82,13 @@ impl<L: Ledger> Holdings<L> {
     }
 
     /// Adds the receipt of a call, for which there is room, and notes who came or went by it.
-    pub(crate) fn note(&mut self, debt: &mut Debt<L>, receipt: Receipt)
+    pub(crate) fn note(&mut self, ends: &mut ReservedEnds<L>, receipt: Receipt)
         requires room { vec_len self.old.receipts + vec_len self.old.present + room_for self.old.present.items receipt.event ≤ vec_capacity self.old.receipts }
         requires present { is_arrival receipt.event ≡ true → vec_len self.old.present < vec_capacity self.old.present }
-        requires fits { is_arrival receipt.event ≡ true → debt.old.owed + 1 < 2 ^ 64 }
+        requires fits { is_arrival receipt.event ≡ true → ends.old.reserved + 1 < 2 ^ 64 }
         ensures receipts { self.new.receipts.items ≡ self.old.receipts.items ++ receipt ∷ [] }
-        ensures owed { debt.new.owed + vec_len self.old.present ≡ debt.old.owed + vec_len self.new.present }
-        ensures enough { debt.new.owed + 1 ≤ debt.old.owed + room_for self.old.present.items receipt.event }
+        ensures reserved { ends.new.reserved + vec_len self.old.present ≡ ends.old.reserved + vec_len self.new.present }
+        ensures enough { ends.new.reserved + 1 ≤ ends.old.reserved + room_for self.old.present.items receipt.event }
     {
         let leaver = leaver_in(&receipt);
         let newcomer = newcomer_in(&receipt);
@@ -97,14 +97,14 @@ impl<L: Ledger> Holdings<L> {
             present,
             share,
         } = self;
-        come_and_go(debt, share, present, leaver, newcomer);
+        come_and_go(ends, share, present, leaver, newcomer);
         receipts.push_reserved(receipt);
     }
 }
 
-/// Removes who leaves, or adds who comes; the book owes it an entry less, or more.
+/// Removes who leaves, or adds who comes; the book has an entry less reserved, or one more.
 fn come_and_go<L: Ledger>(
-    debt: &mut Debt<L>,
+    ends: &mut ReservedEnds<L>,
     share: &mut Share<L>,
     present: &mut Vec<Newcomer>,
     leaver: Option<Newcomer>,
@@ -113,44 +113,44 @@ fn come_and_go<L: Ledger>(
     requires part { 0 < share.old.parts }
     requires amount { share.old.amount ≡ vec_len present.old }
     requires room { IsSome newcomer → vec_len present.old < vec_capacity present.old }
-    requires fits { IsSome newcomer → debt.old.owed + 1 < 2 ^ 64 }
+    requires fits { IsSome newcomer → ends.old.reserved + 1 < 2 ^ 64 }
     ensures present { present.new.items ≡ present_by leaver newcomer present.old.items }
-    ensures owed { debt.new.owed + vec_len present.old ≡ debt.old.owed + vec_len present.new }
+    ensures reserved { ends.new.reserved + vec_len present.old ≡ ends.old.reserved + vec_len present.new }
     ensures amount { share.new.amount ≡ vec_len present.new }
     ensures parts { share.new.parts ≡ share.old.parts }
 {
     match (leaver, newcomer) {
-        (Some(gone), _) => goes(debt, share, present, gone),
+        (Some(gone), _) => goes(ends, share, present, gone),
         (None, Some(newcomer)) => {
-            debt.grow(share);
+            ends.grow(share);
             present.push_reserved(newcomer);
         }
         (None, None) => (),
     }
 }
 
-/// Removes who goes, if it is among those who are there; the book owes it an entry less.
+/// Removes who goes, if it is among those who are there; the book has an entry less reserved.
 fn goes<L: Ledger>(
-    debt: &mut Debt<L>,
+    ends: &mut ReservedEnds<L>,
     share: &mut Share<L>,
     present: &mut Vec<Newcomer>,
     gone: Newcomer,
 )
     requires { share.old.amount ≡ vec_len present.old }
     ensures present { present.new.items ≡ present_by (Some gone) None present.old.items }
-    ensures owed { debt.new.owed + vec_len present.old ≡ debt.old.owed + vec_len present.new }
+    ensures reserved { ends.new.reserved + vec_len present.old ≡ ends.old.reserved + vec_len present.new }
     ensures amount { share.new.amount ≡ vec_len present.new }
     ensures parts { share.new.parts ≡ share.old.parts }
 {
     if let Some(i) = place_of(present.as_slice(), gone) {
-        debt.shrink(share);
+        ends.shrink(share);
         present.remove(i);
     }
 }
 
 /// Returns its place among these.
 fn place_of(present: &[Newcomer], one: Newcomer) -> Option<usize>
-    ensures { result ≡ place_of one present.now }
+    ensures { result ≡ position_among one present.now }
 {
     present.iter().position(|other| other.is(one))
 }

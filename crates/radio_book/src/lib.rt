@@ -11,7 +11,6 @@
 
 mod accounts;
 mod book;
-mod debt;
 mod holdings;
 mod last_blocks;
 mod lending;
@@ -19,6 +18,7 @@ mod mount_book;
 mod newcomer;
 mod pass;
 mod receipt;
+mod reserved_ends;
 
 pub use book::{Book, PASSES};
 pub use mount_book::{MountBook, Own};

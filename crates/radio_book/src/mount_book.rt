@@ -2,11 +2,11 @@
 
 ghost use Rattle.std.specs.Prelude.{◌≡◌, ◌+◌, ◌≤◌, ◌<◌, true, false, None, IfOk, IsTrue, OnErr, vec_len, vec_capacity};
 ghost use Rattle.radio_book.specs.Clocks.{IsNotDue};
-ghost use Rattle.radio_book.specs.LentParts.{IsBack, IsLent};
+ghost use Rattle.radio_book.specs.LentParts.{IsBack, IsLentOrStays};
 ghost use Rattle.radio_book.specs.MountBooks.{noted_own, once_in, own_in, reply_in, CanOwn, IsCut, IsDone, IsInList, IsNowhere, IsOf, IsReplyHere};
 ghost use Rattle.radio_chronicle.specs.Stamps.{stamp};
 ghost use Rattle.radio_events.specs.declared.event.Event.TheVariants.{Draw};
-ghost use Rattle.radio_chronicle.specs.OwnSteps.{is_own, IsAlike};
+ghost use Rattle.radio_chronicle.specs.OwnSteps.{is_part_event, IsAlike};
 
 use crate::holdings::Holdings;
 use crate::last_blocks::{drop_old, last_block, last_block_of};
@@ -153,7 +153,7 @@ impl<C: Chronicle> MountBook<C> {
 
     /// Puts the part, if it is here and the event reaches it, in the place of that which the control has. It takes no memory.
     pub(crate) fn lend(&mut self, control: &mut Control, is_reached: bool)
-        ensures { IsLent is_reached self.old self.new control.old control.new }
+        ensures { IsLentOrStays is_reached self.old self.new control.old control.new }
     {
         self.items = self.item_count();
         if !is_reached {
@@ -244,7 +244,7 @@ impl<C: Chronicle> MountBook<C> {
         ensures err { OnErr result (self.new ≡ self.old) }
     {
         match event.again() {
-            Ok(told) => self.answer_copied(event, told),
+            Ok(copy) => self.answer_copied(event, copy),
             Err(refused) => {
                 drop(event);
                 Err(refused)
@@ -253,15 +253,15 @@ impl<C: Chronicle> MountBook<C> {
     }
 
     /// Does what the event does, of which this is a copy, if nothing is stored.
-    fn answer_copied(&mut self, event: Event, told: Event) -> Result<Own, OutOfMemory>
-        requires { told ≡ event }
+    fn answer_copied(&mut self, event: Event, copy: Event) -> Result<Own, OutOfMemory>
+        requires { copy ≡ event }
         ensures event { IfOk result (λ own. IsOf event own) }
         ensures done { CanOwn self.old event → IfOk result (λ own. IsDone self.old event own self.new) }
         ensures place { IfOk result (λ own. IsNowhere own) }
         ensures err { OnErr result (self.new ≡ self.old) }
     {
         let answered = step_here(self.alloc, &mut self.part, self.moment, self.queue, event);
-        own_of(answered, told)
+        own_of(answered, copy)
     }
 
     /// Does what the event does, which is stored.
@@ -285,7 +285,7 @@ impl<C: Chronicle> MountBook<C> {
             return Err(refused);
         }
         match twice(&event) {
-            Ok((held, told)) => self.note_copied(holdings, event, held, told),
+            Ok((held, returned)) => self.note_copied(holdings, event, held, returned),
             Err(refused) => {
                 drop(event);
                 Err(refused)
@@ -299,10 +299,10 @@ impl<C: Chronicle> MountBook<C> {
         holdings: &mut Holdings<H>,
         event: Event,
         held: Event,
-        told: Event,
+        returned: Event,
     ) -> Result<Own, OutOfMemory>
-        requires own { is_own event ≡ true }
-        requires copies { (held ≡ event) × (told ≡ event) }
+        requires own { is_part_event event ≡ true }
+        requires copies { (held ≡ event) × (returned ≡ event) }
         requires room { vec_len holdings.old.receipts + vec_len holdings.old.present < vec_capacity holdings.old.receipts }
         ensures event { IfOk result (λ own. IsOf event own) }
         ensures done { CanOwn self.old event → IfOk result (λ own. IsDone self.old event own self.new) }
@@ -316,22 +316,22 @@ impl<C: Chronicle> MountBook<C> {
             serial: items_here(&self.part).saturating_add(1),
         };
         let stepped = step_twice_here(self.alloc, &mut self.part, self.moment, self.queue, event);
-        note_own(holdings, stamp, held, told, stepped)
+        note_own(holdings, stamp, held, returned, stepped)
     }
 }
 
 /// Returns what becomes of a part's answer to the event, if nothing is stored.
-fn own_of(answered: Result<PartAnswer, OutOfMemory>, told: Event) -> Result<Own, OutOfMemory>
-    ensures { result ≡ own_in (stamp 0 0) told answered }
+fn own_of(answered: Result<PartAnswer, OutOfMemory>, copy: Event) -> Result<Own, OutOfMemory>
+    ensures { result ≡ own_in (stamp 0 0) copy answered }
 {
     match answered {
-        Ok(PartAnswer::Replied(reply)) => Ok(Own::Made(Receipt::new(NOWHERE, told, reply))),
+        Ok(PartAnswer::Replied(reply)) => Ok(Own::Made(Receipt::new(NOWHERE, copy, reply))),
         Ok(PartAnswer::Elsewhere(event)) => {
             drop(event);
-            Ok(Own::Elsewhere(told))
+            Ok(Own::Elsewhere(copy))
         }
         Err(refused) => {
-            drop(told);
+            drop(copy);
             Err(refused)
         }
     }
@@ -357,30 +357,30 @@ fn note_own<H: Origin>(
     holdings: &mut Holdings<H>,
     stamp: Stamp,
     held: Event,
-    told: Event,
+    returned: Event,
     stepped: Result<Twice, OutOfMemory>,
 ) -> Result<Own, OutOfMemory>
-    requires own { is_own held ≡ true }
-    requires same { held ≡ told }
+    requires own { is_part_event held ≡ true }
+    requires same { held ≡ returned }
     requires alike { IfOk stepped (λ twice. IsAlike twice) }
     requires room { vec_len holdings.old.receipts + vec_len holdings.old.present < vec_capacity holdings.old.receipts }
-    ensures value { result ≡ own_in stamp told (once_in stepped) }
+    ensures value { result ≡ own_in stamp returned (once_in stepped) }
     ensures receipts { IfOk result (λ own. holdings.new.receipts.items ≡ noted_own own holdings.old.receipts.items) }
     ensures err { OnErr result (holdings.new.receipts.items ≡ holdings.old.receipts.items) }
 {
     match stepped {
         Ok(Twice::Replied(again, reply)) => {
             holdings.note_own(Receipt::new(stamp, held, again));
-            Ok(Own::Made(Receipt::new(stamp, told, reply)))
+            Ok(Own::Made(Receipt::new(stamp, returned, reply)))
         }
         Ok(Twice::Elsewhere(event)) => {
             drop(event);
             drop(held);
-            Ok(Own::Elsewhere(told))
+            Ok(Own::Elsewhere(returned))
         }
         Err(refused) => {
             drop(held);
-            drop(told);
+            drop(returned);
             Err(refused)
         }
     }

@@ -1,7 +1,7 @@
 //! Who has come.
 
 ghost use Rattle.std.specs.Prelude.{◌≡◌};
-ghost use Rattle.radio_book.specs.Newcomers.{is_same, leaver_of, number_of};
+ghost use Rattle.radio_book.specs.Newcomers.{is_same, leaver_of, newcomer_number};
 
 use radio_events::Event;
 
@@ -17,7 +17,7 @@ pub enum Newcomer {
 impl Newcomer {
     /// Returns its number.
     pub fn id(self) -> u64
-        ensures { result ≡ number_of self }
+        ensures { result ≡ newcomer_number self }
     {
         match self {
             Newcomer::Client(id) | Newcomer::Relay(id) => id,

@@ -17,7 +17,7 @@ use Rattle.radio_parts_mount.specs.declared.part.MountPart.{MountPart}
 use Rattle.radio_parts_mount.specs.declared.step.PartAnswer.{PartAnswer}
 use Rattle.radio_parts_mount.specs.declared.step.PartAnswer.TheVariants.{Replied, Elsewhere}
 use Rattle.std.specs.declared.alloc.AllocError.{AllocError}
-use Rattle.radio_chronicle.specs.OwnSteps.{drawer_in, is_own, once, set_back_in, IsKeptUnlessReplied, IsNoPartsOwn}
+use Rattle.radio_chronicle.specs.OwnSteps.{drawer_in, is_part_event, once, set_back_in, IsKeptUnlessReplied, IsNoPartsOwn}
 use Rattle.radio_chronicle.specs.declared.own_steps.Twice.{Twice}
 use Rattle.radio_chronicle.specs.declared.own_steps.Twice.TheVariants.{Replied as RepliedTwice, Elsewhere as GivenBack}
 
@@ -116,7 +116,7 @@ twice_kept_in queue moment p after event (Ok (GivenBack other)) answer becomes =
 twice_kept_in queue moment p after event (Err refused) answer becomes = tt
 
 -- a part does not reply to an event that is not its own
-not_its_own : (p : MountPart) (event : Event) → is_own event ≡ false → part_answers p event ≡ Elsewhere event
+not_its_own : (p : MountPart) (event : Event) → is_part_event event ≡ false → part_answers p event ≡ Elsewhere event
 not_its_own p (Push id block) is = let none : true ≡ false = is in cc
 not_its_own p (Title id text) is = let none : true ≡ false = is in cc
 not_its_own p (Draw id room) is = let none : true ≡ false = is in cc
@@ -130,6 +130,6 @@ not_its_own p (RelayUp mount shown) is = refl
 not_its_own p (RelayDown id) is = refl
 not_its_own p (Clock ms) is = refl
 
-pub no_parts_own : (event : Event) → is_own event ≡ false → IsNoPartsOwn event
+pub no_parts_own : (event : Event) → is_part_event event ≡ false → IsNoPartsOwn event
 no_parts_own event is None = refl
 no_parts_own event is (Some p) = not_its_own p event is

@@ -14,7 +14,7 @@ use Rattle.radio_core.specs.Totals.{arrivals, departures, relays_up, relays_down
 use Rattle.radio_core.specs.Totals.{numbers_given, AddsUp as StepAddsUp}
 use Rattle.radio_events.specs.declared.entry.Entry.{Entry}
 use Rattle.radio_chronicle.specs.History.{world_of, IsRun}
-use Rattle.radio_chronicle.specs.Totals.{clients_come, clients_left, relays_come, relays_gone, seats_made, listeners_left, AddsUp}
+use Rattle.radio_chronicle.specs.Totals.{clients_come, clients_left, relays_come, relays_gone, seats_made, listeners_left, HistoryAddsUp}
 
 run_more : (w : World) (events : List Event) (event : Event) → world_after_all w (events ++ event ∷ []) ≡ world_after (world_after_all w events) event
 run_more w [] event = refl
@@ -81,7 +81,7 @@ module _ (settings : Settings) (lists : Lists) (steps : (events : List Event) (e
       (both_given w e.event (subst (λ (x : World). RepliesFit x e.event) (sym are) (fits events e.event)))
       (adds_from (world_after w e.event) (events ++ e.event ∷ []) next history run.1)
 
-  pub adds_up : (history : List Entry) → IsRun (opening settings lists) history → AddsUp (opening settings lists) history
+  pub adds_up : (history : List Entry) → IsRun (opening settings lists) history → HistoryAddsUp (opening settings lists) history
   adds_up history run =
       let adds = adds_from (opening settings lists) [] refl history run in
       record {

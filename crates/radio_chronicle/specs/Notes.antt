@@ -8,5 +8,5 @@ pub record NotesOf (A : Type 0) : Type 0 where
   pub room : ℕ
 
 -- for how many more there is room where so many of so many places are taken; a list that stores nothing always has room
-abbrev pub room_of : Bool → ℕ → ℕ → ℕ
-room_of keeps taken places = if keeps then places - taken else 2 ^ 64 - 1
+abbrev pub remaining_places : Bool → ℕ → ℕ → ℕ
+remaining_places keeps taken places = if keeps then places - taken else 2 ^ 64 - 1

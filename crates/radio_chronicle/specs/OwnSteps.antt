@@ -13,11 +13,11 @@ use Rattle.radio_chronicle.specs.declared.own_steps.Twice.{Twice}
 use Rattle.radio_chronicle.specs.declared.own_steps.Twice.TheVariants.{Replied as RepliedTwice, Elsewhere as GivenBack}
 
 -- a block, a title or a draw: what a mount's part can do by itself
-abbrev pub is_own : Event → Bool
-is_own (Push id block) = true
-is_own (Title id text) = true
-is_own (Draw id room) = true
-is_own event = false
+abbrev pub is_part_event : Event → Bool
+is_part_event (Push id block) = true
+is_part_event (Title id text) = true
+is_part_event (Draw id room) = true
+is_part_event event = false
 
 -- what the part answers that is here, if one is
 abbrev pub answered_here : Option MountPart → Event → PartAnswer

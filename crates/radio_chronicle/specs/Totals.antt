@@ -37,7 +37,7 @@ abbrev pub seats_ended : World → List Entry → ℕ
 seats_ended opening history = seats_lost (world_of opening history) + listeners_left opening history
 
 -- rule: History adds up
-pub record AddsUp (opening : World) (history : List Entry) : Type 0 where
+pub record HistoryAddsUp (opening : World) (history : List Entry) : Type 0 where
   -- numbers are given one after another, from 1 on, to clients and to relays
   pub numbers : clients_come history + relays_come history ≡ (world_of opening history).station.last_id
   -- the clients who have come are there, or have left

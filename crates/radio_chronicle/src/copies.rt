@@ -14,17 +14,21 @@ pub struct Copies {
     /// For the pass.
     pub held: Event,
     /// For the caller.
-    pub told: Event,
+    pub returned: Event,
 }
 
 /// Returns the event three times. `OutOfMemory` if memory was refused.
 pub fn thrice(event: &Event) -> Result<Copies, OutOfMemory>
-    ensures value { IfOk result (λ copies. (copies.noted ≡ event.now) × (copies.held ≡ event.now) × (copies.told ≡ event.now)) }
+    ensures value { IfOk result (λ copies. (copies.noted ≡ event.now) × (copies.held ≡ event.now) × (copies.returned ≡ event.now)) }
     ensures frees { EventTakesNoMemory event.now → IsOk result }
 {
     let noted = event.again()?;
     match twice(event) {
-        Ok((held, told)) => Ok(Copies { noted, held, told }),
+        Ok((held, returned)) => Ok(Copies {
+            noted,
+            held,
+            returned,
+        }),
         Err(refused) => {
             drop(noted);
             Err(refused)

@@ -6,7 +6,7 @@ ghost use Rattle.radio_access.specs.Lists.{Lists};
 ghost use Rattle.radio_parts_station.specs.World.{opening};
 ghost use Rattle.radio_events.specs.declared.entry.Entry.{Entry};
 ghost use Rattle.radio_chronicle.specs.History.{IsRun};
-ghost use Rattle.radio_chronicle.specs.Totals.{AddsUp};
+ghost use Rattle.radio_chronicle.specs.Totals.{HistoryAddsUp};
 
 use radio_core::{clients_and_seats_add_up, events_are_of_their_clients};
 
@@ -18,7 +18,7 @@ pub fn histories_add_up()
     // come. Of both, those are there that have not gone. The seats that were made are those that are there and those that
     // have ended
     ensures add_up { (settings : Settings) (lists : Lists) (history : List Entry) → IsRun (opening settings lists) history
-        → AddsUp (opening settings lists) history }
+        → HistoryAddsUp (opening settings lists) history }
 {
     clients_and_seats_add_up();
     events_are_of_their_clients();

@@ -15,11 +15,11 @@ pub struct Notes<E: Drop> {
 
 impl<E: Drop> Model for Notes<E> {
     ghost use Rattle.std.specs.Prelude.{◌≡◌, false, [], vec_len, vec_capacity};
-    ghost use Rattle.radio_chronicle.specs.Notes.{NotesOf, room_of};
+    ghost use Rattle.radio_chronicle.specs.Notes.{NotesOf, remaining_places};
 
     ghost Value = { NotesOf E };
 
-    ghost view = { λ n. record { keeps = n.keeps; items = n.items.items; room = room_of n.keeps (vec_len n.items) (vec_capacity n.items) } };
+    ghost view = { λ n. record { keeps = n.keeps; items = n.items.items; room = remaining_places n.keeps (vec_len n.items) (vec_capacity n.items) } };
 
     ghost invariant = { λ n. n.keeps ≡ false → n.items.items ≡ [] };
 }

@@ -4,7 +4,7 @@ use std::marker::Brand;
 use std::sync::ledger::Ledger;
 
 /// Which server a book and its passes belong to: the state in which it was opened, and the ledger
-/// of the ends that it owes to those who let clients in. It stands in contracts alone; a call at
+/// of the ends that it reserves for those who let clients in. It stands in contracts alone; a call at
 /// `Brand` picks one.
 pub trait Origin: Ledger {
     ghost use Rattle.radio_parts_station.specs.World.{World};

@@ -6,7 +6,7 @@ ghost use Rattle.radio_events.specs.Replies.{HoldsNoText};
 ghost use Rattle.radio_parts_mount.specs.Attached.{place_in};
 ghost use Rattle.radio_parts_mount.specs.Steps.{part_after, part_answers, CanDraw};
 ghost use Rattle.radio_chronicle.specs.declared.own_steps.Twice.TheVariants.{Replied as RepliedTwice};
-ghost use Rattle.radio_chronicle.specs.OwnSteps.{answered_here, drawer_at, drawer_in, is_own, once, part_here, set_back_in, CanDrawHere, IsAlike, IsKeptUnlessReplied, IsNoPartsOwn};
+ghost use Rattle.radio_chronicle.specs.OwnSteps.{answered_here, drawer_at, drawer_in, is_part_event, once, part_here, set_back_in, CanDrawHere, IsAlike, IsKeptUnlessReplied, IsNoPartsOwn};
 
 use crate::OutOfMemory;
 use radio_events::{Event, Reply};
@@ -33,7 +33,7 @@ pub struct Drawer {
 
 /// Returns whether the event is a block, a title or a draw. A part replies to no other event.
 pub fn is_own(event: &Event) -> bool
-    ensures value { result ≡ is_own event.now }
+    ensures value { result ≡ is_part_event event.now }
     ensures others { result ≡ false → IsNoPartsOwn event.now }
 {
     match event {

@@ -9,7 +9,7 @@ use Rattle.radio_connections.specs.declared.line.Received.{Received}
 use Rattle.radio_connections.specs.declared.line.Received.TheVariants.{Bytes, Nothing, Closed as HasClosed, Fault}
 use Rattle.radio_connections.specs.declared.line.Sent.{Sent}
 use Rattle.radio_connections.specs.declared.line.Sent.TheVariants.{Took, Nothing as TakesNothing, Fault as HasBroken}
-use Rattle.radio_connections.specs.Lines.{Calls, after_read, after_write}
+use Rattle.radio_connections.specs.Lines.{Calls, calls_after_read, after_write}
 use Rattle.radio_connections.specs.Connections.{Connection, Refused, refused_one, one_refusal}
 use Rattle.radio_connections.specs.Duties.{IsLater, LineIsUnread, IsReadOnce, LacksMemory, HasEnded}
 
@@ -72,31 +72,31 @@ pub ended_on : (a b c d : Connection) → IsLater a b → IsLater c d → HasEnd
 ended_on a b c d before behind (inl more) = inl (omega (arith, before.closings, behind.closings, more))
 ended_on a b c d before behind (inr more) = inr (omega (arith, before.faults, behind.faults, more))
 
-reads_after : (answer : Received) (room : ℕ) (calls : Calls) → (after_read answer room calls).reads ≡ suc calls.reads
+reads_after : (answer : Received) (room : ℕ) (calls : Calls) → (calls_after_read answer room calls).reads ≡ suc calls.reads
 reads_after (Bytes n) room calls = refl
 reads_after Nothing room calls = refl
 reads_after HasClosed room calls = refl
 reads_after Fault room calls = refl
 
-room_after : (answer : Received) (room : ℕ) (calls : Calls) → (after_read answer room calls).room ≡ calls.room + room
+room_after : (answer : Received) (room : ℕ) (calls : Calls) → (calls_after_read answer room calls).room ≡ calls.room + room
 room_after (Bytes n) room calls = refl
 room_after Nothing room calls = refl
 room_after HasClosed room calls = refl
 room_after Fault room calls = refl
 
-writes_kept : (answer : Received) (room : ℕ) (calls : Calls) → (after_read answer room calls).writes ≡ calls.writes
+writes_kept : (answer : Received) (room : ℕ) (calls : Calls) → (calls_after_read answer room calls).writes ≡ calls.writes
 writes_kept (Bytes n) room calls = refl
 writes_kept Nothing room calls = refl
 writes_kept HasClosed room calls = refl
 writes_kept Fault room calls = refl
 
-faults_by_read : (answer : Received) (room : ℕ) (calls : Calls) → calls.faults ≤ (after_read answer room calls).faults
+faults_by_read : (answer : Received) (room : ℕ) (calls : Calls) → calls.faults ≤ (calls_after_read answer room calls).faults
 faults_by_read (Bytes n) room calls = omega arith
 faults_by_read Nothing room calls = omega arith
 faults_by_read HasClosed room calls = omega arith
 faults_by_read Fault room calls = omega arith
 
-closings_by_read : (answer : Received) (room : ℕ) (calls : Calls) → calls.closings ≤ (after_read answer room calls).closings
+closings_by_read : (answer : Received) (room : ℕ) (calls : Calls) → calls.closings ≤ (calls_after_read answer room calls).closings
 closings_by_read (Bytes n) room calls = omega arith
 closings_by_read Nothing room calls = omega arith
 closings_by_read HasClosed room calls = omega arith
@@ -123,7 +123,7 @@ closings_kept TakesNothing calls = refl
 closings_kept HasBroken calls = refl
 
 -- its line was read from
-pub later_by_read : {c c' : Connection} (answer : Received) (room : ℕ) → c'.calls ≡ after_read answer room c.calls → c'.taken ≡ c.taken
+pub later_by_read : {c c' : Connection} (answer : Received) (room : ℕ) → c'.calls ≡ calls_after_read answer room c.calls → c'.taken ≡ c.taken
     → c'.refused ≡ c.refused → IsLater c c'
 later_by_read {c} {c'} answer room calls taken refused = record {
   reads = omega (arith, ap (λ (x : Calls). x.reads) calls, reads_after answer room c.calls);
@@ -184,7 +184,7 @@ pub none_of_some : {outgoing : List ℕ} → 0 < length outgoing → outgoing �
 none_of_some {outgoing} some none = lt_irrefl 0 (subst (λ (xs : List ℕ). 0 < length xs) none some)
 
 -- one that was read from was read from once, with the room of a turn
-pub read_by : {a c : Connection} {room : ℕ} (answer : Received) → c.calls ≡ after_read answer room a.calls → room ≡ 16384 → IsReadOnce a c
+pub read_by : {a c : Connection} {room : ℕ} (answer : Received) → c.calls ≡ calls_after_read answer room a.calls → room ≡ 16384 → IsReadOnce a c
 read_by {a} {c} {room} answer calls full = record {
   reads = ap (λ (x : Calls). x.reads) calls ∙ reads_after answer room a.calls;
   room = ap (λ (x : Calls). x.room) calls ∙ room_after answer room a.calls ∙ ap (λ n. a.calls.room + n) full;

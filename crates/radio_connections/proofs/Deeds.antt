@@ -7,7 +7,7 @@ use Rattle.std.proofs.lemmas.List.{take-append-drop}
 use Rattle.radio_events.specs.declared.event.Event.{Event}
 use Rattle.radio_events.specs.declared.event.Event.TheVariants.{Draw}
 use Rattle.radio_events.specs.declared.entry.Entry.{Entry}
-use Rattle.radio_session.specs.Hearing.{Heard, IsHeard}
+use Rattle.radio_session.specs.Hearing.{EventReading, IsHeard}
 use Rattle.radio_connections.specs.declared.line.Received.{Received}
 use Rattle.radio_connections.specs.declared.line.Received.TheVariants.{Bytes, Nothing, Closed as HasClosed, Fault}
 use Rattle.radio_connections.specs.Lines.{HasGiven}
@@ -121,7 +121,7 @@ served_by_none a b same later keeps =
       later = later;
     }
 
--- the same, told of an equal connection
+-- the same, of an equal connection
 
 pub flushed_as : {ms : ℕ} {a b c : Connection} → a ≡ b → IsFlushed ms a c → IsFlushed ms b c
 flushed_as {ms} {a} {b} {c} e = subst (λ (o : Connection). IsFlushed ms o c) e
@@ -177,7 +177,7 @@ spared_open a b calls given unwritten goes = record {
   cut = λ e. absurd (not_cut (sym e ∙ goes));
 }
 
--- its line takes some of what is owed
+-- its line takes some of what is pending
 pub served_by_write : (c c' : Connection) (n : ℕ) → IsOne c c' → IsLater c c' → IsWritten c.status.fate → c'.outgoing ≡ drop n c.outgoing → c'.given ≡ c.given
     → c'.taken ≡ c.taken ++ take n c.outgoing → c'.session ≡ c.session
     → c'.status.fate ≡ c.status.fate → IsServed c [] c'
@@ -203,7 +203,7 @@ served_by_draw c c' room entries goes a = record {
 }
 
 -- bytes that its line gave are heard, and answered
-pub heard_so : (ms : ℕ) (c m c' : Connection) (bytes : List ℕ) (heard : Heard) (entries : List Entry) → c.status.fate ≡ Open → IsHeard c.session bytes heard
+pub heard_so : (ms : ℕ) (c m c' : Connection) (bytes : List ℕ) (heard : EventReading) (entries : List Entry) → c.status.fate ≡ Open → IsHeard c.session bytes heard
     → IsOne c m → IsLater c m → m.calls ≡ c.calls → m.given ≡ c.given → IsUnwritten c m
     → m.status.asked_ms ≡ (if length heard.events == 0 then c.status.asked_ms else ms)
     → m.outgoing ≡ c.outgoing → m.session ≡ heard.conversation → m.status.fate ≡ c.status.fate → AreAnswered heard.events m entries c'

@@ -107,7 +107,7 @@ module _ {S : Type 0} (steps : Steps S) where
 
     by_finish : NotesFinish ms b c → b.status.moved_ms ≡ ms → c.status.moved_ms ≡ ms
     by_finish (inl same) now = same.1 ∙ now
-    by_finish (inr told) now = told.1
+    by_finish (inr now_finished) now = now_finished.1
 
     worked_on : b.status.moved_ms ≡ ms → c.status.moved_ms ≡ ms
     worked_on now = by_fate (open_or b.status.fate) where
@@ -122,19 +122,19 @@ module _ {S : Type 0} (steps : Steps S) where
       by_first (TookSome took goes noted) (inl same) = same.moved ∙ worked_on (ap (λ (s : ConnStatus). s.moved_ms) noted)
       by_first (TookNone taken noted) (inl same) = absurd (some (same.taken ∙ works.taken ∙ taken))
 
-    pub told_in : IsFinishedNow a f → IsFinishedNow b c
-    told_in told = (finished_before ∙ told.0, sym finished_behind ∙ told.1)
+    pub finished_in : IsFinishedNow a f → IsFinishedNow b c
+    finished_in now_finished = (finished_before ∙ now_finished.0, sym finished_behind ∙ now_finished.1)
 
-    by_told : IsFinishedNow b c → c.status.moved_ms ≡ ms
-    by_told told = by_notes (works.over (λ goes. false≢true (sym told.0 ∙ sym (works.idle goes).1 ∙ told.1))) where
+    by_finished : IsFinishedNow b c → c.status.moved_ms ≡ ms
+    by_finished now_finished = by_notes (works.over (λ goes. false≢true (sym now_finished.0 ∙ sym (works.idle goes).1 ∙ now_finished.1))) where
       by_notes : NotesFinish ms b c → c.status.moved_ms ≡ ms
-      by_notes (inl same) = absurd (false≢true (sym told.0 ∙ sym same.0 ∙ told.1))
+      by_notes (inl same) = absurd (false≢true (sym now_finished.0 ∙ sym same.0 ∙ now_finished.1))
       by_notes (inr now) = now.1
 
     pub moved_in_turn : HasMoved ms a f
     moved_in_turn (inl some) = by_some some
     moved_in_turn (inr (inl idle)) = moved_on (works.idle (first.idle idle.1 ∙ idle.0)).0
-    moved_in_turn (inr (inr told)) = moved_on (by_told (told_in told))
+    moved_in_turn (inr (inr now_finished)) = moved_on (by_finished (finished_in now_finished))
 
     -- nothing was taken in the turn
     module _ (same : f.taken ≡ a.taken) where
@@ -151,13 +151,13 @@ module _ {S : Type 0} (steps : Steps S) where
       none_outgoing = none_behind a.taken a.outgoing (sym (first.all none) ∙ none_first)
 
       pub not_moved : (IsIdle a → ⊥) → (IsFinishedNow a f → ⊥) → f.status.moved_ms ≡ a.status.moved_ms
-      not_moved busy untold =
+      not_moved busy unfinished =
           none_last.moved
           ∙ by_notes (works.over (λ goes. busy (sym (first.idle none_outgoing) ∙ goes, none_outgoing)))
           ∙ (unwritten_by first.noted none_first).moved where
             by_notes : NotesFinish ms b c → c.status.moved_ms ≡ b.status.moved_ms
             by_notes (inl kept) = kept.1
-            by_notes (inr told) = absurd (untold (sym finished_before ∙ told.0.0, finished_behind ∙ told.0.1))
+            by_notes (inr now_finished) = absurd (unfinished (sym finished_before ∙ now_finished.0.0, finished_behind ∙ now_finished.0.1))
 
       pub not_noted : f.status.has_taken ≡ a.status.has_taken
       not_noted = none_last.has_taken ∙ works.has_taken ∙ (unwritten_by first.noted none_first).has_taken
@@ -172,7 +172,7 @@ module _ {S : Type 0} (steps : Steps S) where
     pub notes_taking : NotesTaking a f
     notes_taking = record { some = noted_some; none = λ same. not_noted same }
 
-  -- and of one in which it is not, since something is still owed
+  -- and of one in which it is not, since something is still pending
   module _ {from to : S} {ms patience : ℕ} {a b m c : Connection} (first : IsFlushed ms a b) (some : b.outgoing ≡ [] → ⊥) (rests : IsPatient ms patience b m)
       (left : Leaves steps from m to c) where
     pub unwritten_behind : IsUnwritten b c
@@ -183,8 +183,8 @@ module _ {S : Type 0} (steps : Steps S) where
       finished = ap (λ (s : ConnStatus). s.is_finished) left.noted ∙ ap (λ (s : ConnStatus). s.is_finished) rests.noted;
     }
 
-    pub kept_untold : IsFinishedNow a c → ⊥
-    kept_untold told = false≢true (sym told.0 ∙ sym (noted_finished first.noted) ∙ sym unwritten_behind.finished ∙ told.1)
+    pub kept_unfinished : IsFinishedNow a c → ⊥
+    kept_unfinished now_finished = false≢true (sym now_finished.0 ∙ sym (noted_finished first.noted) ∙ sym unwritten_behind.finished ∙ now_finished.1)
 
     kept_by_some : HasTakenSome a c → WriteIsNoted ms a b → (c.status.moved_ms ≡ ms) × (c.status.has_taken ≡ true)
     kept_by_some took (TookNone taken noted) = absurd (took (unwritten_behind.taken ∙ taken))
@@ -196,7 +196,7 @@ module _ {S : Type 0} (steps : Steps S) where
     pub kept_moved : HasMoved ms a c
     kept_moved (inl took) = (kept_by_some took first.noted).0
     kept_moved (inr (inl idle)) = absurd (some (first.none idle.1))
-    kept_moved (inr (inr told)) = absurd (kept_untold told)
+    kept_moved (inr (inr now_finished)) = absurd (kept_unfinished now_finished)
 
     pub kept_same : c.taken ≡ a.taken → IsUnwritten a c
     kept_same same = unwritten_then (unwritten_by first.noted (sym unwritten_behind.taken ∙ same)) unwritten_behind

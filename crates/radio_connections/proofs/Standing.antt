@@ -8,17 +8,17 @@ use Rattle.radio_events.specs.Events.{entry}
 use Rattle.radio_events.specs.declared.state.State.{State}
 use Rattle.radio_events.specs.declared.state.State.TheVariants.{Running, Shut}
 use Rattle.radio_session.specs.Conversation.{Conversation, saying_now}
-use Rattle.radio_session.specs.Hearing.{Heard, IsHeard}
+use Rattle.radio_session.specs.Hearing.{EventReading, IsHeard}
 use Rattle.radio_session.specs.Exchanges.{is_leave}
 use Rattle.radio_session.specs.Saying.{said}
 use Rattle.radio_connections.specs.declared.conn.Fate.{Fate}
 use Rattle.radio_connections.specs.declared.conn.Fate.TheVariants.{Open, Ended, Closed, Cut}
 use Rattle.radio_connections.specs.Connections.{Connection}
-use Rattle.radio_connections.specs.Course.{Arrival, Standing, Course, IsOver, fate_by, pending_by, answered, is_seat, hears, has_room, applies, closes, is_cut}
+use Rattle.radio_connections.specs.Course.{Arrival, Standing, Course, IsOver, fate_by, pending_by, standing_after_reply, is_seat, hears, has_room, applies, closes, is_cut}
 use Rattle.radio_connections.specs.Course.{passes_over, leaves}
 use Rattle.radio_connections.specs.Duties.{IsWritten}
 use Rattle.radio_connections.specs.Serving.{IsHanded, StandsBefore, Stands}
-use Rattle.radio_connections.specs.Answering.{IsToldAs, later_by}
+use Rattle.radio_connections.specs.Answering.{IsAppendedAs, later_by}
 
 -- its number, its seat and whether its client has left
 pub record IsOne (c c' : Connection) : Type 0 where
@@ -104,7 +104,7 @@ module _ {arrival : Arrival} (c c' : Connection) (past : List Entry) (one : IsOn
       (written_text c.status.fate goes s.text c.taken c.outgoing st.handed ∙ ap (λ (xs : List ℕ). c.taken ++ xs) outgoing ∙ append-nil c.taken ∙ sym taken)
 
   -- bytes come, and are heard
-  pub heard_on : c.status.fate ≡ Open → (bytes : List ℕ) (heard : Heard) → IsHeard c.session bytes heard → c'.given ≡ c.given ++ bytes → c'.taken ≡ c.taken
+  pub heard_on : c.status.fate ≡ Open → (bytes : List ℕ) (heard : EventReading) → IsHeard c.session bytes heard → c'.given ≡ c.given ++ bytes → c'.taken ≡ c.taken
       → c'.outgoing ≡ c.outgoing
       → c'.session ≡ heard.conversation → c'.status.fate ≡ c.status.fate → StandsBefore arrival heard.events c' past
   heard_on goes bytes heard is given taken outgoing session fate =
@@ -127,7 +127,7 @@ module _ {arrival : Arrival} (c c' : Connection) (past : List Entry) (one : IsOn
       (subst (λ (x : Fate). IsHanded x s.text c.taken c.outgoing) ended st.handed ∙ ap (λ (xs : List ℕ). xs ++ c.outgoing) (sym taken)
       ∙ ap (λ (xs : List ℕ). c'.taken ++ xs) (sym outgoing))
 
-  -- its line takes some of what is owed
+  -- its line takes some of what is pending
   pub taken_on : (goes : IsWritten c.status.fate) (part : List ℕ) → c.outgoing ≡ part ++ c'.outgoing → c'.given ≡ c.given → c'.taken ≡ c.taken ++ part
       → c'.session ≡ c.session
       → c'.status.fate ≡ c.status.fate → Stands arrival c' past
@@ -171,10 +171,10 @@ later_is : (state : State) (later : List Event) → pending_by state later ≡ l
 later_is Running later = refl
 later_is (Shut ending) later = refl
 
--- what it is told is owed, if it is not cut off
-told_on : (state : State) (text taken outgoing told : List ℕ) → text ≡ taken ++ outgoing → IsHanded (fate_by state) (text ++ told) taken (outgoing ++ told)
-told_on Running text taken outgoing told h = ap (λ (xs : List ℕ). xs ++ told) h ∙ append_assoc taken outgoing told
-told_on (Shut ending) text taken outgoing told h = ap (λ (xs : List ℕ). xs ++ told) h ∙ append_assoc taken outgoing told
+-- what is appended is pending, if it is not cut off
+appended_on : (state : State) (text taken outgoing appended : List ℕ) → text ≡ taken ++ outgoing → IsHanded (fate_by state) (text ++ appended) taken (outgoing ++ appended)
+appended_on Running text taken outgoing appended h = ap (λ (xs : List ℕ). xs ++ appended) h ∙ append_assoc taken outgoing appended
+appended_on (Shut ending) text taken outgoing appended h = ap (λ (xs : List ℕ). xs ++ appended) h ∙ append_assoc taken outgoing appended
 
 module _ {arrival : Arrival} (c c' : Connection) (event : Event) (later : List Event) (past : List Entry) (reply : Reply) (goes : c.status.fate ≡ Open)
     (id : c'.id ≡ c.id) (given : c'.given ≡ c.given) (taken : c'.taken ≡ c.taken)
@@ -184,7 +184,7 @@ module _ {arrival : Arrival} (c c' : Connection) (event : Event) (later : List E
   s = st.standing
 
   abbrev t : Standing
-  t = answered s event later reply
+  t = standing_after_reply s event later reply
 
   after : Course arrival c'.id t
   after = subst (λ (n : ℕ). Course arrival n t) (sym id) (applies s st.course (st.same_fate ∙ goes) event later st.same_pending reply)
@@ -204,10 +204,10 @@ module _ {arrival : Arrival} (c c' : Connection) (event : Event) (later : List E
   text_is : s.text ≡ c.taken ++ c.outgoing
   text_is = open_text c.status.fate goes s.text c.taken c.outgoing st.handed
 
-  -- it is told, and goes on or has ended
-  told_so : c'.status.fate ≡ fate_by (said c.session.says reply).state → c'.session ≡ saying_now c.session (said c.session.says reply).says
+  -- the reply is appended, and it goes on or has ended
+  appended_so : c'.status.fate ≡ fate_by (said c.session.says reply).state → c'.session ≡ saying_now c.session (said c.session.says reply).says
       → c'.outgoing ≡ c.outgoing ++ (said c.session.says reply).bytes → StandsBefore arrival (later_by c'.status.fate later) c' (past ++ entry event reply ∷ [])
-  told_so fate session outgoing =
+  appended_so fate session outgoing =
       let u = said c.session.says reply in
       stands_so c' (later_by c'.status.fate later) (past ++ entry event reply ∷ []) t (fate_by u.state) after (st.same_given ∙ sym given) all_entries
       (later_is (said s.session.says reply).state later ∙ ap (λ (x : _). later_by (fate_by x.state) later) said_same
@@ -217,21 +217,21 @@ module _ {arrival : Arrival} (c c' : Connection) (event : Event) (later : List E
       (subst (λ (xs : List ℕ). IsHanded (fate_by u.state) (s.text ++ (said s.session.says reply).bytes) c'.taken xs) (sym outgoing)
       (subst (λ (xs : List ℕ). IsHanded (fate_by u.state) (s.text ++ (said s.session.says reply).bytes) xs (c.outgoing ++ u.bytes)) (sym taken)
       (subst (λ (xs : List ℕ). IsHanded (fate_by u.state) (s.text ++ xs) c.taken (c.outgoing ++ u.bytes)) (ap (λ (x : _). x.bytes) (sym said_same))
-      (told_on u.state s.text c.taken c.outgoing u.bytes text_is))))
+      (appended_on u.state s.text c.taken c.outgoing u.bytes text_is))))
 
   -- or it is cut off
   cut_so : c'.status.fate ≡ Cut → StandsBefore arrival (later_by c'.status.fate later) c' (past ++ entry event reply ∷ [])
   cut_so fate =
-      let told = (said s.session.says reply).bytes in
+      let appended = (said s.session.says reply).bytes in
       stands_so c' (later_by c'.status.fate later) (past ++ entry event reply ∷ []) (record t { given = t.given ++ []; pending = []; fate = Cut }) Cut
       (is_cut t after [])
       (append-nil s.given ∙ st.same_given
       ∙ sym given) all_entries (ap (λ (f : Fate). later_by f later) (sym fate)) all_sits all_left fate refl (λ o. absurd (cc))
-      (c.outgoing ++ told, ap (λ (xs : List ℕ). xs ++ told) text_is ∙ append_assoc c.taken c.outgoing told ∙ ap (λ (xs : List ℕ). xs ++ (c.outgoing ++ told)) (sym taken))
+      (c.outgoing ++ appended, ap (λ (xs : List ℕ). xs ++ appended) text_is ∙ append_assoc c.taken c.outgoing appended ∙ ap (λ (xs : List ℕ). xs ++ (c.outgoing ++ appended)) (sym taken))
 
-  pub answered_as : (f : Fate) → c'.status.fate ≡ f → IsToldAs f reply c.session c.outgoing c'.session c'.outgoing
+  pub answered_as : (f : Fate) → c'.status.fate ≡ f → IsAppendedAs f reply c.session c.outgoing c'.session c'.outgoing
       → StandsBefore arrival (later_by c'.status.fate later) c' (past ++ entry event reply ∷ [])
-  answered_as Open fate told = told_so (fate ∙ told.0) told.1 told.2
-  answered_as Ended fate told = told_so (fate ∙ told.0) told.1 told.2
-  answered_as Closed fate told = told_so (fate ∙ told.0) told.1 told.2
-  answered_as Cut fate told = cut_so fate
+  answered_as Open fate appended = appended_so (fate ∙ appended.0) appended.1 appended.2
+  answered_as Ended fate appended = appended_so (fate ∙ appended.0) appended.1 appended.2
+  answered_as Closed fate appended = appended_so (fate ∙ appended.0) appended.1 appended.2
+  answered_as Cut fate appended = cut_so fate

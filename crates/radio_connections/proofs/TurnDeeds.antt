@@ -7,7 +7,7 @@ use Rattle.radio_connections.specs.Connections.{Connection}
 use Rattle.radio_connections.specs.declared.conn.Fate.TheVariants.{Open, Ended, Closed, Cut}
 use Rattle.radio_connections.specs.declared.conn.ConnStatus.{ConnStatus}
 use Rattle.radio_connections.specs.Duties.{IsWritten, IsLater, LineIsUnread, IsAtMostLeaving, HasTakenAll, HasStalled, LacksMemory, WhyCut, WasCut, HasFailed, TookNothing, WasRefused}
-use Rattle.radio_connections.specs.Duties.{HasEnded, WhyClosed, WasClosed, LineHasEnded, HeardNothing, LingeredOn, Lingers, AreAtMostHeard, IsAtMostDraw, draw_room_for}
+use Rattle.radio_connections.specs.Duties.{HasEnded, WhyClosed, WasClosed, LineHasEnded, NothingWritten, LingeredOn, Lingers, AreAtMostHeard, IsAtMostDraw, draw_room_for}
 use Rattle.radio_connections.specs.Serving.{EndsWithDraw, ServesInTurn}
 use Rattle.radio_connections.specs.Answering.{IsUnwritten}
 use Rattle.radio_connections.specs.Leaving.{IsFlushed, IsPatient, Works, Leaves}
@@ -20,8 +20,8 @@ use Rattle.radio_connections.specs.Lines.{Calls}
 use Rattle.radio_connections.specs.Leaving.{WriteIsNoted, TookNone, TookSome}
 use Rattle.radio_connections.proofs.Deeds.{ended_not_open}
 use Rattle.radio_connections.proofs.DeedChains.{chain_then}
-use Rattle.radio_connections.proofs.Moments.{unwritten_by_leaving, noted_finished, noted_asked, noted_on, noted_left, moved_in_turn, not_moved, told_in, notes_taking}
-use Rattle.radio_connections.proofs.Moments.{unwritten_behind, kept_untold, kept_moved, kept_same, kept_notes}
+use Rattle.radio_connections.proofs.Moments.{unwritten_by_leaving, noted_finished, noted_asked, noted_on, noted_left, moved_in_turn, not_moved, finished_in, notes_taking}
+use Rattle.radio_connections.proofs.Moments.{unwritten_behind, kept_unfinished, kept_moved, kept_same, kept_notes}
 use Rattle.radio_connections.proofs.Lingerings.{not_long}
 
 module _ {S : Type 0} (steps : Steps S) where
@@ -78,10 +78,10 @@ module _ {S : Type 0} (steps : Steps S) where
     by_work (LineHasEnded ended) =
         LineHasEnded (ended_on a b c f first.served.later
         (later_then c d f left.served.later (later_then d e f last.served.later over.served.later)) ended)
-    by_work (HeardNothing ended none) = HeardNothing (ended_before ended) (still ∙ none)
+    by_work (NothingWritten ended none) = NothingWritten (ended_before ended) (still ∙ none)
     by_work (LingeredOn lingered) = LingeredOn (record {
       ended = ended_before lingered.ended;
-      told = sym (noted_finished first.noted) ∙ lingered.told;
+      finished = sym (noted_finished first.noted) ∙ lingered.finished;
       long = long_before first.noted lingered.long;
     })
 
@@ -118,7 +118,7 @@ module _ {S : Type 0} (steps : Steps S) where
     by_work (inl goes) = absurd (ended_not_open a.status.fate before (first.goes goes))
     by_work (inr r) = record {
       written = (unwritten_by_leaving steps over).has_taken ∙ noted_on last.noted ((unwritten_by_leaving steps left).has_taken ∙ r.1.written);
-      told = (unwritten_by_leaving steps over).finished ∙ noted_finished last.noted ∙ (unwritten_by_leaving steps left).finished ∙ r.1.told;
+      finished = (unwritten_by_leaving steps over).finished ∙ noted_finished last.noted ∙ (unwritten_by_leaving steps left).finished ∙ r.1.finished;
       read = once_between a b c f first.unread r.1.read
           (unread_then c d f (unread_same left.calls) (unread_then d e f last.unread (unread_same over.calls)));
       goes = kept (ended_not_cut b.status.fate r.0) r.1.goes;
@@ -165,7 +165,7 @@ module _ {S : Type 0} (steps : Steps S) where
     cut = cause_of first none works left.served.later left.fate left.same.session last over.served.later over.fate over.same.session;
     closed = closed_of first works left last over;
     let_go = λ before after nothing. let_go_of first works left last over before after;
-    finished = λ told. (ended_before (works.finished (told_in steps first none works left last over rest told)), all);
+    finished = λ now_finished. (ended_before (works.finished (finished_in steps first none works left last over rest now_finished)), all);
     left = λ ended. by_leave (over.left ended);
     one = record {
       heard = works.heard;
@@ -224,7 +224,7 @@ module _ {S : Type 0} (steps : Steps S) where
     all : HasTakenAll a f
     all = (rest.taken.0, rest.taken.1 ∙ ap (λ (xs : List ℕ). xs ++ rest.taken.0) (first.all none))
 
-  -- a connection is written to, and still owed something
+  -- a connection is written to, and something is still pending on it
   pub kept_in_turn : {news : Bool} {from to : S} {ms patience : ℕ} {a b m c : Connection} → IsFlushed ms a b → (b.outgoing ≡ [] → ⊥) → IsPatient ms patience b m
       → Leaves steps from m to c → ServesInTurn steps ms patience news from a to c
   kept_in_turn {news} {from} {to} {ms} {patience} {a} {b} {m} {c} first some rests left = record {
@@ -240,13 +240,13 @@ module _ {S : Type 0} (steps : Steps S) where
     in_time =
         λ written. inr (subst (λ (n : ℕ). ms - n < patience) (sym still.moved) (rests.in_time (subst IsWritten left.fate written)));
     moved = kept_moved steps first some rests left;
-    unmoved = λ same busy untold. (kept_same steps first some rests left same).moved;
+    unmoved = λ same busy unfinished. (kept_same steps first some rests left same).moved;
     taking = kept_notes steps first some rests left;
     closed = λ closed.
         let at_b = rests.closed (sym left.fate ∙ closed) in
         WasClosed (sym (first.fate (λ cut. closed_not_cut (sym at_b ∙ cut))) ∙ at_b);
     let_go = λ before after nothing. absurd (some (sym rests.outgoing ∙ sym left.same.outgoing ∙ nothing));
-    finished = λ told. absurd (kept_untold steps first some rests left told);
+    finished = λ now_finished. absurd (kept_unfinished steps first some rests left now_finished);
     left = λ ended. by_leave (left.left ended);
     one = record { heard = []; drawn = []; left = left.entries; all = refl; asks = inl refl; draws = inl refl; leaves = at_most };
     asked_for = λ none goes long empty. absurd (some (first.none none));

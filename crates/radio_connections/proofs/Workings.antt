@@ -1,4 +1,4 @@
--- What a connection does to which nothing is owed.
+-- What a connection does on which nothing is pending.
 use Rattle.std.proofs.Common.{◌≡◌, inl, inr, ◌≤◌, ◌-◌, arith, ℕ, Bool, List, ap}
 use Rattle.std.proofs.Common.{[], ◌++◌, refl, sym, subst, ◌∙◌}
 use Rattle.radio_events.specs.declared.entry.Entry.{Entry}
@@ -47,7 +47,7 @@ module _ {S : Type 0} (steps : Steps S) where
     has_taken = all.has_taken ∙ has_taken;
     idle = λ o. (all.moved ∙ now, all.finished ∙ finished);
     over = λ rests. absurd (rests goes);
-    finished = λ told. absurd (false≢true (sym told.0 ∙ sym (all.finished ∙ finished) ∙ told.1));
+    finished = λ now_finished. absurd (false≢true (sym now_finished.0 ∙ sym (all.finished ∙ finished) ∙ now_finished.1));
     heard = heard.entries;
     draws = drew.entries;
     all = refl;
@@ -107,7 +107,7 @@ module _ {S : Type 0} (steps : Steps S) where
     has_taken = ends.has_taken;
     idle = λ goes. absurd (ended_not_open c.status.fate ended goes);
     over = λ rests. ends.noted;
-    finished = λ told. ended;
+    finished = λ now_finished. ended;
     heard = [];
     draws = [];
     all = refl;
@@ -134,7 +134,7 @@ module _ {S : Type 0} (steps : Steps S) where
     has_taken = refl;
     idle = λ goes. absurd (rests goes);
     over = λ o. inl (refl, refl);
-    finished = λ told. absurd (false≢true (sym told.0 ∙ told.1));
+    finished = λ now_finished. absurd (false≢true (sym now_finished.0 ∙ now_finished.1));
     heard = [];
     draws = [];
     all = refl;

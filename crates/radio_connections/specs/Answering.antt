@@ -10,15 +10,15 @@ use Rattle.radio_connections.specs.declared.conn.Fate.{Fate}
 use Rattle.radio_connections.specs.declared.conn.Fate.TheVariants.{Open, Closed, Cut}
 use Rattle.radio_connections.specs.Connections.{Connection}
 use Rattle.radio_connections.specs.Course.{Arrival, fate_by, is_listen}
-use Rattle.radio_session.specs.Hearing.{Heard, IsHeard}
+use Rattle.radio_session.specs.Hearing.{EventReading, IsHeard}
 use Rattle.radio_connections.specs.Duties.{IsLater, LacksMemory, AreFirstOf, events_of, NotesAsking}
 use Rattle.radio_connections.specs.Serving.{StandsBefore, Stands}
 
 -- With this fate, the reply was appended on a connection: its bytes are pending behind the others, and its session is what it is then. If
 -- it is cut off, nothing is said.
-abbrev pub IsToldAs : Fate → Reply → Conversation → List ℕ → Conversation → List ℕ → Type 0
-IsToldAs Cut reply session outgoing session' outgoing' = Unit {0}
-IsToldAs fate reply session outgoing session' outgoing' =
+abbrev pub IsAppendedAs : Fate → Reply → Conversation → List ℕ → Conversation → List ℕ → Type 0
+IsAppendedAs Cut reply session outgoing session' outgoing' = Unit {0}
+IsAppendedAs fate reply session outgoing session' outgoing' =
     (fate ≡ fate_by (said session.says reply).state) × (session' ≡ saying_now session (said session.says reply).says)
     × (outgoing' ≡ outgoing ++ (said session.says reply).bytes)
 
@@ -69,7 +69,7 @@ pub record AreAnswered (events : List Event) (c : Connection) (entries : List En
 
 -- these entries are of the first of the events that the bytes mean
 pub record AreOf (c : Connection) (bytes : List ℕ) (entries : List Entry) : Type 0 where
-  pub heard : Heard
+  pub heard : EventReading
   pub is : IsHeard c.session bytes heard
   pub first : AreFirstOf entries heard.events
 

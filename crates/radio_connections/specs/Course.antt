@@ -11,7 +11,7 @@ use Rattle.radio_events.specs.declared.state.State.{State}
 use Rattle.radio_events.specs.declared.state.State.TheVariants.{Running, Shut}
 use Rattle.radio_answers.specs.declared.web_answers.WebAnswers.{WebAnswers}
 use Rattle.radio_session.specs.Conversation.{Conversation, fresh, asking, saying_now}
-use Rattle.radio_session.specs.Hearing.{Heard, IsHeard}
+use Rattle.radio_session.specs.Hearing.{EventReading, IsHeard}
 use Rattle.radio_session.specs.Saying.{said}
 use Rattle.radio_session.specs.Exchanges.{is_leave}
 use Rattle.radio_connections.specs.declared.conn.Fate.{Fate}
@@ -100,14 +100,14 @@ pending_by (Shut ending) events = []
 
 -- an event of the connection is applied, and the reply is written
 -- rule: Reading
-abbrev pub answered : Standing → Event → List Event → Reply → Standing
-answered s event later reply = let told = said s.session.says reply in record s {
+abbrev pub standing_after_reply : Standing → Event → List Event → Reply → Standing
+standing_after_reply s event later reply = let appended = said s.session.says reply in record s {
   entries = s.entries ++ entry event reply ∷ [];
-  text = s.text ++ told.bytes;
-  session = saying_now s.session told.says;
-  pending = pending_by told.state later;
+  text = s.text ++ appended.bytes;
+  session = saying_now s.session appended.says;
+  pending = pending_by appended.state later;
   sits = is_seat event reply || s.sits;
-  fate = fate_by told.state;
+  fate = fate_by appended.state;
   has_left = is_leave event || s.has_left;
 }
 
@@ -117,8 +117,8 @@ IsOver Open = ⊥
 IsOver fate = Unit {0}
 
 -- it goes on, and all that was read has been applied
-abbrev pub IsQuiet : Standing → Type 0
-IsQuiet s = (s.fate ≡ Open) × (s.pending ≡ [])
+abbrev pub HasAllApplied : Standing → Type 0
+HasAllApplied s = (s.fate ≡ Open) × (s.pending ≡ [])
 
 -- What can have happened on the connection of this client, which came so, up to now.
 -- rule: Reading
@@ -127,13 +127,13 @@ pub data Course (arrival : Arrival) (id : ℕ) : Standing → Type 0 where
   arrives : arrival.reply ≡ Arrived id → Course arrival id (newcomer arrival.web arrival.peer id)
   turned_away : LetsNobodyIn arrival.reply → Course arrival id (stranger arrival)
   -- its line gives bytes, and they are read as these events
-  hears : (s : Standing) → Course arrival id s → IsQuiet s → (bytes : List ℕ) (heard : Heard) → IsHeard s.session bytes heard
+  hears : (s : Standing) → Course arrival id s → HasAllApplied s → (bytes : List ℕ) (heard : EventReading) → IsHeard s.session bytes heard
       → Course arrival id (record s { given = s.given ++ bytes; session = heard.conversation; pending = heard.events })
   -- it has room for so many bytes of data
-  has_room : (s : Standing) → Course arrival id s → IsQuiet s → (room : ℕ) → Course arrival id (record s { pending = Draw id room ∷ [] })
+  has_room : (s : Standing) → Course arrival id s → HasAllApplied s → (room : ℕ) → Course arrival id (record s { pending = Draw id room ∷ [] })
   -- the first of the events is applied
   applies : (s : Standing) → Course arrival id s → s.fate ≡ Open → (event : Event) (later : List Event) → s.pending ≡ event ∷ later → (reply : Reply)
-      → Course arrival id (answered s event later reply)
+      → Course arrival id (standing_after_reply s event later reply)
   -- nothing more comes on its line, or nothing more is written on it; one that was cut off is not
   -- closed
   closes : (s : Standing) → Course arrival id s → IsWritten s.fate → s.pending ≡ [] → Course arrival id (record s { fate = Closed })

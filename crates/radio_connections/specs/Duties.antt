@@ -5,7 +5,7 @@ use Rattle.radio_events.specs.declared.event.Event.TheVariants.{Draw, Leave}
 use Rattle.radio_events.specs.declared.reply.Reply.{Reply}
 use Rattle.radio_events.specs.declared.entry.Entry.{Entry}
 use Rattle.radio_events.specs.Events.{entry}
-use Rattle.radio_session.specs.Hearing.{Heard, IsHeard}
+use Rattle.radio_session.specs.Hearing.{EventReading, IsHeard}
 use Rattle.radio_connections.specs.declared.conn.Fate.{Fate}
 use Rattle.radio_connections.specs.declared.conn.Fate.TheVariants.{Open, Ended, Closed, Cut}
 use Rattle.radio_connections.specs.Connections.{Connection}
@@ -138,7 +138,7 @@ HasEnded c c' = (c.calls.closings < c'.calls.closings) ⊎ (c.calls.faults < c'.
 -- it had ended, and a second has passed since it was closed for writing
 pub record HasLingered (ms : ℕ) (c : Connection) : Type 0 where
   pub ended : c.status.fate ≡ Ended
-  pub told : c.status.is_finished ≡ true
+  pub finished : c.status.is_finished ≡ true
   pub long : 1000 ≤ ms - c.status.moved_ms
 
 -- why a connection may be closed in a turn
@@ -149,7 +149,7 @@ pub data WhyClosed (ms : ℕ) (c c' : Connection) : Type 0 where
   -- its line reported that its peer has closed, or failed
   LineHasEnded : HasEnded c c' → WhyClosed ms c c'
   -- it had ended, and nothing was ever written to it
-  HeardNothing : c.status.fate ≡ Ended → c'.status.has_taken ≡ false → WhyClosed ms c c'
+  NothingWritten : c.status.fate ≡ Ended → c'.status.has_taken ≡ false → WhyClosed ms c c'
   -- it had ended, and has lingered for a second
   LingeredOn : HasLingered ms c → WhyClosed ms c c'
 
@@ -163,7 +163,7 @@ IsClosedFor ms c c' = c'.status.fate ≡ Closed → WhyClosed ms c c'
 -- rule: Lingering
 pub record Lingers (ms : ℕ) (c c' : Connection) : Type 0 where
   pub written : c'.status.has_taken ≡ true
-  pub told : c'.status.is_finished ≡ true
+  pub finished : c'.status.is_finished ≡ true
   pub read : IsReadOnce c c'
   pub goes : HasEnded c c' → ⊥
   pub in_time : ms - c'.status.moved_ms < 1000
@@ -194,7 +194,7 @@ AreFirstOf entries events = (later : List Event) × (events ≡ events_of entrie
 -- they are of the first events that the bytes mean that its line gave
 pub record AreHeard (c : Connection) (entries : List Entry) (c' : Connection) : Type 0 where
   pub bytes : List ℕ
-  pub heard : Heard
+  pub heard : EventReading
   pub given : c'.given ≡ c.given ++ bytes
   pub is : IsHeard c.session bytes heard
   pub first : AreFirstOf entries heard.events

@@ -24,11 +24,11 @@ read_once room calls = record calls { reads = suc calls.reads; room = calls.room
 
 -- a read into so much room is counted, by its answer
 -- rule: Pending bytes first
-abbrev pub after_read : Received → ℕ → Calls → Calls
-after_read (Bytes n) room calls = read_once room calls
-after_read Nothing room calls = read_once room calls
-after_read Closed room calls = record (read_once room calls) { closings = suc calls.closings }
-after_read Fault room calls = record (read_once room calls) { faults = suc calls.faults }
+abbrev pub calls_after_read : Received → ℕ → Calls → Calls
+calls_after_read (Bytes n) room calls = read_once room calls
+calls_after_read Nothing room calls = read_once room calls
+calls_after_read Closed room calls = record (read_once room calls) { closings = suc calls.closings }
+calls_after_read Fault room calls = record (read_once room calls) { faults = suc calls.faults }
 
 -- one write more
 abbrev pub written_once : Calls → Calls

@@ -1,7 +1,7 @@
 //! How often a line was called, which only proofs read. It takes no memory.
 
 ghost use Rattle.std.specs.Prelude.{◌≡◌, length};
-ghost use Rattle.radio_connections.specs.Lines.{no_calls, after_read, after_write};
+ghost use Rattle.radio_connections.specs.Lines.{no_calls, calls_after_read, after_write};
 
 use crate::history::History;
 use crate::{Received, Sent};
@@ -49,7 +49,7 @@ impl CallCount {
 
     /// It has answered so to a read into this buffer.
     pub fn count_read(&mut self, answer: Received, buffer: &[u8])
-        ensures { self.new ≡ after_read answer (length buffer.now) self.old }
+        ensures { self.new ≡ calls_after_read answer (length buffer.now) self.old }
     {
         self.reads.note(&[0]);
         self.room.note(buffer);

@@ -11,7 +11,7 @@ use crate::refusals::Refusals;
 use crate::{Line, OutOfMemory, WebAnswers};
 use radio_addr::Peer;
 use radio_events::Reply;
-use radio_notes::{Account, Told};
+use radio_notes::{Account, ReplyNote};
 use radio_session::Session;
 use std::alloc::Global;
 use std::marker::Model;
@@ -153,7 +153,7 @@ impl<L: Line> Conn<L> {
     {
         let account = denied_account(alloc, &denial, ms);
         let mut session = Session::new(alloc, web, 0, peer);
-        match told_first(alloc, &mut session, &account, denial) {
+        match first_outgoing(alloc, &mut session, &account, denial) {
             Ok(outgoing) => Ok(Conn::ended(line, session, outgoing, account, ms)),
             Err(refused) => {
                 drop(line);
@@ -247,13 +247,13 @@ impl<L: Line> Conn<L> {
 /// What is noted of one who was not let in, and replied to so.
 fn denied_account(alloc: Global, denial: &Reply, ms: u64) -> Account {
     let account = Account::new(alloc, ms);
-    account.note_reply(Told::of(denial));
+    account.note_reply(ReplyNote::of(denial));
     account
 }
 
 /// Returns what is pending on a connection that is sent this reply first; notes whether it goes on. `OutOfMemory` if
 /// memory was refused.
-fn told_first(
+fn first_outgoing(
     alloc: Global,
     session: &mut Session,
     account: &Account,
@@ -263,9 +263,9 @@ fn told_first(
     ensures says { IfOk result (λ _. session.new ≡ saying_now session.old (said session.old.says reply).says) }
 {
     let mut outgoing = Outgoing::new(alloc);
-    let told = outgoing.tell(session, &reply);
+    let appended = outgoing.append_reply(session, &reply);
     drop(reply);
-    match told {
+    match appended {
         Ok(state) => {
             account.note_state(state);
             Ok(outgoing)

@@ -28,7 +28,7 @@ pub enum Sent {
 /// it gave, and all that it took, in order.
 pub trait Line: Drop {
     ghost use Rattle.std.specs.Prelude.{◌≡◌, ◌<◌, ℕ, List, length};
-    ghost use Rattle.radio_connections.specs.Lines.{Calls, HasGiven, HasTaken, after_read, after_write};
+    ghost use Rattle.radio_connections.specs.Lines.{Calls, HasGiven, HasTaken, calls_after_read, after_write};
 
     // all bytes that were read from it
     ghost given: { Self → List ℕ };
@@ -45,7 +45,7 @@ pub trait Line: Drop {
     fn read(&mut self, buffer: &mut [u8]) -> Received
         ensures given { HasGiven result buffer.new (given self.old) (given self.new) }
         ensures taken { taken self.new ≡ taken self.old }
-        ensures calls { calls self.new ≡ after_read result (length buffer.new) (calls self.old) };
+        ensures calls { calls self.new ≡ calls_after_read result (length buffer.new) (calls self.old) };
 
     /// Writes what it takes of the bytes, from the front.
     fn write(&mut self, bytes: &[u8]) -> Sent

@@ -97,7 +97,7 @@ impl Outgoing {
 
     /// Appends a reply to what is pending, by [`Session::tell_reply`]. `OutOfMemory` if memory was
     /// refused; nothing was appended then.
-    pub(crate) fn tell(
+    pub(crate) fn append_reply(
         &mut self,
         session: &mut Session,
         reply: &Reply,

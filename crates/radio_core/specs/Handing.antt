@@ -19,13 +19,13 @@ abbrev pub block_in : Change → List ℕ
 block_in (Receive mount block) = block
 block_in _ = []
 
-abbrev pub is_number : ℕ → Option ℕ → Bool
-is_number id None = false
-is_number id (Some him) = him == id
+abbrev pub is_same_number : ℕ → Option ℕ → Bool
+is_same_number id None = false
+is_same_number id (Some him) = him == id
 
 -- what an event brings, where it is of the client of this number
 abbrev pub of_client : {A : Type 0} → Event → ℕ → List A → List A
-of_client event id brought = (if is_number id (client_in event) then brought else [])
+of_client event id brought = (if is_same_number id (client_in event) then brought else [])
 
 -- what an event hands to the listener
 abbrev pub handed_at : World → Event → ℕ → List ℕ

@@ -19,7 +19,7 @@ use Rattle.radio_fallback.specs.declared.moves.Move.{Move}
 use Rattle.radio_fallback.specs.declared.moves.MoveEffect.{MoveEffect}
 use Rattle.radio_fallback.specs.declared.moves.MoveEffect.TheVariants.{Stays, GoesTo, IsOut}
 use Rattle.radio_fallback.specs.Walk.{Sight}
-use Rattle.radio_fallback.specs.Carry.{Carry, turn_of, after_turn, turns, numbers_of, numbers_past, at_first, carried}
+use Rattle.radio_fallback.specs.Carry.{Carry, turn_of, carry_after_move, turns, numbers_of, numbers_past, at_first, carried}
 
 -- rising numbers, and those of them that come past one of them
 above_passes : (n m : ℕ) → nat_cmp n m ≡ Less → is_past nat_cmp (Some n) m ≡ true
@@ -113,7 +113,7 @@ numbers_stay : (p : Listener → Bool) (f : Listener → Listener) → ((x : Lis
 numbers_stay p f same [] = refl
 numbers_stay p f same (x ∷ xs) = numbers_at p f x xs (p x) (same x) (numbers_stay p f same xs)
 
-pub same_numbers : (sight : Sight) (id : ℕ) (carry : Carry) (turn : MoveEffect) → numbers_of (after_turn sight id carry turn).seats ≡ numbers_of carry.seats
+pub same_numbers : (sight : Sight) (id : ℕ) (carry : Carry) (turn : MoveEffect) → numbers_of (carry_after_move sight id carry turn).seats ≡ numbers_of carry.seats
 same_numbers sight id carry Stays = refl
 same_numbers sight id carry (GoesTo mount) =
     numbers_stay (is_listener id) (moved mount (sight.stream_end mount).session (sight.stream_end mount).place) (λ x. refl) carry.seats
@@ -121,7 +121,7 @@ same_numbers sight id carry (IsOut rule) = numbers_stay (is_listener id) (loses 
 
 -- and counts it once at the most
 pub one_more : (sight : Sight) (id : ℕ) (carry : Carry) (turn : MoveEffect)
-    → (after_turn sight id carry turn).counts.moved + (after_turn sight id carry turn).counts.ended ≤ carry.counts.moved + carry.counts.ended + 1
+    → (carry_after_move sight id carry turn).counts.moved + (carry_after_move sight id carry turn).counts.ended ≤ carry.counts.moved + carry.counts.ended + 1
 one_more sight id carry Stays = omega arith
 one_more sight id carry (GoesTo mount) = omega arith
 one_more sight id carry (IsOut rule) = omega arith
@@ -140,7 +140,7 @@ module _ (sight : Sight) (move : Move) (last : Option ℕ) (id : ℕ) (seats : L
   before_it = record { seats = seats; counts = counts }
 
   abbrev pub after_it : Carry
-  after_it = after_turn sight id before_it (turn_of sight move seats id)
+  after_it = carry_after_move sight id before_it (turn_of sight move seats id)
 
   those_left : numbers_past (Some id) after_it.seats ≡ numbers_past (Some id) seats
   those_left = ap (filter (is_past nat_cmp (Some id))) (same_numbers sight id before_it (turn_of sight move seats id))

@@ -25,16 +25,16 @@ use Rattle.radio_fallback.specs.declared.moves.Move.{Move}
 use Rattle.radio_fallback.specs.declared.moves.MoveEffect.{MoveEffect}
 use Rattle.radio_fallback.specs.declared.moves.MoveEffect.TheVariants.{Stays, GoesTo, IsOut}
 use Rattle.radio_fallback.specs.Walk.{Sight, is_full, is_twice_for, sits_already}
-use Rattle.radio_fallback.specs.Carry.{Carry, turn_of, after_turn, turns, numbers_of, at_first, carried}
+use Rattle.radio_fallback.specs.Carry.{Carry, turn_of, carry_after_move, turns, numbers_of, at_first, carried}
 use Rattle.radio_fallback.specs.Fares.{IsWithinLimit, SitOnce, seat_at_end, IsCarriedTo, HadASeat}
 use Rattle.radio_fallback.proofs.CarryLemmas.{same_numbers}
 use Rattle.radio_fallback.proofs.TurnLemmas.{IsShifted, is_shifted}
 
 -- what holds at first, and is kept by each who is shifted and by each who is out, holds after the whole
 module _ (sight : Sight) (move : Move) (P : Carry → Type 0)
-    (shifts : (carry : Carry) (id : ℕ) (to : List ℕ) → P carry → IsShifted sight move carry.seats id to → P (after_turn sight id carry (GoesTo to)))
-    (ends : (carry : Carry) (id : ℕ) (rule : Rule) → P carry → P (after_turn sight id carry (IsOut rule))) where
-  turn_by : (carry : Carry) (id : ℕ) (turn : MoveEffect) → turn_of sight move carry.seats id ≡ turn → P carry → P (after_turn sight id carry turn)
+    (shifts : (carry : Carry) (id : ℕ) (to : List ℕ) → P carry → IsShifted sight move carry.seats id to → P (carry_after_move sight id carry (GoesTo to)))
+    (ends : (carry : Carry) (id : ℕ) (rule : Rule) → P carry → P (carry_after_move sight id carry (IsOut rule))) where
+  turn_by : (carry : Carry) (id : ℕ) (turn : MoveEffect) → turn_of sight move carry.seats id ≡ turn → P carry → P (carry_after_move sight id carry turn)
   turn_by carry id Stays e holds = holds
   turn_by carry id (GoesTo to) e holds = shifts carry id to holds (is_shifted sight move carry.seats id to e)
   turn_by carry id (IsOut rule) e holds = ends carry id rule holds
@@ -42,7 +42,7 @@ module _ (sight : Sight) (move : Move) (P : Carry → Type 0)
   pub turn_cases : (ids : List ℕ) (carry : Carry) → P carry → P (turns sight move ids carry)
   turn_cases [] carry holds = holds
   turn_cases (id ∷ ids) carry holds =
-      turn_cases ids (after_turn sight id carry (turn_of sight move carry.seats id)) (turn_by carry id (turn_of sight move carry.seats id) refl holds)
+      turn_cases ids (carry_after_move sight id carry (turn_of sight move carry.seats id)) (turn_by carry id (turn_of sight move carry.seats id) refl holds)
 
 -- the numbers stay
 pub numbers_kept : (sight : Sight) (move : Move) (seats : List Listener) → numbers_of (carried sight move seats).seats ≡ numbers_of seats
@@ -139,7 +139,7 @@ module _ (sight : Sight) (move : Move) (seats : List Listener) where
       }
 
   access_shifts : (carry : Carry) (him : ℕ) (to : List ℕ) → AllHadSeats carry → IsShifted sight move carry.seats him to
-      → AllHadSeats (after_turn sight him carry (GoesTo to))
+      → AllHadSeats (carry_after_move sight him carry (GoesTo to))
   access_shifts carry him to all shifted id seat has =
       by_number him id
       (λ same.
@@ -153,7 +153,7 @@ module _ (sight : Sight) (move : Move) (seats : List Listener) where
       (had.0, had.1, inr (to, subst (λ (x : Seat). IsCarriedTo sight had.0 x to) is whole)))
       (λ other. all id seat (sym (shifted_beside sight carry.seats him to id other) ∙ has))
 
-  access_ends : (carry : Carry) (him : ℕ) (rule : Rule) → AllHadSeats carry → AllHadSeats (after_turn sight him carry (IsOut rule))
+  access_ends : (carry : Carry) (him : ℕ) (rule : Rule) → AllHadSeats carry → AllHadSeats (carry_after_move sight him carry (IsOut rule))
   access_ends carry him rule all id seat has =
       by_number him id
       (λ same. let none : seat_of (with_end carry.seats him rule) id ≡ None =
@@ -211,7 +211,7 @@ module _ (sight : Sight) (move : Move) (seats : List Listener) (mount : List ℕ
   rises carry same = subst (λ (ns : List ℕ). IsStrictlySortedBy nat_cmp ns) (sym same) rising
 
   limit_shifts : (carry : Carry) (him : ℕ) (to : List ℕ) → KeepsLimit carry → IsShifted sight move carry.seats him to
-      → KeepsLimit (after_turn sight him carry (GoesTo to))
+      → KeepsLimit (carry_after_move sight him carry (GoesTo to))
   limit_shifts carry him to holds shifted = (
     same_numbers sight him carry (GoesTo to) ∙ holds.0,
     λ most limit.
@@ -234,7 +234,7 @@ module _ (sight : Sight) (move : Move) (seats : List Listener) (mount : List ℕ
     at_most_one true = omega arith
     at_most_one false = omega arith
 
-  limit_ends : (carry : Carry) (him : ℕ) (rule : Rule) → KeepsLimit carry → KeepsLimit (after_turn sight him carry (IsOut rule))
+  limit_ends : (carry : Carry) (him : ℕ) (rule : Rule) → KeepsLimit carry → KeepsLimit (carry_after_move sight him carry (IsOut rule))
   limit_ends carry him rule holds = (
     same_numbers sight him carry (IsOut rule) ∙ holds.0,
     λ most limit.
@@ -272,7 +272,7 @@ module _ (sight : Sight) (move : Move) (seats : List Listener) (mount : List ℕ
   sat_before carry him to user id apart sits = (sits.0, sym (shifted_beside sight carry.seats him to id apart) ∙ sits.1, sits.2, sits.3)
 
   once_shifts : (carry : Carry) (him : ℕ) (to : List ℕ) → SitOnce sight carry.seats mount → IsShifted sight move carry.seats him to
-      → SitOnce sight (after_turn sight him carry (GoesTo to)).seats mount
+      → SitOnce sight (carry_after_move sight him carry (GoesTo to)).seats mount
   once_shifts carry him to once shifted allows user id other sits as_well =
       by_number him id
       (λ same.
@@ -296,7 +296,7 @@ module _ (sight : Sight) (move : Move) (seats : List Listener) (mount : List ℕ
             alone carry him to shifted (ap sight.allows_duplicates there ∙ allows) user other_id apart sent
             (subst (λ (m : List ℕ). SitsAs carry.seats other_id m user) (sym there) (sat_before carry him to user other_id apart theirs))
 
-  once_ends : (carry : Carry) (him : ℕ) (rule : Rule) → SitOnce sight carry.seats mount → SitOnce sight (after_turn sight him carry (IsOut rule)).seats mount
+  once_ends : (carry : Carry) (him : ℕ) (rule : Rule) → SitOnce sight carry.seats mount → SitOnce sight (carry_after_move sight him carry (IsOut rule)).seats mount
   once_ends carry him rule once allows user id other sits as_well =
       once allows user id other (still id sits) (still other as_well) where
         still : (one_id : ℕ) → SitsAs (with_end carry.seats him rule) one_id mount user → SitsAs carry.seats one_id mount user

@@ -19,7 +19,7 @@ use Rattle.radio_fallback.specs.declared.moves.MoveEffect.TheVariants.{Stays, Go
 use Rattle.radio_fallback.specs.declared.walking.Landing.{Landing}
 use Rattle.radio_fallback.specs.declared.walking.Landing.TheVariants.{Lands, Stops}
 use Rattle.radio_fallback.specs.Walk.{Sight, MaySit, found_at, stop_of, landing_at, landing}
-use Rattle.radio_fallback.specs.Carry.{Carry, concerns, walks_on, is_asked, turn_by, turn_in, turn_of, after_turn, turns, numbers_of, at_first, carried, at_his_turn}
+use Rattle.radio_fallback.specs.Carry.{Carry, concerns, walks_on, is_asked, turn_by, turn_in, turn_of, carry_after_move, turns, numbers_of, at_first, carried, at_his_turn}
 use Rattle.radio_fallback.specs.Fares.{fared, seat_at_end}
 use Rattle.radio_fallback.proofs.FaresLemmas.{numbers_kept, turn_cases}
 use Rattle.radio_fallback.proofs.HisTurn.{others_turn, by_his_turn}
@@ -38,7 +38,7 @@ module _ (sight : Sight) (move : Move) (id : ℕ) where
       → ((next : Carry) → listener_of (turns sight move (before ns) next).seats id ≡ listener_of next.seats id)
       → listener_of (turns sight move (if b then n ∷ before ns else before ns) carry).seats id ≡ listener_of carry.seats id
   waits_at n ns carry true e later =
-      later (after_turn sight n carry (turn_of sight move carry.seats n))
+      later (carry_after_move sight n carry (turn_of sight move carry.seats n))
       ∙ others_turn sight n id carry (turn_of sight move carry.seats n) (below_apart n id e)
   waits_at n ns carry false e later = later carry
 

@@ -24,7 +24,7 @@ use Rattle.radio_fallback.specs.declared.moves.Move.{Move}
 use Rattle.radio_fallback.specs.declared.moves.Move.TheVariants.{Ended, Up, To}
 use Rattle.radio_fallback.specs.declared.walking.Landing.{Landing}
 use Rattle.radio_fallback.specs.Walk.{Sight, is_full, is_full_for, sits_already, found_at, stop_of, landing_at, landing_here, hands_on, next_mount, onward, walk, landing}
-use Rattle.radio_fallback.specs.Carry.{concerns, walks_on, is_asked, turn_by, turn_in, turn_of, after_turn, turns, at_first, carried, Carry, numbers_of, numbers_past}
+use Rattle.radio_fallback.specs.Carry.{concerns, walks_on, is_asked, turn_by, turn_in, turn_of, carry_after_move, turns, at_first, carried, Carry, numbers_of, numbers_past}
 use Rattle.radio_fallback.specs.Heard.{Heard, heard_seating, heard_by, heard, OthersStay, IsAt}
 use Rattle.radio_fallback.specs.declared.moves.MoveEffect.{MoveEffect}
 use Rattle.radio_fallback.specs.declared.moves.MoveEffect.TheVariants.{Stays, GoesTo, IsOut}
@@ -212,15 +212,15 @@ module _ (f g : Heard) (id : ℕ) (stay : OthersStay f g id) where
 -- a turn, and all turns
 module _ (sight : Sight) (move : Move) where
   abbrev in_turn : List Listener → Carried → ℕ → Carry
-  in_turn seats counts id = after_turn sight id (record { seats = seats; counts = counts }) (turn_of sight move seats id)
+  in_turn seats counts id = carry_after_move sight id (record { seats = seats; counts = counts }) (turn_of sight move seats id)
 
   -- the counts are the same
   pub counts_heard : (f : Heard) (seats : List Listener) (counts : Carried) (id : ℕ) → (in_turn (heard f seats) counts id).counts ≡ (in_turn seats counts id).counts
   counts_heard f seats counts id =
-      ap (λ (turn : MoveEffect). (after_turn sight id (record { seats = heard f seats; counts = counts }) turn).counts) (turn_heard f sight move seats id)
+      ap (λ (turn : MoveEffect). (carry_after_move sight id (record { seats = heard f seats; counts = counts }) turn).counts) (turn_heard f sight move seats id)
       ∙ by_turn (turn_of sight move seats id) where
-        by_turn : (turn : MoveEffect) → (after_turn sight id (record { seats = heard f seats; counts = counts }) turn).counts
-            ≡ (after_turn sight id (record { seats = seats; counts = counts }) turn).counts
+        by_turn : (turn : MoveEffect) → (carry_after_move sight id (record { seats = heard f seats; counts = counts }) turn).counts
+            ≡ (carry_after_move sight id (record { seats = seats; counts = counts }) turn).counts
         by_turn Stays = refl
         by_turn (GoesTo mount) = refl
         by_turn (IsOut rule) = refl

@@ -17,13 +17,13 @@ use Rattle.radio_fallback.specs.declared.moves.Move.{Move}
 use Rattle.radio_fallback.specs.declared.moves.MoveEffect.{MoveEffect}
 use Rattle.radio_fallback.specs.declared.moves.MoveEffect.TheVariants.{Stays, GoesTo, IsOut}
 use Rattle.radio_fallback.specs.Walk.{Sight}
-use Rattle.radio_fallback.specs.Carry.{Carry, turn_of, after_turn, turns, numbers_of, at_first, carried, at_his_turn}
+use Rattle.radio_fallback.specs.Carry.{Carry, turn_of, carry_after_move, turns, numbers_of, at_first, carried, at_his_turn}
 use Rattle.radio_fallback.specs.Fares.{fared}
 use Rattle.radio_fallback.proofs.FaresLemmas.{beside, found_changed}
 
 -- its turn changes it, and another's does not
 his_own : (sight : Sight) (id : ℕ) (carry : Carry) (turn : MoveEffect)
-    → listener_of (after_turn sight id carry turn).seats id ≡ option_map (fared sight turn) (listener_of carry.seats id)
+    → listener_of (carry_after_move sight id carry turn).seats id ≡ option_map (fared sight turn) (listener_of carry.seats id)
 his_own sight id carry Stays = same (listener_of carry.seats id) where
   same : (listener : Option Listener) → listener ≡ option_map (λ (x : Listener). x) listener
   same None = refl
@@ -33,7 +33,7 @@ his_own sight id carry (GoesTo to) =
 his_own sight id carry (IsOut rule) = found_changed (is_listener id) (loses rule) (λ x. refl) carry.seats
 
 pub others_turn : (sight : Sight) (him id : ℕ) (carry : Carry) (turn : MoveEffect) → (him == id) ≡ false
-    → listener_of (after_turn sight him carry turn).seats id ≡ listener_of carry.seats id
+    → listener_of (carry_after_move sight him carry turn).seats id ≡ listener_of carry.seats id
 others_turn sight him id carry Stays apart = refl
 others_turn sight him id carry (GoesTo to) apart =
     beside (moved to (sight.stream_end to).session (sight.stream_end to).place) (λ x. refl) carry.seats him id apart
@@ -53,7 +53,7 @@ not_below_itself a = grind (arith, nat_tests)
 
 module _ (sight : Sight) (move : Move) (id : ℕ) where
   abbrev next : Carry → ℕ → Carry
-  next carry n = after_turn sight n carry (turn_of sight move carry.seats n)
+  next carry n = carry_after_move sight n carry (turn_of sight move carry.seats n)
 
   untouched : (ns : List ℕ) (carry : Carry) → AllByRecursion (λ m. nat_cmp id m ≡ Less) ns
       → listener_of (turns sight move ns carry).seats id ≡ listener_of carry.seats id

@@ -11,7 +11,7 @@ use Rattle.radio_seats_rows.specs.Seats.{is_listener, listener_of, seat_held, se
 use Rattle.radio_fallback.specs.declared.moves.Move.TheVariants.{To}
 use Rattle.radio_fallback.specs.declared.moves.MoveEffect.{MoveEffect}
 use Rattle.radio_fallback.specs.declared.moves.MoveEffect.TheVariants.{Stays, GoesTo, IsOut}
-use Rattle.radio_fallback.specs.Carry.{Carry, concerns, turn_by, turn_in, turn_of, after_turn, turns, at_first, carried, numbers_of}
+use Rattle.radio_fallback.specs.Carry.{Carry, concerns, turn_by, turn_in, turn_of, carry_after_move, turns, at_first, carried, numbers_of}
 use Rattle.radio_fallback.specs.Walk.{Sight}
 use Rattle.radio_fallback.proofs.Faring.{goes_there, never_out_there}
 
@@ -59,8 +59,8 @@ module _ (sight : Sight) (from mount : List ℕ) (apart : bytes_eq from mount �
   sat_there_in others (Some seat) to e = (seat, refl, sat_there_by others seat to (concerns (To from mount) seat.mount seat.home) refl e)
 
   abbrev IsCounted : ℕ → Carry → MoveEffect → Type 0
-  IsCounted id carry turn = count_at (after_turn sight id carry turn).seats mount + carry.counts.moved
-      ≡ count_at carry.seats mount + (after_turn sight id carry turn).counts.moved
+  IsCounted id carry turn = count_at (carry_after_move sight id carry turn).seats mount + carry.counts.moved
+      ≡ count_at carry.seats mount + (carry_after_move sight id carry turn).counts.moved
 
   counted_by : (id : ℕ) (carry : Carry) (turn : MoveEffect) → turn_of sight (To from mount) carry.seats id ≡ turn → IsCounted id carry turn
   counted_by id carry Stays e = refl
@@ -82,7 +82,7 @@ module _ (sight : Sight) (from mount : List ℕ) (apart : bytes_eq from mount �
   turns_counted (id ∷ ids) carry =
       let turn = turn_of sight (To from mount) carry.seats id in
       let first : IsCounted id carry (turn_of sight (To from mount) carry.seats id) = counted_by id carry (turn_of sight (To from mount) carry.seats id) refl in
-      let others = turns_counted ids (after_turn sight id carry (turn_of sight (To from mount) carry.seats id)) in
+      let others = turns_counted ids (carry_after_move sight id carry (turn_of sight (To from mount) carry.seats id)) in
       omega (arith, first, others)
 
   pub moved_as_counted : (seats : List Listener) → count_at seats mount + (carried sight (To from mount) seats).counts.moved

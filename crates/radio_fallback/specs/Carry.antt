@@ -56,13 +56,13 @@ pub record Carry : Type 0 where
 
 -- what its turn changes: it goes on at the end of that mount's stream, or loses its seat
 -- rule: Turns of a move
-abbrev pub after_turn : Sight → ℕ → Carry → MoveEffect → Carry
-after_turn sight id carry Stays = carry
-after_turn sight id carry (GoesTo mount) = record {
+abbrev pub carry_after_move : Sight → ℕ → Carry → MoveEffect → Carry
+carry_after_move sight id carry Stays = carry
+carry_after_move sight id carry (GoesTo mount) = record {
   seats = with_move carry.seats id mount (sight.stream_end mount).session (sight.stream_end mount).place;
   counts = record carry.counts { moved = carry.counts.moved + 1 };
 }
-after_turn sight id carry (IsOut rule) = record {
+carry_after_move sight id carry (IsOut rule) = record {
   seats = with_end carry.seats id rule;
   counts = record carry.counts { ended = carry.counts.ended + 1 };
 }
@@ -71,7 +71,7 @@ after_turn sight id carry (IsOut rule) = record {
 -- rule: Turns of a move
 abbrev pub turns : Sight → Move → List ℕ → Carry → Carry
 turns sight move [] carry = carry
-turns sight move (id ∷ ids) carry = turns sight move ids (after_turn sight id carry (turn_of sight move carry.seats id))
+turns sight move (id ∷ ids) carry = turns sight move ids (carry_after_move sight id carry (turn_of sight move carry.seats id))
 
 abbrev pub numbers_of : List Listener → List ℕ
 numbers_of seats = map (λ listener. listener.id) seats

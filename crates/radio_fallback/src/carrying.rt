@@ -3,7 +3,7 @@
 ghost use Rattle.std.specs.Prelude.{◌≡◌, ◌+◌, ◌<◌, ◌^◌, true, IsSome, Some};
 ghost use Rattle.radio_seats_rows.specs.SeatTable.{is_prepared};
 ghost use Rattle.radio_seats_rows.specs.Seats.{AreByNumber, listener_of, last_mount_of};
-ghost use Rattle.radio_fallback.specs.Carry.{turn_of, after_turn, carried};
+ghost use Rattle.radio_fallback.specs.Carry.{turn_of, carry_after_move, carried};
 ghost use Rattle.radio_fallback.specs.Heard.{heard, OthersStay, IsAt, Fits, GoesOver, GoesOff};
 ghost use Rattle.radio_fallback.specs.Walk.{with_ends};
 ghost use Rattle.radio_parts_mount.specs.StatePart.{ends_in};
@@ -63,9 +63,9 @@ fn take_turn<V: View, A: Attachments>(
     requires parts { (mount : _) → (V.sight view.now).is_live mount ≡ true → A.has_part attached.old mount ≡ true }
     requires room { counts.moved + counts.ended + 1 < 2 ^ 64 }
     requires rising { AreByNumber seats.old.seats }
-    ensures seats { seats.new ≡ record seats.old { seats = (after_turn (with_ends (V.sight view.now) (ends_in (A.live attached.old))) id (record { seats = seats.old.seats; counts = counts }) (turn_of (with_ends (V.sight view.now) (ends_in (A.live attached.old))) moving.now seats.old.seats id)).seats } }
-    ensures counts { result ≡ (after_turn (with_ends (V.sight view.now) (ends_in (A.live attached.old))) id (record { seats = seats.old.seats; counts = counts }) (turn_of (with_ends (V.sight view.now) (ends_in (A.live attached.old))) moving.now seats.old.seats id)).counts }
-    ensures heard { heard (A.places attached.new) seats.new.seats ≡ (after_turn (with_ends (V.sight view.now) (ends_in (A.live attached.old))) id (record { seats = heard (A.places attached.old) seats.old.seats; counts = counts }) (turn_of (with_ends (V.sight view.now) (ends_in (A.live attached.old))) moving.now (heard (A.places attached.old) seats.old.seats) id)).seats }
+    ensures seats { seats.new ≡ record seats.old { seats = (carry_after_move (with_ends (V.sight view.now) (ends_in (A.live attached.old))) id (record { seats = seats.old.seats; counts = counts }) (turn_of (with_ends (V.sight view.now) (ends_in (A.live attached.old))) moving.now seats.old.seats id)).seats } }
+    ensures counts { result ≡ (carry_after_move (with_ends (V.sight view.now) (ends_in (A.live attached.old))) id (record { seats = seats.old.seats; counts = counts }) (turn_of (with_ends (V.sight view.now) (ends_in (A.live attached.old))) moving.now seats.old.seats id)).counts }
+    ensures heard { heard (A.places attached.new) seats.new.seats ≡ (carry_after_move (with_ends (V.sight view.now) (ends_in (A.live attached.old))) id (record { seats = heard (A.places attached.old) seats.old.seats; counts = counts }) (turn_of (with_ends (V.sight view.now) (ends_in (A.live attached.old))) moving.now (heard (A.places attached.old) seats.old.seats) id)).seats }
     ensures fits { Fits (A.places attached.old) seats.old.seats → Fits (A.places attached.new) seats.new.seats }
     ensures parts { (mount : _) → A.has_part attached.new mount ≡ A.has_part attached.old mount }
     ensures live { A.live attached.new ≡ A.live attached.old }

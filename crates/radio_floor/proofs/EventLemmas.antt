@@ -24,24 +24,24 @@ use Rattle.radio_answers.specs.declared.web_answers.WebAnswers.{WebAnswers}
 use Rattle.radio_events.specs.declared.state.State.{State}
 use Rattle.radio_events.specs.declared.state.State.TheVariants.{Running, Shut}
 use Rattle.radio_session.specs.Conversation.{Conversation}
-use Rattle.radio_exchanges.specs.Exchanges.{WorldExchange, exchanged, then_exchanged}
+use Rattle.radio_floor.specs.Exchanges.{WorldExchange, exchanged, then_exchanged}
 use Rattle.radio_session.specs.Exchanges.{is_leave}
 use Rattle.radio_session.specs.Framing.{is_source, framing_of}
-use Rattle.radio_session.specs.Hearing.{Heard, HearsAs, delivered, greeted, head_heard, get_heard, nothing_held}
+use Rattle.radio_session.specs.Hearing.{EventReading, HearsAs, greeted, head_heard, get_heard, nothing_held, body_delivered}
 use Rattle.radio_session.specs.Hearing.{refuses, source_heard}
 use Rattle.radio_session.specs.Saying.{Said, said}
-use Rattle.radio_deliveries.specs.declared.delivery.Delivery.{Delivery}
-use Rattle.radio_deliveries.specs.declared.delivery.Delivery.TheVariants.{Open, Pull, To, Clock as ClockIs}
-use Rattle.radio_deliveries.specs.declared.delivery.Input.{Input}
-use Rattle.radio_deliveries.specs.declared.delivery.Input.TheVariants.{Data, Room, Title as Named, End}
+use Rattle.radio_script.specs.declared.delivery.Delivery.{Delivery}
+use Rattle.radio_script.specs.declared.delivery.Delivery.TheVariants.{Open, Pull, To, Clock as ClockIs}
+use Rattle.radio_script.specs.declared.delivery.Input.{Input}
+use Rattle.radio_script.specs.declared.delivery.Input.TheVariants.{Data, Room, Title as Named, End}
 use Rattle.radio_script.proofs.SimulationLemmas.{runs}
 use Rattle.radio_floor.specs.ScriptEvents.{ComeAbout, ComesToEvents, Nothing as NoEvents, Arrives, Ticks, Exchanges, Pulls, IsAskedBy, IsAskedByRelay, Traced, traces, ComeToEvents}
 use Rattle.radio_floor.specs.declared.labelled.Connection.{Connection}
 use Rattle.radio_floor.specs.declared.labelled.Connection.TheVariants.{Client, Relay}
 use Rattle.radio_floor.specs.ScriptState.{ScriptState, Performed, AsksOn, ComesTo, ComesToClient, ComesToRelay, IsPerformed, on_connection, connection_of}
-use Rattle.radio_floor.specs.ScriptState.{opening_script, opens, connects, relay_named, closes, exchanges, for_new_label, pulled_on}
+use Rattle.radio_floor.specs.ScriptState.{opening_script, opens_connection, connects, relay_named, closes, exchanges, for_new_label, pulled_on}
 use Rattle.radio_settings_values.specs.declared.settings.RelaySetting.{RelaySetting}
-use Rattle.radio_pull.specs.Pulling.{Pulling, event_of}
+use Rattle.radio_relay.specs.Pulling.{Pulling, event_of}
 use Rattle.radio_relay.specs.Items.{items_of}
 use Rattle.radio_events.specs.declared.state.Ending.TheVariants.{Done}
 use Rattle.std.specs.Option.{option_map}
@@ -50,7 +50,7 @@ use Rattle.radio_floor.specs.Transcript.{conduct, IsTranscriptOf}
 
 -- what is heard on a connection is of its client still
 module _ (conversation : Conversation) where
-  of_choice : {A : Type 0} (heard : Option A → Heard) → (heard None).conversation.id ≡ conversation.id
+  of_choice : {A : Type 0} (heard : Option A → EventReading) → (heard None).conversation.id ≡ conversation.id
       → ((a : A) → (heard (Some a)).conversation.id ≡ conversation.id) → (choice : Option A) → (heard choice).conversation.id ≡ conversation.id
   of_choice heard none some None = none
   of_choice heard none some (Some a) = some a
@@ -58,7 +58,7 @@ module _ (conversation : Conversation) where
   of_source : (request : RequestParts) (behind : List ℕ) → (source_heard conversation request behind (framing_of request)).conversation.id ≡ conversation.id
   of_source request behind =
       of_choice (source_heard conversation request behind) refl
-      (λ framing. of_choice (delivered (greeted conversation request) _ _) refl (λ word. refl) _) (framing_of request)
+      (λ framing. of_choice (body_delivered (greeted conversation request) _ _) refl (λ word. refl) _) (framing_of request)
 
   of_request : (request : RequestParts) (behind : List ℕ) (feeds hears : Bool)
       → (cond feeds (source_heard conversation request behind (framing_of request))
@@ -75,11 +75,11 @@ module _ (conversation : Conversation) where
       of_request (nothing_held conversation) request (drop length bytes) (is_source request) (bytes_eq request.method (codes "GET"))
   of_head bytes (Err fault) = refl
 
-  of_heard : (hears : Hears) (bytes : List ℕ) (heard : Heard) → HearsAs hears conversation bytes heard → heard.conversation.id ≡ conversation.id
-  of_heard Head bytes heard h = ap (λ (x : Heard). x.conversation.id) h.2 ∙ of_head (conversation.held ++ bytes) h.0
+  of_heard : (hears : Hears) (bytes : List ℕ) (heard : EventReading) → HearsAs hears conversation bytes heard → heard.conversation.id ≡ conversation.id
+  of_heard Head bytes heard h = ap (λ (x : EventReading). x.conversation.id) h.2 ∙ of_head (conversation.held ++ bytes) h.0
   of_heard (Body body) bytes heard h =
-      ap (λ (x : Heard). x.conversation.id) h ∙ of_choice conversation (delivered (nothing_held conversation) _ _) refl (λ word. refl) _
-  of_heard Nothing bytes heard h = ap (λ (x : Heard). x.conversation.id) h
+      ap (λ (x : EventReading). x.conversation.id) h ∙ of_choice conversation (body_delivered (nothing_held conversation) _ _) refl (λ word. refl) _
+  of_heard Nothing bytes heard h = ap (λ (x : EventReading). x.conversation.id) h
 
 -- the connection has ended with the event, and its client leaves, unless that is what it was
 left_by : (w : World) (id : ℕ) (event : Event) (asked : List Event) (leaves : Bool)
@@ -87,18 +87,18 @@ left_by : (w : World) (id : ℕ) (event : Event) (asked : List Event) (leaves : 
 left_by w id event asked true = (event ∷ [], record { front = event ∷ []; rest = asked; in_order = refl; come = inl refl }, refl)
 left_by w id event asked false = (event ∷ Leave id ∷ [], record { front = event ∷ []; rest = asked; in_order = refl; come = inr refl }, refl)
 
-then_lead : (w : World) (id : ℕ) (event : Event) (asked : List Event) (told : Said) (state : State) (others : WorldExchange)
+then_lead : (w : World) (id : ℕ) (event : Event) (asked : List Event) (written : Said) (state : State) (others : WorldExchange)
     → LeadBy (world_after w event) (Leave id) asked others.world
-    → LeadBy w (Leave id) (event ∷ asked) (then_exchanged (world_after w event) id event told state others).world
-then_lead w id event asked told Running others (events, come, leads) = (event ∷ events, one_more (Leave id) event asked events come, leads)
-then_lead w id event asked told (Shut ending) others lead = left_by w id event asked (is_leave event)
+    → LeadBy w (Leave id) (event ∷ asked) (then_exchanged (world_after w event) id event written state others).world
+then_lead w id event asked written Running others (events, come, leads) = (event ∷ events, one_more (Leave id) event asked events come, leads)
+then_lead w id event asked written (Shut ending) others lead = left_by w id event asked (is_leave event)
 
 -- what is exchanged for a client leads by some of its events
 exchanges_lead : (w : World) (id : ℕ) (says : Says) (asked : List Event) → LeadBy w (Leave id) asked (exchanged w id says asked).world
 exchanges_lead w id says [] = ([], record { front = []; rest = []; in_order = refl; come = inl refl }, refl)
 exchanges_lead w id says (event ∷ asked) =
-    let told = said says (reply_to w event) in
-    then_lead w id event asked told told.state (exchanged (world_after w event) id told.says asked) (exchanges_lead (world_after w event) id told.says asked)
+    let written = said says (reply_to w event) in
+    then_lead w id event asked written written.state (exchanged (world_after w event) id written.says asked) (exchanges_lead (world_after w event) id written.says asked)
 
 -- a delivery comes to events that lead to the state after it
 abbrev Comes : ScriptState → Delivery → ScriptState → Type 0
@@ -108,7 +108,7 @@ comes_as : (state : ScriptState) (delivery : Delivery) (p q : Performed) → p �
 comes_as state delivery p q e c = subst (λ (x : Performed). Comes state delivery x.state) (sym e) c
 
 module _ (state : ScriptState) (label : ℕ) where
-  opened : (web : WebAnswers) (peer : Peer) (found : Option (Option Connection)) → Comes state (Open label peer) (for_new_label state (opens web state label peer) found).state
+  opened : (web : WebAnswers) (peer : Peer) (found : Option (Option Connection)) → Comes state (Open label peer) (for_new_label state (opens_connection web state label peer) found).state
   opened web peer None = (Arrive peer ∷ [], Arrives label peer, refl)
   opened web peer (Some connection) = ([], NoEvents (Open label peer), refl)
 

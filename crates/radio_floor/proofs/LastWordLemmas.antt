@@ -6,36 +6,36 @@ use Rattle.radio_events.specs.declared.event.Event.{Event}
 use Rattle.radio_events.specs.declared.event.Event.TheVariants.{Arrive}
 use Rattle.radio_events.specs.declared.reply.Reply.{Reply}
 use Rattle.radio_parts.specs.Step.{reply_to, world_after}
-use Rattle.radio_deliveries.specs.TranscriptLines.{answer_lines}
+use Rattle.radio_script.specs.TranscriptLines.{answer_lines}
 use Rattle.radio_events.specs.declared.state.State.{State}
 use Rattle.radio_events.specs.Endings.{ending_word}
 use Rattle.radio_session.specs.Conversation.{Conversation, asking}
 use Rattle.radio_session.specs.Saying.{said}
-use Rattle.radio_exchanges.specs.Exchanges.{WorldExchange, then_exchanged, exchanged}
-use Rattle.radio_session.specs.LastWords.{EndsWith, DenialsNameTheirRule, CommandsAreAnswered, FaultyBodiesAreSilent, FinishesAreSilent, RefusalsNameTheirRule, RulesWithoutStatusAreSilent, WholeBodiesAreDone}
-use Rattle.radio_floor.specs.ScriptState.{ScriptState, opens, told_lines}
+use Rattle.radio_floor.specs.Exchanges.{WorldExchange, then_exchanged, exchanged}
+use Rattle.radio_session.specs.LastWords.{EndsWith, DenialsNameTheirRule, DoneCommandsAreAnswered, FaultyBodiesAreSilent, FinishesAreSilent, RefusalsNameTheirRule, RulesWithoutStatusAreSilent, WholeBodiesAreDone}
+use Rattle.radio_floor.specs.ScriptState.{ScriptState, opens_connection, written_lines}
 use Rattle.radio_floor.specs.LastWords.{ShutsWith, CommandsAreTold, DenialsAreTold, DeniedArrivalsAreTold, FaultyBodiesAreTold, FinishesAreTold, RefusalsAreTold, WholeBodiesAreTold}
 
 abbrev lines_of : ℕ → WorldExchange → List ℕ
-lines_of label x = told_lines label x.exchange.bytes x.exchange.state
+lines_of label x = written_lines label x.exchange.bytes x.exchange.state
 
 -- the reply ends the connection
 shuts_with : (state : ScriptState) (label : ℕ) (conversation : Conversation) (event : Event) (reply : Reply) (bytes word : List ℕ)
     → reply_to state.world event ≡ reply → EndsWith (said conversation.says reply) bytes word → ShutsWith state label conversation event bytes word
 shuts_with state label conversation event reply bytes word replied ends events =
     let w = state.world in
-    let told = said conversation.says (reply_to w event) in
-    let others = exchanged (world_after w event) conversation.id told.says events in
-    let e : EndsWith told bytes word = subst (λ (r : Reply). EndsWith (said conversation.says r) bytes word) (sym replied) ends in
-    ap (λ (s : State). Some (lines_of label (then_exchanged (world_after w event) conversation.id event told s others))) e.shut
-    ∙ ap (λ (xs : List ℕ). Some (answer_lines label xs (Some (ending_word e.ending)))) e.bytes_told
+    let written = said conversation.says (reply_to w event) in
+    let others = exchanged (world_after w event) conversation.id written.says events in
+    let e : EndsWith written bytes word = subst (λ (r : Reply). EndsWith (said conversation.says r) bytes word) (sym replied) ends in
+    ap (λ (s : State). Some (lines_of label (then_exchanged (world_after w event) conversation.id event written s others))) e.shut
+    ∙ ap (λ (xs : List ℕ). Some (answer_lines label xs (Some (ending_word e.ending)))) e.bytes_written
     ∙ ap (λ (xs : List ℕ). Some (answer_lines label bytes (Some xs))) e.last_word
 
 pub denials_are_told : DenialsNameTheirRule → DenialsAreTold
 denials_are_told law state label conversation event rule status asks replied known =
     shuts_with state label conversation event _ _ _ replied (law conversation.says rule status asks known)
 
-pub commands_are_told : CommandsAreAnswered → CommandsAreTold
+pub commands_are_told : DoneCommandsAreAnswered → CommandsAreTold
 commands_are_told law state label conversation event text asks replied =
     shuts_with state label conversation event _ _ _ replied (law conversation.says text asks)
 
@@ -46,12 +46,12 @@ finishes_are_told law state label conversation event rule replied =
 -- the reply to an arrival ends the connection that arrives
 opens_with : (web : WebAnswers) (state : ScriptState) (label : ℕ) (peer : Peer) (reply : Reply) (bytes word : List ℕ)
     → reply_to state.world (Arrive peer) ≡ reply → EndsWith (said (asking web) reply) bytes word
-    → (opens web state label peer).lines ≡ Some (answer_lines label bytes (Some word))
+    → (opens_connection web state label peer).lines ≡ Some (answer_lines label bytes (Some word))
 opens_with web state label peer reply bytes word replied ends =
-    let told = said (asking web) (reply_to state.world (Arrive peer)) in
-    let e : EndsWith told bytes word = subst (λ (r : Reply). EndsWith (said (asking web) r) bytes word) (sym replied) ends in
-    ap (λ (s : State). Some (told_lines label told.bytes s)) e.shut
-    ∙ ap (λ (xs : List ℕ). Some (answer_lines label xs (Some (ending_word e.ending)))) e.bytes_told
+    let written = said (asking web) (reply_to state.world (Arrive peer)) in
+    let e : EndsWith written bytes word = subst (λ (r : Reply). EndsWith (said (asking web) r) bytes word) (sym replied) ends in
+    ap (λ (s : State). Some (written_lines label written.bytes s)) e.shut
+    ∙ ap (λ (xs : List ℕ). Some (answer_lines label xs (Some (ending_word e.ending)))) e.bytes_written
     ∙ ap (λ (xs : List ℕ). Some (answer_lines label bytes (Some xs))) e.last_word
 
 pub denied_arrivals_are_told : DenialsNameTheirRule → RulesWithoutStatusAreSilent → DeniedArrivalsAreTold

@@ -1,3 +1,8 @@
+mod ExchangeLemmas
+mod ToldLemmas
+mod CoreDataLemmas
+mod Simulation
+mod OneCourse
 mod ScriptStateLemmas
 mod VisitLemmas
 mod ServerSimulation

@@ -1,20 +1,20 @@
 -- Each delivery comes to one thing.
 use Rattle.std.proofs.Common.{◌≡◌, ℕ, Option, None, Some, ap, sym, ◌∙◌}
-use Rattle.radio_deliveries.specs.declared.delivery.Delivery.{Delivery}
-use Rattle.radio_deliveries.specs.declared.delivery.Delivery.TheVariants.{Open, Pull, To, Clock}
-use Rattle.radio_deliveries.specs.declared.delivery.Input.{Input}
-use Rattle.radio_deliveries.specs.declared.delivery.Input.TheVariants.{Data, Room, Title, End}
+use Rattle.radio_script.specs.declared.delivery.Delivery.{Delivery}
+use Rattle.radio_script.specs.declared.delivery.Delivery.TheVariants.{Open, Pull, To, Clock}
+use Rattle.radio_script.specs.declared.delivery.Input.{Input}
+use Rattle.radio_script.specs.declared.delivery.Input.TheVariants.{Data, Room, Title, End}
 use Rattle.radio_answers.specs.declared.web_answers.WebAnswers.{WebAnswers}
 use Rattle.radio_session.specs.Conversation.{Conversation}
-use Rattle.radio_session.specs.Hearing.{Heard}
+use Rattle.radio_session.specs.Hearing.{EventReading}
 use Rattle.radio_session.specs.Laws.{HearingIsOne}
 use Rattle.radio_events.specs.declared.state.State.{State}
 use Rattle.radio_events.specs.declared.state.State.TheVariants.{Shut}
 use Rattle.radio_events.specs.declared.state.Ending.TheVariants.{Done}
 use Rattle.radio_parts_station.specs.World.{World}
 use Rattle.radio_events.specs.declared.event.Event.{Event}
-use Rattle.radio_pull.specs.Pulling.{Pulling, Standing}
-use Rattle.radio_exchanges.specs.Pulls.{AskingIsOne, GoingDownIsOne, TakingIsOne}
+use Rattle.radio_relay.specs.Pulling.{Pulling, NumberedState}
+use Rattle.radio_floor.specs.Pulls.{AskingIsOne, GoingDownIsOne, TakingIsOne}
 use Rattle.radio_floor.specs.declared.labelled.Connection.{Connection}
 use Rattle.radio_floor.specs.declared.labelled.Connection.TheVariants.{Client, Relay}
 use Rattle.radio_floor.specs.ScriptState.{ScriptState, Performed, AsksOn, ComesTo, ComesToClient, ComesToRelay, IsPerformed, on_connection, connection_of}
@@ -42,7 +42,7 @@ module _ (heard_as_one : HearingIsOne) (take_as_one : TakingIsOne) (ask_as_one :
   client_once : (state : ScriptState) (label : ℕ) (conversation : Conversation) (input : Input) (p q : Performed)
       → ComesToClient state label conversation input p → ComesToClient state label conversation input q → p ≡ q
   client_once state label conversation (Data bytes) p q h k =
-      sym h.2 ∙ ap (λ (heard : Heard). exchanges state label heard.conversation heard.events) (heard_as_one conversation bytes h.0 k.0 h.1 k.1) ∙ k.2
+      sym h.2 ∙ ap (λ (heard : EventReading). exchanges state label heard.conversation heard.events) (heard_as_one conversation bytes h.0 k.0 h.1 k.1) ∙ k.2
   client_once state label conversation (Room room) p q h k = sym h ∙ k
   client_once state label conversation (Title text) p q h k = sym h ∙ k
   client_once state label conversation End p q h k = sym h ∙ k
@@ -54,7 +54,7 @@ module _ (heard_as_one : HearingIsOne) (take_as_one : TakingIsOne) (ask_as_one :
       let same = ask_as_one pulling.number event h.0 k.0 state.world h.1 k.1 h.2 k.2 in
       sym h.3
       ∙ same_pull state label (record pulling { number = h.0.number }) (record pulling { number = k.0.number }) h.0.state k.0.state h.1 k.1
-      (ap (λ (x : Standing). record pulling { number = x.number }) same.0) (ap (λ (x : Standing). x.state) same.0) same.1
+      (ap (λ (x : NumberedState). record pulling { number = x.number }) same.0) (ap (λ (x : NumberedState). x.state) same.0) same.1
       ∙ k.3
 
   -- and what comes to its connection
@@ -83,6 +83,6 @@ module _ (heard_as_one : HearingIsOne) (take_as_one : TakingIsOne) (ask_as_one :
   performed_once web state (Clock ms) p q h k = h ∙ sym k
 
   pub is_determined : (web : WebAnswers) → IsDetermined (conduct web)
-  is_determined web old delivery said told new next h k =
-      let same = performed_once web old delivery (record { lines = said; state = new }) (record { lines = told; state = next }) h k in
+  is_determined web old delivery lines others new next h k =
+      let same = performed_once web old delivery (record { lines = lines; state = new }) (record { lines = others; state = next }) h k in
       (ap (λ (p : Performed). p.lines) same, ap (λ (p : Performed). p.state) same)

@@ -11,11 +11,11 @@ use Rattle.radio_parts.specs.Step.{Step, world_after}
 use Rattle.radio_parts_station.specs.World.{World}
 use Rattle.radio_relay.specs.declared.items.PullItem.{PullItem}
 use Rattle.radio_relay.specs.declared.items.PullItem.TheVariants.{Up, Sound, Title as Named}
-use Rattle.radio_relay.specs.Pulled.{GoesOn, Standing as AnswerStanding, Stops}
+use Rattle.radio_relay.specs.Pulled.{GoesOn, PullProgress as AnswerStanding, Stops}
 use Rattle.radio_events.specs.declared.state.State.{State}
 use Rattle.radio_events.specs.declared.state.State.TheVariants.{Running, Shut}
-use Rattle.radio_pull.specs.Pulling.{Pulling, Standing, answered, event_of}
-use Rattle.radio_pull.specs.Course.{Asks, AsksIf, Brings, ComesOf, Follows, GoesDown, GoesDownIfShut, Onwards}
+use Rattle.radio_relay.specs.Pulling.{Pulling, NumberedState, state_after_reply, event_of}
+use Rattle.radio_relay.specs.Course.{Asks, AsksIf, BringsItems, ComesOf, Follows, GoesDown, GoesDownIfShut, Onwards}
 use Rattle.radio_floor.specs.ScriptEvents.{ComeAbout, MayHave}
 
 -- these events come about of what is asked, and lead from the one state to the other
@@ -60,7 +60,7 @@ goes_lead w later (Some id) asked g =
     record { id = id; may = refl; events = RelayDown id ∷ []; come = last_comes (RelayDown id) (asked id); leads = g.1.1 }
 
 -- a number stays
-number_stays : (number : ℕ) (reply : Reply) → (answered (Some number) reply).number ≡ Some number
+number_stays : (number : ℕ) (reply : Reply) → (state_after_reply (Some number) reply).number ≡ Some number
 number_stays number (Arrived id) = refl
 number_stays number Feeding = refl
 number_stays number (Seated interval shown) = refl
@@ -71,7 +71,7 @@ number_stays number (Deny rule) = refl
 number_stays number (Finished rule) = refl
 number_stays number Stray = refl
 
-may_before : (number : Option ℕ) (reply : Reply) (id : ℕ) → MayHave (answered number reply).number id → MayHave number id
+may_before : (number : Option ℕ) (reply : Reply) (id : ℕ) → MayHave (state_after_reply number reply).number id → MayHave number id
 may_before None reply id may = tt
 may_before (Some number) reply id may = subst (λ (n : Option ℕ). MayHave n id) (number_stays number reply) may
 
@@ -101,32 +101,32 @@ follows_as : (state : State) {A B C D : Type 0} → (A → C) → (B → D) → 
 follows_as Running f g x = f x
 follows_as (Shut ending) f g x = g x
 
-module _ (number : Option ℕ) (event : Event) (w later : World) (after : Standing) (asked whole : ℕ → List Event)
+module _ (number : Option ℕ) (event : Event) (w later : World) (after : NumberedState) (asked whole : ℕ → List Event)
     (fits : (id : ℕ) → MayHave number id → whole id ≡ event ∷ asked id) where
-  asked_leads : (now : Standing) (mid : World) → Asks Step number event w now mid
+  asked_leads : (now : NumberedState) (mid : World) → Asks Step number event w now mid
       → Follows now.state (PullLeads mid now.number asked later) (later ≡ mid) → PullLeads w number whole later
   asked_leads now mid a f =
       then_leads number now.number event w a.mid mid later asked whole
-      (λ id may. may_before number a.reply id (subst (λ (x : Standing). MayHave x.number id) a.is_answered may))
+      (λ id may. may_before number a.reply id (subst (λ (x : NumberedState). MayHave x.number id) a.is_answered may))
       a.step.1 fits now.state a.goes f
 
-  onwards_lead : (Rest : Standing → World → Standing → World → Type 0)
-      → ((now : Standing) (mid : World) → Rest now mid after later → PullLeads mid now.number asked later)
+  onwards_lead : (Rest : NumberedState → World → NumberedState → World → Type 0)
+      → ((now : NumberedState) (mid : World) → Rest now mid after later → PullLeads mid now.number asked later)
       → Onwards Step number (Some event) w (λ now mid. Rest now mid after later) after later → PullLeads w number whole later
   onwards_lead Rest rest o = asked_leads o.0 o.1 o.2 (follows_as o.0.state (rest o.0 o.1) (λ e. e.1) o.3)
 
 -- what the items bring
-brings_lead : (mount : List ℕ) (items : List PullItem) (number : Option ℕ) (w later : World) (after : Standing) → Brings Step mount number items w after later
+brings_lead : (mount : List ℕ) (items : List PullItem) (number : Option ℕ) (w later : World) (after : NumberedState) → BringsItems Step mount number items w after later
     → PullLeads w number (λ id. map (event_of mount id) items) later
 brings_lead mount [] number w later after b = nothing_leads w later number (λ id. []) b.1
 brings_lead mount (Up shown ∷ items) None w later after b =
     onwards_lead None (event_of mount zero (Up shown)) w later after (λ id. map (event_of mount id) items) (λ id. map (event_of mount id) (Up shown ∷ items))
-    (λ id may. refl) (λ now mid. Brings Step mount now.number items mid) (λ now mid rest. brings_lead mount items now.number mid later after rest) b
+    (λ id may. refl) (λ now mid. BringsItems Step mount now.number items mid) (λ now mid rest. brings_lead mount items now.number mid later after rest) b
 brings_lead mount (Sound block ∷ items) None w later after b = nothing_leads w later None (λ id. map (event_of mount id) (Sound block ∷ items)) b.1
 brings_lead mount (Named text ∷ items) None w later after b = nothing_leads w later None (λ id. map (event_of mount id) (Named text ∷ items)) b.1
 brings_lead mount (item ∷ items) (Some number) w later after b =
     onwards_lead (Some number) (event_of mount number item) w later after (λ id. map (event_of mount id) items) (λ id. map (event_of mount id) (item ∷ items))
-    (λ id may. ap (λ (n : ℕ). event_of mount n item ∷ map (event_of mount id) items) (sym may)) (λ now mid. Brings Step mount now.number items mid)
+    (λ id may. ap (λ (n : ℕ). event_of mount n item ∷ map (event_of mount id) items) (sym may)) (λ now mid. BringsItems Step mount now.number items mid)
     (λ now mid rest. brings_lead mount items now.number mid later after rest) b
 
 -- a single event
@@ -134,7 +134,7 @@ ends_alone : (state : State) (mid : World) (now : Option ℕ) → Follows state 
 ends_alone Running mid now = nothing_leads mid mid now (λ id. []) refl
 ends_alone (Shut ending) mid now = refl
 
-pub asks_lead : (number : Option ℕ) (event : ℕ → Event) (w later : World) (after : Standing) → AsksIf Step number (option_map event number) w after later
+pub asks_lead : (number : Option ℕ) (event : ℕ → Event) (w later : World) (after : NumberedState) → AsksIf Step number (option_map event number) w after later
     → PullLeads w number (λ id. event id ∷ []) later
 asks_lead None event w later after a = nothing_leads w later None (λ id. event id ∷ []) a.1
 asks_lead (Some number) event w later after a =

@@ -1,8 +1,8 @@
 use Rattle.std.proofs.Common.{◌≡◌, ℕ, false, List, ◌++◌, Option, None, Some, is_some, Result, Ok, Err, sym, subst, OnOk}
 use Rattle.radio_parts_station.specs.World.{World}
-use Rattle.radio_deliveries.specs.declared.delivery.Delivery.{Delivery}
-use Rattle.radio_deliveries.specs.declared.faults.PerformFault.{PerformFault}
-use Rattle.radio_deliveries.specs.declared.faults.PerformFault.TheVariants.{Label}
+use Rattle.radio_script.specs.declared.delivery.Delivery.{Delivery}
+use Rattle.radio_script.specs.declared.faults.PerformFault.{PerformFault}
+use Rattle.radio_script.specs.declared.faults.PerformFault.TheVariants.{Label}
 use Rattle.radio_answers.specs.declared.web_answers.WebAnswers.{WebAnswers}
 use Rattle.radio_floor.specs.declared.labelled.Connection.{Connection}
 use Rattle.radio_floor.specs.declared.labelled.Labelled.{Labelled}

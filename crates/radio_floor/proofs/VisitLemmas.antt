@@ -4,10 +4,10 @@ use Rattle.std.specs.Prelude.{find, MatchResult}
 use Rattle.std.specs.Option.{option_map}
 use Rattle.radio_parts_station.specs.World.{World}
 use Rattle.radio_core.specs.Represents.{Represents}
-use Rattle.radio_deliveries.specs.declared.delivery.Delivery.{Delivery}
-use Rattle.radio_deliveries.specs.declared.delivery.Input.{Input}
-use Rattle.radio_deliveries.specs.declared.faults.PerformFault.{PerformFault}
-use Rattle.radio_deliveries.specs.declared.faults.PerformFault.TheVariants.{OutOfMemory}
+use Rattle.radio_script.specs.declared.delivery.Delivery.{Delivery}
+use Rattle.radio_script.specs.declared.delivery.Input.{Input}
+use Rattle.radio_script.specs.declared.faults.PerformFault.{PerformFault}
+use Rattle.radio_script.specs.declared.faults.PerformFault.TheVariants.{OutOfMemory}
 use Rattle.radio_tables.proofs.FindLaws.{changed_alike, unchanged}
 use Rattle.radio_tables.specs.Lists.{update_first}
 use Rattle.radio_answers.specs.declared.web_answers.WebAnswers.{WebAnswers}
@@ -15,7 +15,7 @@ use Rattle.radio_floor.specs.declared.handler.DeliveryAnswer.{DeliveryAnswer}
 use Rattle.radio_floor.specs.declared.labelled.Connection.{Connection}
 use Rattle.radio_floor.specs.declared.labelled.Labelled.{Labelled}
 use Rattle.radio_floor.specs.Performing.{Performs, PerformsAs}
-use Rattle.radio_floor.specs.ScriptState.{Performed, ComesTo, for_label, has_label, holding, on_connection, told_lines, with_connection}
+use Rattle.radio_floor.specs.ScriptState.{Performed, ComesTo, for_label, has_label, holding, on_connection, written_lines, with_connection}
 use Rattle.radio_floor.specs.ScriptServer.{AnswersOn, AnswersUnder, answered_under, performed_as, script_state_of}
 
 module _ (label : ℕ) (input : Input) (connections connections' : List Labelled) where
@@ -57,19 +57,19 @@ module _ (label : ℕ) (input : Input) (connections connections' : List Labelled
           λ w. subst (ComesOf w (performed_as (Some []) w connections')) (sym was) (ap (λ (xs : List Labelled). performed_as (Some []) w xs) same),
         )
 
-    -- its connection is there, and this is told on it
-    abbrev pub TellsOn : DeliveryAnswer → Type 0
-    TellsOn told = (w : World) → Represents core w
-        → (w' : World) × Represents core' w' × Comes w (performed_as (Some (told_lines label told.bytes.items told.state)) w' connections')
+    -- its connection is there, and this is written on it
+    abbrev pub IsWrittenOn : DeliveryAnswer → Type 0
+    IsWrittenOn answered = (w : World) → Represents core w
+        → (w' : World) × Represents core' w' × Comes w (performed_as (Some (written_lines label answered.bytes.items answered.state)) w' connections')
 
-    told_at : (o o' : Option Connection) (told : DeliveryAnswer) → l.connection ≡ o → l'.connection ≡ o' → l'.label ≡ l.label
-        → AnswersOn core input o (Ok (Some told)) core' o' → TellsOn told
-    told_at None o' told e e' same h w stands = let none : Ok (Some told) ≡ Ok None = h.0 in cc
-    told_at (Some connection) o' told e e' same h w stands =
+    answered_at : (o o' : Option Connection) (answered : DeliveryAnswer) → l.connection ≡ o → l'.connection ≡ o' → l'.label ≡ l.label
+        → AnswersOn core input o (Ok (Some answered)) core' o' → IsWrittenOn answered
+    answered_at None o' answered e e' same h w stands = let none : Ok (Some answered) ≡ Ok None = h.0 in cc
+    answered_at (Some connection) o' answered e e' same h w stands =
         let t = h.0 in
         let a = h.4 w stands in
-        let is : Some told ≡ Some t = h.2 in
-        let one : t ≡ told = cc in
+        let is : Some answered ≡ Some t = h.2 in
+        let one : t ≡ answered = cc in
         let row : l' ≡ holding o' l =
         ap (λ (n : ℕ). let r : Labelled = record { label = n; connection = l'.connection } in r) same
         ∙ ap (λ (p : Option Connection). holding p l) e' in
@@ -77,20 +77,20 @@ module _ (label : ℕ) (input : Input) (connections connections' : List Labelled
         changed ∙ changed_alike (has_label label) (λ _. l') (holding o') l row connections found in
         let was : became (find (has_label label) connections) ≡ Some (Some connection) =
         ap became found ∙ ap (λ (p : Option Connection). Some p) e in
-        let done = performed_as (Some (told_lines label told.bytes.items told.state)) a.0 connections' in
+        let done = performed_as (Some (written_lines label answered.bytes.items answered.state)) a.0 connections' in
         let done_of = λ (x : DeliveryAnswer) (o : Option Connection).
-        performed_as (Some (told_lines label x.bytes.items x.state)) a.0 (with_connection connections label o) in
+        performed_as (Some (written_lines label x.bytes.items x.state)) a.0 (with_connection connections label o) in
         let same_done : answered_under connections label t h.1 a.0 ≡ done =
         ap (done_of t) (sym h.3) ∙ ap (λ (x : DeliveryAnswer). done_of x o') one
-        ∙ ap (λ (xs : List Labelled). performed_as (Some (told_lines label told.bytes.items told.state)) a.0 xs) (sym set) in (
+        ∙ ap (λ (xs : List Labelled). performed_as (Some (written_lines label answered.bytes.items answered.state)) a.0 xs) (sym set) in (
           a.0,
           a.1,
           subst (ComesOf w done) (sym was)
               (subst (λ (x : Performed). ComesTo (script_state_of w connections) label connection input x) same_done (a.2 connections label)),
         )
 
-    pub answered-label : (told : DeliveryAnswer) → AnswersUnder core input l (Ok (Some told)) core' l' → TellsOn told
-    answered-label told h = told_at l.connection l'.connection told refl refl h.0 h.1
+    pub answered-label : (answered : DeliveryAnswer) → AnswersUnder core input l (Ok (Some answered)) core' l' → IsWrittenOn answered
+    answered-label answered h = answered_at l.connection l'.connection answered refl refl h.0 h.1
 
 -- the lines are written of what was performed, or memory was refused
 pub performs-written : (web : WebAnswers) (r : Result (Unit {0}) PerformFault) (core : World) (connections : List Labelled) (delivery : Delivery) (lines lines' text : List ℕ)

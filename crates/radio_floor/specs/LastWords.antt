@@ -10,7 +10,7 @@ use Rattle.radio_events.specs.declared.event.Event.TheVariants.{Arrive}
 use Rattle.radio_events.specs.declared.reply.Reply.TheVariants.{Noted, Text, Deny, Finished}
 use Rattle.radio_events.specs.declared.text.ReplyText.{ReplyText as CommandText}
 use Rattle.radio_parts.specs.Step.{reply_to}
-use Rattle.radio_deliveries.specs.TranscriptLines.{answer_lines}
+use Rattle.radio_script.specs.TranscriptLines.{answer_lines}
 use Rattle.radio_session.specs.Conversation.{Conversation}
 use Rattle.radio_answers.specs.Answers.{text_answer}
 use Rattle.radio_answers.specs.WebAnswers.{answered_by}
@@ -18,7 +18,7 @@ use Rattle.radio_answers.specs.declared.web_answers.WebAnswers.{WebAnswers}
 use Rattle.radio_session.specs.declared.session.Greeting.TheVariants.{Welcome, Continue}
 use Rattle.radio_session.specs.declared.session.LastWord.TheVariants.{Complete, Faulty, Refusal}
 use Rattle.radio_session.specs.LastWords.{IsAbout, IsAsking}
-use Rattle.radio_floor.specs.ScriptState.{ScriptState, exchanges, closes, opens}
+use Rattle.radio_floor.specs.ScriptState.{ScriptState, exchanges, closes, opens_connection}
 
 -- whatever events were behind it, with this event these bytes are written to the connection of the label, and it is shut
 -- with this word
@@ -56,9 +56,9 @@ ClosedOnesAreDone = (state : ScriptState) (label : ℕ) (conversation : Conversa
 -- that is denied is shut without bytes
 abbrev pub DeniedArrivalsAreTold : Type 0
 DeniedArrivalsAreTold = (web : WebAnswers) (state : ScriptState) (label : ℕ) (peer : Peer) (rule : Rule) → reply_to state.world (Arrive peer) ≡ Deny rule →
-    (status_of rule ≡ None → (opens web state label peer).lines ≡ Some (answer_lines label [] (Some (word_of rule))))
+    (status_of rule ≡ None → (opens_connection web state label peer).lines ≡ Some (answer_lines label [] (Some (word_of rule))))
     × ((status : Status) → status_of rule ≡ Some status
-    → (opens web state label peer).lines ≡ Some (answer_lines label (answered_by web (denial_text status (word_of rule))) (Some (word_of rule))))
+    → (opens_connection web state label peer).lines ≡ Some (answer_lines label (answered_by web (denial_text status (word_of rule))) (Some (word_of rule))))
 
 -- the connection itself refuses what came, by `bad-head` or `bad-method`, and its client leaves: the lines show the answer that names the rule, and its word
 abbrev pub RefusalsAreTold : Type 0

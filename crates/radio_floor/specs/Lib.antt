@@ -1,3 +1,6 @@
+pub mod Exchanges
+pub mod ExchangeLaws
+pub mod Pulls
 pub mod ScriptState
 pub mod ScriptServer
 pub mod Performing

@@ -2,9 +2,9 @@
 use Rattle.std.specs.Prelude.{◌≡◌, ℕ, List, ◌++◌, Option, None, Some, Result, Ok, Err, ⊤}
 use Rattle.radio_parts_station.specs.World.{World}
 use Rattle.radio_core.specs.Represents.{Represents}
-use Rattle.radio_deliveries.specs.declared.delivery.Delivery.{Delivery}
-use Rattle.radio_deliveries.specs.declared.faults.PerformFault.{PerformFault}
-use Rattle.radio_deliveries.specs.declared.faults.PerformFault.TheVariants.{Label, OutOfMemory}
+use Rattle.radio_script.specs.declared.delivery.Delivery.{Delivery}
+use Rattle.radio_script.specs.declared.faults.PerformFault.{PerformFault}
+use Rattle.radio_script.specs.declared.faults.PerformFault.TheVariants.{Label, OutOfMemory}
 use Rattle.radio_answers.specs.declared.web_answers.WebAnswers.{WebAnswers}
 use Rattle.radio_floor.specs.declared.labelled.Labelled.{Labelled}
 use Rattle.radio_floor.specs.ScriptState.{IsPerformed}

@@ -10,14 +10,14 @@ use Rattle.radio_events.specs.declared.event.Event.TheVariants.{Arrive, Draw, Ti
 use Rattle.radio_core.specs.Run.{world_after_all}
 use Rattle.radio_relay.specs.Items.{items_of}
 use Rattle.radio_relay.specs.Pulled.{IsPulledAt, Pulled}
-use Rattle.radio_pull.specs.Pulling.{Pulling, event_of}
+use Rattle.radio_relay.specs.Pulling.{Pulling, event_of}
 use Rattle.radio_answers.specs.declared.web_answers.WebAnswers.{WebAnswers}
 use Rattle.radio_session.specs.Conversation.{Conversation}
-use Rattle.radio_session.specs.Hearing.{Heard, IsHeard}
-use Rattle.radio_deliveries.specs.declared.delivery.Delivery.{Delivery}
-use Rattle.radio_deliveries.specs.declared.delivery.Delivery.TheVariants.{Open, To, Clock as ClockIs}
-use Rattle.radio_deliveries.specs.declared.delivery.Input.{Input}
-use Rattle.radio_deliveries.specs.declared.delivery.Input.TheVariants.{Data, Room, Title as Named, End}
+use Rattle.radio_session.specs.Hearing.{EventReading, IsHeard}
+use Rattle.radio_script.specs.declared.delivery.Delivery.{Delivery}
+use Rattle.radio_script.specs.declared.delivery.Delivery.TheVariants.{Open, To, Clock as ClockIs}
+use Rattle.radio_script.specs.declared.delivery.Input.{Input}
+use Rattle.radio_script.specs.declared.delivery.Input.TheVariants.{Data, Room, Title as Named, End}
 use Rattle.radio_script.specs.Runs.{Conduct, Runs}
 use Rattle.radio_floor.specs.declared.labelled.Connection.TheVariants.{Client, Relay}
 use Rattle.radio_floor.specs.ScriptState.{ScriptState, opening_script, connection_of}
@@ -25,7 +25,7 @@ use Rattle.radio_floor.specs.Transcript.{conduct, IsTranscriptOf}
 
 -- what is asked of the server when something arrives on a client's connection
 abbrev pub IsAskedBy : Conversation → Input → List Event → Type 0
-IsAskedBy conversation (Data bytes) asked = (heard : Heard) × IsHeard conversation bytes heard × (asked ≡ heard.events)
+IsAskedBy conversation (Data bytes) asked = (heard : EventReading) × IsHeard conversation bytes heard × (asked ≡ heard.events)
 IsAskedBy conversation (Room room) asked = asked ≡ Draw conversation.id room ∷ []
 IsAskedBy conversation (Named text) asked = asked ≡ Title conversation.id (cleaned max_title text) ∷ []
 IsAskedBy conversation End asked = asked ≡ Leave conversation.id ∷ []

@@ -13,8 +13,8 @@ use Rattle.radio_settings_values.specs.declared.settings.Settings.{Settings}
 use Rattle.radio_settings_values.specs.declared.settings.RelaySetting.{RelaySetting}
 use Rattle.radio_values.specs.MountName.{is_mount_name}
 use Rattle.radio_relay.specs.Request.{request_text}
-use Rattle.radio_pull.specs.Pulling.{Pulling, Standing, begun}
-use Rattle.radio_pull.specs.Course.{AsksIf, GoesDown, Takes}
+use Rattle.radio_relay.specs.Pulling.{Pulling, NumberedState, pulling_begun}
+use Rattle.radio_relay.specs.Course.{AsksIf, GoesDown, Takes}
 use Rattle.radio_access.specs.Lists.{Lists}
 use Rattle.radio_parts_station.specs.World.{World, opening}
 use Rattle.radio_tables.specs.Lists.{update_first, placed}
@@ -24,20 +24,20 @@ use Rattle.radio_parts.specs.Step.{Step, reply_to, world_after}
 use Rattle.radio_events.specs.declared.state.State.{State}
 use Rattle.radio_events.specs.declared.state.State.TheVariants.{Running, Shut}
 use Rattle.radio_events.specs.declared.state.Ending.TheVariants.{Done}
-use Rattle.radio_deliveries.specs.declared.delivery.Delivery.{Delivery}
-use Rattle.radio_deliveries.specs.declared.delivery.Delivery.TheVariants.{Open, Pull, To, Clock as ClockIs}
-use Rattle.radio_deliveries.specs.declared.delivery.Input.{Input}
-use Rattle.radio_deliveries.specs.declared.delivery.Input.TheVariants.{Data, Room, Title as Named, End}
+use Rattle.radio_script.specs.declared.delivery.Delivery.{Delivery}
+use Rattle.radio_script.specs.declared.delivery.Delivery.TheVariants.{Open, Pull, To, Clock as ClockIs}
+use Rattle.radio_script.specs.declared.delivery.Input.{Input}
+use Rattle.radio_script.specs.declared.delivery.Input.TheVariants.{Data, Room, Title as Named, End}
 use Rattle.radio_floor.specs.declared.labelled.Labelled.{Labelled}
 use Rattle.radio_floor.specs.declared.labelled.Connection.{Connection}
 use Rattle.radio_floor.specs.declared.labelled.Connection.TheVariants.{Client, Relay}
-use Rattle.radio_deliveries.specs.TranscriptLines.{answer_lines}
+use Rattle.radio_script.specs.TranscriptLines.{answer_lines}
 use Rattle.radio_events.specs.Endings.{ending_word}
 use Rattle.radio_answers.specs.declared.web_answers.WebAnswers.{WebAnswers}
 use Rattle.radio_session.specs.Conversation.{asking, Conversation, fresh, saying_now}
-use Rattle.radio_session.specs.Hearing.{Heard, IsHeard}
+use Rattle.radio_session.specs.Hearing.{EventReading, IsHeard}
 use Rattle.radio_session.specs.Saying.{said}
-use Rattle.radio_exchanges.specs.Exchanges.{exchanged}
+use Rattle.radio_floor.specs.Exchanges.{exchanged}
 
 -- the server's state, and the connections of the labels opened so far, in rising order; a connection that was shut is none
 pub record ScriptState : Type 0 where
@@ -72,8 +72,8 @@ last_word Running = None
 last_word (Shut ending) = Some (ending_word ending)
 
 -- the transcript's lines of one delivery: the bytes that went out, if any did, and the word of its end, if it ended
-abbrev pub told_lines : ℕ → List ℕ → State → List ℕ
-told_lines label bytes state = answer_lines label bytes (last_word state)
+abbrev pub written_lines : ℕ → List ℕ → State → List ℕ
+written_lines label bytes state = answer_lines label bytes (last_word state)
 
 -- the result of a delivery: None if its label is at fault, else some lines; and the state after it
 pub record Performed : Type 0 where
@@ -94,12 +94,12 @@ taken_in web peer (Arrived id) = Some (Client (fresh web id peer))
 taken_in web peer reply = None
 
 -- a connection arrives under a new label, and is answered by what the settings say
-abbrev pub opens : WebAnswers → ScriptState → ℕ → Peer → Performed
-opens web state label peer =
+abbrev pub opens_connection : WebAnswers → ScriptState → ℕ → Peer → Performed
+opens_connection web state label peer =
     let reply = reply_to state.world (Arrive peer) in
-    let told = said (asking web) reply in
+    let written = said (asking web) reply in
     record {
-      lines = Some (told_lines label told.bytes told.state);
+      lines = Some (written_lines label written.bytes written.state);
       state =
           record {
             world = world_after state.world (Arrive peer);
@@ -127,11 +127,11 @@ relay_named w mount =
 abbrev pub connects : ScriptState → ℕ → Option RelaySetting → Performed
 connects state label None = at_fault state
 connects state label (Some relay) = record {
-  lines = Some (told_lines label (request_text relay) Running);
+  lines = Some (written_lines label (request_text relay) Running);
   state =
       record state {
         connections =
-            placed by_label (record { label = label; connection = Some (Relay (begun relay.local_mount)) }) state.connections;
+            placed by_label (record { label = label; connection = Some (Relay (pulling_begun relay.local_mount)) }) state.connections;
       };
 }
 
@@ -140,7 +140,7 @@ abbrev pub exchanges : ScriptState → ℕ → Conversation → List Event → P
 exchanges state label conversation events =
     let x = exchanged state.world conversation.id conversation.says events in
     record {
-      lines = Some (told_lines label x.exchange.bytes x.exchange.state);
+      lines = Some (written_lines label x.exchange.bytes x.exchange.state);
       state =
           record {
             world = x.world;
@@ -153,7 +153,7 @@ exchanges state label conversation events =
 abbrev pub closes : ScriptState → ℕ → Conversation → Performed
 closes state label conversation =
     record {
-      lines = Some (told_lines label [] (Shut Done));
+      lines = Some (written_lines label [] (Shut Done));
       state = record { world = world_after state.world (Leave conversation.id); connections = with_connection state.connections label None };
     }
 
@@ -161,7 +161,7 @@ closes state label conversation =
 -- answer)
 abbrev pub ComesToClient : ScriptState → ℕ → Conversation → Input → Performed → Type 0
 ComesToClient state label conversation (Data bytes) done =
-    (heard : Heard) × IsHeard conversation bytes heard × (exchanges state label heard.conversation heard.events ≡ done)
+    (heard : EventReading) × IsHeard conversation bytes heard × (exchanges state label heard.conversation heard.events ≡ done)
 ComesToClient state label conversation (Room room) done = exchanges state label conversation (Draw conversation.id room ∷ []) ≡ done
 ComesToClient state label conversation (Named text) done = exchanges state label conversation (Title conversation.id (cleaned max_title text) ∷ []) ≡ done
 ComesToClient state label conversation End done = closes state label conversation ≡ done
@@ -170,14 +170,14 @@ ComesToClient state label conversation End done = closes state label conversatio
 -- server
 abbrev pub pulled_on : ScriptState → ℕ → Pulling → State → World → Performed
 pulled_on state label pulling ends w = record {
-  lines = Some (told_lines label [] ends);
+  lines = Some (written_lines label [] ends);
   state = record { world = w; connections = with_connection state.connections label (kept_unless (Relay pulling) ends) };
 }
 
 -- an event is applied that the relay asks for, if it asks for one
 abbrev pub AsksOn : ScriptState → ℕ → Pulling → Option Event → Performed → Type 0
 AsksOn state label pulling event done =
-    (after : Standing) × (w : World) × AsksIf Step pulling.number event state.world after w
+    (after : NumberedState) × (w : World) × AsksIf Step pulling.number event state.world after w
     × (pulled_on state label (record pulling { number = after.number }) after.state w ≡ done)
 
 -- what arrives on a relay's connection has this result
@@ -218,7 +218,7 @@ for_new_label state performed (Some connection) = at_fault state
 -- rule: Line of a script; Labels
 abbrev pub IsPerformed : WebAnswers → ScriptState → Delivery → Performed → Type 0
 IsPerformed web state (Open label peer) performed =
-    performed ≡ for_new_label state (opens web state label peer) (connection_of state.connections label)
+    performed ≡ for_new_label state (opens_connection web state label peer) (connection_of state.connections label)
 IsPerformed web state (Pull label mount) performed =
     performed ≡ for_new_label state (connects state label (relay_named state.world mount)) (connection_of state.connections label)
 IsPerformed web state (To label input) performed = for_label state label (λ connection done. ComesTo state label connection input done) performed

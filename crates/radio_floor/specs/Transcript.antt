@@ -2,9 +2,9 @@
 use Rattle.std.specs.Prelude.{ℕ, List, Option, Result}
 use Rattle.radio_settings_values.specs.declared.settings.Settings.{Settings}
 use Rattle.radio_access.specs.Lists.{Lists}
-use Rattle.radio_deliveries.specs.declared.delivery.Delivery.{Delivery}
+use Rattle.radio_script.specs.declared.delivery.Delivery.{Delivery}
 use Rattle.radio_answers.specs.declared.web_answers.WebAnswers.{WebAnswers}
-use Rattle.radio_deliveries.specs.declared.faults.PlayFault.{PlayFault}
+use Rattle.radio_script.specs.declared.faults.PlayFault.{PlayFault}
 use Rattle.radio_floor.specs.ScriptState.{ScriptState, opening_script, IsPerformed}
 use Rattle.radio_script.specs.Runs.{Conduct, Runs}
 use Rattle.radio_script.specs.Plays.{Plays}

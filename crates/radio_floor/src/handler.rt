@@ -7,15 +7,14 @@ ghost use Rattle.radio_parts_station.specs.World.{World};
 ghost use Rattle.radio_events.specs.declared.event.Event.TheVariants.{Leave, Clock};
 ghost use Rattle.radio_core.specs.Represents.{Represents};
 ghost use Rattle.radio_parts.specs.Step.{world_after};
-ghost use Rattle.radio_session.specs.Hearing.{Heard, IsHeard};
+ghost use Rattle.radio_session.specs.Hearing.{EventReading, IsHeard};
 ghost use Rattle.radio_floor.specs.ScriptState.{exchanges, closes, connection_unless, ComesTo, ComesToClient};
 ghost use Rattle.radio_floor.specs.ScriptServer.{AnswersAs};
 
-use crate::OutOfMemory;
 use crate::labelled::{Connection, Labelled};
+use crate::{OutOfMemory, cores_exchange_as_their_states};
 use radio_core::Core;
 use radio_events::Event;
-use radio_exchanges::cores_exchange_as_their_states;
 use radio_script::Input;
 use radio_session::{Ending, Session, State, exchange};
 use radio_tables::RowVisit;
@@ -43,7 +42,7 @@ impl Handler {
         connection: &mut Connection,
         input: &Input,
     ) -> Result<DeliveryAnswer, OutOfMemory>
-        ensures { IfOk result (λ told. AnswersAs self.old.core self.new.core told connection.new
+        ensures { IfOk result (λ answered. AnswersAs self.old.core self.new.core answered connection.new
             (λ state label done. ComesTo state label connection.old input.now done)) }
     {
         match connection {
@@ -58,7 +57,7 @@ impl Handler {
         connection: &mut Session,
         input: &Input,
     ) -> Result<DeliveryAnswer, OutOfMemory>
-        ensures { IfOk result (λ told. AnswersAs self.old.core self.new.core told (Connection.Client connection.new)
+        ensures { IfOk result (λ answered. AnswersAs self.old.core self.new.core answered (Connection.Client connection.new)
             (λ state label done. ComesToClient state label connection.old input.now done)) }
     {
         match input {
@@ -75,8 +74,8 @@ impl Handler {
         connection: &mut Session,
         bytes: &[u8],
     ) -> Result<DeliveryAnswer, OutOfMemory>
-        ensures { IfOk result (λ told. AnswersAs self.old.core self.new.core told (Connection.Client connection.new)
-            (λ state label done. (heard : Heard) × IsHeard connection.old bytes.now heard × (exchanges state label heard.conversation heard.events ≡ done))) }
+        ensures { IfOk result (λ answered. AnswersAs self.old.core self.new.core answered (Connection.Client connection.new)
+            (λ state label done. (heard : EventReading) × IsHeard connection.old bytes.now heard × (exchanges state label heard.conversation heard.events ≡ done))) }
     {
         let events = connection.take(bytes)?;
         self.exchange(connection, events)
@@ -84,7 +83,7 @@ impl Handler {
 
     /// There is room for so many bytes on it.
     fn draw(&mut self, connection: &mut Session, room: u32) -> Result<DeliveryAnswer, OutOfMemory>
-        ensures { IfOk result (λ told. AnswersAs self.old.core self.new.core told (Connection.Client connection.new)
+        ensures { IfOk result (λ answered. AnswersAs self.old.core self.new.core answered (Connection.Client connection.new)
             (λ state label done. exchanges state label connection.old (Event.Draw connection.old.id room ∷ []) ≡ done)) }
     {
         let id = connection.id();
@@ -97,7 +96,7 @@ impl Handler {
         connection: &mut Session,
         text: &[u8],
     ) -> Result<DeliveryAnswer, OutOfMemory>
-        ensures { IfOk result (λ told. AnswersAs self.old.core self.new.core told (Connection.Client connection.new)
+        ensures { IfOk result (λ answered. AnswersAs self.old.core self.new.core answered (Connection.Client connection.new)
             (λ state label done. exchanges state label connection.old (Event.Title connection.old.id (cleaned max_title text.now) ∷ []) ≡ done)) }
     {
         let id = connection.id();
@@ -107,7 +106,7 @@ impl Handler {
 
     /// The peer has closed it.
     fn close(&mut self, connection: &Session) -> Result<DeliveryAnswer, OutOfMemory>
-        ensures { IfOk result (λ told. AnswersAs self.old.core self.new.core told (Connection.Client connection.now)
+        ensures { IfOk result (λ answered. AnswersAs self.old.core self.new.core answered (Connection.Client connection.now)
             (λ state label done. closes state label connection.now ≡ done)) }
     {
         leave(&mut self.core, connection.id())?;
@@ -123,7 +122,7 @@ impl Handler {
         connection: &mut Session,
         event: Event,
     ) -> Result<DeliveryAnswer, OutOfMemory>
-        ensures { IfOk result (λ told. AnswersAs self.old.core self.new.core told (Connection.Client connection.new)
+        ensures { IfOk result (λ answered. AnswersAs self.old.core self.new.core answered (Connection.Client connection.new)
             (λ state label done. exchanges state label connection.old (event ∷ []) ≡ done)) }
     {
         let mut events = Vec::new(self.alloc);
@@ -137,7 +136,7 @@ impl Handler {
         connection: &mut Session,
         events: Vec<Event>,
     ) -> Result<DeliveryAnswer, OutOfMemory>
-        ensures { IfOk result (λ told. AnswersAs self.old.core self.new.core told (Connection.Client connection.new)
+        ensures { IfOk result (λ answered. AnswersAs self.old.core self.new.core answered (Connection.Client connection.new)
             (λ state label done. exchanges state label connection.old events.items ≡ done)) }
     {
         cores_exchange_as_their_states();
@@ -166,9 +165,9 @@ impl RowVisit<Labelled> for Handler {
         let Some(connection) = &mut row.connection else {
             return Ok(None);
         };
-        let told = self.answer(connection, input)?;
-        close_if_shut(&mut row.connection, told.state);
-        Ok(Some(told))
+        let answered = self.answer(connection, input)?;
+        close_if_shut(&mut row.connection, answered.state);
+        Ok(Some(answered))
     }
 }
 

@@ -3,7 +3,7 @@
 ghost use Rattle.std.specs.Prelude.{◌≡◌, is_some};
 ghost use Rattle.radio_floor.specs.ScriptState.{connection_of};
 
-use radio_pull::RelayPull;
+use radio_relay::RelayPull;
 use radio_session::Session;
 use radio_tables::{Row, Table};
 

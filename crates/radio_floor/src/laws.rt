@@ -6,7 +6,7 @@ ghost use Rattle.radio_floor.specs.Transcript.{conduct};
 ghost use Rattle.radio_floor.specs.LastWords.{ClosedOnesAreDone, CommandsAreTold, DenialsAreTold, DeniedArrivalsAreTold, FaultyBodiesAreTold, FinishesAreTold, RefusalsAreTold, WholeBodiesAreTold};
 ghost use Rattle.radio_floor.specs.ScriptEvents.{ScriptsComeToEvents};
 
-use radio_exchanges::pulling_is_one;
+use crate::pulling_is_one;
 use radio_session::{hearing_is_one, last_words_name_the_rule};
 
 /// A script has one transcript, and the transcript of the whole lines at its front is a front of it, whatever lines are

@@ -1,13 +1,13 @@
 //! The server as the performer of a script's deliveries.
 
 ghost use Rattle.std.specs.Prelude.{◌≡◌, ◌++◌, MatchResult};
-ghost use Rattle.radio_floor.specs.ScriptState.{told_lines};
+ghost use Rattle.radio_floor.specs.ScriptState.{written_lines};
 ghost use Rattle.radio_floor.specs.Performing.{PerformsAs};
-ghost use Rattle.radio_deliveries.specs.declared.delivery.Delivery.TheVariants.{Open, Pull, To, Clock};
+ghost use Rattle.radio_script.specs.declared.delivery.Delivery.TheVariants.{Open, Pull, To, Clock};
 
 use crate::handler::{DeliveryAnswer, tick};
 use crate::labelled::has_label;
-use crate::script_server::{ScriptServer, push_told};
+use crate::script_server::{ScriptServer, push_lines};
 use radio_addr::Peer;
 use radio_script::{Delivery, Input, PerformFault, Performer};
 use std::alloc::Global;
@@ -82,7 +82,7 @@ impl ScriptServer {
         match self.connections.visit(&label, &mut self.handler, input) {
             None => Err(PerformFault::Label),
             Some(Ok(None)) => Ok(()),
-            Some(Ok(Some(told))) => write_told(self.handler.alloc, label, told, lines),
+            Some(Ok(Some(answered))) => write_answer(self.handler.alloc, label, answered, lines),
             Some(Err(_)) => Err(PerformFault::OutOfMemory),
         }
     }
@@ -116,17 +116,23 @@ impl Performer for ScriptServer {
 }
 
 /// Writes the lines of one delivery.
-fn write_told(
+fn write_answer(
     alloc: Global,
     label: u32,
-    told: DeliveryAnswer,
+    answered: DeliveryAnswer,
     lines: &mut Vec<u8>,
 ) -> Result<(), PerformFault>
     ensures { MatchResult result
-        (λ _. lines.new.items ≡ lines.old.items ++ told_lines label told.bytes.items told.state)
+        (λ _. lines.new.items ≡ lines.old.items ++ written_lines label answered.bytes.items answered.state)
         (λ fault. fault ≡ PerformFault.OutOfMemory) }
 {
-    match push_told(alloc, label, told.bytes.as_slice(), told.state, lines) {
+    match push_lines(
+        alloc,
+        label,
+        answered.bytes.as_slice(),
+        answered.state,
+        lines,
+    ) {
         Ok(()) => Ok(()),
         Err(_) => Err(PerformFault::OutOfMemory),
     }

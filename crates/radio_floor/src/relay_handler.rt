@@ -8,11 +8,10 @@ ghost use Rattle.radio_floor.specs.declared.labelled.Connection.TheVariants.{Rel
 ghost use Rattle.radio_floor.specs.ScriptState.{AsksOn, ComesToRelay};
 ghost use Rattle.radio_floor.specs.ScriptServer.{AnswersAs, PullsAs};
 
-use crate::OutOfMemory;
 use crate::handler::{DeliveryAnswer, Handler};
+use crate::{OutOfMemory, cores_pull_as_their_states};
 use radio_events::Event;
-use radio_exchanges::cores_pull_as_their_states;
-use radio_pull::{RelayPull, ask, close, take};
+use radio_relay::{RelayPull, ask, close, take};
 use radio_script::Input;
 use radio_session::{Ending, State};
 use radio_values::Title;
@@ -25,7 +24,7 @@ impl Handler {
         pull: &mut RelayPull,
         input: &Input,
     ) -> Result<DeliveryAnswer, OutOfMemory>
-        ensures { IfOk result (λ told. AnswersAs self.old.core self.new.core told (Relay pull.new)
+        ensures { IfOk result (λ answered. AnswersAs self.old.core self.new.core answered (Relay pull.new)
             (λ state label done. ComesToRelay state label pull.old input.now done)) }
     {
         let state = self.pull(pull, input)?;

@@ -8,7 +8,7 @@ ghost use Rattle.radio_core.specs.Represents.{Represents};
 ghost use Rattle.radio_parts.specs.Step.{reply_to, world_after};
 ghost use Rattle.radio_session.specs.Conversation.{asking};
 ghost use Rattle.radio_session.specs.Saying.{said};
-ghost use Rattle.radio_floor.specs.ScriptState.{connects, relay_named, taken_in, told_lines};
+ghost use Rattle.radio_floor.specs.ScriptState.{connects, relay_named, taken_in, written_lines};
 ghost use Rattle.radio_floor.specs.ScriptServer.{ConnectsAs, OpensAs};
 
 use crate::OutOfMemory;
@@ -18,8 +18,7 @@ use radio_access::Lists;
 use radio_addr::Peer;
 use radio_core::Core;
 use radio_events::{Event, Reply};
-use radio_pull::RelayPull;
-use radio_relay::request_text;
+use radio_relay::{RelayPull, request_text};
 use radio_script::push_answer;
 use radio_session::{Session, State, WebAnswers};
 use radio_settings_values::{RelaySetting, Settings};
@@ -71,10 +70,16 @@ impl ScriptServer {
             self.new.handler.core self.new.connections lines.new.items) }
     {
         let alloc = self.handler.alloc;
-        let mut told = Vec::new(alloc);
-        let (connection, state) = arrive(alloc, self.web, &mut self.handler.core, peer, &mut told)?;
+        let mut bytes = Vec::new(alloc);
+        let (connection, state) = arrive(
+            alloc,
+            self.web,
+            &mut self.handler.core,
+            peer,
+            &mut bytes,
+        )?;
         self.connections.insert(Labelled { label, connection })?;
-        push_told(alloc, label, told.as_slice(), state, lines)?;
+        push_lines(alloc, label, bytes.as_slice(), state, lines)?;
         Ok(())
     }
 
@@ -99,7 +104,7 @@ impl ScriptServer {
         let request = request_text(alloc, relay)?;
         let connection = Some(Connection::Relay(RelayPull::new(alloc, relay.local_mount)));
         self.connections.insert(Labelled { label, connection })?;
-        push_told(alloc, label, request.as_slice(), State::Running, lines)?;
+        push_lines(alloc, label, request.as_slice(), State::Running, lines)?;
         Ok(true)
     }
 }
@@ -123,9 +128,9 @@ fn arrive(
 ) -> Result<(Option<Connection>, State), OutOfMemory>
     ensures { IfOk result (λ arrived. (w : World) → Represents core.old w →
         let reply = reply_to w (Arrive peer) in
-        let told = said (asking web) reply in
-        Represents core.new (world_after w (Arrive peer)) × (out.new.items ≡ out.old.items ++ told.bytes) × (arrived.0 ≡ taken_in web peer reply) × (arrived.1
-        ≡ told.state)) }
+        let written = said (asking web) reply in
+        Represents core.new (world_after w (Arrive peer)) × (out.new.items ≡ out.old.items ++ written.bytes) × (arrived.0 ≡ taken_in web peer reply) × (arrived.1
+        ≡ written.state)) }
 {
     let reply = core.step(Event::Arrive { peer })?;
     answer_arrival(alloc, web, peer, reply, out)
@@ -140,24 +145,24 @@ fn answer_arrival(
     reply: Reply,
     out: &mut Vec<u8>,
 ) -> Result<(Option<Connection>, State), OutOfMemory>
-    ensures { let told = said (asking web) reply in
-        IfOk result (λ arrived. (out.new.items ≡ out.old.items ++ told.bytes) × (arrived.0 ≡ taken_in web peer reply) × (arrived.1 ≡ told.state)) }
+    ensures { let written = said (asking web) reply in
+        IfOk result (λ arrived. (out.new.items ≡ out.old.items ++ written.bytes) × (arrived.0 ≡ taken_in web peer reply) × (arrived.1 ≡ written.state)) }
 {
     let connection = taken_in(alloc, web, peer, &reply);
-    let state = tell_arrival(alloc, web, peer, reply, out)?;
+    let state = append_arrival(alloc, web, peer, reply, out)?;
     Ok((connection, state))
 }
 
 /// Appends what a peer that has just come reads. Returns whether its connection goes on.
-fn tell_arrival(
+fn append_arrival(
     alloc: Global,
     web: WebAnswers,
     peer: Peer,
     reply: Reply,
     out: &mut Vec<u8>,
 ) -> Result<State, OutOfMemory>
-    ensures { let told = said (asking web) reply in
-        IfOk result (λ state. (out.new.items ≡ out.old.items ++ told.bytes) × (state ≡ told.state)) }
+    ensures { let written = said (asking web) reply in
+        IfOk result (λ state. (out.new.items ≡ out.old.items ++ written.bytes) × (state ≡ written.state)) }
 {
     let mut session = Session::new(alloc, web, 0, peer);
     session.give(reply, out)
@@ -182,14 +187,14 @@ fn taken_in(alloc: Global, web: WebAnswers, peer: Peer, reply: &Reply) -> Option
 
 /// Adds the lines of one delivery: the bytes that were written, and how the connection ended, if it
 /// did.
-pub(crate) fn push_told(
+pub(crate) fn push_lines(
     alloc: Global,
     label: u32,
     bytes: &[u8],
     state: State,
     lines: &mut Vec<u8>,
 ) -> Result<(), OutOfMemory>
-    ensures { OnOk result (lines.new.items ≡ lines.old.items ++ told_lines label bytes.now state) }
+    ensures { OnOk result (lines.new.items ≡ lines.old.items ++ written_lines label bytes.now state) }
 {
     match state {
         State::Running => push_answer(alloc, lines, label, bytes, None),

@@ -2,7 +2,7 @@
 
 ghost use Rattle.std.specs.Prelude.{◌≡◌, ◌≢◌, ◌+◌, ◌≤◌, ℕ, List, true, None, Some, Err, IfOk};
 ghost use Rattle.radio_script.specs.Plays.{IfKnown, Writes};
-ghost use Rattle.radio_deliveries.specs.Reading.{reader_failures, writer_failures};
+ghost use Rattle.radio_script.specs.Reading.{reader_failures, writer_failures};
 ghost use Rattle.radio_floor.specs.Transcript.{IsTranscriptOf, PlaysScript};
 
 use crate::script_server::ScriptServer;

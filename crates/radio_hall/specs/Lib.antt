@@ -1,1 +1,4 @@
+pub mod Settling
+pub mod FaultTexts
+pub mod Woven
 pub mod Words

@@ -13,10 +13,10 @@ use Rattle.radio_parts_station.specs.World.{World}
 use Rattle.radio_session.specs.declared.session.Says.{Says}
 use Rattle.radio_events.specs.declared.state.State.{State}
 use Rattle.radio_events.specs.declared.state.State.TheVariants.{Running, Shut}
-use Rattle.radio_exchanges.specs.Exchanges.{WorldExchange, exchanged, then_exchanged}
+use Rattle.radio_floor.specs.Exchanges.{WorldExchange, exchanged, then_exchanged}
 use Rattle.radio_session.specs.Exchanges.{is_leave}
 use Rattle.radio_session.specs.declared.session.Closing.{Closing}
-use Rattle.radio_session.specs.Saying.{Said, counted, ends, last_ending, last_text, noted, one_less, said, tells}
+use Rattle.radio_session.specs.Saying.{Said, counted_down, ends, last_ending, last_text, noted, one_less, said, tells}
 use Rattle.radio_session.specs.Told.{told, while_open}
 use Rattle.radio_headline.specs.Course.{and_then, applied}
 use Rattle.radio_headline.proofs.Logs.{entries, replies, Each}
@@ -79,7 +79,7 @@ said_all says (reply ∷ later) = said_all (said says reply).says later
 noted_web : (says : Says) (closing : Option Closing) → (noted says closing).says.web ≡ says.web
 noted_web says None = refl
 noted_web says (Some closing) = by_count (closing.awaits == 0) where
-  by_count : (b : Bool) → (if b then ends (last_text says.web says.greeting closing.word) says (last_ending closing.word) else tells [] (counted says)).says.web ≡ says.web
+  by_count : (b : Bool) → (if b then ends (last_text says.web says.greeting closing.word) says (last_ending closing.word) else tells [] (counted_down says)).says.web ≡ says.web
   by_count true = refl
   by_count false = refl
 

@@ -23,12 +23,12 @@ use Rattle.radio_core.specs.Totals.{AddsUp}
 use Rattle.radio_parts_station.specs.World.{World, opening}
 use Rattle.radio_heads.specs.declared.outcome.Progress.TheVariants.{Whole}
 use Rattle.radio_heads.specs.Head.{RequestParts, ShowsRequest}
-use Rattle.radio_heads.specs.Laws.{IsSettled, HeadsLieWithin}
+use Rattle.radio_heads.specs.Laws.{IsStableReading, HeadsLieWithin}
 use Rattle.radio_source.specs.Place.{Place, after, data_of, has_ended, fault_at}
 use Rattle.radio_session.specs.Asking.{asks_by_get, asks_to_feed, asks_to_hear, gives_command, is_for_commands, path_in}
 use Rattle.radio_session.specs.Conversation.{Conversation, asking, fresh}
 use Rattle.radio_session.specs.Framing.{is_source, framing_of, greeting_of, start_of}
-use Rattle.radio_session.specs.Hearing.{Heard, body_closes, body_heard, get_heard, greeted, refuses, request_heard, source_heard}
+use Rattle.radio_session.specs.Hearing.{EventReading, body_closes, body_heard, get_heard, greeted, refuses, request_heard, source_heard}
 use Rattle.radio_events.specs.declared.reply.Reply.{Reply}
 use Rattle.radio_events.specs.declared.reply.Reply.TheVariants.{Deny, Feeding, Finished}
 use Rattle.radio_laws.specs.Denials.{DenialsAreThePolicys}
@@ -39,7 +39,7 @@ use Rattle.radio_session.specs.Saying.{greeting_text, said}
 use Rattle.radio_headline.specs.Listeners.{SourceIsAnswered}
 use Rattle.radio_headline.proofs.Greetings.{greeted_says}
 use Rattle.std.proofs.lemmas.List.{append-nil}
-use Rattle.radio_headline.specs.Course.{Happening, events_in, on, entry, log_on}
+use Rattle.radio_headline.specs.Course.{Happening, events_in, on, applied_entry, log_on}
 use Rattle.radio_headline.specs.Sources.{DeliversItsBody, IsRequest, pushed}
 use Rattle.radio_headline.proofs.Gathered.{IsOnIt}
 use Rattle.radio_headline.proofs.Logs.{log_parted, Each, each_as, each_joined}
@@ -137,7 +137,7 @@ module _ (web : WebAnswers) (bytes : List ℕ) (log : List Entry) (given : List 
   feeds_so (IsPulling q) = never (relay_feeds_not log q.own)
 
 -- a source's request, as it is heard with the bytes behind it
-framed_so : {F : Type 0} (start_at : F → Place) (hears : Option F → Heard) (body : Place → Heard) → ((f : F) → hears (Some f) ≡ body (start_at f))
+framed_so : {F : Type 0} (start_at : F → Place) (hears : Option F → EventReading) (body : Place → EventReading) → ((f : F) → hears (Some f) ≡ body (start_at f))
     → (framing : Option F) (start : Place) → option_map start_at framing ≡ Some start → hears framing ≡ body start
 framed_so start_at hears body some None start e = cc
 framed_so start_at hears body some (Some f) start e = let same : start_at f ≡ start = cc in some f ∙ ap body same
@@ -158,7 +158,7 @@ get_so conversation request behind source get =
     else if bytes_eq request.method (codes "GET") then get_heard conversation request else refuses conversation BadMethod) source
     ∙ ap (λ (b : Bool). if b then get_heard conversation request else refuses conversation BadMethod) get
 
-module _ (web : WebAnswers) (settled : IsSettled ShowsRequest) (within : HeadsLieWithin ShowsRequest) (joined : (bytes : List ℕ) → concat (blocks_of bytes) ≡ bytes)
+module _ (web : WebAnswers) (settled : IsStableReading ShowsRequest) (within : HeadsLieWithin ShowsRequest) (joined : (bytes : List ℕ) → concat (blocks_of bytes) ≡ bytes)
     (places : (place : Place) (first second : List ℕ) → after place (first ++ second) ≡ after (after place first) second)
     (data_joined : (place : Place) (first second : List ℕ) → data_of place (first ++ second) ≡ data_of place first ++ data_of (after place first) second) where
   -- a source's bytes are heard as its request, and the data of its body behind it
@@ -181,10 +181,10 @@ module _ (web : WebAnswers) (settled : IsSettled ShowsRequest) (within : HeadsLi
           peer = f.peer;
           heard = request_heard c f.request rest;
           is_heard = (Ok (Whole f.request f.length), f.reading, refl);
-          begins = ap (λ (x : Heard). x.events) (source_so c f.request rest f.start f.source f.framed) ∙ d.events;
+          begins = ap (λ (x : EventReading). x.events) (source_so c f.request rest f.start f.source f.framed) ∙ d.events;
         };
         content = d.content;
-        greets = ap (λ (x : Heard). x.conversation.says.greeting) (source_so c f.request rest f.start f.source f.framed) ∙ ap (λ (s : Says). s.greeting) d.says;
+        greets = ap (λ (x : EventReading). x.conversation.says.greeting) (source_so c f.request rest f.start f.source f.framed) ∙ ap (λ (s : Says). s.greeting) d.says;
       }
 
   -- and those of one who hears as its request
@@ -196,7 +196,7 @@ module _ (web : WebAnswers) (settled : IsSettled ShowsRequest) (within : HeadsLi
         peer = g.peer;
         heard = request_heard c g.request (drop g.length bytes);
         is_heard = (Ok (Whole g.request g.length), g.reading, refl);
-        begins = ap (λ (x : Heard). x.events) (get_so c g.request (drop g.length bytes) g.no_source g.is_get);
+        begins = ap (λ (x : EventReading). x.events) (get_so c g.request (drop g.length bytes) g.no_source g.is_get);
       }
 
   module _ (settings : Settings) (lists : Lists)
@@ -222,17 +222,17 @@ module _ (web : WebAnswers) (settled : IsSettled ShowsRequest) (within : HeadsLi
       abbrev behind : List Entry
       behind = log_on (world_after w (Source asked)) later label
 
-      in_order : log label ≡ before ++ entry w (Source asked) ∷ behind
+      in_order : log label ≡ before ++ applied_entry w (Source asked) ∷ behind
       in_order = ap (λ (hs : List Happening). log_on w0 hs label) parts ∙ log_parted w0 past later label (Source asked)
 
       feeds_greeted : (f : Feeds (brought label) (log label)) × IsGreeted web f (given label)
-      feeds_greeted = feeds_so web (brought label) (log label) (given label) before behind (entry w (Source asked)) in_order tt (each label).facts
+      feeds_greeted = feeds_so web (brought label) (log label) (given label) before behind (applied_entry w (Source asked)) in_order tt (each label).facts
 
       abbrev f : Feeds (brought label) (log label)
       f = feeds_greeted.0
 
-      p : Parted before (arrival f.peer f.id ∷ f.idle) (entry w (Source asked)) (record { event = asks_to_feed f.id f.request; reply = f.reply }) behind f.behind
-      p = parted IsSourcing before (arrival f.peer f.id ∷ f.idle) behind f.behind (entry w (Source asked)) _ (sym in_order ∙ f.in_order) tt
+      p : Parted before (arrival f.peer f.id ∷ f.idle) (applied_entry w (Source asked)) (record { event = asks_to_feed f.id f.request; reply = f.reply }) behind f.behind
+      p = parted IsSourcing before (arrival f.peer f.id ∷ f.idle) behind f.behind (applied_entry w (Source asked)) _ (sym in_order ∙ f.in_order) tt
           ((λ l. l), each_as (IsIdling f.id) FeedsNot (idle_feeds_not f.id) f.idle f.idles)
           (each_as (IsNoRequest f.id) FeedsNot (λ e h. behind_feeds_not f.id e.event h) f.behind f.no_more)
 
@@ -263,7 +263,7 @@ module _ (web : WebAnswers) (settled : IsSettled ShowsRequest) (within : HeadsLi
           (reached_all settings lists fits adds steps w0 (events_in past) (reached_opening settings lists fits adds steps))
           (given_before settings lists fits adds steps w0 past label f.id (reached_opening settings lists fits adds steps) has_number_before))
           on_it_later (subst (Each (IsNoRequest f.id)) (sym p.behind) f.no_more)
-          (orderly_is_cut f.id behind (orderly_second f.id before (entry w (Source asked) ∷ behind) (subst (IsOrderly f.id) in_order f.orderly)).1)
+          (orderly_is_cut f.id behind (orderly_second f.id before (applied_entry w (Source asked) ∷ behind) (subst (IsOrderly f.id) in_order f.orderly)).1)
 
       idle_notes : (log : List Entry) → Each (IsIdling f.id) log → Each NotesNothing log
       idle_notes log h = each_as (IsIdling f.id) NotesNothing (λ e i. no_block e.event e.reply (idle_pushes_nothing f.id e.event i)) log h
@@ -271,7 +271,7 @@ module _ (web : WebAnswers) (settled : IsSettled ShowsRequest) (within : HeadsLi
       notes_before : Each NotesNothing before
       notes_before = subst (Each NotesNothing) (sym p.before) (refl, idle_notes f.idle f.idles)
 
-      notes_here : NotesNothing (entry w (Source asked))
+      notes_here : NotesNothing (applied_entry w (Source asked))
       notes_here = no_block (Source asked) (reply_to w (Source asked)) refl
 
       all_noted : delivered w0 (events_in course) asked.id ≡ noted behind
@@ -279,12 +279,12 @@ module _ (web : WebAnswers) (settled : IsSettled ShowsRequest) (within : HeadsLi
           ap (delivered w0 (events_in course)) his_number
           ∙ delivered_gathered w0 course label f.id on_it his_or_not
           ∙ ap noted in_order
-          ∙ flat_map-append noted_of before (entry w (Source asked) ∷ behind)
-          ∙ ap (λ (xs : List ℕ). xs ++ noted (entry w (Source asked) ∷ behind)) (nothing_noted before notes_before)
+          ∙ flat_map-append noted_of before (applied_entry w (Source asked) ∷ behind)
+          ∙ ap (λ (xs : List ℕ). xs ++ noted (applied_entry w (Source asked) ∷ behind)) (nothing_noted before notes_before)
           ∙ ap (λ (xs : List ℕ). xs ++ noted behind) notes_here where
             his_or_not : Each (IsHisOrNotesNothing f.id) (log label)
             his_or_not = subst (Each (IsHisOrNotesNothing f.id)) (sym in_order)
-                (each_joined (IsHisOrNotesNothing f.id) before (entry w (Source asked) ∷ behind)
+                (each_joined (IsHisOrNotesNothing f.id) before (applied_entry w (Source asked) ∷ behind)
                 (each_as NotesNothing (IsHisOrNotesNothing f.id) (λ e n. inr n) before notes_before) (
                   inr notes_here,
                   subst (Each (IsHisOrNotesNothing f.id)) (sym p.behind)
@@ -358,10 +358,10 @@ module _ (web : WebAnswers) (settled : IsSettled ShowsRequest) (within : HeadsLi
           let w = run_after settings lists (events_in past) in
           let before = log_on w0 past label in
           let behind = log_on (world_after w (Listen asked)) later label in
-          let in_order : log label ≡ before ++ entry w (Listen asked) ∷ behind =
+          let in_order : log label ≡ before ++ applied_entry w (Listen asked) ∷ behind =
           ap (λ (hs : List Happening). log_on w0 hs label) parts ∙ log_parted w0 past later label (Listen asked) in
-          let g = by_get web (brought label) (log label) (given label) before behind (entry w (Listen asked)) in_order tt (each label).facts in
-          let p = parted_at_get web (brought label) (log label) (given label) g before behind (entry w (Listen asked)) in_order tt in
+          let g = by_get web (brought label) (log label) (given label) before behind (applied_entry w (Listen asked)) in_order tt (each label).facts in
+          let p = parted_at_get web (brought label) (log label) (given label) g before behind (applied_entry w (Listen asked)) in_order tt in
           let number : asked.id ≡ g.id = get_is_of web g.id g.request (sym p) in
           subst (λ (e : Event). IsRequest (brought label) asked.id e []) (sym p)
           (subst (λ (n : ℕ). IsRequest (brought label) n (asks_by_get web g.id g.request) []) (sym number)

@@ -21,13 +21,13 @@ use Rattle.radio_events.specs.declared.state.State.{State}
 use Rattle.radio_events.specs.declared.state.State.TheVariants.{Running, Shut}
 use Rattle.radio_session.specs.Asking.{asks_to_feed, asks_by_get}
 use Rattle.radio_session.specs.Conversation.{Conversation, asking, saying_now}
-use Rattle.radio_exchanges.specs.Exchanges.{WorldExchange, exchanged, then_exchanged}
+use Rattle.radio_floor.specs.Exchanges.{WorldExchange, exchanged, then_exchanged}
 use Rattle.radio_session.specs.Exchanges.{is_leave}
 use Rattle.radio_session.specs.Saying.{said}
 use Rattle.radio_session.specs.Told.{told}
 use Rattle.radio_floor.specs.declared.labelled.Connection.TheVariants.{Client}
 use Rattle.radio_floor.specs.ScriptState.{connection_unless}
-use Rattle.radio_headline.specs.Course.{and_then, applied, entry}
+use Rattle.radio_headline.specs.Course.{and_then, applied, applied_entry}
 use Rattle.radio_headline.specs.Sources.{pushed, pushed_by}
 use Rattle.radio_headline.proofs.Logs.{entries, replies, replies_joined, Each, each_as, each_joined}
 use Rattle.radio_headline.proofs.AppliedLemmas.{EachAsked, applied_each, applied_tell, goes_on, IsNotLast, IsOpen, IsOrderly, none_last}
@@ -99,7 +99,7 @@ applied_pushed w id says (event ∷ asked) =
 -- the first is applied, and then others
 pub record First (P : Event → Type 0) (w : World) (id : ℕ) (says : Says) (event : Event) (asked : List Event) : Type 0 where
   pub others : List Entry
-  pub in_order : entries w (applied w id says (event ∷ asked)) ≡ entry w event ∷ others
+  pub in_order : entries w (applied w id says (event ∷ asked)) ≡ applied_entry w event ∷ others
   pub each : Each (λ e. P e.event) others
 
 first_by : (P : Event → Type 0) (w : World) (id : ℕ) (says : Says) (event : Event) (asked : List Event) (state : State)

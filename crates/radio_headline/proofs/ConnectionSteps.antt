@@ -13,7 +13,7 @@ use Rattle.radio_events.specs.Events.{client_in}
 use Rattle.radio_parts.specs.Step.{reply_to}
 use Rattle.radio_parts_station.specs.World.{World}
 use Rattle.radio_heads.specs.Head.{ShowsRequest}
-use Rattle.radio_heads.specs.Laws.{IsSettled, HeadsLieWithin}
+use Rattle.radio_heads.specs.Laws.{IsStableReading, HeadsLieWithin}
 use Rattle.radio_heads.specs.Reading.{IsReading}
 use Rattle.radio_source.specs.Feeding.{unfed}
 use Rattle.radio_source.specs.Place.{Place, after, data_of, has_ended, fault_at}
@@ -22,10 +22,10 @@ use Rattle.radio_session.specs.declared.session.Hears.TheVariants.{Body, Nothing
 use Rattle.radio_events.specs.declared.state.State.TheVariants.{Running}
 use Rattle.radio_session.specs.Asking.{asks_to_feed, asks_by_get}
 use Rattle.radio_session.specs.Conversation.{Conversation, asking, saying_now}
-use Rattle.radio_exchanges.specs.Exchanges.{exchanged}
-use Rattle.radio_session.specs.Hearing.{Heard, HearsAs, body_closes, head_heard, nothing_held}
+use Rattle.radio_floor.specs.Exchanges.{exchanged}
+use Rattle.radio_session.specs.Hearing.{EventReading, HearsAs, body_closes, head_heard, nothing_held}
 use Rattle.radio_session.specs.Told.{told}
-use Rattle.radio_headline.specs.Course.{applied, entry}
+use Rattle.radio_headline.specs.Course.{applied, applied_entry}
 use Rattle.radio_headline.specs.Sources.{pushed}
 use Rattle.radio_headline.proofs.Logs.{entries, replies, replies_joined, Each, each_joined, each_second}
 use Rattle.radio_headline.proofs.AppliedLemmas.{EachAsked, applied_each, applied_orderly, IsLast, IsNotLast, IsOrderly}
@@ -41,7 +41,7 @@ use Rattle.radio_headline.proofs.Settling.{CameOn, logged, settled_in}
 use Rattle.radio_headline.proofs.HeadSteps.{nothing_asked, idle_at_head, head_comes}
 use Rattle.radio_answers.specs.declared.web_answers.WebAnswers.{WebAnswers}
 
-module _ (web : WebAnswers) (settled : IsSettled ShowsRequest) (within : HeadsLieWithin ShowsRequest) (joined : (bytes : List ℕ) → concat (blocks_of bytes) ≡ bytes)
+module _ (web : WebAnswers) (settled : IsStableReading ShowsRequest) (within : HeadsLieWithin ShowsRequest) (joined : (bytes : List ℕ) → concat (blocks_of bytes) ≡ bytes)
     (places : (place : Place) (first second : List ℕ) → after place (first ++ second) ≡ after (after place first) second)
     (data_joined : (place : Place) (first second : List ℕ) → data_of place (first ++ second) ≡ data_of place first ++ data_of (after place first) second) where
   -- Something comes to a client's connection, whose conversation stood so.
@@ -120,7 +120,7 @@ module _ (web : WebAnswers) (settled : IsSettled ShowsRequest) (within : HeadsLi
                 (applied_each PushesNothing w now.id now.says events refl (asked_as (IsIdle id) _ (λ e h. idle_pushes_nothing id e h) events asked))
 
       -- more of the body comes
-      body_comes : f.rest ≡ [] → (more : List ℕ) (heard : Heard)
+      body_comes : f.rest ≡ [] → (more : List ℕ) (heard : EventReading)
           → Delivers settled within joined places data_joined (nothing_held conversation) [] (after f.start (drop f.length bytes)) more heard
           → Came (bytes ++ more) heard.conversation heard.events
       body_comes none more heard d =
@@ -184,18 +184,18 @@ module _ (web : WebAnswers) (settled : IsSettled ShowsRequest) (within : HeadsLi
         cc
 
     -- bytes come
-    pub data_come : (more : List ℕ) (heard : Heard) → HearsAs conversation.hears conversation more heard
+    pub data_come : (more : List ℕ) (heard : EventReading) → HearsAs conversation.hears conversation more heard
         → Came (bytes ++ more) heard.conversation heard.events
     data_come more heard h = by_stage c.stage where
       nothing_heard : conversation.hears ≡ Nothing → Came (bytes ++ more) conversation [] → Came (bytes ++ more) heard.conversation heard.events
       nothing_heard e came =
-          subst (λ (x : Heard). Came (bytes ++ more) x.conversation x.events)
+          subst (λ (x : EventReading). Came (bytes ++ more) x.conversation x.events)
           (sym (subst (λ (s : Hears). HearsAs s conversation more heard) e h)) came
 
       by_stage : Stage web bytes log given conversation → Came (bytes ++ more) heard.conversation heard.events
       by_stage (AtHead idle arrived idles hears held t) =
           let r = subst (λ (s : Hears). HearsAs s conversation more heard) hears h in
-          subst (λ (x : Heard). Came (bytes ++ more) x.conversation x.events) (sym (r.2 ∙ ap (λ (b : List ℕ). head_heard conversation (b ++ more) r.0) held))
+          subst (λ (x : EventReading). Came (bytes ++ more) x.conversation x.events) (sym (r.2 ∙ ap (λ (b : List ℕ). head_heard conversation (b ++ more) r.0) held))
           (head_comes web settled within joined places data_joined w bytes log given conversation c idle arrived idles t (bytes ++ more) (head_heard conversation (bytes ++ more) r.0)
           (of_reading settled within joined places data_joined conversation (bytes ++ more) r.0 (subst (λ (b : List ℕ). IsReading ShowsRequest (b ++ more) r.0) held r.1)) hears)
       by_stage (AfterGet g hears t) =
@@ -203,7 +203,7 @@ module _ (web : WebAnswers) (settled : IsSettled ShowsRequest) (within : HeadsLi
       by_stage (AtBody f told none hears) =
           let r = subst (λ (s : Hears). HearsAs s conversation more heard) hears h in
           let place = after f.start (drop f.length bytes) in
-          subst (λ (x : Heard). Came (bytes ++ more) x.conversation x.events) (sym r)
+          subst (λ (x : EventReading). Came (bytes ++ more) x.conversation x.events) (sym r)
           (body_comes f told (same_arrival f.peer f.id _ f.in_order) none more _
           (delivers_by settled within joined places data_joined (nothing_held conversation) [] place more (body_closes (has_ended (after place more)) (fault_at (after place more)))))
       by_stage (AfterBody f told hears) = nothing_heard hears (after_body f told (same_arrival f.peer f.id _ f.in_order) hears more [] tt)
@@ -221,19 +221,19 @@ module _ (web : WebAnswers) (settled : IsSettled ShowsRequest) (within : HeadsLi
       by_stage (Refused nothing hears) = after_refusal nothing hears (bytes ++ []) (event ∷ []) (idle, tt)
 
     -- its peer closes it
-    pub end_comes : IsClosed web (bytes ++ []) (log ++ entry w (Leave id) ∷ []) (given ++ [])
+    pub end_comes : IsClosed web (bytes ++ []) (log ++ applied_entry w (Leave id) ∷ []) (given ++ [])
     end_comes = record {
-      own = client_owns id conversation.peer (c.others ++ (entry w (Leave id) ∷ [])) (log ++ (entry w (Leave id) ∷ [])) (ap (λ (xs : List Entry). xs ++ (entry w (Leave id) ∷ [])) c.arrived)
-          (each_joined (λ e. client_in e.event ≡ Some id) c.others (entry w (Leave id) ∷ []) c.his (refl, tt));
-      facts = subst (λ (xs : List ℕ). Facts web (bytes ++ []) (log ++ (entry w (Leave id) ∷ [])) xs) (sym (append-nil given)) (by_stage c.stage);
+      own = client_owns id conversation.peer (c.others ++ (applied_entry w (Leave id) ∷ [])) (log ++ (applied_entry w (Leave id) ∷ [])) (ap (λ (xs : List Entry). xs ++ (applied_entry w (Leave id) ∷ [])) c.arrived)
+          (each_joined (λ e. client_in e.event ≡ Some id) c.others (applied_entry w (Leave id) ∷ []) c.his (refl, tt));
+      facts = subst (λ (xs : List ℕ). Facts web (bytes ++ []) (log ++ (applied_entry w (Leave id) ∷ [])) xs) (sym (append-nil given)) (by_stage c.stage);
     } where
-      nothing : Each AsksNothing log → Each AsksNothing (log ++ (entry w (Leave id) ∷ []))
-      nothing h = each_joined AsksNothing log (entry w (Leave id) ∷ []) h ((λ a. a), tt)
+      nothing : Each AsksNothing log → Each AsksNothing (log ++ (applied_entry w (Leave id) ∷ []))
+      nothing h = each_joined AsksNothing log (applied_entry w (Leave id) ∷ []) h ((λ a. a), tt)
 
-      orderly : IsOrderly id (log ++ (entry w (Leave id) ∷ []))
-      orderly = orderly_joined id log (entry w (Leave id) ∷ []) c.goes_on ((λ h. tt), tt)
+      orderly : IsOrderly id (log ++ (applied_entry w (Leave id) ∷ []))
+      orderly = orderly_joined id log (applied_entry w (Leave id) ∷ []) c.goes_on ((λ h. tt), tt)
 
-      still : IsTold web conversation log given → given ≡ told (asking web) (replies (log ++ (entry w (Leave id) ∷ [])))
+      still : IsTold web conversation log given → given ≡ told (asking web) (replies (log ++ (applied_entry w (Leave id) ∷ [])))
       still t =
           let says = said_all (asking web) (replies log) in
           t.is_told
@@ -241,29 +241,29 @@ module _ (web : WebAnswers) (settled : IsSettled ShowsRequest) (within : HeadsLi
           ∙ ap (λ (xs : List ℕ). told (asking web) (replies log) ++ xs)
           (sym (leaves_silently says (reply_to w (Leave id)) (all_close_nothing (asking web) (replies log) refl) (leave_reply w id)))
           ∙ sym (told_joined (asking web) (replies log) (reply_to w (Leave id) ∷ []) t.goes)
-          ∙ ap (λ (rs : List Reply). told (asking web) rs) (sym (replies_joined log (entry w (Leave id) ∷ [])))
+          ∙ ap (λ (rs : List Reply). told (asking web) rs) (sym (replies_joined log (applied_entry w (Leave id) ∷ [])))
 
-      more_get : ByGet web bytes log given → IsTold web conversation log given → Facts web (bytes ++ []) (log ++ (entry w (Leave id) ∷ [])) given
-      more_get g t = HasSentGet (get_with web bytes (bytes ++ []) log (log ++ (entry w (Leave id) ∷ [])) given given g (read_more settled within joined places data_joined bytes [] g.request g.length g.reading) (g.behind ++ (entry w (Leave id) ∷ []))
-          (ap (λ (xs : List Entry). xs ++ (entry w (Leave id) ∷ [])) g.in_order
-          ∙ logged (arrival g.peer g.id) g.idle (record { event = asks_by_get web g.id g.request; reply = g.reply } ∷ g.behind) (entry w (Leave id) ∷ []))
-          (each_joined (IsIdleOrLeaving g.id) g.behind (entry w (Leave id) ∷ []) g.no_more (inr (ap (λ (n : ℕ). Leave n) (sym (same_arrival g.peer g.id _ g.in_order))), tt))
-          (subst (λ (m : ℕ). IsOrderly m (log ++ (entry w (Leave id) ∷ []))) (sym (same_arrival g.peer g.id _ g.in_order)) orderly) (still t))
+      more_get : ByGet web bytes log given → IsTold web conversation log given → Facts web (bytes ++ []) (log ++ (applied_entry w (Leave id) ∷ [])) given
+      more_get g t = HasSentGet (get_with web bytes (bytes ++ []) log (log ++ (applied_entry w (Leave id) ∷ [])) given given g (read_more settled within joined places data_joined bytes [] g.request g.length g.reading) (g.behind ++ (applied_entry w (Leave id) ∷ []))
+          (ap (λ (xs : List Entry). xs ++ (applied_entry w (Leave id) ∷ [])) g.in_order
+          ∙ logged (arrival g.peer g.id) g.idle (record { event = asks_by_get web g.id g.request; reply = g.reply } ∷ g.behind) (applied_entry w (Leave id) ∷ []))
+          (each_joined (IsIdleOrLeaving g.id) g.behind (applied_entry w (Leave id) ∷ []) g.no_more (inr (ap (λ (n : ℕ). Leave n) (sym (same_arrival g.peer g.id _ g.in_order))), tt))
+          (subst (λ (m : ℕ). IsOrderly m (log ++ (applied_entry w (Leave id) ∷ []))) (sym (same_arrival g.peer g.id _ g.in_order)) orderly) (still t))
 
-      more_source : (f : Feeds bytes log) → IsGreeted web f given → Facts web (bytes ++ []) (log ++ (entry w (Leave id) ∷ [])) given
+      more_source : (f : Feeds bytes log) → IsGreeted web f given → Facts web (bytes ++ []) (log ++ (applied_entry w (Leave id) ∷ [])) given
       more_source f told =
           let m = more_for_source settled within joined places data_joined bytes [] log f in
-          IsSource (feeds_with (bytes ++ []) (bytes ++ []) log (log ++ (entry w (Leave id) ∷ [])) m m.reading (m.behind ++ (entry w (Leave id) ∷ []))
-          (ap (λ (xs : List Entry). xs ++ (entry w (Leave id) ∷ [])) m.in_order
-          ∙ logged (arrival m.peer m.id) m.idle (record { event = asks_to_feed m.id m.request; reply = m.reply } ∷ m.behind) (entry w (Leave id) ∷ []))
-          (each_joined (IsNoRequest m.id) m.behind (entry w (Leave id) ∷ []) m.no_more (sym (same_arrival m.peer m.id _ m.in_order), tt))
-          (subst (λ (n : ℕ). IsOrderly n (log ++ (entry w (Leave id) ∷ []))) (sym (same_arrival m.peer m.id _ m.in_order)) orderly)
+          IsSource (feeds_with (bytes ++ []) (bytes ++ []) log (log ++ (applied_entry w (Leave id) ∷ [])) m m.reading (m.behind ++ (applied_entry w (Leave id) ∷ []))
+          (ap (λ (xs : List Entry). xs ++ (applied_entry w (Leave id) ∷ [])) m.in_order
+          ∙ logged (arrival m.peer m.id) m.idle (record { event = asks_to_feed m.id m.request; reply = m.reply } ∷ m.behind) (applied_entry w (Leave id) ∷ []))
+          (each_joined (IsNoRequest m.id) m.behind (applied_entry w (Leave id) ∷ []) m.no_more (sym (same_arrival m.peer m.id _ m.in_order), tt))
+          (subst (λ (n : ℕ). IsOrderly n (log ++ (applied_entry w (Leave id) ∷ []))) (sym (same_arrival m.peer m.id _ m.in_order)) orderly)
           m.rest
           (ap (λ (xs : List ℕ). xs ++ m.rest)
-          (ap pushed (events_of_joined m.behind (entry w (Leave id) ∷ [])) ∙ pushed_joined (events_of m.behind) (Leave id ∷ []) ∙ append-nil (pushed (events_of m.behind)))
+          (ap pushed (events_of_joined m.behind (applied_entry w (Leave id) ∷ [])) ∙ pushed_joined (events_of m.behind) (Leave id ∷ []) ∙ append-nil (pushed (events_of m.behind)))
           ∙ m.front)) told
 
-      by_stage : Stage web bytes log given conversation → Facts web (bytes ++ []) (log ++ (entry w (Leave id) ∷ [])) given
+      by_stage : Stage web bytes log given conversation → Facts web (bytes ++ []) (log ++ (applied_entry w (Leave id) ∷ [])) given
       by_stage (AtHead idle arrived idles hears held t) = HasAskedNothing (nothing (nothing_asked web settled within joined places data_joined w bytes log given conversation c idle arrived idles t))
       by_stage (AfterGet g hears t) = more_get g t
       by_stage (AtBody f told none hears) = more_source f told

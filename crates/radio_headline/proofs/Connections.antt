@@ -15,8 +15,8 @@ use Rattle.radio_heads.specs.Reading.{IsReading}
 use Rattle.radio_source.specs.Feeding.{unfed}
 use Rattle.radio_source.specs.Place.{Place, after, data_of}
 use Rattle.radio_heads.specs.Response.{ResponseParts, ShowsResponse}
-use Rattle.radio_relay.specs.Answer.{interval_in, shown_by}
-use Rattle.radio_relay.specs.Laws.{sound_in}
+use Rattle.radio_relay.specs.Answer.{interval_in, shown_in_response}
+use Rattle.radio_relay.specs.Laws.{sound_of_parts}
 use Rattle.radio_relay.specs.Pulled.{after_bytes, stream_parts, stream_with}
 use Rattle.radio_relay.specs.declared.pull.PullStage.TheVariants.{Head, Behind}
 use Rattle.radio_relay.specs.declared.stream.PulledStream.{PulledStream}
@@ -25,8 +25,8 @@ use Rattle.radio_session.specs.Asking.{asks_to_feed, asks_by_get}
 use Rattle.radio_session.specs.Conversation.{Conversation, asking}
 use Rattle.radio_session.specs.Framing.{is_source, framing_of, start_of}
 use Rattle.radio_session.specs.Told.{told}
-use Rattle.radio_pull.specs.Applied.{number_after}
-use Rattle.radio_pull.specs.Pulling.{Pulling}
+use Rattle.radio_relay.specs.Applied.{number_after}
+use Rattle.radio_relay.specs.Pulling.{Pulling}
 use Rattle.radio_floor.specs.declared.labelled.Connection.{Connection}
 use Rattle.radio_floor.specs.declared.labelled.Connection.TheVariants.{Client, Relay}
 use Rattle.radio_headline.specs.Sources.{pushed}
@@ -118,7 +118,7 @@ pub record Pulls (bytes : List ℕ) (log : List Entry) : Type 0 where
   pub head : ResponseParts
   pub reply : Reply
   pub behind : List Entry
-  pub in_order : log ≡ record { event = RelayUp mount (shown_by head); reply = reply } ∷ behind
+  pub in_order : log ≡ record { event = RelayUp mount (shown_in_response head); reply = reply } ∷ behind
   pub own : OwnRelay None log
   pub no_more : Each (λ e. IsNoUp e.event) behind
   pub cut : IsCut log
@@ -127,7 +127,7 @@ pub record Pulls (bytes : List ℕ) (log : List Entry) : Type 0 where
   pub interval : Option ℕ
   pub told : interval_in head ≡ Ok interval
   pub rest : List ℕ
-  pub front : pushed (events_of behind) ++ rest ≡ sound_in (stream_parts (stream_with interval) (drop length bytes))
+  pub front : pushed (events_of behind) ++ rest ≡ sound_of_parts (stream_parts (stream_with interval) (drop length bytes))
 
 -- what was given begins with what it was told of its request
 abbrev pub IsGreeted : (web : WebAnswers) → {bytes : List ℕ} {log : List Entry} → Feeds bytes log → List ℕ → Type 0

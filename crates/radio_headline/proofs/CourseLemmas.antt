@@ -20,29 +20,29 @@ use Rattle.radio_core.specs.Run.{run_after, world_after_all}
 use Rattle.radio_parts.specs.Step.{reply_to, world_after}
 use Rattle.radio_parts_station.specs.World.{World, opening}
 use Rattle.radio_heads.specs.Head.{ShowsRequest}
-use Rattle.radio_heads.specs.Laws.{IsSettled, HeadsLieWithin}
+use Rattle.radio_heads.specs.Laws.{IsStableReading, HeadsLieWithin}
 use Rattle.radio_source.specs.Place.{Place, after, data_of}
 use Rattle.radio_relay.specs.Request.{request_text}
 use Rattle.radio_events.specs.declared.state.State.{State}
 use Rattle.radio_events.specs.declared.state.State.TheVariants.{Running, Shut}
 use Rattle.radio_events.specs.declared.state.Ending.TheVariants.{Done}
 use Rattle.radio_session.specs.Conversation.{Conversation, asking, saying_now}
-use Rattle.radio_exchanges.specs.Exchanges.{exchanged}
-use Rattle.radio_session.specs.Hearing.{Heard}
+use Rattle.radio_floor.specs.Exchanges.{exchanged}
+use Rattle.radio_session.specs.Hearing.{EventReading}
 use Rattle.radio_session.specs.Saying.{said}
-use Rattle.radio_pull.specs.Pulling.{Pulling, Standing, begun}
-use Rattle.radio_pull.specs.Course.{AsksIf}
-use Rattle.radio_deliveries.specs.declared.delivery.Delivery.{Delivery}
-use Rattle.radio_deliveries.specs.declared.delivery.Delivery.TheVariants.{Open, Pull, To, Clock as ClockIs}
-use Rattle.radio_deliveries.specs.declared.delivery.Input.{Input}
-use Rattle.radio_deliveries.specs.declared.delivery.Input.TheVariants.{Data, Room, Title as Named, End}
-use Rattle.radio_deliveries.specs.Given.{TranscriptLine, given, written}
+use Rattle.radio_relay.specs.Pulling.{Pulling, NumberedState, pulling_begun}
+use Rattle.radio_relay.specs.Course.{AsksIf}
+use Rattle.radio_script.specs.declared.delivery.Delivery.{Delivery}
+use Rattle.radio_script.specs.declared.delivery.Delivery.TheVariants.{Open, Pull, To, Clock as ClockIs}
+use Rattle.radio_script.specs.declared.delivery.Input.{Input}
+use Rattle.radio_script.specs.declared.delivery.Input.TheVariants.{Data, Room, Title as Named, End}
+use Rattle.radio_script.specs.Given.{TranscriptLine, given, transcript_text}
 use Rattle.radio_floor.specs.declared.labelled.Connection.{Connection}
 use Rattle.radio_floor.specs.declared.labelled.Connection.TheVariants.{Client, Relay}
 use Rattle.radio_floor.specs.declared.labelled.Labelled.{Labelled}
 use Rattle.radio_floor.specs.ScriptState.{ScriptState, Performed, AsksOn, ComesTo, ComesToClient, ComesToRelay, IsPerformed, closes, connection_of, connection_unless}
-use Rattle.radio_floor.specs.ScriptState.{connects, exchanges, for_new_label, kept_unless, last_word, on_connection, told_lines, opens, with_connection, pulled_on, relay_named, taken_in}
-use Rattle.radio_headline.specs.Course.{ComesToNoted, Happening, Happens, HappensThere, IsAsked, Noted, and_then, applied, arrivals, events_in, noting, nothing_noted, on, entry, log_on}
+use Rattle.radio_floor.specs.ScriptState.{connects, exchanges, for_new_label, kept_unless, last_word, on_connection, written_lines, opens_connection, with_connection, pulled_on, relay_named, taken_in}
+use Rattle.radio_headline.specs.Course.{ComesToNoted, Happening, Happens, HappensThere, IsAsked, Noted, and_then, applied, arrival_at_label, events_in, noting, nothing_noted, on, applied_entry, log_on}
 use Rattle.radio_headline.specs.Scripts.{brought, bytes_in}
 use Rattle.radio_headline.specs.Sources.{pushed_by}
 use Rattle.radio_headline.proofs.Logs.{entries, log_joined, after_joined, events_joined}
@@ -59,8 +59,8 @@ use Rattle.radio_headline.proofs.LabelLemmas.{answer, answer_here, answer_elsewh
 use Rattle.radio_headline.proofs.Standing.{brought_joined, brought_here, brought_elsewhere, IsSo_as, Stands, nowhere_joined, Changes, then_stands}
 use Rattle.radio_answers.specs.declared.web_answers.WebAnswers.{WebAnswers}
 
-module _ (web : WebAnswers) (settings : Settings) (lists : Lists) (settled : IsSettled ShowsRequest) (within : HeadsLieWithin ShowsRequest)
-    (settled_answers : IsSettled ShowsResponse) (within_answers : HeadsLieWithin ShowsResponse) (none_blocks : blocks_of [] ≡ []) (in_pieces : HeardInPieces)
+module _ (web : WebAnswers) (settings : Settings) (lists : Lists) (settled : IsStableReading ShowsRequest) (within : HeadsLieWithin ShowsRequest)
+    (settled_answers : IsStableReading ShowsResponse) (within_answers : HeadsLieWithin ShowsResponse) (none_blocks : blocks_of [] ≡ []) (in_pieces : HeardInPieces)
     (afters : AfterPieces) (joined : (bytes : List ℕ) → concat (blocks_of bytes) ≡ bytes)
     (places : (place : Place) (first second : List ℕ) → after place (first ++ second) ≡ after (after place first) second)
     (data_joined : (place : Place) (first second : List ℕ) → data_of place (first ++ second) ≡ data_of place first ++ data_of (after place first) second) where
@@ -73,7 +73,7 @@ module _ (web : WebAnswers) (settings : Settings) (lists : Lists) (settled : IsS
       pub happenings : List Happening
       pub happen : Happens state delivery happenings
       pub told : List TranscriptLine
-      pub is_written : written told ≡ text
+      pub is_written : transcript_text told ≡ text
       pub stands : Stands web settings lists (done ++ delivery ∷ []) later (past ++ happenings) (lines ++ told)
 
     next_as : (delivery : Delivery) (text : List ℕ) (p q : Performed) → p ≡ q → p.lines ≡ Some text
@@ -83,8 +83,8 @@ module _ (web : WebAnswers) (settings : Settings) (lists : Lists) (settled : IsS
 
     -- a connection comes
     opens_next : (label : ℕ) (peer : Peer) (found : Option (Option Connection)) → connection_of state.connections label ≡ found → (text : List ℕ)
-        → (for_new_label state (opens web state label peer) found).lines ≡ Some text
-        → Next (Open label peer) text (for_new_label state (opens web state label peer) found).state
+        → (for_new_label state (opens_connection web state label peer) found).lines ≡ Some text
+        → Next (Open label peer) text (for_new_label state (opens_connection web state label peer) found).state
     opens_next label peer (Some connection) known text told = cc
     opens_next label peer None known text told =
         let reply = reply_to state.world (Arrive peer) in
@@ -92,13 +92,13 @@ module _ (web : WebAnswers) (settings : Settings) (lists : Lists) (settled : IsS
         let connection = taken_in web peer reply in
         record {
           happenings = on label (Arrive peer) ∷ [];
-          happen = ap (arrivals label peer) (sym known);
+          happen = ap (arrival_at_label label peer) (sym known);
           told = answer label of.bytes (last_word of.state);
           is_written = answer_written label of.bytes (last_word of.state) ∙ the_text told;
-          stands = then_stands web settings lists done state past lines s (opens web state label peer).state (Open label peer) (Arrive peer ∷ []) (answer label of.bytes (last_word of.state)) label (record {
+          stands = then_stands web settings lists done state past lines s (opens_connection web state label peer).state (Open label peer) (Arrive peer ∷ []) (answer label of.bytes (last_word of.state)) label (record {
             world = refl;
             here = IsSo_as web _ _ _ _ _ _ _ _ (sym (opened_here state.connections label connection known)) (sym (append-nil (brought done label)))
-                (ap (λ (xs : List Entry). xs ++ entry state.world (Arrive peer) ∷ []) (sym unopened.1))
+                (ap (λ (xs : List Entry). xs ++ applied_entry state.world (Arrive peer) ∷ []) (sym unopened.1))
                 (ap (λ (xs : List ℕ). xs ++ of.bytes) (sym unopened.2)
                 ∙ ap (λ (xs : List ℕ). given lines label ++ xs) (sym (answer_here label of.bytes (last_word of.state))))
                 (arrives_so (brought done label) unopened.0 reply);
@@ -110,8 +110,8 @@ module _ (web : WebAnswers) (settings : Settings) (lists : Lists) (settled : IsS
           unopened : (brought done label ≡ []) × (log_on w0 past label ≡ []) × (given lines label ≡ [])
           unopened = subst (λ (o : Option (Option Connection)). IsSo web o (brought done label) (log_on w0 past label) (given lines label)) known (s.each label)
 
-          the_text : Some (told_lines label (said (asking web) (reply_to state.world (Arrive peer))).bytes (said (asking web) (reply_to state.world (Arrive peer))).state)
-              ≡ Some text → told_lines label (said (asking web) (reply_to state.world (Arrive peer))).bytes (said (asking web) (reply_to state.world (Arrive peer))).state ≡ text
+          the_text : Some (written_lines label (said (asking web) (reply_to state.world (Arrive peer))).bytes (said (asking web) (reply_to state.world (Arrive peer))).state)
+              ≡ Some text → written_lines label (said (asking web) (reply_to state.world (Arrive peer))).bytes (said (asking web) (reply_to state.world (Arrive peer))).state ≡ text
           the_text e = cc
 
           not_there : (bytes : List ℕ) (reply : Reply) (given : List ℕ) → IsClosed web bytes (record { event = Arrive peer; reply = reply } ∷ []) given
@@ -149,10 +149,10 @@ module _ (web : WebAnswers) (settings : Settings) (lists : Lists) (settled : IsS
       is_written = answer_written label (request_text relay) None ∙ the_text told;
       stands = then_stands web settings lists done state past lines s (connects state label (Some relay)).state (Pull label mount) [] (answer label (request_text relay) None) label (record {
         world = refl;
-        here = IsSo_as web _ _ _ _ _ _ _ _ (sym (opened_here state.connections label (Some (Relay (begun relay.local_mount))) known)) (sym (append-nil (brought done label)))
+        here = IsSo_as web _ _ _ _ _ _ _ _ (sym (opened_here state.connections label (Some (Relay (pulling_begun relay.local_mount))) known)) (sym (append-nil (brought done label)))
             (sym (append-nil (log_on w0 past label) ∙ unopened.1)) refl
             (relay_begins relay.local_mount);
-        connections = λ other apart. opened_elsewhere state.connections label other (Some (Relay (begun relay.local_mount))) apart known;
+        connections = λ other apart. opened_elsewhere state.connections label other (Some (Relay (pulling_begun relay.local_mount))) apart known;
         silent = λ other apart. refl;
         untold = λ other apart. answer_elsewhere label other (request_text relay) None apart;
       });
@@ -160,10 +160,10 @@ module _ (web : WebAnswers) (settings : Settings) (lists : Lists) (settled : IsS
       unopened : (brought done label ≡ []) × (log_on w0 past label ≡ []) × (given lines label ≡ [])
       unopened = subst (λ (o : Option (Option Connection)). IsSo web o (brought done label) (log_on w0 past label) (given lines label)) known (s.each label)
 
-      the_text : Some (told_lines label (request_text relay) Running) ≡ Some text → told_lines label (request_text relay) Running ≡ text
+      the_text : Some (written_lines label (request_text relay) Running) ≡ Some text → written_lines label (request_text relay) Running ≡ text
       the_text e = cc
 
-      relay_begins : (local : List ℕ) → IsRelay (brought done label) [] (begun local)
+      relay_begins : (local : List ℕ) → IsRelay (brought done label) [] (pulling_begun local)
       relay_begins local = record { own = tt; number = refl; stage = AtAnswer (ap Head (sym unopened.0)) refl }
 
     -- the moment is another
@@ -210,7 +210,7 @@ module _ (web : WebAnswers) (settings : Settings) (lists : Lists) (settled : IsS
         client = subst (λ (o : Option (Option Connection)). IsSo web o (brought done label) (log_on w0 past label) (given lines label)) known (s.each label)
 
         -- its events are exchanged
-        exchange_next : (heard : Heard) → IsAsked conversation input heard
+        exchange_next : (heard : EventReading) → IsAsked conversation input heard
             → (let x = exchanged state.world heard.conversation.id heard.conversation.says heard.events in
             IsSo web (Some (connection_unless (Some (Client (saying_now heard.conversation x.exchange.says))) x.exchange.state))
             (brought done label ++ bytes_in input)
@@ -233,7 +233,7 @@ module _ (web : WebAnswers) (settings : Settings) (lists : Lists) (settled : IsS
                   (applied_lead state.world heard.conversation.id heard.conversation.says heard.events) refl (Some (Client conversation)) known so);
             } where
               the_text : (exchanges state label heard.conversation heard.events).lines ≡ Some text
-                  → told_lines label (exchanged state.world heard.conversation.id heard.conversation.says heard.events).exchange.bytes
+                  → written_lines label (exchanged state.world heard.conversation.id heard.conversation.says heard.events).exchange.bytes
                   (exchanged state.world heard.conversation.id heard.conversation.says heard.events).exchange.state ≡ text
               the_text e = cc
 
@@ -257,7 +257,7 @@ module _ (web : WebAnswers) (settings : Settings) (lists : Lists) (settled : IsS
               (Some (Relay pulling)) known
               so);
         } where
-          the_text : (pulled_on state label now ends w).lines ≡ Some text → told_lines label [] ends ≡ text
+          the_text : (pulled_on state label now ends w).lines ≡ Some text → written_lines label [] ends ≡ text
           the_text e = cc
 
     -- something comes to a client's connection
@@ -284,7 +284,7 @@ module _ (web : WebAnswers) (settings : Settings) (lists : Lists) (settled : IsS
       leaves_alone Running = refl
       leaves_alone (Shut ending) = refl
 
-      the_text : (words : List ℕ) → Some (told_lines label [] (Shut Done)) ≡ Some words → told_lines label [] (Shut Done) ≡ words
+      the_text : (words : List ℕ) → Some (written_lines label [] (Shut Done)) ≡ Some words → written_lines label [] (Shut Done) ≡ words
       the_text words e = cc
 
       ends_next : (words : List ℕ) → (closes state label conversation).lines ≡ Some words → Next (To label End) words (closes state label conversation).state
@@ -315,7 +315,7 @@ module _ (web : WebAnswers) (settings : Settings) (lists : Lists) (settled : IsS
 
       asks_next : (input : Input) (event : ℕ → Event) → ((id : ℕ) → OfRelay (Some id) (event id)) → ((id : ℕ) → pushed_by (event id) ≡ [])
           → ((id : ℕ) → IsNoUp (event id)) → bytes_in input ≡ []
-          → ((after : Standing) (done : Noted) → AsksIf noting pulling.number (option_map event pulling.number) (nothing_noted state.world) after done
+          → ((after : NumberedState) (done : Noted) → AsksIf noting pulling.number (option_map event pulling.number) (nothing_noted state.world) after done
           → ComesToNoted state.world pulling input done)
           → (p : Performed) → AsksOn state label pulling (option_map event pulling.number) p → (text : List ℕ) → p.lines ≡ Some text
           → Next (To label input) text p.state

@@ -7,7 +7,7 @@ use Rattle.radio_access.specs.Lists.{Lists}
 use Rattle.radio_events.specs.declared.event.Event.{Event}
 use Rattle.radio_events.specs.declared.reply.Reply.{Reply}
 use Rattle.radio_events.specs.declared.reply.Reply.TheVariants.{Arrived, Feeding, Seated, Drawn, Noted, Text, Deny, Finished, Stray}
-use Rattle.radio_core.specs.Handing.{data_in, is_number, of_client, handed, handed_at, delivered}
+use Rattle.radio_core.specs.Handing.{data_in, is_same_number, of_client, handed, handed_at, delivered}
 use Rattle.radio_parts.specs.Step.{reply_to, world_after}
 use Rattle.radio_seats_rows.specs.Seats.{seat_of}
 use Rattle.radio_laws.specs.Stretches.{AreSlices, AreStretches, Cut, Sitting, StretchesAreCut, StretchesAreWhole, begun_sittings, cut_at_sittings, cut_behind, sittings}
@@ -39,7 +39,7 @@ handed_in_draws w [] id = refl
 handed_in_draws w (event ∷ events) id =
     let later = world_after w event in
     flat_map-append (λ (c : Call). c.sound) (of_client event id (draws_of (reply_to w event ∷ []))) (draws_to later events id)
-    ∙ ap (λ (xs : List ℕ). xs ++ sound_of_calls (draws_to later events id)) (drawn_if (is_number id (client_in event)) (reply_to w event))
+    ∙ ap (λ (xs : List ℕ). xs ++ sound_of_calls (draws_to later events id)) (drawn_if (is_same_number id (client_in event)) (reply_to w event))
     ∙ ap (λ (xs : List ℕ). of_client event id (data_in (reply_to w event)) ++ xs) (handed_in_draws later events id)
 
 pub draws_are_stretches : (settings : Settings) (lists : Lists) (events : List Event) → StretchesAreWhole settings lists events
@@ -69,7 +69,7 @@ hold_it w (event ∷ events) id =
     let later = world_after w event in
     hold_behind (draw_to id w event) (handed_at w event id) (begun_sittings (seat_of w.seats id) (seat_of later.seats id))
     (cut_at_sittings (draw_to id) later events id) (cut_at_sittings (λ v other. handed_at v other id) later events id)
-    (drawn_if (is_number id (client_in event)) (reply_to w event)) (hold_it later events id)
+    (drawn_if (is_same_number id (client_in event)) (reply_to w event)) (hold_it later events id)
 
 -- joined in order they are all
 joined_behind : (draws : List Call) (begun : List Sitting) (later : Cut Call)

@@ -4,16 +4,16 @@ use Rattle.radio_addr.specs.declared.peer.Peer.{Peer}
 use Rattle.radio_settings_values.specs.declared.settings.RelaySetting.{RelaySetting}
 use Rattle.radio_answers.specs.declared.web_answers.WebAnswers.{WebAnswers}
 use Rattle.radio_session.specs.Conversation.{Conversation}
-use Rattle.radio_pull.specs.Pulling.{Pulling}
-use Rattle.radio_deliveries.specs.declared.delivery.Delivery.{Delivery}
-use Rattle.radio_deliveries.specs.declared.delivery.Delivery.TheVariants.{Open, Pull, To, Clock as ClockIs}
-use Rattle.radio_deliveries.specs.declared.delivery.Input.{Input}
-use Rattle.radio_deliveries.specs.declared.delivery.Input.TheVariants.{Data, Room, Title as Named, End}
+use Rattle.radio_relay.specs.Pulling.{Pulling}
+use Rattle.radio_script.specs.declared.delivery.Delivery.{Delivery}
+use Rattle.radio_script.specs.declared.delivery.Delivery.TheVariants.{Open, Pull, To, Clock as ClockIs}
+use Rattle.radio_script.specs.declared.delivery.Input.{Input}
+use Rattle.radio_script.specs.declared.delivery.Input.TheVariants.{Data, Room, Title as Named, End}
 use Rattle.radio_floor.specs.declared.labelled.Connection.{Connection}
 use Rattle.radio_floor.specs.declared.labelled.Connection.TheVariants.{Client, Relay}
 use Rattle.radio_floor.specs.ScriptState.{ScriptState, Performed, ComesTo, ComesToClient, ComesToRelay, IsPerformed, connection_of}
-use Rattle.radio_floor.specs.ScriptState.{connects, for_new_label, on_connection, opens, relay_named}
-use Rattle.radio_headline.specs.Course.{Happens, HappensThere, arrivals}
+use Rattle.radio_floor.specs.ScriptState.{connects, for_new_label, on_connection, opens_connection, relay_named}
+use Rattle.radio_headline.specs.Course.{Happens, HappensThere, arrival_at_label}
 
 -- a delivery is at fault: nothing happens
 module _ (web : WebAnswers) (state : ScriptState) where
@@ -24,10 +24,10 @@ module _ (web : WebAnswers) (state : ScriptState) where
   never_at_fault p text e f = let both : Some text ≡ None = sym e ∙ f in cc
 
   opens_at_fault : (label : ℕ) (peer : Peer) (found : Option (Option Connection)) → connection_of state.connections label ≡ found → (p : Performed)
-      → p ≡ for_new_label state (opens web state label peer) found → p.lines ≡ None → FaultOf (Open label peer) p.state
+      → p ≡ for_new_label state (opens_connection web state label peer) found → p.lines ≡ None → FaultOf (Open label peer) p.state
   opens_at_fault label peer None known p e none =
       never_at_fault p _ (ap (λ (x : Performed). x.lines) e) none
-  opens_at_fault label peer (Some connection) known p e none = (ap (arrivals label peer) (sym known), ap (λ (x : Performed). x.state) e)
+  opens_at_fault label peer (Some connection) known p e none = (ap (arrival_at_label label peer) (sym known), ap (λ (x : Performed). x.state) e)
 
   connects_at_fault : (label : ℕ) (mount : List ℕ) (wanted : Option RelaySetting) (found : Option (Option Connection)) → (p : Performed)
       → p ≡ for_new_label state (connects state label wanted) found → p.lines ≡ None → FaultOf (Pull label mount) p.state

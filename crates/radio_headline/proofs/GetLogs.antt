@@ -12,7 +12,7 @@ use Rattle.radio_events.specs.declared.reply.Reply.TheVariants.{Arrived, Feeding
 use Rattle.radio_events.specs.declared.reply.StreamHead.{StreamHead}
 use Rattle.radio_events.specs.Events.{client_in}
 use Rattle.radio_icy.specs.Weaving.{Call}
-use Rattle.radio_core.specs.Handing.{is_number}
+use Rattle.radio_core.specs.Handing.{is_same_number}
 use Rattle.radio_parts.specs.Step.{world_after}
 use Rattle.radio_parts_station.specs.World.{World}
 use Rattle.radio_heads.specs.Head.{RequestParts}
@@ -21,7 +21,7 @@ use Rattle.radio_session.specs.Conversation.{asking}
 use Rattle.radio_session.specs.Draws.{draw}
 use Rattle.radio_session.specs.Saying.{said}
 use Rattle.radio_session.specs.Told.{AdmitNobody, draws_of, told}
-use Rattle.radio_headline.specs.Course.{Happening, events_in, on, entry, log_on}
+use Rattle.radio_headline.specs.Course.{Happening, events_in, on, applied_entry, log_on}
 use Rattle.radio_headline.specs.Listeners.{draws_to}
 use Rattle.radio_headline.proofs.Gathered.{IsOnIt, brought_to, gathered}
 use Rattle.radio_headline.proofs.Logs.{replies, Each, each_as, each_joined}
@@ -242,4 +242,4 @@ draws_gathered w past label id on his = in_order w past ∙ gathered calls_of w 
   in_order : (x : World) (hs : List Happening) → draws_to x (events_in hs) id ≡ brought_to calls_of x hs id
   in_order x [] = refl
   in_order x (h ∷ hs) =
-      ap (λ (xs : List Call). (if is_number id (client_in h.event) then calls_of (entry x h.event) else []) ++ xs) (in_order (world_after x h.event) hs)
+      ap (λ (xs : List Call). (if is_same_number id (client_in h.event) then calls_of (applied_entry x h.event) else []) ++ xs) (in_order (world_after x h.event) hs)

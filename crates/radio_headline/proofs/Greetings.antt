@@ -13,7 +13,7 @@ use Rattle.radio_session.specs.declared.session.Says.{Says}
 use Rattle.radio_events.specs.declared.state.State.{State}
 use Rattle.radio_events.specs.declared.state.State.TheVariants.{Running, Shut}
 use Rattle.radio_session.specs.Conversation.{asking}
-use Rattle.radio_exchanges.specs.Exchanges.{WorldExchange, exchanged, then_exchanged}
+use Rattle.radio_floor.specs.Exchanges.{WorldExchange, exchanged, then_exchanged}
 use Rattle.radio_session.specs.Framing.{greeting_of}
 use Rattle.radio_session.specs.Saying.{said}
 use Rattle.radio_session.specs.Told.{told}

@@ -15,7 +15,7 @@ use Rattle.radio_parts.specs.Step.{reply_to}
 use Rattle.radio_parts_station.specs.World.{World}
 use Rattle.radio_heads.specs.declared.outcome.Progress.TheVariants.{Whole}
 use Rattle.radio_heads.specs.Head.{RequestParts, ShowsRequest}
-use Rattle.radio_heads.specs.Laws.{IsSettled, HeadsLieWithin}
+use Rattle.radio_heads.specs.Laws.{IsStableReading, HeadsLieWithin}
 use Rattle.radio_heads.specs.Reading.{IsReading}
 use Rattle.radio_source.specs.Feeding.{unfed}
 use Rattle.radio_source.specs.Place.{Place, after, data_of, has_ended, fault_at}
@@ -23,13 +23,13 @@ use Rattle.radio_session.specs.declared.session.Hears.TheVariants.{Head, Body, N
 use Rattle.radio_events.specs.declared.state.State.TheVariants.{Running}
 use Rattle.radio_session.specs.Asking.{asks_to_feed, asks_by_get, asks_to_hear, gives_command, is_for_commands, path_in}
 use Rattle.radio_session.specs.Conversation.{Conversation, asking, saying_now}
-use Rattle.radio_exchanges.specs.Exchanges.{exchanged}
+use Rattle.radio_floor.specs.Exchanges.{exchanged}
 use Rattle.radio_session.specs.declared.session.Says.{Says}
 use Rattle.radio_session.specs.Framing.{is_source, framing_of, greeting_of, start_of}
 use Rattle.radio_session.specs.Saying.{said}
-use Rattle.radio_session.specs.Hearing.{Heard, body_closes, get_heard, greeted, nothing_held, refuses}
+use Rattle.radio_session.specs.Hearing.{EventReading, body_closes, get_heard, greeted, nothing_held, refuses}
 use Rattle.radio_session.specs.Told.{told}
-use Rattle.radio_headline.specs.Course.{applied, entry}
+use Rattle.radio_headline.specs.Course.{applied, applied_entry}
 use Rattle.radio_headline.specs.Sources.{pushed}
 use Rattle.radio_headline.proofs.Logs.{entries, replies, Each, each_as, each_joined}
 use Rattle.radio_headline.proofs.AppliedLemmas.{EachAsked, applied_each, applied_orderly, goes_on, IsOpen, IsOrderly}
@@ -45,7 +45,7 @@ use Rattle.radio_headline.proofs.HeardLemmas.{AGet, ASource, Delivers, HeadHeard
 use Rattle.radio_headline.proofs.Settling.{CameOn, settled_in}
 use Rattle.radio_answers.specs.declared.web_answers.WebAnswers.{WebAnswers}
 
-module _ (web : WebAnswers) (settled : IsSettled ShowsRequest) (within : HeadsLieWithin ShowsRequest) (joined : (bytes : List ℕ) → concat (blocks_of bytes) ≡ bytes)
+module _ (web : WebAnswers) (settled : IsStableReading ShowsRequest) (within : HeadsLieWithin ShowsRequest) (joined : (bytes : List ℕ) → concat (blocks_of bytes) ≡ bytes)
     (places : (place : Place) (first second : List ℕ) → after place (first ++ second) ≡ after (after place first) second)
     (data_joined : (place : Place) (first second : List ℕ) → data_of place (first ++ second) ≡ data_of place first ++ data_of (after place first) second) where
   -- Something comes to a client's connection, whose conversation stood so.
@@ -96,8 +96,8 @@ module _ (web : WebAnswers) (settled : IsSettled ShowsRequest) (within : HeadsLi
             first : First (λ e. e ≡ Leave id) w id conversation.says (asks_by_get web id request) []
             first = first_of_applied (λ e. e ≡ Leave id) w id conversation.says (asks_by_get web id request) [] refl tt
 
-            in_order : log ++ entries w (applied w id conversation.says ((asks_by_get web id request) ∷ [])) ≡ arrival conversation.peer id ∷ idle ++ entry w (asks_by_get web id request) ∷ first.others
-            in_order = ap (λ (xs : List Entry). log ++ xs) first.in_order ∙ ap (λ (xs : List Entry). xs ++ entry w (asks_by_get web id request) ∷ first.others) arrived
+            in_order : log ++ entries w (applied w id conversation.says ((asks_by_get web id request) ∷ [])) ≡ arrival conversation.peer id ∷ idle ++ applied_entry w (asks_by_get web id request) ∷ first.others
+            in_order = ap (λ (xs : List Entry). log ++ xs) first.in_order ∙ ap (λ (xs : List Entry). xs ++ applied_entry w (asks_by_get web id request) ∷ first.others) arrived
 
             by_get : ByGet web later (log ++ entries w (applied w id conversation.says ((asks_by_get web id request) ∷ [])))
                 (given ++ (exchanged w id conversation.says ((asks_by_get web id request) ∷ [])).exchange.bytes)
@@ -122,7 +122,7 @@ module _ (web : WebAnswers) (settled : IsSettled ShowsRequest) (within : HeadsLi
 
       -- a source's head is heard, and the first bytes of its body
       feeds_at_head : (later : List ℕ) (request : RequestParts) (n : ℕ) (start : Place) → IsReading ShowsRequest later (Ok (Whole request n))
-          → is_source request ≡ true → option_map start_of (framing_of request) ≡ Some start → (heard : Heard)
+          → is_source request ≡ true → option_map start_of (framing_of request) ≡ Some start → (heard : EventReading)
           → Delivers settled within joined places data_joined (greeted (nothing_held conversation) request) (asks_to_feed id request ∷ []) start (drop n later) heard
           → Came later heard.conversation heard.events
       feeds_at_head later request n start reading source framed heard d =
@@ -132,7 +132,7 @@ module _ (web : WebAnswers) (settled : IsSettled ShowsRequest) (within : HeadsLi
             first : First (IsBehindRequest id) w id heard.conversation.says (asks_to_feed id request) d.asked
             first = first_of_applied (IsBehindRequest id) w id heard.conversation.says (asks_to_feed id request) d.asked refl d.each
 
-            all_new : entries w (applied w heard.conversation.id heard.conversation.says heard.events) ≡ entry w (asks_to_feed id request) ∷ first.others
+            all_new : entries w (applied w heard.conversation.id heard.conversation.says heard.events) ≡ applied_entry w (asks_to_feed id request) ∷ first.others
             all_new = ap (λ (es : List Event). entries w (applied w heard.conversation.id heard.conversation.says es)) d.events
                 ∙ ap (λ (m : ℕ). entries w (applied w m heard.conversation.says ((asks_to_feed id request) ∷ d.asked))) d.his ∙ first.in_order
 
@@ -153,7 +153,7 @@ module _ (web : WebAnswers) (settled : IsSettled ShowsRequest) (within : HeadsLi
                 request = request;
                 reply = reply_to w (asks_to_feed id request);
                 behind = first.others;
-                in_order = ap (λ (xs : List Entry). log ++ xs) all_new ∙ ap (λ (xs : List Entry). xs ++ entry w (asks_to_feed id request) ∷ first.others) arrived;
+                in_order = ap (λ (xs : List Entry). log ++ xs) all_new ∙ ap (λ (xs : List Entry). xs ++ applied_entry w (asks_to_feed id request) ∷ first.others) arrived;
                 idles = idles;
                 no_more = first.each;
                 orderly = orderly_joined id log (entries w (applied w heard.conversation.id heard.conversation.says heard.events)) c.goes_on
@@ -215,7 +215,7 @@ module _ (web : WebAnswers) (settled : IsSettled ShowsRequest) (within : HeadsLi
       keeps_web : conversation.says.web ≡ web
       keeps_web = ap (λ (s : Says). s.web) t.says ∙ web_stays (asking web) (replies log)
 
-      pub head_comes : (later : List ℕ) (heard : Heard) → HeadHeard settled within joined places data_joined conversation later heard → conversation.hears ≡ Head → Came later heard.conversation heard.events
+      pub head_comes : (later : List ℕ) (heard : EventReading) → HeadHeard settled within joined places data_joined conversation later heard → conversation.hears ≡ Head → Came later heard.conversation heard.events
       head_comes later heard Unfinished hears = idle_at_head later (record conversation { held = later }) [] refl refl refl hears refl tt
       head_comes later heard (IsRefused rule) hears = refused_at_head later rule
       head_comes later heard (AGet request n reading no_source is_get) hears =

@@ -14,7 +14,7 @@ use Rattle.radio_heads.specs.declared.outcome.Progress.{Progress}
 use Rattle.radio_heads.specs.declared.outcome.Progress.TheVariants.{More, Whole}
 use Rattle.radio_heads.specs.declared.outcome.HeadFault.{HeadFault}
 use Rattle.radio_heads.specs.Head.{RequestParts, ShowsRequest}
-use Rattle.radio_heads.specs.Laws.{IsSettled, HeadsLieWithin}
+use Rattle.radio_heads.specs.Laws.{IsStableReading, HeadsLieWithin}
 use Rattle.radio_heads.specs.Reading.{IsReading}
 use Rattle.radio_source.specs.Feeding.{unfed}
 use Rattle.radio_source.specs.Place.{Place, after, data_of}
@@ -25,14 +25,14 @@ use Rattle.radio_answers.specs.declared.web_answers.WebAnswers.{WebAnswers}
 use Rattle.radio_session.specs.Asking.{asks_to_feed}
 use Rattle.radio_session.specs.Conversation.{Conversation}
 use Rattle.radio_session.specs.Framing.{is_source, framing_of, start_of}
-use Rattle.radio_session.specs.Hearing.{Heard, body_heard, delivered, get_heard, greeted, head_heard, nothing_held, refuses, source_heard}
+use Rattle.radio_session.specs.Hearing.{EventReading, body_heard, get_heard, greeted, head_heard, nothing_held, refuses, source_heard, body_delivered}
 use Rattle.radio_session.specs.Pushes.{pushes}
 use Rattle.radio_headline.specs.Sources.{pushed}
 use Rattle.radio_headline.proofs.AppliedLemmas.{EachAsked}
 use Rattle.radio_headline.proofs.Connections.{events_of, IsBehindRequest, ByGet, Feeds}
 use Rattle.radio_headline.proofs.ClientEvents.{asked_joined, feeds_with, get_with, pushed_joined}
 
-module _ (settled : IsSettled ShowsRequest) (within : HeadsLieWithin ShowsRequest) (joined : (bytes : List ℕ) → concat (blocks_of bytes) ≡ bytes)
+module _ (settled : IsStableReading ShowsRequest) (within : HeadsLieWithin ShowsRequest) (joined : (bytes : List ℕ) → concat (blocks_of bytes) ≡ bytes)
     (places : (place : Place) (first second : List ℕ) → after place (first ++ second) ≡ after (after place first) second)
     (data_joined : (place : Place) (first second : List ℕ) → data_of place (first ++ second) ≡ data_of place first ++ data_of (after place first) second) where
   -- more bytes may come
@@ -61,7 +61,7 @@ module _ (settled : IsSettled ShowsRequest) (within : HeadsLieWithin ShowsReques
       ∙ sym (more_data bytes more f.request f.length f.start f.reading))
 
   -- what a body is heard as
-  pub record Delivers (conversation : Conversation) (before : List Event) (place : Place) (bytes : List ℕ) (heard : Heard) : Type 0 where
+  pub record Delivers (conversation : Conversation) (before : List Event) (place : Place) (bytes : List ℕ) (heard : EventReading) : Type 0 where
     pub asked : List Event
     pub events : heard.events ≡ before ++ asked
     pub each : EachAsked (IsBehindRequest conversation.id) asked
@@ -84,7 +84,7 @@ module _ (settled : IsSettled ShowsRequest) (within : HeadsLieWithin ShowsReques
   pushes_all id bytes = blocks_pushed id (blocks_of bytes) ∙ joined bytes
 
   pub delivers_by : (conversation : Conversation) (before : List Event) (place : Place) (bytes : List ℕ) (word : Option LastWord)
-      → Delivers conversation before place bytes (delivered conversation (before ++ pushes conversation.id (data_of place bytes)) (after place bytes) word)
+      → Delivers conversation before place bytes (body_delivered conversation (before ++ pushes conversation.id (data_of place bytes)) (after place bytes) word)
   delivers_by conversation before place bytes None = record {
     asked = pushes conversation.id (data_of place bytes);
     events = refl;
@@ -112,7 +112,7 @@ module _ (settled : IsSettled ShowsRequest) (within : HeadsLieWithin ShowsReques
       }
 
   -- what a head is heard as
-  pub data HeadHeard (conversation : Conversation) (bytes : List ℕ) : Heard → Type 0 where
+  pub data HeadHeard (conversation : Conversation) (bytes : List ℕ) : EventReading → Type 0 where
     Unfinished : HeadHeard conversation bytes (record { events = []; conversation = record conversation { held = bytes } })
     IsRefused : (rule : Rule) → HeadHeard conversation bytes (refuses (nothing_held conversation) rule)
     AGet : (request : RequestParts) (n : ℕ) → IsReading ShowsRequest bytes (Ok (Whole request n)) → is_source request ≡ false
@@ -122,15 +122,15 @@ module _ (settled : IsSettled ShowsRequest) (within : HeadsLieWithin ShowsReques
         → HeadHeard conversation bytes (body_heard (greeted (nothing_held conversation) request) (asks_to_feed conversation.id request ∷ []) start (drop n bytes))
 
   module _ (conversation : Conversation) (bytes : List ℕ) where
-    pub of_framing : {F : Type 0} (start_at : F → Place) (hears : Option F → Heard) (request : RequestParts) (n : ℕ)
+    pub of_framing : {F : Type 0} (start_at : F → Place) (hears : Option F → EventReading) (request : RequestParts) (n : ℕ)
         → IsReading ShowsRequest bytes (Ok (Whole request n)) → is_source request ≡ true → hears None ≡ refuses (nothing_held conversation) BadHead
         → ((f : F) → hears (Some f)
         ≡ body_heard (greeted (nothing_held conversation) request) (asks_to_feed conversation.id request ∷ []) (start_at f) (drop n bytes))
         → (framing : Option F) → option_map start_at framing ≡ option_map start_of (framing_of request) → HeadHeard conversation bytes (hears framing)
     of_framing start_at hears request n reading source none some None e =
-        subst (λ (x : Heard). HeadHeard conversation bytes x) (sym none) (IsRefused BadHead)
+        subst (λ (x : EventReading). HeadHeard conversation bytes x) (sym none) (IsRefused BadHead)
     of_framing start_at hears request n reading source none some (Some framing) e =
-        subst (λ (x : Heard). HeadHeard conversation bytes x) (sym (some framing)) (ASource request n (start_at framing) reading source (sym e))
+        subst (λ (x : EventReading). HeadHeard conversation bytes x) (sym (some framing)) (ASource request n (start_at framing) reading source (sym e))
 
     pub of_method : (request : RequestParts) (n : ℕ) → IsReading ShowsRequest bytes (Ok (Whole request n)) → (feeds : Bool) → is_source request ≡ feeds
         → (gets : Bool) → bytes_eq request.method (codes "GET") ≡ gets

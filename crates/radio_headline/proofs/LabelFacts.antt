@@ -1,6 +1,6 @@
 -- What is known of each label, whatever became of its connection.
 use Rattle.std.proofs.Common.{ℕ, List, Option, None, Some, sym, subst}
-use Rattle.radio_pull.specs.Pulling.{Pulling}
+use Rattle.radio_relay.specs.Pulling.{Pulling}
 use Rattle.radio_answers.specs.declared.web_answers.WebAnswers.{WebAnswers}
 use Rattle.radio_session.specs.Conversation.{Conversation}
 use Rattle.radio_floor.specs.declared.labelled.Connection.{Connection}

@@ -11,8 +11,8 @@ use Rattle.std.proofs.lemmas.List.Concat.{flat_map-append}
 use Rattle.radio_tables.specs.Lists.{placed, update_first}
 use Rattle.radio_tables.proofs.FindLaws.{find_here, find_later, find_apart}
 use Rattle.radio_tables.proofs.KeyLaws.{number_is}
-use Rattle.radio_deliveries.specs.Given.{TranscriptLine, out, shut, given, given_in, line_text, written}
-use Rattle.radio_deliveries.specs.TranscriptLines.{answer_lines, out_line, out_lines, shut_line, shut_lines}
+use Rattle.radio_script.specs.Given.{TranscriptLine, out, shut, given, given_in, line_text, transcript_text}
+use Rattle.radio_script.specs.TranscriptLines.{answer_lines, out_line, out_lines, shut_line, shut_lines}
 use Rattle.radio_floor.specs.declared.labelled.Connection.{Connection}
 use Rattle.radio_floor.specs.declared.labelled.Labelled.{Labelled}
 use Rattle.radio_floor.specs.ScriptState.{by_label, connection_of, has_label, holding, with_connection}
@@ -121,25 +121,25 @@ shut_part label (Some word) = shut label word ∷ []
 abbrev pub answer : ℕ → List ℕ → Option (List ℕ) → List TranscriptLine
 answer label bytes word = out_part label bytes ++ shut_part label word
 
-pub written_joined : (lines more : List TranscriptLine) → written (lines ++ more) ≡ written lines ++ written more
+pub written_joined : (lines more : List TranscriptLine) → transcript_text (lines ++ more) ≡ transcript_text lines ++ transcript_text more
 written_joined lines more = flat_map-append line_text lines more
 
 pub given_joined : (lines more : List TranscriptLine) (label : ℕ) → given (lines ++ more) label ≡ given lines label ++ given more label
 given_joined lines more label = flat_map-append (λ (line : TranscriptLine). given_in line label) lines more
 
-out_written : (label : ℕ) (bytes : List ℕ) → written (out_part label bytes) ≡ out_lines label bytes
+out_written : (label : ℕ) (bytes : List ℕ) → transcript_text (out_part label bytes) ≡ out_lines label bytes
 out_written label [] = refl
 out_written label (b ∷ bytes) = append-nil (out_line label (b ∷ bytes))
 
-shut_written : (label : ℕ) (word : Option (List ℕ)) → written (shut_part label word) ≡ shut_lines label word
+shut_written : (label : ℕ) (word : Option (List ℕ)) → transcript_text (shut_part label word) ≡ shut_lines label word
 shut_written label None = refl
 shut_written label (Some word) = append-nil (shut_line label word)
 
-pub answer_written : (label : ℕ) (bytes : List ℕ) (word : Option (List ℕ)) → written (answer label bytes word) ≡ answer_lines label bytes word
+pub answer_written : (label : ℕ) (bytes : List ℕ) (word : Option (List ℕ)) → transcript_text (answer label bytes word) ≡ answer_lines label bytes word
 unfolding answer_lines
 answer_written label bytes word =
     written_joined (out_part label bytes) (shut_part label word)
-    ∙ ap (λ (xs : List ℕ). xs ++ written (shut_part label word)) (out_written label bytes)
+    ∙ ap (λ (xs : List ℕ). xs ++ transcript_text (shut_part label word)) (out_written label bytes)
     ∙ ap (λ (xs : List ℕ). out_lines label bytes ++ xs) (shut_written label word)
 
 shut_gives : (label other : ℕ) (word : Option (List ℕ)) → given (shut_part label word) other ≡ []

@@ -30,7 +30,7 @@ use Rattle.radio_icy.specs.Weaving.{Call}
 use Rattle.radio_parts_station.specs.declared.standing.Standing.{Standing}
 use Rattle.radio_parts_station.specs.declared.standing.Standing.TheVariants.{Unknown, Undecided, Feeds, Sits, Answered as IsAnswered, Finished as HasFinished}
 use Rattle.radio_core.specs.ClientSteps.{ClientsStep}
-use Rattle.radio_core.specs.Handing.{is_number}
+use Rattle.radio_core.specs.Handing.{is_same_number}
 use Rattle.radio_core.specs.Others.{RepliesFit}
 use Rattle.radio_parts_changes.specs.declared.change.Change.TheVariants.{Answer}
 use Rattle.radio_parts.specs.declared.outcome.Outcome.{Outcome}
@@ -53,7 +53,7 @@ use Rattle.radio_session.specs.declared.session.Says.{Says}
 use Rattle.radio_session.specs.Draws.{joined_draws}
 use Rattle.radio_answers.specs.Answers.{denial, head_text, text_answer}
 use Rattle.radio_session.specs.Told.{AdmitNobody, DrawsFollowTheHead, draws_of, told, PlainDrawsAreTheirData, JoinedDrawsAreWoven, DrawsAreTakenOutAgain}
-use Rattle.radio_headline.specs.Course.{Happening, events_in, on, entry, log_on}
+use Rattle.radio_headline.specs.Course.{Happening, events_in, on, applied_entry, log_on}
 use Rattle.radio_headline.specs.Listeners.{CommandIsAnswered, DrawsAreCut, DrawsAreStretches, SitsWithASource, Hears, IsDenied, IsGiven, IsShown, IsTooLate, draws_to}
 use Rattle.radio_headline.specs.Sources.{HasItsSource}
 use Rattle.radio_headline.proofs.Gathered.{IsOnIt}
@@ -163,9 +163,9 @@ module _ (web : WebAnswers) (settings : Settings) (lists : Lists)
   log_fits events [] label = tt
   log_fits events (h ∷ past) label =
       by_label (subst (λ (x : World). Each EntryFits (log_on x past label)) (after_joined (opening settings lists) events (h.event ∷ []))
-      (log_fits (events ++ h.event ∷ []) past label)) (is_number label h.label) where
+      (log_fits (events ++ h.event ∷ []) past label)) (is_same_number label h.label) where
         by_label : Each EntryFits (log_on (world_after (run_after settings lists events) h.event) past label) → (b : Bool)
-            → Each EntryFits ((if b then entry (run_after settings lists events) h.event ∷ [] else []) ++ log_on (world_after (run_after settings lists events) h.event) past label)
+            → Each EntryFits ((if b then applied_entry (run_after settings lists events) h.event ∷ [] else []) ++ log_on (world_after (run_after settings lists events) h.event) past label)
         by_label later true = (fits_event events h.event, later)
         by_label later false = later
 
@@ -210,14 +210,14 @@ module _ (web : WebAnswers) (settings : Settings) (lists : Lists)
       abbrev behind : List Entry
       behind = log_on (world_after w ask) later label
 
-      in_order : log label ≡ before ++ (entry w ask) ∷ behind
+      in_order : log label ≡ before ++ (applied_entry w ask) ∷ behind
       in_order = ap (λ (hs : List Happening). log_on w0 hs label) parts ∙ log_parted w0 past later label ask
 
       g : ByGet web (brought label) (log label) (given label)
-      g = by_get web (brought label) (log label) (given label) before behind (entry w ask) in_order gets (each label).facts
+      g = by_get web (brought label) (log label) (given label) before behind (applied_entry w ask) in_order gets (each label).facts
 
-      p : Parted before (arrival g.peer g.id ∷ g.idle) (entry w ask) (record { event = asks_by_get web g.id g.request; reply = g.reply }) behind g.behind
-      p = parted IsGetting before (arrival g.peer g.id ∷ g.idle) behind g.behind (entry w ask) _ (sym in_order ∙ g.in_order) gets
+      p : Parted before (arrival g.peer g.id ∷ g.idle) (applied_entry w ask) (record { event = asks_by_get web g.id g.request; reply = g.reply }) behind g.behind
+      p = parted IsGetting before (arrival g.peer g.id ∷ g.idle) behind g.behind (applied_entry w ask) _ (sym in_order ∙ g.in_order) gets
           ((λ l. l), each_as (IsIdling g.id) GetsNot (idle_not g.id) g.idle g.idles)
           (each_as (IsIdleOrLeaving g.id) GetsNot (idle_or_leaving_not g.id) g.behind g.no_more)
 
@@ -254,10 +254,10 @@ module _ (web : WebAnswers) (settings : Settings) (lists : Lists)
           ∙ ap (λ (xs : List Entry). told (asking web) (reply ∷ replies xs)) (sym p.behind)
 
       fits_behind : Each EntryFits behind
-      fits_behind = (each_second EntryFits before ((entry w ask) ∷ behind) (subst (Each EntryFits) in_order (log_fits [] course label))).1
+      fits_behind = (each_second EntryFits before ((applied_entry w ask) ∷ behind) (subst (Each EntryFits) in_order (log_fits [] course label))).1
 
       orderly_behind : IsOrderly g.id behind
-      orderly_behind = (orderly_second g.id before ((entry w ask) ∷ behind) (subst (IsOrderly g.id) in_order g.orderly)).1
+      orderly_behind = (orderly_second g.id before ((applied_entry w ask) ∷ behind) (subst (IsOrderly g.id) in_order g.orderly)).1
 
       idle_behind : Each (IsIdleOrLeaving g.id) behind
       idle_behind = subst (Each (IsIdleOrLeaving g.id)) (sym p.behind) g.no_more
@@ -270,10 +270,10 @@ module _ (web : WebAnswers) (settings : Settings) (lists : Lists)
       all_draws interval head seated =
           orderly_draws g.id behind orderly_behind fits_behind
           ∙ ap (λ (xs : List Call). xs ++ calls behind) (sym none_before)
-          ∙ sym (flat_map-append calls_of before ((entry w ask) ∷ behind) ∙ ap (λ (xs : List Call). calls before ++ (xs ++ calls behind)) none_here)
+          ∙ sym (flat_map-append calls_of before ((applied_entry w ask) ∷ behind) ∙ ap (λ (xs : List Call). calls before ++ (xs ++ calls behind)) none_here)
           ∙ ap calls (sym in_order)
           ∙ sym (draws_gathered w0 course label g.id on_it his_or_not) where
-            none_here : calls_of (entry w ask) ≡ []
+            none_here : calls_of (applied_entry w ask) ≡ []
             none_here = ap (λ (r : Reply). draws_of (r ∷ [])) seated
 
             none_before : calls before ≡ []
@@ -281,7 +281,7 @@ module _ (web : WebAnswers) (settings : Settings) (lists : Lists)
 
             his_or_not : Each (IsHisOrDrawsNothing g.id) (log label)
             his_or_not = subst (Each (IsHisOrDrawsNothing g.id)) (sym in_order)
-                (each_joined (IsHisOrDrawsNothing g.id) before ((entry w ask) ∷ behind)
+                (each_joined (IsHisOrDrawsNothing g.id) before ((applied_entry w ask) ∷ behind)
                 (subst (Each (IsHisOrDrawsNothing g.id)) (sym p.before)
                 (inr refl, each_as IsMute (IsHisOrDrawsNothing g.id) (λ e m. inr (mute_draws e m)) g.idle waits.1))
                 (inr none_here, each_as (IsIdleOrLeaving g.id) (IsHisOrDrawsNothing g.id) (λ e h. inl (idle_or_leaving_is_his g.id e h)) behind idle_behind))

@@ -10,12 +10,12 @@ use Rattle.radio_events.specs.declared.reply.Reply.{Reply}
 use Rattle.radio_core.specs.Run.{world_after_all}
 use Rattle.radio_parts.specs.Step.{world_after}
 use Rattle.radio_parts_station.specs.World.{World}
-use Rattle.radio_headline.specs.Course.{Happening, entry, entry_on, events_in, log_on, on}
+use Rattle.radio_headline.specs.Course.{Happening, applied_entry, entry_on, events_in, log_on, on}
 
 -- events, with the replies to them
 abbrev pub entries : World → List Event → List Entry
 entries w [] = []
-entries w (event ∷ events) = entry w event ∷ entries (world_after w event) events
+entries w (event ∷ events) = applied_entry w event ∷ entries (world_after w event) events
 
 abbrev pub replies : List Entry → List Reply
 replies log = map (λ e. e.reply) log
@@ -50,27 +50,27 @@ log_joined w (h ∷ past) more label =
 
 -- cut where an event was asked on the label
 pub log_parted : (w : World) (past later : List Happening) (label : ℕ) (event : Event) → log_on w (past ++ on label event ∷ later) label
-    ≡ log_on w past label ++ entry (world_after_all w (events_in past)) event ∷ log_on (world_after (world_after_all w (events_in past)) event) later label
+    ≡ log_on w past label ++ applied_entry (world_after_all w (events_in past)) event ∷ log_on (world_after (world_after_all w (events_in past)) event) later label
 log_parted w past later label event =
     let now = world_after_all w (events_in past) in
     log_joined w past (on label event ∷ later) label
-    ∙ ap (λ (b : Bool). log_on w past label ++ ((if b then entry now event ∷ [] else []) ++ log_on (world_after now event) later label)) (itself label)
+    ∙ ap (λ (b : Bool). log_on w past label ++ ((if b then applied_entry now event ∷ [] else []) ++ log_on (world_after now event) later label)) (itself label)
 
 pub log_here : (w : World) (label : ℕ) (events : List Event) → log_on w (map (on label) events) label ≡ entries w events
 log_here w label [] = refl
 log_here w label (event ∷ events) =
-    ap (λ (b : Bool). (if b then entry w event ∷ [] else []) ++ log_on (world_after w event) (map (on label) events) label) (itself label)
-    ∙ ap (λ (xs : List Entry). entry w event ∷ xs) (log_here (world_after w event) label events)
+    ap (λ (b : Bool). (if b then applied_entry w event ∷ [] else []) ++ log_on (world_after w event) (map (on label) events) label) (itself label)
+    ∙ ap (λ (xs : List Entry). applied_entry w event ∷ xs) (log_here (world_after w event) label events)
 
 pub log_elsewhere : (w : World) (label other : ℕ) (events : List Event) → (label ≡ other → ⊥) → log_on w (map (on label) events) other ≡ []
 log_elsewhere w label other [] apart = refl
 log_elsewhere w label other (event ∷ events) apart =
-    ap (λ (b : Bool). (if b then entry w event ∷ [] else []) ++ log_on (world_after w event) (map (on label) events) other) (other_number label other apart)
+    ap (λ (b : Bool). (if b then applied_entry w event ∷ [] else []) ++ log_on (world_after w event) (map (on label) events) other) (other_number label other apart)
     ∙ log_elsewhere (world_after w event) label other events apart
 
 pub entries_joined : (w : World) (events more : List Event) → entries w (events ++ more) ≡ entries w events ++ entries (world_after_all w events) more
 entries_joined w [] more = refl
-entries_joined w (event ∷ events) more = ap (λ (xs : List Entry). entry w event ∷ xs) (entries_joined (world_after w event) events more)
+entries_joined w (event ∷ events) more = ap (λ (xs : List Entry). applied_entry w event ∷ xs) (entries_joined (world_after w event) events more)
 
 pub replies_joined : (log more : List Entry) → replies (log ++ more) ≡ replies log ++ replies more
 replies_joined log more = map-append (λ (e : Entry). e.reply) log more

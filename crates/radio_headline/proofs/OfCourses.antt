@@ -10,7 +10,7 @@ use Rattle.radio_policy.specs.Table.{Row}
 use Rattle.radio_policy.specs.Verdicts.{Allows, verdict_in}
 use Rattle.radio_events.specs.declared.event.Event.{Event}
 use Rattle.radio_heads.specs.Head.{ShowsRequest}
-use Rattle.radio_heads.specs.Laws.{IsSettled, HeadsLieWithin}
+use Rattle.radio_heads.specs.Laws.{IsStableReading, HeadsLieWithin}
 use Rattle.radio_source.specs.Place.{Place, after, data_of}
 use Rattle.radio_core.specs.ClientSteps.{ClientsStep}
 use Rattle.radio_core.specs.Others.{RepliesFit}
@@ -23,7 +23,7 @@ use Rattle.radio_laws.specs.Admission.{BeginsAtABlock}
 use Rattle.radio_laws.specs.Denials.{DenialsAreThePolicys}
 use Rattle.radio_laws.specs.Service.{Serves}
 use Rattle.radio_laws.specs.Stretches.{SeatsKeepTheirMounts}
-use Rattle.radio_pull.specs.Laws.{ItemsAreOfTheirRelay}
+use Rattle.radio_relay.specs.PullLaws.{ItemsAreOfTheirRelay}
 use Rattle.radio_session.specs.Told.{DrawsFollowTheHead, PlainDrawsAreTheirData, JoinedDrawsAreWoven, DrawsAreTakenOutAgain}
 use Rattle.radio_headline.specs.Course.{Happening, events_in, log_on}
 use Rattle.radio_headline.specs.Lawful.{IsLawful}
@@ -37,7 +37,7 @@ use Rattle.radio_headline.proofs.RunLemmas.{AllNowhere, IsMoment}
 use Rattle.radio_headline.proofs.SoundLemmas.{delivers_sound}
 
 module _ (web : WebAnswers) (settings : Settings) (lists : Lists)
-    (settled : IsSettled ShowsRequest) (within : HeadsLieWithin ShowsRequest) (joined : (bytes : List ℕ) → concat (blocks_of bytes) ≡ bytes)
+    (settled : IsStableReading ShowsRequest) (within : HeadsLieWithin ShowsRequest) (joined : (bytes : List ℕ) → concat (blocks_of bytes) ≡ bytes)
     (places : (place : Place) (first second : List ℕ) → after place (first ++ second) ≡ after (after place first) second)
     (data_joined : (place : Place) (first second : List ℕ) → data_of place (first ++ second) ≡ data_of place first ++ data_of (after place first) second)
     (fits : (events : List Event) (event : Event) → RepliesFit (run_after settings lists events) event)

@@ -6,18 +6,18 @@ use Rattle.radio_events.specs.declared.event.Event.TheVariants.{Arrive, Source, 
 use Rattle.radio_events.specs.declared.reply.Reply.{Reply}
 use Rattle.radio_events.specs.declared.reply.Reply.TheVariants.{Arrived, Feeding, Seated, Drawn, Noted as WasNoted, Text, Deny, Finished, Stray}
 use Rattle.radio_events.specs.Events.{client_in}
-use Rattle.radio_pull.specs.Pulling.{answered}
+use Rattle.radio_relay.specs.Pulling.{state_after_reply}
 use Rattle.radio_headline.proofs.Logs.{Each}
 use Rattle.radio_headline.proofs.Relays.RelayWords.{OfRelay, OwnRelay, number_stays}
 use Rattle.radio_headline.proofs.RunLemmas.{HasNumber, IsOwn, number_before, number_behind}
 
 -- a relay's events come on the connection on which it was given its number
 numbers_then : (number : Option ℕ) (log : List Entry) (e : Entry) → ((id : ℕ) → number ≡ Some id → HasNumber id log) → (id : ℕ)
-    → (answered number e.reply).number ≡ Some id → HasNumber id (log ++ e ∷ [])
+    → (state_after_reply number e.reply).number ≡ Some id → HasNumber id (log ++ e ∷ [])
 numbers_then (Some n) log e has id h =
     let same : Some n ≡ Some id = sym (number_stays n e.reply) ∙ h in number_before id log (e ∷ []) (has id same)
 numbers_then None log e has id h = number_behind id log (e ∷ []) (inl (by_reply e.reply h)) where
-  by_reply : (r : Reply) → (answered None r).number ≡ Some id → r ≡ Arrived id
+  by_reply : (r : Reply) → (state_after_reply None r).number ≡ Some id → r ≡ Arrived id
   by_reply (Arrived him) h = let same : him ≡ id = cc in ap (λ (n : ℕ). Arrived n) same
   by_reply Feeding h = cc
   by_reply (Seated interval head) h = cc
@@ -48,7 +48,7 @@ relay_owns_from number before [] has own = tt
 relay_owns_from number before (e ∷ log) has own = (
   λ id his. number_before id before (e ∷ log) (has id (whose number e.event id own.0 his)),
   subst (λ (xs : List Entry). Each (IsOwn xs) log) (append_assoc before (e ∷ []) log)
-      (relay_owns_from (answered number e.reply).number (before ++ e ∷ []) log (numbers_then number before e has) own.1),
+      (relay_owns_from (state_after_reply number e.reply).number (before ++ e ∷ []) log (numbers_then number before e has) own.1),
 )
 
 pub relay_owns : (log : List Entry) → OwnRelay None log → Each (IsOwn log) log

@@ -2,9 +2,9 @@
 use Rattle.std.proofs.Common.{◌≡◌, ℕ, List, Option, None, Some}
 use Rattle.radio_settings_values.specs.declared.settings.Settings.{Settings}
 use Rattle.radio_access.specs.Lists.{Lists}
-use Rattle.radio_deliveries.specs.declared.delivery.Delivery.{Delivery}
-use Rattle.radio_deliveries.specs.declared.faults.PlayFault.{PlayFault}
-use Rattle.radio_script.specs.Transcripts.{first_fault}
+use Rattle.radio_script.specs.declared.delivery.Delivery.{Delivery}
+use Rattle.radio_script.specs.declared.faults.PlayFault.{PlayFault}
+use Rattle.radio_script.specs.Transcripts.{run_fault}
 use Rattle.radio_script.specs.Runs.{Runs}
 use Rattle.radio_floor.specs.ScriptState.{ScriptState, opening_script}
 use Rattle.radio_answers.specs.declared.web_answers.WebAnswers.{WebAnswers}
@@ -12,12 +12,12 @@ use Rattle.radio_floor.specs.Transcript.{conduct}
 use Rattle.radio_headline.specs.Scripts.{HearsSlices, ListenersHearSlices}
 
 -- no fault came, so no delivery stopped it
-by_stop : (P : Option ℕ → Type 0) (fault : Option PlayFault) (stop : Option ℕ) → None ≡ first_fault stop fault → P stop → P None
+by_stop : (P : Option ℕ → Type 0) (fault : Option PlayFault) (stop : Option ℕ) → None ≡ run_fault stop fault → P stop → P None
 by_stop P fault None e h = h
 by_stop P fault (Some number) e h = cc
 
 pub played : ListenersHearSlices → (web : WebAnswers) (settings : Settings) (lists : Lists) (deliveries : List Delivery) (text : List ℕ) (fault : Option PlayFault)
-    (stop : Option ℕ) (last : ScriptState) → Runs (conduct web) (opening_script settings lists) 1 deliveries text stop last → None ≡ first_fault stop fault
+    (stop : Option ℕ) (last : ScriptState) → Runs (conduct web) (opening_script settings lists) 1 deliveries text stop last → None ≡ run_fault stop fault
     → HearsSlices web settings lists deliveries text None
 played law web settings lists deliveries text fault stop last run ends =
     by_stop (λ s. HearsSlices web settings lists deliveries text s) fault stop ends (law web settings lists deliveries text stop (last, run))

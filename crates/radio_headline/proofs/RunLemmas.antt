@@ -18,7 +18,7 @@ use Rattle.radio_parts_station.specs.declared.standing.Standing.TheVariants.{Unk
 use Rattle.radio_core.specs.ClientSteps.{ClientStep, ClientsStep}
 use Rattle.radio_core.specs.ClientSteps.{Stays, Arrives, IsAnswered, IsObeyed, IsShown, BeginsToFeed, SitsDown, StopsFeeding, Leaves, ComesUp, GoesDown, IsFinished}
 use Rattle.radio_core.specs.Finishes.{Finishes}
-use Rattle.radio_core.specs.Handing.{is_number}
+use Rattle.radio_core.specs.Handing.{is_same_number}
 use Rattle.radio_parts.specs.Pages.{IsShownBy, IsListing, IsAtPath}
 use Rattle.radio_events.specs.declared.text.ReplyText.{ReplyText as CommandText}
 use Rattle.radio_core.specs.Others.{RepliesFit, HasCome, AsClient}
@@ -26,7 +26,7 @@ use Rattle.radio_core.specs.Run.{run_after, world_after_all}
 use Rattle.radio_parts.specs.Step.{reply_to, world_after}
 use Rattle.radio_core.specs.Totals.{AddsUp, numbers_given}
 use Rattle.radio_parts_station.specs.World.{World, opening, standing_of}
-use Rattle.radio_headline.specs.Course.{Happening, on, events_in, entry, entry_on, log_on}
+use Rattle.radio_headline.specs.Course.{Happening, on, events_in, applied_entry, entry_on, log_on}
 use Rattle.radio_headline.proofs.Logs.{Each, each_second, itself, after_joined}
 use Rattle.radio_headline.proofs.ReplyForms.{next_number, IsIdle, IdleReply, IsStray, WasFinished, Sitting, Sourcing, idle_reply}
 
@@ -82,7 +82,7 @@ pub data IsNew : Standing → Type 0 where
 
 -- all events of the client come on the connection of the label
 abbrev pub AreOn : ℕ → ℕ → List Happening → Type 0
-AreOn label id past = AllByRecursion (λ (h : Happening). client_in h.event ≡ Some id → is_number label h.label ≡ true) past
+AreOn label id past = AllByRecursion (λ (h : Happening). client_in h.event ≡ Some id → is_same_number label h.label ≡ true) past
 
 abbrev pub IsIdling : ℕ → Entry → Type 0
 IsIdling id e = IsIdle id e.event
@@ -131,7 +131,7 @@ module _ (settings : Settings) (lists : Lists)
   pub later_numbers : (w : World) (past : List Happening) (label id : ℕ) → Reached w → HasNumber id (log_on w past label) → w.station.last_id < id
   later_numbers w [] label id r has = elim has [ ]
   later_numbers w (h ∷ past) label id r has =
-      by_label (later_numbers (world_after w h.event) past label id (reached_after w h.event r)) (is_number label h.label) has where
+      by_label (later_numbers (world_after w h.event) past label id (reached_after w h.event r)) (is_same_number label h.label) has where
         tail : (HasNumber id (log_on (world_after w h.event) past label) → (world_after w h.event).station.last_id < id)
             → HasNumber id (log_on (world_after w h.event) past label) → w.station.last_id < id
         tail ih t =
@@ -140,7 +140,7 @@ module _ (settings : Settings) (lists : Lists)
             omega (arith, later, sum)
 
         by_label : (HasNumber id (log_on (world_after w h.event) past label) → (world_after w h.event).station.last_id < id) → (b : Bool)
-            → HasNumber id ((if b then entry w h.event ∷ [] else []) ++ log_on (world_after w h.event) past label) → w.station.last_id < id
+            → HasNumber id ((if b then applied_entry w h.event ∷ [] else []) ++ log_on (world_after w h.event) past label) → w.station.last_id < id
         by_label ih true (inl e) = ((fits_at w h.event r).arrived id e).1
         by_label ih true (inr t) = tail ih t
         by_label ih false t = tail ih t
@@ -157,9 +157,9 @@ module _ (settings : Settings) (lists : Lists)
       → HasNumber id (log_on w past other) → label ≡ other
   one_owner w [] label other id r mine its = elim mine [ ]
   one_owner w (h ∷ past) label other id r mine its =
-      by_labels (one_owner (world_after w h.event) past label other id (reached_after w h.event r)) (is_number label h.label) refl (is_number other h.label)
+      by_labels (one_owner (world_after w h.event) past label other id (reached_after w h.event r)) (is_same_number label h.label) refl (is_same_number other h.label)
       refl mine its where
-        both : (b : Option ℕ) → is_number label b ≡ true → is_number other b ≡ true → label ≡ other
+        both : (b : Option ℕ) → is_same_number label b ≡ true → is_same_number other b ≡ true → label ≡ other
         both None e f = cc
         both (Some him) e f = let one : him ≡ label = grind (arith, nat_tests) in let two : him ≡ other = grind (arith, nat_tests) in sym one ∙ two
 
@@ -171,9 +171,9 @@ module _ (settings : Settings) (lists : Lists)
             absurd none
 
         by_labels : (HasNumber id (log_on (world_after w h.event) past label) → HasNumber id (log_on (world_after w h.event) past other) → label ≡ other)
-            → (b : Bool) → is_number label h.label ≡ b → (c : Bool) → is_number other h.label ≡ c
-            → HasNumber id ((if b then entry w h.event ∷ [] else []) ++ log_on (world_after w h.event) past label)
-            → HasNumber id ((if c then entry w h.event ∷ [] else []) ++ log_on (world_after w h.event) past other) → label ≡ other
+            → (b : Bool) → is_same_number label h.label ≡ b → (c : Bool) → is_same_number other h.label ≡ c
+            → HasNumber id ((if b then applied_entry w h.event ∷ [] else []) ++ log_on (world_after w h.event) past label)
+            → HasNumber id ((if c then applied_entry w h.event ∷ [] else []) ++ log_on (world_after w h.event) past other) → label ≡ other
         by_labels ih true e true f x y = both h.label e f
         by_labels ih true e false f (inl x) y = too_late other x y
         by_labels ih true e false f (inr x) y = ih x y
@@ -240,14 +240,14 @@ module _ (settings : Settings) (lists : Lists)
       → Each (IsIdling id) (log_on w past label) → Waits id (world_after_all w (events_in past)) (log_on w past label)
   idles w [] label id r on new idle = record { new = new; silent = tt }
   idles w (h ∷ past) label id r on new idle =
-      by_label (idles (world_after w h.event) past label id (reached_after w h.event r) on.1) (is_number label h.label) refl idle where
+      by_label (idles (world_after w h.event) past label id (reached_after w h.event r) on.1) (is_same_number label h.label) refl idle where
         goes : (client_in h.event ≡ Some id → IsIdle id h.event) → IsNew (standing_of (world_after w h.event) id)
         goes his = still_new w h.event id his (Finishes w h.event id) (standing_of w id) (standing_of (world_after w h.event) id) (steps_at w h.event r id) new
 
         by_label : (IsNew (standing_of (world_after w h.event) id) → Each (IsIdling id) (log_on (world_after w h.event) past label)
             → Waits id (world_after_all (world_after w h.event) (events_in past)) (log_on (world_after w h.event) past label))
-            → (b : Bool) → is_number label h.label ≡ b → Each (IsIdling id) ((if b then entry w h.event ∷ [] else []) ++ log_on (world_after w h.event) past label)
-            → Waits id (world_after_all (world_after w h.event) (events_in past)) ((if b then entry w h.event ∷ [] else []) ++ log_on (world_after w h.event) past label)
+            → (b : Bool) → is_same_number label h.label ≡ b → Each (IsIdling id) ((if b then applied_entry w h.event ∷ [] else []) ++ log_on (world_after w h.event) past label)
+            → Waits id (world_after_all (world_after w h.event) (events_in past)) ((if b then applied_entry w h.event ∷ [] else []) ++ log_on (world_after w h.event) past label)
         by_label ih true e i =
             let rest = ih (goes (λ his. i.0)) i.1 in
             record {
@@ -266,13 +266,13 @@ module _ (settings : Settings) (lists : Lists)
       → IsNew (standing_of (world_after_all w (events_in past)) id) × Each IsSilent idle
   arrives_and_idles w [] label id peer idle r on e i = cc
   arrives_and_idles w (h ∷ past) label id peer idle r on e i =
-      by_label (λ d. arrives_and_idles (world_after w h.event) past label id peer idle (reached_after w h.event r) on.1 d i) (is_number label h.label) e where
+      by_label (λ d. arrives_and_idles (world_after w h.event) past label id peer idle (reached_after w h.event r) on.1 d i) (is_same_number label h.label) e where
         by_label : (log_on (world_after w h.event) past label ≡ record { event = Arrive peer; reply = Arrived id } ∷ idle
             → IsNew (standing_of (world_after_all (world_after w h.event) (events_in past)) id) × Each IsSilent idle)
-            → (b : Bool) → (if b then entry w h.event ∷ [] else []) ++ log_on (world_after w h.event) past label ≡ record { event = Arrive peer; reply = Arrived id } ∷ idle
+            → (b : Bool) → (if b then applied_entry w h.event ∷ [] else []) ++ log_on (world_after w h.event) past label ≡ record { event = Arrive peer; reply = Arrived id } ∷ idle
             → IsNew (standing_of (world_after_all (world_after w h.event) (events_in past)) id) × Each IsSilent idle
         by_label ih true d =
-            let first : entry w h.event ≡ record { event = Arrive peer; reply = Arrived id } = cc in
+            let first : applied_entry w h.event ≡ record { event = Arrive peer; reply = Arrived id } = cc in
             let others : log_on (world_after w h.event) past label ≡ idle = cc in
             let event : h.event ≡ Arrive peer = ap (λ (x : Entry). x.event) first in
             let reply : reply_to w h.event ≡ Arrived id = ap (λ (x : Entry). x.reply) first in
@@ -295,7 +295,7 @@ module _ (settings : Settings) (lists : Lists)
     here : (l : Option ℕ) → h.label ≡ l → Q h
     here None e = none.0 e
     here (Some label) e =
-        let mine : is_number label h.label ≡ true = ap (is_number label) e ∙ itself label in
+        let mine : is_same_number label h.label ≡ true = ap (is_same_number label) e ∙ itself label in
         let p : P label h.event =
-        (subst (λ (b : Bool). Each (λ x. P label x.event) ((if b then entry w h.event ∷ [] else []) ++ log_on (world_after w h.event) past label)) mine (all label)).0 in
+        (subst (λ (b : Bool). Each (λ x. P label x.event) ((if b then applied_entry w h.event ∷ [] else []) ++ log_on (world_after w h.event) past label)) mine (all label)).0 in
         subst (λ (o : Option ℕ). Q (record { label = o; event = h.event })) (sym e) (make label h.event p)

@@ -6,10 +6,10 @@ use Rattle.radio_blocks.specs.Cutting.{blocks_of}
 use Rattle.radio_settings_values.specs.declared.settings.Settings.{Settings}
 use Rattle.radio_access.specs.Lists.{Lists}
 use Rattle.radio_heads.specs.Head.{ShowsRequest}
-use Rattle.radio_heads.specs.Laws.{IsSettled, HeadsLieWithin}
+use Rattle.radio_heads.specs.Laws.{IsStableReading, HeadsLieWithin}
 use Rattle.radio_source.specs.Place.{Place, after, data_of}
-use Rattle.radio_deliveries.specs.declared.delivery.Delivery.{Delivery}
-use Rattle.radio_deliveries.specs.Given.{TranscriptLine, written}
+use Rattle.radio_script.specs.declared.delivery.Delivery.{Delivery}
+use Rattle.radio_script.specs.Given.{TranscriptLine, transcript_text}
 use Rattle.radio_script.specs.Runs.{Runs}
 use Rattle.radio_floor.specs.ScriptState.{ScriptState}
 use Rattle.radio_floor.specs.ScriptState.{opening_script}
@@ -23,8 +23,8 @@ use Rattle.radio_headline.proofs.CourseLemmas.{performs_next}
 use Rattle.radio_headline.proofs.Standing.{Stands}
 use Rattle.radio_answers.specs.declared.web_answers.WebAnswers.{WebAnswers}
 
-module _ (web : WebAnswers) (settings : Settings) (lists : Lists) (settled : IsSettled ShowsRequest) (within : HeadsLieWithin ShowsRequest)
-    (settled_answers : IsSettled ShowsResponse) (within_answers : HeadsLieWithin ShowsResponse) (none_blocks : blocks_of [] ≡ []) (in_pieces : HeardInPieces)
+module _ (web : WebAnswers) (settings : Settings) (lists : Lists) (settled : IsStableReading ShowsRequest) (within : HeadsLieWithin ShowsRequest)
+    (settled_answers : IsStableReading ShowsResponse) (within_answers : HeadsLieWithin ShowsResponse) (none_blocks : blocks_of [] ≡ []) (in_pieces : HeardInPieces)
     (afters : AfterPieces) (joined : (bytes : List ℕ) → concat (blocks_of bytes) ≡ bytes)
     (places : (place : Place) (first second : List ℕ) → after place (first ++ second) ≡ after (after place first) second)
     (data_joined : (place : Place) (first second : List ℕ) → data_of place (first ++ second) ≡ data_of place first ++ data_of (after place first) second) where
@@ -37,7 +37,7 @@ module _ (web : WebAnswers) (settings : Settings) (lists : Lists) (settled : IsS
     pub rest : List Delivery
     pub parts : deliveries ≡ performed ++ rest
     pub told : List TranscriptLine
-    pub is_written : written told ≡ text
+    pub is_written : transcript_text told ≡ text
     pub stands : Stands web settings lists (done ++ performed) last course (lines ++ told)
 
   pub comes : (deliveries done : List Delivery) (state last : ScriptState) (past : List Happening) (lines : List TranscriptLine) (number : ℕ)
@@ -88,7 +88,7 @@ module _ (web : WebAnswers) (settings : Settings) (lists : Lists) (settled : IsS
           rest = m.rest;
           parts = ap (λ (ds : List Delivery). delivery ∷ ds) m.parts;
           told = n.told ++ m.told;
-          is_written = written_joined n.told m.told ∙ ap (λ (xs : List ℕ). xs ++ written m.told) n.is_written
+          is_written = written_joined n.told m.told ∙ ap (λ (xs : List ℕ). xs ++ transcript_text m.told) n.is_written
               ∙ ap (λ (xs : List ℕ). g.first ++ xs) m.is_written ∙ sym g.parts;
           stands = subst (λ (ds : List Delivery). Stands web settings lists ds last m.course (lines ++ (n.told ++ m.told))) (append_assoc done (delivery ∷ []) m.performed)
               (subst (λ (ls : List TranscriptLine). Stands web settings lists ((done ++ delivery ∷ []) ++ m.performed) last m.course ls) (append_assoc lines n.told m.told) m.stands);

@@ -9,7 +9,7 @@ use Rattle.radio_events.specs.declared.event.Event.{Event}
 use Rattle.radio_events.specs.declared.event.Event.TheVariants.{Leave}
 use Rattle.radio_events.specs.declared.reply.Reply.TheVariants.{Arrived}
 use Rattle.radio_heads.specs.Head.{RequestParts, ShowsRequest}
-use Rattle.radio_heads.specs.Laws.{IsSettled, HeadsLieWithin}
+use Rattle.radio_heads.specs.Laws.{IsStableReading, HeadsLieWithin}
 use Rattle.radio_heads.specs.Reading.{IsReading}
 use Rattle.radio_source.specs.Feeding.{unfed}
 use Rattle.radio_source.specs.Place.{Place, after, data_of, fault_at, has_ended}
@@ -20,8 +20,8 @@ use Rattle.radio_session.specs.declared.session.Says.{Says}
 use Rattle.radio_session.specs.Asking.{asks_by_get, asks_to_feed}
 use Rattle.radio_session.specs.Conversation.{asking}
 use Rattle.radio_session.specs.Framing.{greeting_of}
-use Rattle.radio_session.specs.Hearing.{Heard, HearsAs, IsHeard, body_closes, greeted, head_heard, nothing_held}
-use Rattle.radio_connections.specs.Course.{IsQuiet, Standing}
+use Rattle.radio_session.specs.Hearing.{EventReading, HearsAs, IsHeard, body_closes, greeted, head_heard, nothing_held}
+use Rattle.radio_connections.specs.Course.{HasAllApplied, Standing}
 use Rattle.radio_headline.specs.Sources.{pushed}
 use Rattle.radio_headline.proofs.AppliedLemmas.{EachAsked, said_all, web_stays}
 use Rattle.radio_headline.proofs.Connections.{IsBehindRequest, IsTold}
@@ -29,7 +29,7 @@ use Rattle.radio_headline.proofs.HeardLemmas.{AGet, ASource, Delivers, HeadHeard
 use Rattle.radio_headline.proofs.Logs.{replies}
 use Rattle.radio_headline.proofs.ServedStages.{AsksToFeed, AtHead, FeedsOn, Gets, Goes, HasGot, IsAsking, IsFeeding, Refused, nothing_asked, told_as}
 
-module _ (settled : IsSettled ShowsRequest) (within : HeadsLieWithin ShowsRequest) (joined : (bytes : List ℕ) → concat (blocks_of bytes) ≡ bytes)
+module _ (settled : IsStableReading ShowsRequest) (within : HeadsLieWithin ShowsRequest) (joined : (bytes : List ℕ) → concat (blocks_of bytes) ≡ bytes)
     (places : (place : Place) (first second : List ℕ) → after place (first ++ second) ≡ after (after place first) second)
     (data_joined : (place : Place) (first second : List ℕ) → data_of place (first ++ second) ≡ data_of place first ++ data_of (after place first) second)
     (web : WebAnswers) (peer : Peer) (id : ℕ) (s : Standing) (same : s.session.id ≡ id) (bytes : List ℕ) where
@@ -37,16 +37,16 @@ module _ (settled : IsSettled ShowsRequest) (within : HeadsLieWithin ShowsReques
   all = s.given ++ bytes
 
   -- what it has come to when this was heard
-  abbrev pub then_heard : Heard → Standing
+  abbrev pub then_heard : EventReading → Standing
   then_heard heard = record s { given = all; session = heard.conversation; pending = heard.events }
 
-  abbrev pub HasHeard : Heard → Type 0
+  abbrev pub HasHeard : EventReading → Type 0
   HasHeard heard = Goes web peer id (then_heard heard) × (heard.conversation.id ≡ id)
 
-  abbrev nothing_heard : Heard
+  abbrev nothing_heard : EventReading
   nothing_heard = record { events = []; conversation = s.session }
 
-  abbrev still_asking : (heard : Heard) → IsAsking web peer id s → IsAsking web peer id (then_heard heard)
+  abbrev still_asking : (heard : EventReading) → IsAsking web peer id s → IsAsking web peer id (then_heard heard)
   still_asking heard a = record { idle = a.idle; arrived = a.arrived; idles = a.idles }
 
   -- its head was heard, or a part of it
@@ -60,7 +60,7 @@ module _ (settled : IsSettled ShowsRequest) (within : HeadsLieWithin ShowsReques
     says_so : s.session.says ≡ said_all (asking web) (Arrived id ∷ replies a.idle)
     says_so = t.says ∙ ap (λ (xs : List Entry). said_all (asking web) (replies xs)) a.arrived
 
-    by_head : (heard : Heard) → HeadHeard settled within joined places data_joined s.session all heard → HasHeard heard
+    by_head : (heard : EventReading) → HeadHeard settled within joined places data_joined s.session all heard → HasHeard heard
     by_head heard Unfinished = (AtHead (still_asking heard a) hears refl (told_as web s.session heard.conversation s.entries s.text t refl) tt, same)
     by_head heard (IsRefused rule) = (Refused (nothing_asked web peer id s a) refl (inr (ap (λ (n : ℕ). Leave n) same), tt), same)
     by_head heard (AGet request n reading no_source is_get) = (
@@ -110,7 +110,7 @@ module _ (settled : IsSettled ShowsRequest) (within : HeadsLieWithin ShowsReques
       ∙ ap (after f.feeds.start) (sym (behind_head settled within joined places data_joined s.given bytes f.feeds.request f.feeds.length f.feeds.reading))
 
   -- more of its body was heard
-  body_heard_on : (f : IsFeeding web peer id s) → s.pending ≡ [] → f.lost ≡ [] → (heard : Heard)
+  body_heard_on : (f : IsFeeding web peer id s) → s.pending ≡ [] → f.lost ≡ [] → (heard : EventReading)
       → Delivers settled within joined places data_joined (nothing_held s.session) [] (place_of f) bytes heard → HasHeard heard
   body_heard_on f none whole heard d = (
     FeedsOn (record {
@@ -128,7 +128,7 @@ module _ (settled : IsSettled ShowsRequest) (within : HeadsLieWithin ShowsReques
     d.his ∙ same,
   )
 
-  pub hears_goes : IsQuiet s → (heard : Heard) → IsHeard s.session bytes heard → Goes web peer id s → HasHeard heard
+  pub hears_goes : HasAllApplied s → (heard : EventReading) → IsHeard s.session bytes heard → Goes web peer id s → HasHeard heard
   hears_goes quiet heard is = by_stage where
     as_known : (v : Hears) → s.session.hears ≡ v → HearsAs v s.session bytes heard
     as_known v e = subst (λ (x : Hears). HearsAs x s.session bytes heard) e is

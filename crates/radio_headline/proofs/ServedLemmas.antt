@@ -14,25 +14,25 @@ use Rattle.radio_events.specs.declared.state.State.{State}
 use Rattle.radio_events.specs.declared.state.State.TheVariants.{Running, Shut}
 use Rattle.radio_events.specs.Events.{client_in, entry as entry_of}
 use Rattle.radio_heads.specs.Head.{ShowsRequest}
-use Rattle.radio_heads.specs.Laws.{IsSettled, HeadsLieWithin}
+use Rattle.radio_heads.specs.Laws.{IsStableReading, HeadsLieWithin}
 use Rattle.radio_parts_station.specs.World.{World}
 use Rattle.radio_source.specs.Place.{Place, after, data_of}
-use Rattle.radio_core.specs.Handing.{is_number}
+use Rattle.radio_core.specs.Handing.{is_same_number}
 use Rattle.radio_parts.specs.Step.{reply_to, world_after}
-use Rattle.radio_relay.specs.Answer.{shown_by}
+use Rattle.radio_relay.specs.Answer.{shown_in_response}
 use Rattle.radio_answers.specs.declared.web_answers.WebAnswers.{WebAnswers}
-use Rattle.radio_pull.specs.Applied.{PullCourse, PullSoFar}
+use Rattle.radio_relay.specs.Applied.{PullCourse, PullSoFar}
 use Rattle.radio_session.specs.declared.session.Says.{Says}
 use Rattle.radio_session.specs.Asking.{asks_by_get, asks_to_feed}
 use Rattle.radio_session.specs.Conversation.{asking}
-use Rattle.radio_session.specs.Hearing.{Heard, IsHeard}
+use Rattle.radio_session.specs.Hearing.{EventReading, IsHeard}
 use Rattle.radio_session.specs.Saying.{said}
 use Rattle.radio_session.specs.Told.{told, while_open}
 use Rattle.radio_connections.specs.declared.conn.Fate.{Fate}
 use Rattle.radio_connections.specs.declared.conn.Fate.TheVariants.{Open, Ended, Closed, Cut}
-use Rattle.radio_connections.specs.Course.{Arrival, Course as ConnectionCourse, IsOver, IsQuiet, LetsNobodyIn, Standing, answered, fate_by, newcomer}
+use Rattle.radio_connections.specs.Course.{Arrival, Course as ConnectionCourse, IsOver, HasAllApplied, LetsNobodyIn, Standing, standing_after_reply, fate_by, newcomer}
 use Rattle.radio_connections.specs.Course.{arrives, turned_away, hears, has_room, applies, closes, is_cut, passes_over, leaves}
-use Rattle.radio_headline.specs.Course.{Happening, entry, entry_on, log_on}
+use Rattle.radio_headline.specs.Course.{Happening, applied_entry, entry_on, log_on}
 use Rattle.radio_headline.specs.Served.{HasCourse, HasHappened, HasLabelOrMoment, NothingWas, WasLetGo, WasPulled, WasServed, WasTurnedAway}
 use Rattle.radio_headline.specs.Sources.{pushed}
 use Rattle.radio_headline.proofs.AppliedLemmas.{IsLeaving, IsNotLast, IsOrderly, closes_nothing, last_shuts, leaves_silently, orderly_joined}
@@ -49,14 +49,14 @@ use Rattle.radio_headline.proofs.Settling.{logged}
 abbrev pub LeavesSo : Entry → Type 0
 LeavesSo e = (id : ℕ) → e.event ≡ Leave id → LeaveReply e.reply
 
-leaves_so : (w : World) (event : Event) → LeavesSo (entry w event)
+leaves_so : (w : World) (event : Event) → LeavesSo (applied_entry w event)
 leaves_so w event id e = subst (λ (x : Event). LeaveReply (reply_to w x)) (sym e) (leave_reply w id)
 
 pub all_leave_so : (w : World) (course : List Happening) (label : ℕ) → Each LeavesSo (log_on w course label)
 all_leave_so w [] label = tt
 all_leave_so w (h ∷ course) label =
-    each_joined LeavesSo (entry_on w h label) (log_on (world_after w h.event) course label) (here (is_number label h.label)) (all_leave_so (world_after w h.event) course label) where
-      here : (b : Bool) → Each LeavesSo (if b then entry w h.event ∷ [] else [])
+    each_joined LeavesSo (entry_on w h label) (log_on (world_after w h.event) course label) (here (is_same_number label h.label)) (all_leave_so (world_after w h.event) course label) where
+      here : (b : Bool) → Each LeavesSo (if b then applied_entry w h.event ∷ [] else [])
       here true = (leaves_so w h.event, tt)
       here false = tt
 
@@ -70,7 +70,7 @@ orderly_leave : (id : ℕ) (log : List Entry) (e : Entry) → IsLeaving id e →
 orderly_leave id [] e l o = ((λ h. tt), tt)
 orderly_leave id (x ∷ log) e l o = ((λ last. each_joined (IsLeaving id) log (e ∷ []) (o.0 last) (l, tt)), orderly_leave id log e l o.1)
 
-module _ (settled : IsSettled ShowsRequest) (within : HeadsLieWithin ShowsRequest) (joined : (bytes : List ℕ) → concat (blocks_of bytes) ≡ bytes)
+module _ (settled : IsStableReading ShowsRequest) (within : HeadsLieWithin ShowsRequest) (joined : (bytes : List ℕ) → concat (blocks_of bytes) ≡ bytes)
     (places : (place : Place) (first second : List ℕ) → after place (first ++ second) ≡ after (after place first) second)
     (data_joined : (place : Place) (first second : List ℕ) → data_of place (first ++ second) ≡ data_of place first ++ data_of (after place first) second)
     (web : WebAnswers)
@@ -111,10 +111,10 @@ module _ (settled : IsSettled ShowsRequest) (within : HeadsLieWithin ShowsReques
       facts_left (HasSentGet g) = HasSentGet (get_left g)
       facts_left (IsSource f greeted) = IsSource (source_left f) greeted
       facts_left (IsPulling p) =
-          let up = entry_of (RelayUp p.mount (shown_by p.head)) p.reply in
+          let up = entry_of (RelayUp p.mount (shown_in_response p.head)) p.reply in
           let both : arrival peer id ∷ others ≡ up ∷ p.behind = sym arrived ∙ p.in_order in
           let first : arrival peer id ≡ up = cc in
-          let event : Arrive peer ≡ RelayUp p.mount (shown_by p.head) = ap (λ (e : Entry). e.event) first in
+          let event : Arrive peer ≡ RelayUp p.mount (shown_in_response p.head) = ap (λ (e : Entry). e.event) first in
           absurd (cc)
 
     -- what is known of its log
@@ -181,7 +181,7 @@ module _ (settled : IsSettled ShowsRequest) (within : HeadsLieWithin ShowsReques
     with_none : (s : Standing) (fate : Fate) → Came (record s { given = s.given ++ []; pending = s.pending; fate = fate }) → Came (record s { fate = fate })
     with_none s fate c = subst (λ (xs : List ℕ). Came (record s { given = xs; fate = fate })) (append-nil s.given) c
 
-    hears_on : (s : Standing) → Came s → IsQuiet s → (bytes : List ℕ) (heard : Heard) → IsHeard s.session bytes heard
+    hears_on : (s : Standing) → Came s → HasAllApplied s → (bytes : List ℕ) (heard : EventReading) → IsHeard s.session bytes heard
         → Came (record s { given = s.given ++ bytes; session = heard.conversation; pending = heard.events })
     hears_on s c quiet bytes heard is =
         let g = c.going quiet.0 in
@@ -191,7 +191,7 @@ module _ (settled : IsSettled ShowsRequest) (within : HeadsLieWithin ShowsReques
           going = λ goes. record { same = next.1; not_last = g.not_last; goes = next.0 };
         }
 
-    room_on : (s : Standing) → Came s → IsQuiet s → (room : ℕ) → Came (record s { pending = Draw id room ∷ [] })
+    room_on : (s : Standing) → Came s → HasAllApplied s → (room : ℕ) → Came (record s { pending = Draw id room ∷ [] })
     room_on s c quiet room = record {
       known = c.known;
       going = λ goes. let g = c.going goes in record { same = g.same; not_last = g.not_last; goes = room_goes web peer id s room quiet.1 g.goes };
@@ -202,7 +202,7 @@ module _ (settled : IsSettled ShowsRequest) (within : HeadsLieWithin ShowsReques
     running (Shut ending) e = absurd (cc)
 
     applies_on : (s : Standing) → Came s → s.fate ≡ Open → (event : Event) (later : List Event) → s.pending ≡ event ∷ later → (reply : Reply)
-        → Came (answered s event later reply)
+        → Came (standing_after_reply s event later reply)
     applies_on s c runs event later some reply =
         let one = entry_of event reply in
         let g = c.going runs in

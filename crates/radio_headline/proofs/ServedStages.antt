@@ -26,7 +26,7 @@ use Rattle.radio_session.specs.Conversation.{Conversation, asking, saying_now}
 use Rattle.radio_session.specs.Framing.{framing_of, is_source, start_of}
 use Rattle.radio_session.specs.Saying.{Said, said}
 use Rattle.radio_session.specs.Told.{told}
-use Rattle.radio_connections.specs.Course.{Standing, answered, pending_by}
+use Rattle.radio_connections.specs.Course.{Standing, standing_after_reply, pending_by}
 use Rattle.radio_headline.specs.Sources.{pushed}
 use Rattle.radio_headline.proofs.AppliedLemmas.{EachAsked, IsLast, IsNotLast, IsOpen, IsOrderly, nothing_later, open_joined, said_all, said_joined, told_joined}
 use Rattle.radio_headline.proofs.ClientEvents.{IsIdleOrLeave, behind_is_his, events_of_joined, feeds_with, get_with, idle_asks_nothing, idle_is_his, idle_or_leaving_is_his, pushed_joined}
@@ -164,7 +164,7 @@ module _ (web : WebAnswers) (peer : Peer) (id : ℕ) where
     pub record IsApplied : Type 0 where
       pub his : client_in event ≡ Some id
       pub facts : Facts web s.given (s.entries ++ one ∷ []) (s.text ++ now.bytes)
-      pub goes : now.state ≡ Running → Goes (answered s event later reply)
+      pub goes : now.state ≡ Running → Goes (standing_after_reply s event later reply)
 
     waiting : (P : Event → Type 0) → now.state ≡ Running → EachAsked P later → EachAsked P (pending_by now.state later)
     waiting P run h = subst (λ (state : State). EachAsked P (pending_by state later)) (sym run) h

@@ -7,7 +7,7 @@ use Rattle.radio_events.specs.Events.{client_in}
 use Rattle.radio_parts_station.specs.World.{World}
 use Rattle.radio_events.specs.declared.state.State.TheVariants.{Running}
 use Rattle.radio_session.specs.Conversation.{Conversation, saying_now}
-use Rattle.radio_exchanges.specs.Exchanges.{exchanged}
+use Rattle.radio_floor.specs.Exchanges.{exchanged}
 use Rattle.radio_floor.specs.declared.labelled.Connection.TheVariants.{Client}
 use Rattle.radio_floor.specs.ScriptState.{connection_unless}
 use Rattle.radio_headline.specs.Course.{applied}

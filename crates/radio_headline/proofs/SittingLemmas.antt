@@ -19,7 +19,7 @@ use Rattle.radio_core.specs.SessionSteps.{Stays, Begins, BeginsForRelay, Grows, 
 use Rattle.radio_parts.specs.Step.{reply_to, world_after}
 use Rattle.radio_parts_station.specs.Waiting.{heard_at}
 use Rattle.radio_parts_station.specs.World.{World, opening}
-use Rattle.radio_laws.specs.Stretches.{SeatsKeepTheirMounts, Sitting, begun_sittings, sitting_in, sittings}
+use Rattle.radio_laws.specs.Stretches.{SeatsKeepTheirMounts, Sitting, begun_sittings, sitting_of_seat, sittings}
 use Rattle.radio_headline.specs.Course.{Happening, events_in, on}
 use Rattle.radio_headline.proofs.Logs.{after_joined, events_joined}
 use Rattle.radio_headline.proofs.ReplyForms.{comes_up}
@@ -129,12 +129,12 @@ module _ (settings : Settings) (lists : Lists)
   all_joined P (x ∷ xs) ys h k = (h.0, all_joined P xs ys h.1 k)
 
   module _ (P : Sitting → Type 0) where
-    in_his_seat : (old : Option Seat) (now : Option Seat) → ((seat : Seat) → now ≡ Some seat → P (sitting_in seat)) → AllByRecursion P (begun_sittings old now)
+    in_his_seat : (old : Option Seat) (now : Option Seat) → ((seat : Seat) → now ≡ Some seat → P (sitting_of_seat seat)) → AllByRecursion P (begun_sittings old now)
     in_his_seat None None f = tt
     in_his_seat (Some old) None f = tt
     in_his_seat None (Some seat) f = (f seat refl, tt)
     in_his_seat (Some old) (Some seat) f = by_session (old.session == seat.session) where
-      by_session : (b : Bool) → AllByRecursion P (if b then [] else sitting_in seat ∷ [])
+      by_session : (b : Bool) → AllByRecursion P (if b then [] else sitting_of_seat seat ∷ [])
       by_session true = tt
       by_session false = (f seat refl, tt)
 

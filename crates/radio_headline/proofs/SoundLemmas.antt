@@ -20,11 +20,11 @@ use Rattle.radio_core.specs.Totals.{AddsUp}
 use Rattle.radio_parts_station.specs.World.{World, opening}
 use Rattle.radio_heads.specs.declared.outcome.Progress.TheVariants.{Whole}
 use Rattle.radio_heads.specs.Head.{RequestParts}
-use Rattle.radio_relay.specs.Answer.{shown_by}
+use Rattle.radio_relay.specs.Answer.{shown_in_response}
 use Rattle.radio_relay.specs.Pulled.{ShownPart, pulled_by_interval, stream_parts, stream_pulled, stream_with}
 use Rattle.radio_session.specs.Asking.{asks_by_get, asks_to_hear, gives_command, is_for_commands, path_in}
-use Rattle.radio_pull.specs.Pulling.{answered}
-use Rattle.radio_headline.specs.Course.{Happening, events_in, on, entry, log_on}
+use Rattle.radio_relay.specs.Pulling.{state_after_reply}
+use Rattle.radio_headline.specs.Course.{Happening, events_in, on, applied_entry, log_on}
 use Rattle.radio_headline.specs.Sources.{DeliversItsSound, RelaysDeliverTheirSound, pushed}
 use Rattle.radio_headline.proofs.Gathered.{IsOnIt}
 use Rattle.radio_headline.proofs.Logs.{log_parted, Each, each_as, each_joined}
@@ -195,20 +195,20 @@ module _ (web : WebAnswers) (settings : Settings) (lists : Lists)
     abbrev behind : List Entry
     behind = log_on (world_after w event) later label
 
-    in_order : log label ≡ before ++ entry w event ∷ behind
+    in_order : log label ≡ before ++ applied_entry w event ∷ behind
     in_order = ap (λ (hs : List Happening). log_on w0 hs label) parts ∙ log_parted w0 past later label event
 
     whole : Pulls (brought label) (log label)
-    whole = pulls_so web (brought label) (log label) (given label) before behind (entry w event) in_order tt (each label).facts
+    whole = pulls_so web (brought label) (log label) (given label) before behind (applied_entry w event) in_order tt (each label).facts
 
-    first : IsFirst before (entry w event) (record { event = RelayUp whole.mount (shown_by whole.head); reply = whole.reply }) behind whole.behind
-    first = is_first before behind whole.behind (entry w event) _ (sym in_order ∙ whole.in_order) tt (no_up_not whole.behind whole.no_more)
+    first : IsFirst before (applied_entry w event) (record { event = RelayUp whole.mount (shown_in_response whole.head); reply = whole.reply }) behind whole.behind
+    first = is_first before behind whole.behind (applied_entry w event) _ (sym in_order ∙ whole.in_order) tt (no_up_not whole.behind whole.no_more)
 
     reached_here : Reached settings lists fits adds steps w
     reached_here = reached_all settings lists fits adds steps w0 (events_in past) (reached_opening settings lists fits adds steps)
 
     has_number : HasNumber number (log label)
-    has_number = subst (HasNumber number) (sym (in_order ∙ ap (λ (xs : List Entry). xs ++ entry w event ∷ behind) first.before_none)) (inl arrived)
+    has_number = subst (HasNumber number) (sym (in_order ∙ ap (λ (xs : List Entry). xs ++ applied_entry w event ∷ behind) first.before_none)) (inl arrived)
 
     on_it : AllByRecursion (IsOnIt label number) course
     on_it = on_his web settings lists fits adds steps brought given course each nowhere label number has_number
@@ -227,7 +227,7 @@ module _ (web : WebAnswers) (settings : Settings) (lists : Lists)
     own_behind =
         let own = (subst (OwnRelay None) whole.in_order whole.own).1 in
         subst (OwnRelay (Some number)) (sym first.behind)
-        (subst (λ (r : Reply). OwnRelay (answered None r).number whole.behind) reply_so own)
+        (subst (λ (r : Reply). OwnRelay (state_after_reply None r).number whole.behind) reply_so own)
 
     his_behind : Each (IsNoRequest number) behind
     his_behind = own_his number behind own_behind (subst (Each (λ e. IsNoUp e.event)) (sym first.behind) whole.no_more)
@@ -244,21 +244,21 @@ module _ (web : WebAnswers) (settings : Settings) (lists : Lists)
     all_noted : delivered w0 (events_in course) number ≡ noted behind
     all_noted =
         delivered_gathered w0 course label number on_it his_or_not
-        ∙ ap noted (in_order ∙ ap (λ (xs : List Entry). xs ++ entry w event ∷ behind) first.before_none)
+        ∙ ap noted (in_order ∙ ap (λ (xs : List Entry). xs ++ applied_entry w event ∷ behind) first.before_none)
         ∙ ap (λ (xs : List ℕ). xs ++ noted behind) (no_block event (reply_to w event) refl) where
           his_or_not : Each (IsHisOrNotesNothing number) (log label)
-          his_or_not = subst (Each (IsHisOrNotesNothing number)) (sym (in_order ∙ ap (λ (xs : List Entry). xs ++ entry w event ∷ behind) first.before_none)) (
+          his_or_not = subst (Each (IsHisOrNotesNothing number)) (sym (in_order ∙ ap (λ (xs : List Entry). xs ++ applied_entry w event ∷ behind) first.before_none)) (
             inr (no_block event (reply_to w event) refl),
             each_as (IsNoRequest number) (IsHisOrNotesNothing number) (λ e h. inl (behind_is_his number e.event h)) behind his_behind,
           )
 
-    shown_so : shown ≡ shown_by whole.head
+    shown_so : shown ≡ shown_in_response whole.head
     shown_so =
-        let both : RelayUp mount shown ≡ RelayUp whole.mount (shown_by whole.head) = ap (λ (x : Entry). x.event) first.here in cc
+        let both : RelayUp mount shown ≡ RelayUp whole.mount (shown_in_response whole.head) = ap (λ (x : Entry). x.event) first.here in cc
 
     its_sound : DeliversItsSound settings lists brought course label number shown
     its_sound =
-        let answer = stream_pulled (ShownPart (shown_by whole.head) ∷ []) (stream_with whole.interval) (drop whole.length (brought label)) in
+        let answer = stream_pulled (ShownPart (shown_in_response whole.head) ∷ []) (stream_with whole.interval) (drop whole.length (brought label)) in
         record {
           pulled = answer;
           is_pulled = (Ok (Whole whole.head whole.length), whole.reading, ap (pulled_by_interval whole.head (drop whole.length (brought label))) (sym whole.told));

@@ -16,13 +16,13 @@ use Rattle.radio_parts_station.specs.declared.standing.Standing.TheVariants.{Unk
 use Rattle.radio_core.specs.ClientSteps.{ClientStep, ClientsStep}
 use Rattle.radio_core.specs.ClientSteps.{Stays, Arrives, IsAnswered, IsObeyed, IsShown, BeginsToFeed, SitsDown, StopsFeeding, Leaves, ComesUp, GoesDown, IsFinished}
 use Rattle.radio_core.specs.Finishes.{Finishes}
-use Rattle.radio_core.specs.Handing.{is_number, delivered}
+use Rattle.radio_core.specs.Handing.{is_same_number, delivered}
 use Rattle.radio_core.specs.Others.{RepliesFit}
 use Rattle.radio_core.specs.Run.{run_after, world_after_all}
 use Rattle.radio_parts.specs.Step.{reply_to, world_after}
 use Rattle.radio_core.specs.Totals.{AddsUp}
 use Rattle.radio_parts_station.specs.World.{World, standing_of}
-use Rattle.radio_headline.specs.Course.{Happening, events_in, on, entry, log_on}
+use Rattle.radio_headline.specs.Course.{Happening, events_in, on, applied_entry, log_on}
 use Rattle.radio_headline.specs.Sources.{pushed, pushed_by}
 use Rattle.radio_headline.proofs.Logs.{Each}
 use Rattle.radio_headline.proofs.AppliedLemmas.{IsLast, IsLeaving, IsOrderly}
@@ -67,8 +67,8 @@ delivered_gathered w past label id on his = in_order w past ∙ gathered noted_o
   in_order : (x : World) (hs : List Happening) → delivered x (events_in hs) id ≡ brought_to noted_of x hs id
   in_order x [] = refl
   in_order x (h ∷ hs) =
-      ap (λ (xs : List ℕ). (if is_number id (client_in h.event) then xs else []) ++ delivered (world_after x h.event) (events_in hs) id) (brings_noted x h.event)
-      ∙ ap (λ (xs : List ℕ). (if is_number id (client_in h.event) then noted_of (entry x h.event) else []) ++ xs) (in_order (world_after x h.event) hs)
+      ap (λ (xs : List ℕ). (if is_same_number id (client_in h.event) then xs else []) ++ delivered (world_after x h.event) (events_in hs) id) (brings_noted x h.event)
+      ∙ ap (λ (xs : List ℕ). (if is_same_number id (client_in h.event) then noted_of (applied_entry x h.event) else []) ++ xs) (in_order (world_after x h.event) hs)
 
 -- it feeds no mount
 abbrev FeedsNothing : Standing → Type 0
@@ -180,34 +180,34 @@ module _ (settings : Settings) (lists : Lists)
   brings_nothing w [] label id r below on h n = tt
   brings_nothing w (x ∷ past) label id r below on h n =
       by_label (brings_nothing (world_after w x.event) past label id (reached_after settings lists fits adds steps w x.event r)
-      (last_stays settings lists fits adds steps w x.event id r below) on.1) (is_number label x.label) refl h where
+      (last_stays settings lists fits adds steps w x.event id r below) on.1) (is_same_number label x.label) refl h where
         by_label : (Each (IsNoRequest id) (log_on (world_after w x.event) past label) → FeedsNothing (standing_of (world_after w x.event) id)
             → Each NotesNothing (log_on (world_after w x.event) past label))
-            → (b : Bool) → is_number label x.label ≡ b
-            → Each (IsNoRequest id) ((if b then entry w x.event ∷ [] else []) ++ log_on (world_after w x.event) past label)
-            → Each NotesNothing ((if b then entry w x.event ∷ [] else []) ++ log_on (world_after w x.event) past label)
+            → (b : Bool) → is_same_number label x.label ≡ b
+            → Each (IsNoRequest id) ((if b then applied_entry w x.event ∷ [] else []) ++ log_on (world_after w x.event) past label)
+            → Each NotesNothing ((if b then applied_entry w x.event ∷ [] else []) ++ log_on (world_after w x.event) past label)
         by_label ih true e k = (behind_notes w id x.event k.0 n, ih k.1 (step_nothing w x.event id r below (λ his. k.0) n))
         by_label ih false e k = ih k (step_nothing w x.event id r below (λ his. let no : true ≡ false = sym (on.0 his) ∙ e in cc) n)
 
   -- a source brings a front of what it pushes
   module _ (w : World) (event : Event) (id : ℕ) (log : List Entry) (his : IsBehindRequest id event)
-      (orderly : IsCut (entry w event ∷ log)) (silent : FeedsNothing (standing_of w id) → Each NotesNothing log) (later : Front log) where
-    goes_on_so : noted_block (reply_to w event) event ≡ pushed_by event → Front (entry w event ∷ log)
+      (orderly : IsCut (applied_entry w event ∷ log)) (silent : FeedsNothing (standing_of w id) → Each NotesNothing log) (later : Front log) where
+    goes_on_so : noted_block (reply_to w event) event ≡ pushed_by event → Front (applied_entry w event ∷ log)
     goes_on_so e = record {
       rest = later.rest;
       is_front = ap (λ (xs : List ℕ). xs ++ noted log ++ later.rest) e
           ∙ append_assoc (pushed_by event) (noted log) later.rest ∙ ap (λ (xs : List ℕ). pushed_by event ++ xs) later.is_front;
     }
 
-    stops_so : noted_block (reply_to w event) event ≡ [] → Each NotesNothing log → Front (entry w event ∷ log)
+    stops_so : noted_block (reply_to w event) event ≡ [] → Each NotesNothing log → Front (applied_entry w event ∷ log)
     stops_so e none = record {
-      rest = pushed (events_of (entry w event ∷ log));
-      is_front = ap (λ (xs : List ℕ). xs ++ noted log ++ pushed (events_of (entry w event ∷ log))) e
-          ∙ ap (λ (xs : List ℕ). xs ++ pushed (events_of (entry w event ∷ log))) (nothing_noted log none);
+      rest = pushed (events_of (applied_entry w event ∷ log));
+      is_front = ap (λ (xs : List ℕ). xs ++ noted log ++ pushed (events_of (applied_entry w event ∷ log))) e
+          ∙ ap (λ (xs : List ℕ). xs ++ pushed (events_of (applied_entry w event ∷ log))) (nothing_noted log none);
     }
 
     by_push : (him : ℕ) (block : List ℕ) → event ≡ Push him block → (r : Reply) → reply_to w event ≡ r → PushReply w him r → him ≡ id
-        → Front (entry w event ∷ log)
+        → Front (applied_entry w event ∷ log)
     by_push him block e (Arrived other) d h same = elim h [ ]
     by_push him block e Feeding d h same = elim h [ ]
     by_push him block e (Seated interval head) d h same = elim h [ ]
@@ -229,8 +229,8 @@ module _ (settings : Settings) (lists : Lists)
           feeds_none Answered f = tt
           feeds_none (HasFinished rule) f = tt
 
-  one_more : (w : World) (event : Event) (id : ℕ) (log : List Entry) → IsBehindRequest id event → IsCut (entry w event ∷ log)
-      → (FeedsNothing (standing_of w id) → Each NotesNothing log) → Front log → Front (entry w event ∷ log)
+  one_more : (w : World) (event : Event) (id : ℕ) (log : List Entry) → IsBehindRequest id event → IsCut (applied_entry w event ∷ log)
+      → (FeedsNothing (standing_of w id) → Each NotesNothing log) → Front log → Front (applied_entry w event ∷ log)
   one_more w (Arrive peer) id log his orderly silent later = elim his [ ]
   one_more w (Source asked) id log his orderly silent later = elim his [ ]
   one_more w (Listen asked) id log his orderly silent later = elim his [ ]
@@ -255,12 +255,12 @@ module _ (settings : Settings) (lists : Lists)
   brings_front w [] label id r below on h o = record { rest = []; is_front = refl }
   brings_front w (x ∷ past) label id r below on h o =
       by_label (brings_front (world_after w x.event) past label id (reached_after settings lists fits adds steps w x.event r)
-      (last_stays settings lists fits adds steps w x.event id r below) on.1) (is_number label x.label) h o where
+      (last_stays settings lists fits adds steps w x.event id r below) on.1) (is_same_number label x.label) h o where
         by_label : (Each (IsNoRequest id) (log_on (world_after w x.event) past label) → IsCut (log_on (world_after w x.event) past label)
             → Front (log_on (world_after w x.event) past label))
-            → (b : Bool) → Each (IsNoRequest id) ((if b then entry w x.event ∷ [] else []) ++ log_on (world_after w x.event) past label)
-            → IsCut ((if b then entry w x.event ∷ [] else []) ++ log_on (world_after w x.event) past label)
-            → Front ((if b then entry w x.event ∷ [] else []) ++ log_on (world_after w x.event) past label)
+            → (b : Bool) → Each (IsNoRequest id) ((if b then applied_entry w x.event ∷ [] else []) ++ log_on (world_after w x.event) past label)
+            → IsCut ((if b then applied_entry w x.event ∷ [] else []) ++ log_on (world_after w x.event) past label)
+            → Front ((if b then applied_entry w x.event ∷ [] else []) ++ log_on (world_after w x.event) past label)
         by_label ih true k p =
             one_more w x.event id (log_on (world_after w x.event) past label) k.0 p
             (λ n. brings_nothing (world_after w x.event) past label id (reached_after settings lists fits adds steps w x.event r)
@@ -279,9 +279,9 @@ module _ (settings : Settings) (lists : Lists)
       → id ≤ (world_after_all w (events_in past)).station.last_id
   given_before w [] label id r h = elim h [ ]
   given_before w (x ∷ past) label id r h =
-      by_label (given_before (world_after w x.event) past label id (reached_after settings lists fits adds steps w x.event r)) (is_number label x.label) h where
+      by_label (given_before (world_after w x.event) past label id (reached_after settings lists fits adds steps w x.event r)) (is_same_number label x.label) h where
         by_label : (HasNumber id (log_on (world_after w x.event) past label) → id ≤ (world_after_all (world_after w x.event) (events_in past)).station.last_id)
-            → (b : Bool) → HasNumber id ((if b then entry w x.event ∷ [] else []) ++ log_on (world_after w x.event) past label)
+            → (b : Bool) → HasNumber id ((if b then applied_entry w x.event ∷ [] else []) ++ log_on (world_after w x.event) past label)
             → id ≤ (world_after_all (world_after w x.event) (events_in past)).station.last_id
         by_label ih true (inl e) =
             last_stays_all (world_after w x.event) (events_in past) id (reached_after settings lists fits adds steps w x.event r)

@@ -9,14 +9,14 @@ use Rattle.radio_events.specs.declared.entry.Entry.{Entry}
 use Rattle.radio_events.specs.declared.event.Event.{Event}
 use Rattle.radio_core.specs.Run.{run_after, world_after_all}
 use Rattle.radio_parts_station.specs.World.{World, opening}
-use Rattle.radio_deliveries.specs.declared.delivery.Delivery.{Delivery}
-use Rattle.radio_deliveries.specs.declared.delivery.Delivery.TheVariants.{To}
-use Rattle.radio_deliveries.specs.declared.delivery.Input.{Input}
-use Rattle.radio_deliveries.specs.Given.{TranscriptLine, given}
+use Rattle.radio_script.specs.declared.delivery.Delivery.{Delivery}
+use Rattle.radio_script.specs.declared.delivery.Delivery.TheVariants.{To}
+use Rattle.radio_script.specs.declared.delivery.Input.{Input}
+use Rattle.radio_script.specs.Given.{TranscriptLine, given}
 use Rattle.radio_floor.specs.declared.labelled.Connection.{Connection}
 use Rattle.radio_floor.specs.ScriptState.{ScriptState, connection_of}
 use Rattle.radio_headline.specs.Course.{Happening, events_in, on, log_on}
-use Rattle.radio_headline.specs.Scripts.{brought, brought_by, bytes_in}
+use Rattle.radio_headline.specs.Scripts.{brought, bytes_delivered, bytes_in}
 use Rattle.radio_headline.proofs.Logs.{entries, log_joined, log_here, log_elsewhere, after_joined, events_joined, events_on, itself, other_number}
 use Rattle.radio_headline.proofs.RunLemmas.{AllNowhere, IsMoment}
 use Rattle.radio_headline.proofs.Connections.{IsSo}
@@ -25,7 +25,7 @@ use Rattle.radio_tables.proofs.KeyLaws.{by_number}
 use Rattle.radio_answers.specs.declared.web_answers.WebAnswers.{WebAnswers}
 
 pub brought_joined : (deliveries more : List Delivery) (label : ℕ) → brought (deliveries ++ more) label ≡ brought deliveries label ++ brought more label
-brought_joined deliveries more label = flat_map-append (brought_by label) deliveries more
+brought_joined deliveries more label = flat_map-append (bytes_delivered label) deliveries more
 
 pub brought_here : (label : ℕ) (input : Input) → brought (To label input ∷ []) label ≡ bytes_in input
 brought_here label input = append-nil (if label == label then bytes_in input else []) ∙ ap (λ (b : Bool). if b then bytes_in input else []) (itself label)

@@ -25,11 +25,11 @@ use Rattle.radio_parts.specs.Ways.{rows_for}
 use Rattle.radio_parts_station.specs.World.{World, opening}
 use Rattle.radio_laws.specs.Admission.{IsSeated}
 use Rattle.radio_laws.specs.Stretches.{AreSlices, AreStretches, Sitting, cut_at_sittings, sittings}
-use Rattle.radio_pull.specs.Laws.{ItemsAreOfTheirRelay}
+use Rattle.radio_relay.specs.PullLaws.{ItemsAreOfTheirRelay}
 use Rattle.radio_answers.specs.declared.web_answers.WebAnswers.{WebAnswers}
 use Rattle.radio_session.specs.Bodies.{PlainBodiesAreHeard, SizedBodiesAreHeard, ChunkedBodiesAreHeard, FaultyBodiesAreHeard}
 use Rattle.radio_session.specs.Draws.{joined_draws}
-use Rattle.radio_answers.specs.Answers.{denial, head_text, interval_told, text_answer}
+use Rattle.radio_answers.specs.Answers.{denial, head_text, sent_interval, text_answer}
 use Rattle.radio_session.specs.Saying.{greeting_text}
 use Rattle.radio_session.specs.Told.{draws_of, taken_out}
 use Rattle.radio_headline.specs.Course.{Happening, events_in, on}
@@ -83,9 +83,9 @@ module _ (settings : Settings) (lists : Lists) (brought : ℕ → List ℕ) (cou
       pub behind : List ℕ
       pub head_first : bytes ≡ head_text web interval head ++ behind
       pub are_draws : behind ≡ joined_draws interval (draws_to (opening settings lists) (events_in course) asked.id)
-      pub plain : interval_told interval ≡ None → behind ≡ sound_of_calls (draws_to (opening settings lists) (events_in course) asked.id)
-      pub woven : (n : ℕ) → interval_told interval ≡ Some n → IsWoven n (draws_to (opening settings lists) (events_in course) asked.id) behind
-      pub taken_out_again : (n : ℕ) → interval_told interval ≡ Some n
+      pub plain : sent_interval interval ≡ None → behind ≡ sound_of_calls (draws_to (opening settings lists) (events_in course) asked.id)
+      pub woven : (n : ℕ) → sent_interval interval ≡ Some n → IsWoven n (draws_to (opening settings lists) (events_in course) asked.id) behind
+      pub taken_out_again : (n : ℕ) → sent_interval interval ≡ Some n
           → sound_in (taken_out n behind) ≡ sound_of_calls (draws_to (opening settings lists) (events_in course) asked.id)
       pub are_slices : DrawsAreStretches settings lists (events_in course) asked.id
       pub are_cut : DrawsAreCut settings lists (events_in course) asked.id
@@ -103,7 +103,7 @@ module _ (settings : Settings) (lists : Lists) (brought : ℕ → List ℕ) (cou
 
     -- a client that asks so on the connection of the label, when this had happened: the bytes that have come are read as that request, and it is
     -- given that
-    pub record IsAnswered (given : ℕ → List ℕ) (label : ℕ) (asked : ListenRequest) (past : List Happening) : Type 0 where
+    pub record ListenerIsAnswered (given : ℕ → List ℕ) (label : ℕ) (asked : ListenRequest) (past : List Happening) : Type 0 where
       pub is_request : IsRequest (brought label) asked.id (Listen asked) []
       pub is_given : IsGiven (server_after past) asked (given label) (reply_to (server_after past) (Listen asked))
 
@@ -138,7 +138,7 @@ module _ (settings : Settings) (lists : Lists) (brought : ℕ → List ℕ) (cou
     -- each who asks to hear a mount
     abbrev pub ListenersAreGiven : (ℕ → List ℕ) → Type 0
     ListenersAreGiven given = (label : ℕ) (asked : ListenRequest) (past later : List Happening) → course ≡ past ++ on label (Listen asked) ∷ later
-        → IsAnswered given label asked past
+        → ListenerIsAnswered given label asked past
 
 -- What the data of a source's body are (RFC 9112, section 6), and nothing that frames them. They are all of a plain body, so many bytes of a sized
 -- one, and those of the chunks of a chunked one. A body with a byte that no chunked body has there ends by that fault.

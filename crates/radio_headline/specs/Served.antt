@@ -11,7 +11,7 @@ use Rattle.radio_events.specs.declared.reply.Reply.TheVariants.{Arrived}
 use Rattle.radio_events.specs.Events.{entry}
 use Rattle.radio_parts_station.specs.World.{opening}
 use Rattle.radio_answers.specs.declared.web_answers.WebAnswers.{WebAnswers}
-use Rattle.radio_pull.specs.Applied.{PullCourse, PullSoFar}
+use Rattle.radio_relay.specs.Applied.{PullCourse, PullSoFar}
 use Rattle.radio_connections.specs.Course.{Arrival, Course as ConnectionCourse, LetsNobodyIn, Standing}
 use Rattle.radio_headline.specs.Course.{Happening, log_on}
 use Rattle.radio_headline.specs.Listeners.{CourseHearsSlices}

@@ -17,11 +17,11 @@ use Rattle.radio_parts_station.specs.Waiting.{is_on_demand, shown_by_nobody}
 use Rattle.radio_parts_station.specs.World.{opening}
 use Rattle.radio_events.specs.declared.reply.Reply.TheVariants.{Arrived}
 use Rattle.radio_parts_mount.specs.Sessions.{Session}
-use Rattle.radio_relay.specs.Laws.{sound_in}
-use Rattle.radio_relay.specs.Pulled.{IsPulled, Part, Pulled, ShownPart}
+use Rattle.radio_relay.specs.Laws.{sound_of_parts}
+use Rattle.radio_relay.specs.Pulled.{IsPulled, PulledPart, Pulled, ShownPart}
 use Rattle.radio_answers.specs.declared.web_answers.WebAnswers.{WebAnswers}
 use Rattle.radio_session.specs.Conversation.{fresh}
-use Rattle.radio_session.specs.Hearing.{Heard, IsHeard}
+use Rattle.radio_session.specs.Hearing.{EventReading, IsHeard}
 use Rattle.radio_headline.specs.Course.{Happening, events_in, on}
 
 abbrev pub pushed_by : Event → List ℕ
@@ -36,7 +36,7 @@ pushed events = flat_map pushed_by events
 pub record IsRequest (bytes : List ℕ) (id : ℕ) (request : Event) (behind : List Event) : Type 0 where
   pub web : WebAnswers
   pub peer : Peer
-  pub heard : Heard
+  pub heard : EventReading
   pub is_heard : IsHeard (fresh web id peer) bytes heard
   pub begins : heard.events ≡ request ∷ behind
 
@@ -55,10 +55,10 @@ pub record DeliversItsSound (settings : Settings) (lists : Lists) (brought : ℕ
     : Type 0 where
   pub pulled : Pulled
   pub is_pulled : IsPulled (brought label) pulled
-  pub parts : List Part
+  pub parts : List PulledPart
   pub begins : pulled.parts ≡ ShownPart shown ∷ parts
   pub undelivered : List ℕ
-  pub is_front : sound_in parts ≡ delivered (opening settings lists) (events_in course) number ++ undelivered
+  pub is_front : sound_of_parts parts ≡ delivered (opening settings lists) (events_in course) number ++ undelivered
 
 -- The number 0 is nobody's, and nothing is delivered under it: so nothing is heard while one waits for a session, which is to sit in one of this number.
 abbrev pub NobodyDelivers : Settings → Lists → List Event → Type 0

@@ -26,7 +26,7 @@ use radio_laws::{
     whoever_may_is_served,
 };
 use radio_policy::denials_name_the_first_rule;
-use radio_pull::items_are_of_their_relay;
+use radio_relay::items_are_of_their_relay;
 use radio_script::transcripts_are_read_one_way;
 use radio_session::{bodies_are_heard_as_their_data, listeners_are_told_what_they_draw};
 use radio_source::laws::pieces_are_joined;
@@ -67,7 +67,7 @@ pub fn events_are_lawful()
 }
 
 /// In every history that is a run from an opening state, the laws of every run hold at each entry, and a listener's
-/// draws, joined, are slices of what its sources delivered. `settle` of `radio_settling` gives such a history if it
+/// draws, joined, are slices of what its sources delivered. `settle` of `radio_hall` gives such a history if it
 /// ends well.
 // rule: Without gap or repeat
 pub fn histories_are_lawful()

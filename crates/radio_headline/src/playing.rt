@@ -2,8 +2,8 @@
 
 ghost use Rattle.std.specs.Prelude.{◌≡◌, ◌≢◌, ◌+◌, ◌≤◌, true, None, Ok, Err};
 ghost use Rattle.radio_script.specs.Plays.{IfKnown, Writes};
-ghost use Rattle.radio_script.specs.Script.{deliveries_from, lines_of};
-ghost use Rattle.radio_deliveries.specs.Reading.{reader_failures, writer_failures};
+ghost use Rattle.radio_script.specs.Script.{deliveries_from, script_lines};
+ghost use Rattle.radio_script.specs.Reading.{reader_failures, writer_failures};
 ghost use Rattle.radio_floor.specs.Transcript.{PlaysScript};
 ghost use Rattle.radio_headline.specs.Scripts.{HearsSlices};
 
@@ -39,7 +39,7 @@ pub fn play<R: CountedRead, W: CountedWrite>(
     // that denies it
     ensures hears { IfKnown (R.remaining reader.old) (R.remaining reader.new) (λ script left.
         Writes (W.contents writer.old) (W.contents writer.new) (W.calls writer.old) (W.calls writer.new) (λ written turns.
-        (done : Unit {0}) → result ≡ Ok done → HearsSlices web settings lists (deliveries_from 1 (lines_of script)) written None)) }
+        (done : Unit {0}) → result ≡ Ok done → HearsSlices web settings lists (deliveries_from 1 (script_lines script)) written None)) }
     // 1,000,000 lines of 65,536 bytes with their line feeds, a byte a call, and one call more
     ensures reader_calls { R.calls reader.new ≤ R.calls reader.old + 65537000001 }
     // a fault of a device comes with its first failure, and only with one

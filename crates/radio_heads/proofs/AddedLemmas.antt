@@ -16,7 +16,7 @@ use Rattle.radio_heads.specs.Answer.{content_type, denial_body, denial_text, lin
 use Rattle.radio_heads.specs.Laws.{sized_parts}
 use Rattle.radio_heads.specs.Reading.{IsHead}
 use Rattle.radio_heads.specs.Response.{ShowsResponse}
-use Rattle.radio_heads.specs.WebAnswer.{page_head, shared_head, stream_text}
+use Rattle.radio_heads.specs.WebAnswer.{page_head, shared_head, stream_head_text}
 use Rattle.radio_heads.specs.WebLaws.{page_headers, shared_headers, stream_headers}
 use Rattle.radio_heads.proofs.ReadBackLemmas.{Header, IsHeaderValue, IsSoundHeader, IsStatus, header_text, head_is_written, head_text, sound_from, status_200, status_400, status_401, status_403, status_404}
 use Rattle.radio_heads.proofs.AnswerLemmas.{one_is_sound, one_line, sized_head_is, sized_is_clean, sized_is_few, sized_is_short, type_is_short, type_is_value, value_from}
@@ -187,8 +187,8 @@ module _ (additions : Additions) where
     command = λ kind body more small. sized_is_read_with 200 _ _ status_200 first_200 (content_type kind) body more (type_is_value kind) (type_is_short kind) small;
     stream = λ origin w more clean_origin short_origin clean short small.
         subst (λ (xs : List ℕ). IsHead ShowsResponse (with_additions additions xs ++ more) (parts_of_status 200 (added ++ stream_headers origin w))
-        (length (with_additions additions (stream_text origin w)))) (append-nil (stream_text origin w))
-        (added_is_read 200 _ _ status_200 first_200 (stream_text origin w) [] more (stream_headers origin w) (stream_text_is origin w)
+        (length (with_additions additions (stream_head_text origin w)))) (append-nil (stream_head_text origin w))
+        (added_is_read 200 _ _ status_200 first_200 (stream_head_text origin w) [] more (stream_headers origin w) (stream_text_is origin w)
         (stream_is_sound origin w clean_origin clean small) (stream_is_few origin w) (stream_is_short origin w short_origin short small));
     text = λ origin kind body more clean short small.
         added_is_read 200 _ _ status_200 first_200 (shared_head origin (content_type kind) (length body)) body more

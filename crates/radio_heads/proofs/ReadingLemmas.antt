@@ -7,7 +7,7 @@ use Rattle.radio_heads.specs.declared.outcome.HeadFault.{HeadFault}
 use Rattle.radio_heads.specs.declared.outcome.HeadFault.TheVariants.{BadHead, TooManyHeaders, HeadTooLong}
 use Rattle.radio_heads.specs.Search.{IsEmptyLine, HasNoEnd, IsHeadEnd}
 use Rattle.radio_heads.specs.Reading.{IsFront, IsHead, IsNoHead, IsUnfinished, IsTooLong, IsReading}
-use Rattle.radio_heads.specs.Laws.{ReadingsAgree, IsSettled}
+use Rattle.radio_heads.specs.Laws.{ReadingsAgree, IsStableReading}
 use Rattle.radio_heads.proofs.SearchLemmas.{EndsAt-size, EndsAt-same, IsHeadEnd-same, AreSame-take, AreSame-append, AreSame-sym}
 
 -- ---- fronts
@@ -106,7 +106,7 @@ IsNoHead-append Shows bytes more h = record {
       (subst (λ (front : List ℕ). Shows front parts) (take-front bytes more h.length h.front) shows);
 }
 
-pub is_settled : {P : Type 0} (Shows : List ℕ → P → Type 0) → IsSettled Shows
+pub is_settled : {P : Type 0} (Shows : List ℕ → P → Type 0) → IsStableReading Shows
 is_settled Shows bytes more (Ok (Whole parts n)) h other = IsHead-append Shows bytes more parts n h
 is_settled Shows bytes more (Ok More) h other = absurd (other refl)
 is_settled Shows bytes more (Err BadHead) h other = IsNoHead-append Shows bytes more h

@@ -13,7 +13,7 @@ use Rattle.radio_heads.specs.FieldValue.{IsFieldText}
 use Rattle.radio_heads.specs.Laws.{IsCleanWelcome, IsShortWelcome, about_headers, shown_header, interval_header}
 use Rattle.radio_heads.specs.Reading.{IsHead}
 use Rattle.radio_heads.specs.Response.{ShowsResponse}
-use Rattle.radio_heads.specs.WebAnswer.{IsCleanOrigin, html, origin_line, page_head, page_text, shared_head, shared_text, stream_start, stream_text}
+use Rattle.radio_heads.specs.WebAnswer.{IsCleanOrigin, html, origin_line, page_head, page_text, shared_head, shared_text, stream_head_text, stream_start}
 use Rattle.radio_heads.specs.WebLaws.{IsShortOrigin, origin_header, page_headers, parts_with, shared_headers, stream_headers}
 use Rattle.radio_heads.proofs.ReadBackLemmas.{Header, IsHeaderValue, IsSoundHeader, header_text, head_text, head_is_written, sound_from, status_200}
 use Rattle.radio_heads.proofs.ValueLemmas.{decimal_is_value}
@@ -21,7 +21,7 @@ use Rattle.radio_heads.proofs.AnswerLemmas.{about_is_few, about_is_short, about_
 use Rattle.radio_heads.proofs.AnswerLemmas.{interval_lines, length-decimal, length-header_line, length-six, length-seven, one_is_sound, one_line}
 use Rattle.radio_heads.proofs.AnswerLemmas.{shown_is_few, shown_is_short, shown_is_sound, shown_lines, type_is_short, type_is_value, value_from}
 
-pub stream_unsaid : (w : Welcome) → stream_text None w ≡ listener_text w
+pub stream_unsaid : (w : Welcome) → stream_head_text None w ≡ listener_text w
 stream_unsaid w = ap (λ (start : List ℕ). start ++ header_line (codes "Connection") (codes "close") ++ line []) (append-nil (stream_start w))
 
 -- ---- whose pages may read it
@@ -75,7 +75,7 @@ seven_lines f s l a b c d e g h p q r t u v w one two three four five six seven 
           flat_map-append f a b,
         ) (cc)
 
-pub stream_text_is : (origin : Option (List ℕ)) (w : Welcome) → stream_text origin w ≡ head_text 200 (stream_headers origin w)
+pub stream_text_is : (origin : Option (List ℕ)) (w : Welcome) → stream_head_text origin w ≡ head_text 200 (stream_headers origin w)
 stream_text_is origin w =
     seven_lines header_text (status_line (codes "HTTP/1.0") 200) (line [])
     ((codes "Content-Type", w.content_type) ∷ []) (shown_header (codes "icy-name") w.name) (shown_header (codes "icy-genre") w.genre)
@@ -111,7 +111,7 @@ first_is_short : length (status_line (codes "HTTP/1.0") 200) ≡ 17
 first_is_short = ap length status_200.line_is
 
 pub stream_is_short : (origin : Option (List ℕ)) (w : Welcome) → IsShortOrigin origin → IsShortWelcome w → IfSome w.interval (λ n. n < 2 ^ 32)
-    → length (stream_text origin w) ≤ 8000
+    → length (stream_head_text origin w) ≤ 8000
 stream_is_short origin w short_origin short small =
     let whole = length-nine (status_line (codes "HTTP/1.0") 200) (header_line (codes "Content-Type") w.content_type)
     (shown_line (codes "icy-name") w.name) (shown_line (codes "icy-genre") w.genre) (about_lines w.about) (interval_line w.interval)
@@ -141,7 +141,7 @@ stream_is_few origin w =
 
 pub stream_is_read : (origin : Option (List ℕ)) (w : Welcome) (more : List ℕ)
     → IsCleanOrigin origin → IsShortOrigin origin → IsCleanWelcome w → IsShortWelcome w → IfSome w.interval (λ n. n < 2 ^ 32)
-    → IsHead ShowsResponse (stream_text origin w ++ more) (parts_with (stream_headers origin w)) (length (stream_text origin w))
+    → IsHead ShowsResponse (stream_head_text origin w ++ more) (parts_with (stream_headers origin w)) (length (stream_head_text origin w))
 stream_is_read origin w more clean_origin short_origin clean short small =
     let same = stream_text_is origin w in
     subst (λ (xs : List ℕ). IsHead ShowsResponse (xs ++ more) (parts_with (stream_headers origin w)) (length xs)) (sym same)

@@ -11,7 +11,7 @@ use Rattle.radio_heads.specs.FieldValue.{IsFieldText}
 use Rattle.radio_heads.specs.Laws.{IsCleanWelcome, IsShortWelcome, read_back, sized_parts}
 use Rattle.radio_heads.specs.Reading.{IsHead}
 use Rattle.radio_heads.specs.Response.{ResponseParts, ShowsResponse}
-use Rattle.radio_heads.specs.WebAnswer.{IsCleanOrigin, page_head, page_text, shared_head, shared_text, stream_text}
+use Rattle.radio_heads.specs.WebAnswer.{IsCleanOrigin, page_head, page_text, shared_head, shared_text, stream_head_text}
 use Rattle.radio_heads.specs.WebLaws.{IsShortOrigin, page_headers, parts_with, shared_headers, stream_headers}
 use Rattle.radio_policy.specs.declared.rule.Status.{Status}
 
@@ -48,8 +48,8 @@ pub record AdditionsAreReadBack (additions : Additions) : Type 0 where
       (length (with_additions additions (sized_head 200 (content_type kind) (length body))))
   pub stream : (origin : Option (List ℕ)) (w : Welcome) (more : List ℕ)
       → IsCleanOrigin origin → IsShortOrigin origin → IsCleanWelcome w → IsShortWelcome w → IfSome w.interval (λ n. n < 2 ^ 32)
-      → IsHead ShowsResponse (with_additions additions (stream_text origin w) ++ more) (parts_with (added_headers additions ++ stream_headers origin w))
-      (length (with_additions additions (stream_text origin w)))
+      → IsHead ShowsResponse (with_additions additions (stream_head_text origin w) ++ more) (parts_with (added_headers additions ++ stream_headers origin w))
+      (length (with_additions additions (stream_head_text origin w)))
   pub text : (origin : Option (List ℕ)) (kind : TextKind) (body more : List ℕ)
       → IsCleanOrigin origin → IsShortOrigin origin → length body < 2 ^ 64
       → IsHead ShowsResponse (with_additions additions (shared_text origin (content_type kind) body) ++ more)

@@ -26,8 +26,8 @@ ReadingsAgree {P} Shows =
     → IsReading Shows bytes r → IsReading Shows bytes s → (r ≡ s) ⊎ (IsErr r × IsErr s)
 
 -- once a reading is not `More`, more bytes change nothing
-abbrev pub IsSettled : {P : Type 0} → (List ℕ → P → Type 0) → Type 0
-IsSettled {P} Shows =
+abbrev pub IsStableReading : {P : Type 0} → (List ℕ → P → Type 0) → Type 0
+IsStableReading {P} Shows =
     (bytes more : List ℕ) (r : Result (Progress P) HeadFault)
     → IsReading Shows bytes r → r ≢ Ok More → IsReading Shows (bytes ++ more) r
 

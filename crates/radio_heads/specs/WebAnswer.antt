@@ -23,8 +23,8 @@ stream_start w =
     ++ interval_line w.interval
 
 -- rule: Allow origin
-abbrev pub stream_text : Option (List ℕ) → Welcome → List ℕ
-stream_text origin w =
+abbrev pub stream_head_text : Option (List ℕ) → Welcome → List ℕ
+stream_head_text origin w =
     stream_start w
     ++ origin_line origin
     ++ header_line (codes "Connection") (codes "close")
@@ -70,7 +70,7 @@ page_text origin policy body = page_head origin policy (length body) ++ body
 -- the text of an answer
 -- rule: Answers are read back
 abbrev pub web_answer_text : Option (List ℕ) → AnyWebAnswer → List ℕ
-web_answer_text origin (Stream welcome) = stream_text origin welcome
+web_answer_text origin (Stream welcome) = stream_head_text origin welcome
 web_answer_text origin (Text kind body) = shared_text origin (content_type kind) body.now
 web_answer_text origin (Page policy body) = page_text origin policy body.now
 

@@ -8,12 +8,12 @@ use Rattle.radio_heads.specs.FieldValue.{IsFieldText}
 use Rattle.radio_heads.specs.Laws.{IsCleanWelcome, IsShortWelcome, about_headers, interval_header, read_back, shown_header}
 use Rattle.radio_heads.specs.Reading.{IsHead}
 use Rattle.radio_heads.specs.Response.{ResponseParts, ShowsResponse}
-use Rattle.radio_heads.specs.WebAnswer.{IsCleanOrigin, html, page_head, page_text, shared_head, shared_text, stream_text}
+use Rattle.radio_heads.specs.WebAnswer.{IsCleanOrigin, html, page_head, page_text, shared_head, shared_text, stream_head_text}
 
 -- where nothing is said of origins, a stream and a text are those of other answers
 -- rule: Answers are read back
 pub record IsUnchanged : Type 0 where
-  pub stream : (w : Welcome) → stream_text None w ≡ listener_text w
+  pub stream : (w : Welcome) → stream_head_text None w ≡ listener_text w
   pub text : (kind : TextKind) (body : List ℕ) → shared_text None (content_type kind) body ≡ sized_text 200 (content_type kind) body
 
 -- whose pages may read an answer, where that is said
@@ -60,7 +60,7 @@ IsShortOrigin origin = IfSome origin (λ o. length o ≤ 255)
 pub record WebAnswersAreReadBack : Type 0 where
   pub stream : (origin : Option (List ℕ)) (w : Welcome) (more : List ℕ)
       → IsCleanOrigin origin → IsShortOrigin origin → IsCleanWelcome w → IsShortWelcome w → IfSome w.interval (λ n. n < 2 ^ 32)
-      → IsHead ShowsResponse (stream_text origin w ++ more) (parts_with (stream_headers origin w)) (length (stream_text origin w))
+      → IsHead ShowsResponse (stream_head_text origin w ++ more) (parts_with (stream_headers origin w)) (length (stream_head_text origin w))
   pub text : (origin : Option (List ℕ)) (kind : TextKind) (body more : List ℕ)
       → IsCleanOrigin origin → IsShortOrigin origin → length body < 2 ^ 64
       → IsHead ShowsResponse (shared_text origin (content_type kind) body ++ more)

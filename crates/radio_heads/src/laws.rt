@@ -1,7 +1,7 @@
 //! Laws on readings, which run no code.
 ghost use Rattle.radio_heads.specs.Head.{ShowsRequest};
 ghost use Rattle.radio_heads.specs.Response.{ShowsResponse};
-ghost use Rattle.radio_heads.specs.Laws.{ReadingsAgree, IsSettled, HeadsLieWithin, FrontsAreUnfinished, RequestsAreFound, ResponsesAreFound};
+ghost use Rattle.radio_heads.specs.Laws.{ReadingsAgree, IsStableReading, HeadsLieWithin, FrontsAreUnfinished, RequestsAreFound, ResponsesAreFound};
 ghost use Rattle.radio_heads.specs.declared.additions.Additions.{Additions};
 ghost use Rattle.radio_heads.specs.AdditionLaws.{AdditionsAreReadBack};
 ghost use Rattle.radio_heads.specs.WebLaws.{IsUnchanged, WebAnswersAreReadBack};
@@ -17,8 +17,8 @@ pub fn readings_agree()
 /// Once a reading is not `More`, more bytes change nothing.
 // rule: Longest head
 pub fn settled()
-    ensures requests { IsSettled ShowsRequest }
-    ensures responses { IsSettled ShowsResponse }
+    ensures requests { IsStableReading ShowsRequest }
+    ensures responses { IsStableReading ShowsResponse }
 {}
 
 /// A front of bytes whose reading is `More` gives `More` too.

@@ -2,7 +2,7 @@
 ghost use Rattle.std.specs.Prelude.{◌≡◌, [], ◌++◌, codes, IfOk, OnOk};
 ghost use Rattle.radio_heads.specs.Answer.{content_type, header_line, line};
 ghost use Rattle.radio_heads.specs.FieldValue.{IsFieldText};
-ghost use Rattle.radio_heads.specs.WebAnswer.{origin_line, page_start, page_text, shared_text, stream_text, stream_start, text_start, web_answer_text, HasWebFieldTexts, IsCleanOrigin};
+ghost use Rattle.radio_heads.specs.WebAnswer.{origin_line, page_start, page_text, shared_text, stream_head_text, stream_start, text_start, web_answer_text, HasWebFieldTexts, IsCleanOrigin};
 ghost use Rattle.radio_heads.specs.Laws.{IsCleanWelcome};
 
 use crate::OutOfMemory;
@@ -81,7 +81,7 @@ pub(crate) fn write_stream(
     welcome: &Welcome,
     allow_origin: &Option<FieldValue>,
 ) -> Result<Vec<u8>, OutOfMemory>
-    ensures text { IfOk result (λ text. text.items ≡ stream_text allow_origin.now welcome.now) }
+    ensures text { IfOk result (λ text. text.items ≡ stream_head_text allow_origin.now welcome.now) }
     ensures one_line { IsCleanWelcome welcome.now }
 {
     end_no_line(welcome);

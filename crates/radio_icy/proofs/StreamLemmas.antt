@@ -4,25 +4,25 @@ use Rattle.std.proofs.Common.{◌∙◌, sym, append_assoc}
 use Rattle.std.proofs.lemmas.Bool.{lt-ltb, le-ltb}
 use Rattle.std.proofs.lemmas.List.{length-append, length-map, length-drop, drop-drop, get_or-drop}
 use Rattle.radio_icy.specs.Block.{metadata_block, news_of}
-use Rattle.radio_icy.specs.Weaving.{Weaving, Call, new_weaving, woven, after_weaving, woven_by_calls, block_after_byte, after_byte}
-use Rattle.radio_icy.specs.Stream.{sound_of_calls, titles_of_calls, part_at, title_at, sent_before, woven_parts, parts_of, IsWoven}
+use Rattle.radio_icy.specs.Weaving.{Weaving, Call, new_weaving, woven, after_weaving, woven_by_calls, block_after_byte, after_woven_byte}
+use Rattle.radio_icy.specs.Stream.{sound_of_calls, titles_of_calls, title_at, sent_before, woven_parts, interval_count, IsWoven, interval_sound}
 use Rattle.radio_icy.proofs.WeavingLemmas.{at_block, moved}
 
 -- what comes of sound where each byte has a title of its own
 abbrev pub woven_titled : Weaving → List ℕ → List (Option (List ℕ)) → List ℕ
 woven_titled w [] titles = []
 woven_titled w (b ∷ sound) [] = []
-woven_titled w (b ∷ sound) (title ∷ titles) = b ∷ (block_after_byte w title ++ woven_titled (after_byte w title) sound titles)
+woven_titled w (b ∷ sound) (title ∷ titles) = b ∷ (block_after_byte w title ++ woven_titled (after_woven_byte w title) sound titles)
 
 -- the bytes of one call, and those of later ones
 woven_titled-call : (w : Weaving) (title : Option (List ℕ)) (sound later : List ℕ) (titles : List (Option (List ℕ)))
     → woven_titled w (sound ++ later) (map (λ _. title) sound ++ titles) ≡ woven w title sound ++ woven_titled (after_weaving w title sound) later titles
 woven_titled-call w title [] later titles = refl
 woven_titled-call w title (b ∷ sound) later titles =
-    ap (λ t. b ∷ (block_after_byte w title ++ t)) (woven_titled-call (after_byte w title) title sound later titles)
+    ap (λ t. b ∷ (block_after_byte w title ++ t)) (woven_titled-call (after_woven_byte w title) title sound later titles)
     ∙ ap (λ t. b ∷ t) (sym
-    (append_assoc (block_after_byte w title) (woven (after_byte w title) title sound)
-    (woven_titled (after_weaving (after_byte w title) title sound) later titles)))
+    (append_assoc (block_after_byte w title) (woven (after_woven_byte w title) title sound)
+    (woven_titled (after_weaving (after_woven_byte w title) title sound) later titles)))
 
 woven_by_calls-titled : (w : Weaving) (calls : List Call) → woven_by_calls w calls ≡ woven_titled w (sound_of_calls calls) (titles_of_calls calls)
 woven_by_calls-titled w [] = refl
@@ -82,7 +82,7 @@ woven_by_parts n calls (suc k) some fits =
     let size : n * suc k ≡ n * k + n = omega arith in
     let title_is : get_or (drop (n * k) titles) (n - 1) None ≡ title_at n calls k = get_or-drop (n * k) titles (n - 1) None in
     let next = λ (title : Option (List ℕ)) (later : List ℕ) (rest : List (Option (List ℕ))). woven_parts n calls k
-    ++ (part_at n calls k ++ (metadata_block (news_of title w.sent) ++ woven_titled (at_block w title) later rest)) in
+    ++ (interval_sound n calls k ++ (metadata_block (news_of title w.sent) ++ woven_titled (at_block w title) later rest)) in
     woven_by_parts n calls k some (omega arith)
     ∙ (ap (λ t. woven_parts n calls k ++ t)
     (interval_titled n (n - 1) w (drop (n * k) sound) (drop (n * k) titles) (omega arith) (omega arith)
@@ -95,7 +95,7 @@ woven_by_parts n calls (suc k) some fits =
 -- what comes of a list of calls, from the start of a stream, is woven
 pub IsWoven-woven_by_calls : (n : ℕ) (calls : List Call) → 0 < n → IsWoven n calls (woven_by_calls (new_weaving n) calls)
 IsWoven-woven_by_calls n calls some =
-    let k = parts_of n calls in
+    let k = interval_count n calls in
     let sound = sound_of_calls calls in
     let titles = titles_of_calls calls in
     woven_by_calls-titled (new_weaving n) calls

@@ -6,12 +6,12 @@ use Rattle.std.specs.Prelude.{⊤}
 use Rattle.std.specs.Option.{option_map, option_copied}
 use Rattle.std.proofs.lemmas.Bool.{lt-ltb, le-ltb, cases_lt, ne_eqb}
 use Rattle.std.proofs.lemmas.List.{nil_from_length, append-nil}
-use Rattle.radio_icy.specs.Unweaving.{Atom, SoundByte, WholeText, at_sound, in_block, heard, after_feeding, without_padding, after_length_byte}
+use Rattle.radio_icy.specs.Unweaving.{StreamItem, SoundByte, WholeText, at_sound, in_block, after_feeding, without_padding, after_length_byte, atoms_of_piece}
 
 -- a run of sound inside the interval
 pub heard_sound : (n left m : ℕ) (sound more : List ℕ) → left ≡ length sound + m
-    → heard (at_sound n left) (sound ++ more) ≡ map (λ b. SoundByte b) sound ++ heard (at_sound n m) more
-heard_sound n left m [] more e = let same : left ≡ m = omega arith in ap (λ (k : ℕ). heard (at_sound n k) more) same
+    → atoms_of_piece (at_sound n left) (sound ++ more) ≡ map (λ b. SoundByte b) sound ++ atoms_of_piece (at_sound n m) more
+heard_sound n left m [] more e = let same : left ≡ m = omega arith in ap (λ (k : ℕ). atoms_of_piece (at_sound n k) more) same
 heard_sound n zero m (b ∷ sound) more e = absurd (omega arith)
 heard_sound n (suc left) m (b ∷ sound) more e = ap (λ t. SoundByte b ∷ t) (heard_sound n left m sound more (omega arith))
 
@@ -22,11 +22,11 @@ after_sound n zero m (b ∷ sound) more e = absurd (omega arith)
 after_sound n (suc left) m (b ∷ sound) more e = after_sound n left m sound more (omega arith)
 
 -- one byte of a block
-heard_inside : (n left b : ℕ) (held more : List ℕ) → 1 < left → heard (in_block n left held) (b ∷ more) ≡ heard (in_block n (left - 1) (held ++ b ∷ [])) more
+heard_inside : (n left b : ℕ) (held more : List ℕ) → 1 < left → atoms_of_piece (in_block n left held) (b ∷ more) ≡ atoms_of_piece (in_block n (left - 1) (held ++ b ∷ [])) more
 heard_inside n left b held more h = rw (lt-ltb 1 left h) refl
 
 heard_last : (n left b : ℕ) (held more : List ℕ) → left ≤ 1
-    → heard (in_block n left held) (b ∷ more) ≡ WholeText (without_padding (held ++ b ∷ [])) ∷ heard (at_sound n n) more
+    → atoms_of_piece (in_block n left held) (b ∷ more) ≡ WholeText (without_padding (held ++ b ∷ [])) ∷ atoms_of_piece (at_sound n n) more
 heard_last n left b held more h = rw (le-ltb 1 left h) refl
 
 after_inside : (n left b : ℕ) (held more : List ℕ) → 1 < left
@@ -38,14 +38,14 @@ after_last n left b held more h = rw (le-ltb 1 left h) refl
 
 -- the rest of a block
 pub heard_block : (n left : ℕ) (held text more : List ℕ) → 0 < left → left ≡ length text
-    → heard (in_block n left held) (text ++ more) ≡ WholeText (without_padding (held ++ text)) ∷ heard (at_sound n n) more
+    → atoms_of_piece (in_block n left held) (text ++ more) ≡ WholeText (without_padding (held ++ text)) ∷ atoms_of_piece (at_sound n n) more
 heard_block n left held [] more some e = absurd (omega arith)
 heard_block n left held (b ∷ text) more some e =
     ⊎_elim
     (λ (h : 1 < left).
     heard_inside n left b held (text ++ more) h
     ∙ (heard_block n (left - 1) (held ++ b ∷ []) text more (omega arith) (omega arith)
-    ∙ ap (λ t. WholeText (without_padding t) ∷ heard (at_sound n n) more) (append_assoc held (b ∷ []) text)))
+    ∙ ap (λ t. WholeText (without_padding t) ∷ atoms_of_piece (at_sound n n) more) (append_assoc held (b ∷ []) text)))
     (λ (h : left ≤ 1).
     let none : text ≡ [] = nil_from_length text (omega arith) in
     rw none (heard_last n left b held more h))
@@ -65,7 +65,7 @@ after_block n left held (b ∷ text) more some e =
     (cases_lt 1 left)
 
 -- a part of a block that does not end it
-pub heard_part : (n left : ℕ) (held part : List ℕ) → length part < left → heard (in_block n left held) part ≡ []
+pub heard_part : (n left : ℕ) (held part : List ℕ) → length part < left → atoms_of_piece (in_block n left held) part ≡ []
 heard_part n left held [] short = refl
 heard_part n left held (b ∷ part) short = heard_inside n left b held part (omega arith) ∙ heard_part n (left - 1) (held ++ b ∷ []) part (omega arith)
 
@@ -86,9 +86,9 @@ pub length_byte_some : (n q : ℕ) → 0 < q → after_length_byte n q ≡ in_bl
 length_byte_some n q some = rw (ne_eqb q 0 (λ e. omega arith)) refl
 
 -- a piece with no length byte in it
-pub heard_all_sound : (n left : ℕ) (sound : List ℕ) → length sound ≤ left → heard (at_sound n left) sound ≡ map (λ b. SoundByte b) sound
+pub heard_all_sound : (n left : ℕ) (sound : List ℕ) → length sound ≤ left → atoms_of_piece (at_sound n left) sound ≡ map (λ b. SoundByte b) sound
 heard_all_sound n left sound fits =
-    ap (heard (at_sound n left)) (sym (append-nil sound))
+    ap (atoms_of_piece (at_sound n left)) (sym (append-nil sound))
     ∙ (heard_sound n left (left - length sound) sound [] (omega arith) ∙ append-nil (map (λ b. SoundByte b) sound))
 
 pub after_all_sound : (n left : ℕ) (sound : List ℕ) → length sound ≤ left → at_sound n (left - length sound) ≡ after_feeding (at_sound n left) sound
@@ -97,10 +97,10 @@ after_all_sound n left sound fits =
 
 -- a piece that ends inside a block
 pub heard_to_part : (n left q : ℕ) (sound block : List ℕ) → left ≡ length sound → length block < 16 * q
-    → heard (at_sound n left) (sound ++ q ∷ block) ≡ map (λ b. SoundByte b) sound
+    → atoms_of_piece (at_sound n left) (sound ++ q ∷ block) ≡ map (λ b. SoundByte b) sound
 heard_to_part n left q sound block whole short =
     heard_sound n left 0 sound (q ∷ block) (omega arith)
-    ∙ (ap (λ u. map (λ b. SoundByte b) sound ++ heard u block) (length_byte_some n q (omega arith))
+    ∙ (ap (λ u. map (λ b. SoundByte b) sound ++ atoms_of_piece u block) (length_byte_some n q (omega arith))
     ∙ (ap (λ t. map (λ b. SoundByte b) sound ++ t) (heard_part n (16 * q) [] block short) ∙ append-nil (map (λ b. SoundByte b) sound)))
 
 pub after_to_part : (n left q : ℕ) (sound block : List ℕ) → left ≡ length sound → length block < 16 * q
@@ -111,10 +111,10 @@ after_to_part n left q sound block whole short =
 
 -- an interval with the text after it
 pub heard_to_text : (n left q : ℕ) (sound text later : List ℕ) → left ≡ length sound → 0 < q → length text ≡ 16 * q
-    → heard (at_sound n left) (sound ++ q ∷ (text ++ later)) ≡ map (λ b. SoundByte b) sound ++ (WholeText (without_padding text) ∷ heard (at_sound n n) later)
+    → atoms_of_piece (at_sound n left) (sound ++ q ∷ (text ++ later)) ≡ map (λ b. SoundByte b) sound ++ (WholeText (without_padding text) ∷ atoms_of_piece (at_sound n n) later)
 heard_to_text n left q sound text later whole some size =
     heard_sound n left 0 sound (q ∷ (text ++ later)) (omega arith)
-    ∙ (ap (λ u. map (λ b. SoundByte b) sound ++ heard u (text ++ later)) (length_byte_some n q some)
+    ∙ (ap (λ u. map (λ b. SoundByte b) sound ++ atoms_of_piece u (text ++ later)) (length_byte_some n q some)
     ∙ ap (λ t. map (λ b. SoundByte b) sound ++ t) (heard_block n (16 * q) [] text later (omega arith) (omega arith)))
 
 pub after_to_text : (n left q : ℕ) (sound text later : List ℕ) → left ≡ length sound → 0 < q → length text ≡ 16 * q
@@ -125,7 +125,7 @@ after_to_text n left q sound text later whole some size =
 
 -- an interval with no text after it
 pub heard_to_none : (n left : ℕ) (sound later : List ℕ) → left ≡ length sound
-    → heard (at_sound n left) (sound ++ 0 ∷ later) ≡ map (λ b. SoundByte b) sound ++ heard (at_sound n n) later
+    → atoms_of_piece (at_sound n left) (sound ++ 0 ∷ later) ≡ map (λ b. SoundByte b) sound ++ atoms_of_piece (at_sound n n) later
 heard_to_none n left sound later whole = heard_sound n left 0 sound (0 ∷ later) (omega arith)
 
 pub after_to_none : (n left : ℕ) (sound later : List ℕ) → left ≡ length sound
@@ -133,14 +133,14 @@ pub after_to_none : (n left : ℕ) (sound later : List ℕ) → left ≡ length 
 after_to_none n left sound later whole = after_sound n left 0 sound (0 ∷ later) (omega arith)
 
 -- what was heard and what is still to be heard, after one turn of the loop over intervals
-pub turn_to_text : (items sound new new' rest later total : List Atom) (text : Atom) → new ≡ items ++ sound → new' ≡ new ++ text ∷ []
+pub turn_to_text : (items sound new new' rest later total : List StreamItem) (text : StreamItem) → new ≡ items ++ sound → new' ≡ new ++ text ∷ []
     → rest ≡ sound ++ text ∷ later → items ++ rest ≡ total → new' ++ later ≡ total
 turn_to_text items sound new new' rest later total text first second turn whole = rw (second, first, ← whole, turn) (simp append_assoc)
 
-pub turn_to_none : (items sound new rest later total : List Atom) → new ≡ items ++ sound → rest ≡ sound ++ later → items ++ rest ≡ total → new ++ later ≡ total
+pub turn_to_none : (items sound new rest later total : List StreamItem) → new ≡ items ++ sound → rest ≡ sound ++ later → items ++ rest ≡ total → new ++ later ≡ total
 turn_to_none items sound new rest later total first turn whole = rw (first, ← whole, turn) (simp append_assoc)
 
-pub turn_to_end : (items sound new rest total : List Atom) → new ≡ items ++ sound → rest ≡ sound → items ++ rest ≡ total → new ≡ total
+pub turn_to_end : (items sound new rest total : List StreamItem) → new ≡ items ++ sound → rest ≡ sound → items ++ rest ≡ total → new ≡ total
 turn_to_end items sound new rest total first turn whole = rw (first, ← whole, turn) refl
 
 -- a copy is there where the text is

@@ -11,9 +11,9 @@ use Rattle.std.proofs.lemmas.List.{append-nil}
 use Rattle.std.proofs.lemmas.List.Sums.{suffix_len_is}
 use Rattle.radio_icy.specs.Block.{metadata_block, title_text, padded, units_of}
 use Rattle.radio_icy.specs.Weaving.{Call}
-use Rattle.radio_icy.specs.Stream.{sound_of_calls, titles_of_calls, part_at, sent_before, news_at, woven_parts, parts_of, rest_of, IsWoven, titles_sent}
+use Rattle.radio_icy.specs.Stream.{sound_of_calls, titles_of_calls, sent_before, news_at, woven_parts, interval_count, rest_of, IsWoven, titles_sent, interval_sound}
 use Rattle.radio_icy.specs.Stream.{AreUntitled}
-use Rattle.radio_icy.specs.Unweaving.{Atom, SoundByte, WholeText, at_sound, heard, without_padding, new_unweaving}
+use Rattle.radio_icy.specs.Unweaving.{StreamItem, SoundByte, WholeText, at_sound, without_padding, new_unweaving, atoms_of_piece}
 use Rattle.radio_icy.specs.Bare.{sound_in, texts_in}
 use Rattle.radio_icy.proofs.BlockLemmas.{length-title_text}
 use Rattle.radio_icy.proofs.ItemsLemmas.{take-without_padding}
@@ -54,45 +54,45 @@ length-padded text =
     length-append text (replicate (16 * units_of n - n) 0) ∙ omega (arith, length-replicate {A = ℕ} (16 * units_of n - n) 0)
 
 -- the text of a block, as an atom
-abbrev pub text_atoms : Option (List ℕ) → List Atom
+abbrev pub text_atoms : Option (List ℕ) → List StreamItem
 text_atoms None = []
 text_atoms (Some title) = WholeText (title_text title) ∷ []
 
 -- one part and its block
 heard_part_and_block : (n : ℕ) (news : Option (List ℕ)) (part later : List ℕ) → length part ≡ n
-    → heard (at_sound n n) (part ++ (metadata_block news ++ later)) ≡ map (λ b. SoundByte b) part ++ (text_atoms news ++ heard (at_sound n n) later)
+    → atoms_of_piece (at_sound n n) (part ++ (metadata_block news ++ later)) ≡ map (λ b. SoundByte b) part ++ (text_atoms news ++ atoms_of_piece (at_sound n n) later)
 unfolding metadata_block
 heard_part_and_block n None part later whole = heard_to_none n n part later (sym whole)
 heard_part_and_block n (Some title) part later whole =
     let text = title_text title in
     heard_to_text n n (units_of (length text)) part (padded text) later (sym whole) (omega (arith, length-title_text title)) (length-padded text)
-    ∙ ap (λ t. map (λ b. SoundByte b) part ++ (WholeText t ∷ heard (at_sound n n) later)) (without_padding-padded title)
+    ∙ ap (λ t. map (λ b. SoundByte b) part ++ (WholeText t ∷ atoms_of_piece (at_sound n n) later)) (without_padding-padded title)
 
 -- the atoms of the first k parts
-abbrev pub atoms_of_parts : ℕ → List Call → ℕ → List Atom
+abbrev pub atoms_of_parts : ℕ → List Call → ℕ → List StreamItem
 atoms_of_parts n calls zero = []
-atoms_of_parts n calls (suc k) = atoms_of_parts n calls k ++ (map (λ b. SoundByte b) (part_at n calls k) ++ text_atoms (news_at n calls k))
+atoms_of_parts n calls (suc k) = atoms_of_parts n calls k ++ (map (λ b. SoundByte b) (interval_sound n calls k) ++ text_atoms (news_at n calls k))
 
 heard_parts : (n : ℕ) (calls : List Call) (k : ℕ) (more : List ℕ) → n * k ≤ length (sound_of_calls calls)
-    → heard (at_sound n n) (woven_parts n calls k ++ more) ≡ atoms_of_parts n calls k ++ heard (at_sound n n) more
+    → atoms_of_piece (at_sound n n) (woven_parts n calls k ++ more) ≡ atoms_of_parts n calls k ++ atoms_of_piece (at_sound n n) more
 heard_parts n calls zero more fits = refl
 heard_parts n calls (suc k) more fits =
-    let part = part_at n calls k in
+    let part = interval_sound n calls k in
     let news = news_at n calls k in
     let sound = sound_of_calls calls in
     let step : woven_parts n calls (suc k) ++ more ≡ woven_parts n calls k ++ (part ++ (metadata_block news ++ more)) = simp append_assoc in
     let size : n * suc k ≡ n * k + n = omega arith in
     let whole : length part ≡ n = length-take-le n (drop (n * k) sound) (omega (arith, length-drop (n * k) sound)) in
-    ap (heard (at_sound n n)) step
+    ap (atoms_of_piece (at_sound n n)) step
     ∙ (heard_parts n calls k (part ++ (metadata_block news ++ more)) (omega arith)
     ∙ (ap (λ t. atoms_of_parts n calls k ++ t) (heard_part_and_block n news part more whole) ∙ simp append_assoc))
 
 -- all that is heard in a woven stream
 heard_woven : (n : ℕ) (calls : List Call) (out : List ℕ) → 0 < n → IsWoven n calls out
-    → heard (new_unweaving n) out ≡ atoms_of_parts n calls (parts_of n calls) ++ map (λ b. SoundByte b) (rest_of n calls)
+    → atoms_of_piece (new_unweaving n) out ≡ atoms_of_parts n calls (interval_count n calls) ++ map (λ b. SoundByte b) (rest_of n calls)
 heard_woven n calls out some woven =
-    let k = parts_of n calls in
-    ap (heard (at_sound n n)) woven
+    let k = interval_count n calls in
+    ap (atoms_of_piece (at_sound n n)) woven
     ∙ (heard_parts n calls k (rest_of n calls) (omega arith)
     ∙ ap (λ t. atoms_of_parts n calls k ++ t) (heard_all_sound n n (rest_of n calls) (omega (arith, length-drop (n * k) (sound_of_calls calls)))))
 
@@ -108,34 +108,34 @@ sound_in-parts : (n : ℕ) (calls : List Call) (k : ℕ) → sound_in (atoms_of_
 sound_in-parts n calls zero = let none : n * 0 ≡ 0 = omega arith in rw none refl
 sound_in-parts n calls (suc k) =
     let sound = sound_of_calls calls in
-    let part = map (λ b. SoundByte b) (part_at n calls k) in
+    let part = map (λ b. SoundByte b) (interval_sound n calls k) in
     let text = text_atoms (news_at n calls k) in
     let size : n * suc k ≡ n * k + n = omega arith in
     sound_in-append (atoms_of_parts n calls k) (part ++ text)
     ∙ (ap (λ t. t ++ sound_in (part ++ text)) (sound_in-parts n calls k)
     ∙ (ap (λ t. take (n * k) sound ++ t) (sound_in-append part text)
-    ∙ (ap (λ t. take (n * k) sound ++ (t ++ sound_in text)) (sound_in-map (part_at n calls k))
-    ∙ (ap (λ t. take (n * k) sound ++ (part_at n calls k ++ t)) (sound_in-text_atoms (news_at n calls k))
-    ∙ (ap (λ t. take (n * k) sound ++ t) (append-nil (part_at n calls k))
+    ∙ (ap (λ t. take (n * k) sound ++ (t ++ sound_in text)) (sound_in-map (interval_sound n calls k))
+    ∙ (ap (λ t. take (n * k) sound ++ (interval_sound n calls k ++ t)) (sound_in-text_atoms (news_at n calls k))
+    ∙ (ap (λ t. take (n * k) sound ++ t) (append-nil (interval_sound n calls k))
     ∙ (sym (take-add (n * k) n sound) ∙ ap (λ (m : ℕ). take m sound) (sym size)))))))
 
 texts_in-parts : (n : ℕ) (calls : List Call) (k : ℕ) → texts_in (atoms_of_parts n calls k) ≡ map title_text (titles_sent n calls k)
 texts_in-parts n calls zero = refl
 texts_in-parts n calls (suc k) =
-    let part = map (λ b. SoundByte b) (part_at n calls k) in
+    let part = map (λ b. SoundByte b) (interval_sound n calls k) in
     let text = text_atoms (news_at n calls k) in
     let sent = option_to_list (news_at n calls k) in
     texts_in-append (atoms_of_parts n calls k) (part ++ text)
     ∙ (ap (λ t. t ++ texts_in (part ++ text)) (texts_in-parts n calls k)
     ∙ (ap (λ t. map title_text (titles_sent n calls k) ++ t) (texts_in-append part text)
-    ∙ (ap (λ t. map title_text (titles_sent n calls k) ++ (t ++ texts_in text)) (texts_in-map (part_at n calls k))
+    ∙ (ap (λ t. map title_text (titles_sent n calls k) ++ (t ++ texts_in text)) (texts_in-map (interval_sound n calls k))
     ∙ (ap (λ t. map title_text (titles_sent n calls k) ++ t) (texts_in-text_atoms (news_at n calls k))
     ∙ sym (map-append title_text (titles_sent n calls k) sent)))))
 
 -- the sound and the texts that are heard in a woven stream
-pub sound_in-woven : (n : ℕ) (calls : List Call) (out : List ℕ) → 0 < n → IsWoven n calls out → sound_in (heard (new_unweaving n) out) ≡ sound_of_calls calls
+pub sound_in-woven : (n : ℕ) (calls : List Call) (out : List ℕ) → 0 < n → IsWoven n calls out → sound_in (atoms_of_piece (new_unweaving n) out) ≡ sound_of_calls calls
 sound_in-woven n calls out some woven =
-    let k = parts_of n calls in
+    let k = interval_count n calls in
     ap sound_in (heard_woven n calls out some woven)
     ∙ (sound_in-append (atoms_of_parts n calls k) (map (λ b. SoundByte b) (rest_of n calls))
     ∙ (ap (λ t. t ++ sound_in (map (λ b. SoundByte b) (rest_of n calls))) (sound_in-parts n calls k)
@@ -143,9 +143,9 @@ sound_in-woven n calls out some woven =
     ∙ take-append-drop (n * k) (sound_of_calls calls))))
 
 pub texts_in-woven : (n : ℕ) (calls : List Call) (out : List ℕ) → 0 < n → IsWoven n calls out
-    → texts_in (heard (new_unweaving n) out) ≡ map title_text (titles_sent n calls (parts_of n calls))
+    → texts_in (atoms_of_piece (new_unweaving n) out) ≡ map title_text (titles_sent n calls (interval_count n calls))
 texts_in-woven n calls out some woven =
-    let k = parts_of n calls in
+    let k = interval_count n calls in
     ap texts_in (heard_woven n calls out some woven)
     ∙ (texts_in-append (atoms_of_parts n calls k) (map (λ b. SoundByte b) (rest_of n calls))
     ∙ (ap (λ t. t ++ texts_in (map (λ b. SoundByte b) (rest_of n calls))) (texts_in-parts n calls k)

@@ -5,7 +5,7 @@ use Rattle.std.specs.Option.{option_map, option_or}
 use Rattle.std.proofs.lemmas.Bool.{lt-ltb, le-ltb, cases_lt}
 use Rattle.std.proofs.lemmas.List.{nil_from_length, length-take-le, take-append-drop, take-take, take-append-le}
 use Rattle.radio_icy.specs.Block.{metadata_block, news_of, sent_with}
-use Rattle.radio_icy.specs.Weaving.{Weaving, Call, after_byte, after_calls, after_weaving, block_after_byte, from_place, woven, woven_by_calls}
+use Rattle.radio_icy.specs.Weaving.{Weaving, Call, after_woven_byte, after_calls, after_weaving, block_after_byte, from_place, woven, woven_by_calls}
 use Rattle.radio_icy.proofs.BlockLemmas.{news_of_sent}
 
 -- a weaver that has passed on n bytes more, inside an interval
@@ -139,13 +139,13 @@ sent_after_block w title sound inside due =
 pub woven_both : (w : Weaving) (title : Option (List ℕ)) (a b : List ℕ) → woven w title (a ++ b) ≡ woven w title a ++ woven (after_weaving w title a) title b
 woven_both w title [] b = refl
 woven_both w title (x ∷ a) b =
-    ap (λ t. x ∷ (block_after_byte w title ++ t)) (woven_both (after_byte w title) title a b)
+    ap (λ t. x ∷ (block_after_byte w title ++ t)) (woven_both (after_woven_byte w title) title a b)
     ∙ ap (λ t. x ∷ t) (sym
-    (append_assoc (block_after_byte w title) (woven (after_byte w title) title a) (woven (after_weaving (after_byte w title) title a) title b)))
+    (append_assoc (block_after_byte w title) (woven (after_woven_byte w title) title a) (woven (after_weaving (after_woven_byte w title) title a) title b)))
 
 pub after_both : (w : Weaving) (title : Option (List ℕ)) (a b : List ℕ) → after_weaving w title (a ++ b) ≡ after_weaving (after_weaving w title a) title b
 after_both w title [] b = refl
-after_both w title (x ∷ a) b = after_both (after_byte w title) title a b
+after_both w title (x ∷ a) b = after_both (after_woven_byte w title) title a b
 
 -- and so are calls and further calls
 pub woven_by_more : (w : Weaving) (calls more : List Call)

@@ -1,6 +1,6 @@
 -- What a woven stream holds: its sound, and the texts of its blocks.
 use Rattle.std.specs.Prelude.{ℕ, zero, suc, ◌*◌, ◌||◌, ◌==◌, nat_le, nat_lt, List, [], ◌∷◌, ◌++◌, length, take, drop, if◌then◌else◌}
-use Rattle.radio_icy.specs.Unweaving.{Atom, SoundByte, WholeText, without_padding}
+use Rattle.radio_icy.specs.Unweaving.{StreamItem, SoundByte, WholeText, without_padding}
 
 -- past a byte q and 16 q bytes
 abbrev pub after_block : List ℕ → List ℕ
@@ -35,13 +35,13 @@ unfoldable pub block_texts : ℕ → List ℕ → List (List ℕ)
 block_texts n out = block_texts_within (length out) n out
 
 -- the bytes of sound among atoms
-abbrev pub sound_in : List Atom → List ℕ
+abbrev pub sound_in : List StreamItem → List ℕ
 sound_in [] = []
 sound_in (SoundByte b ∷ atoms) = b ∷ sound_in atoms
 sound_in (WholeText text ∷ atoms) = sound_in atoms
 
 -- the texts among atoms
-abbrev pub texts_in : List Atom → List (List ℕ)
+abbrev pub texts_in : List StreamItem → List (List ℕ)
 texts_in [] = []
 texts_in (SoundByte b ∷ atoms) = texts_in atoms
 texts_in (WholeText text ∷ atoms) = text ∷ texts_in atoms

@@ -4,15 +4,15 @@ use Rattle.std.specs.Vec.{vec_len}
 use Rattle.std.specs.List.{flat_map}
 use Rattle.radio_icy.specs.declared.items.Item.{Item}
 use Rattle.radio_icy.specs.declared.items.Item.TheVariants.{Sound, Text}
-use Rattle.radio_icy.specs.Unweaving.{Atom, SoundByte, WholeText}
+use Rattle.radio_icy.specs.Unweaving.{StreamItem, SoundByte, WholeText}
 
 -- the atoms of one item
-abbrev pub atoms_of_item : Item → List Atom
+abbrev pub atoms_of_item : Item → List StreamItem
 atoms_of_item (Sound sound) = map (λ b. SoundByte b) sound.items
 atoms_of_item (Text text) = WholeText text.items ∷ []
 
 -- the atoms of some items
-abbrev pub atoms_of : List Item → List Atom
+abbrev pub atoms_of : List Item → List StreamItem
 atoms_of items = flat_map atoms_of_item items
 
 -- each item of sound has some, and no two are adjacent

@@ -14,8 +14,8 @@ abbrev pub titles_of_calls : List Call → List (Option (List ℕ))
 titles_of_calls calls = flat_map (λ (c : Call). map (λ _. c.title) c.sound) calls
 
 -- the k-th part, from 0: the sound of one interval
-abbrev pub part_at : ℕ → List Call → ℕ → List ℕ
-part_at n calls k = take n (drop (n * k) (sound_of_calls calls))
+abbrev pub interval_sound : ℕ → List Call → ℕ → List ℕ
+interval_sound n calls k = take n (drop (n * k) (sound_of_calls calls))
 
 -- the title at the end of the k-th part: that of the call which brought the last byte of it
 abbrev pub title_at : ℕ → List Call → ℕ → Option (List ℕ)
@@ -33,20 +33,20 @@ news_at n calls k = news_of (title_at n calls k) (sent_before n calls k)
 -- the first k parts, each with its block
 abbrev pub woven_parts : ℕ → List Call → ℕ → List ℕ
 woven_parts n calls zero = []
-woven_parts n calls (suc k) = woven_parts n calls k ++ (part_at n calls k ++ metadata_block (news_at n calls k))
+woven_parts n calls (suc k) = woven_parts n calls k ++ (interval_sound n calls k ++ metadata_block (news_at n calls k))
 
 -- how many intervals the sound fills
-abbrev pub parts_of : ℕ → List Call → ℕ
-parts_of n calls = length (sound_of_calls calls) / n
+abbrev pub interval_count : ℕ → List Call → ℕ
+interval_count n calls = length (sound_of_calls calls) / n
 
 -- the sound after the last whole part
 abbrev pub rest_of : ℕ → List Call → List ℕ
-rest_of n calls = drop (n * parts_of n calls) (sound_of_calls calls)
+rest_of n calls = drop (n * interval_count n calls) (sound_of_calls calls)
 
 -- `out` is what is to come of these calls in a stream with the interval n
 -- rule: Metadata count
 abbrev pub IsWoven : ℕ → List Call → List ℕ → Type 0
-IsWoven n calls out = out ≡ woven_parts n calls (parts_of n calls) ++ rest_of n calls
+IsWoven n calls out = out ≡ woven_parts n calls (interval_count n calls) ++ rest_of n calls
 
 -- the titles that the blocks of the first k parts carry
 abbrev pub titles_sent : ℕ → List Call → ℕ → List (List ℕ)

@@ -3,9 +3,9 @@ use Rattle.std.specs.Prelude.{ℕ, zero, suc, ◌-◌, ◌*◌, List, [], ◌∷
 use Rattle.std.specs.List.{suffix_len}
 
 -- What a reader of a stream learns, in order: a byte of sound, or the text of a metadata block.
-pub data Atom : Type 0 where
-  SoundByte : ℕ → Atom
-  WholeText : List ℕ → Atom
+pub data StreamItem : Type 0 where
+  SoundByte : ℕ → StreamItem
+  WholeText : List ℕ → StreamItem
 
 -- The place of a reader in a woven stream. With no block begun, `left` bytes of sound come before the next length byte.
 -- With `held` bytes of a block's text and padding, `left` bytes more end it.
@@ -55,25 +55,25 @@ abbrev pub after_fed_byte : Unweaving → ℕ → Unweaving
 after_fed_byte u b = after_fed_byte_at u.interval u.left u.block b
 
 -- what one byte brings
-abbrev pub brought_by_sound : ℕ → ℕ → List Atom
+abbrev pub brought_by_sound : ℕ → ℕ → List StreamItem
 brought_by_sound zero b = []
 brought_by_sound (suc left) b = SoundByte b ∷ []
 
-abbrev pub brought_by_block : ℕ → List ℕ → List Atom
+abbrev pub brought_by_block : ℕ → List ℕ → List StreamItem
 brought_by_block left held = if nat_lt 1 left then [] else WholeText (without_padding held) ∷ []
 
-abbrev pub brought_at : ℕ → Option (List ℕ) → ℕ → List Atom
+abbrev pub brought_at : ℕ → Option (List ℕ) → ℕ → List StreamItem
 brought_at left None b = brought_by_sound left b
 brought_at left (Some held) b = brought_by_block left (held ++ b ∷ [])
 
-abbrev pub brought_by : Unweaving → ℕ → List Atom
-brought_by u b = brought_at u.left u.block b
+abbrev pub atoms_of_byte : Unweaving → ℕ → List StreamItem
+atoms_of_byte u b = brought_at u.left u.block b
 
 -- what a piece of the stream brings
 -- rule: Metadata block
-abbrev pub heard : Unweaving → List ℕ → List Atom
-heard u [] = []
-heard u (b ∷ bytes) = brought_by u b ++ heard (after_fed_byte u b) bytes
+abbrev pub atoms_of_piece : Unweaving → List ℕ → List StreamItem
+atoms_of_piece u [] = []
+atoms_of_piece u (b ∷ bytes) = atoms_of_byte u b ++ atoms_of_piece (after_fed_byte u b) bytes
 
 -- the reader after a piece
 abbrev pub after_feeding : Unweaving → List ℕ → Unweaving
@@ -81,9 +81,9 @@ after_feeding u [] = u
 after_feeding u (b ∷ bytes) = after_feeding (after_fed_byte u b) bytes
 
 -- what the pieces of a stream bring, one after another
-abbrev pub heard_by_pieces : Unweaving → List (List ℕ) → List Atom
+abbrev pub heard_by_pieces : Unweaving → List (List ℕ) → List StreamItem
 heard_by_pieces u [] = []
-heard_by_pieces u (piece ∷ pieces) = heard u piece ++ heard_by_pieces (after_feeding u piece) pieces
+heard_by_pieces u (piece ∷ pieces) = atoms_of_piece u piece ++ heard_by_pieces (after_feeding u piece) pieces
 
 -- the reader after them
 abbrev pub after_pieces : Unweaving → List (List ℕ) → Unweaving

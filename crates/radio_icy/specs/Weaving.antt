@@ -22,8 +22,8 @@ block_after_byte w title =
     if nat_lt (w.place + 1) w.interval then [] else metadata_block (news_of title w.sent)
 
 -- the weaver after one byte of sound
-abbrev pub after_byte : Weaving → Option (List ℕ) → Weaving
-after_byte w title =
+abbrev pub after_woven_byte : Weaving → Option (List ℕ) → Weaving
+after_woven_byte w title =
     if nat_lt (w.place + 1) w.interval
     then record w { place = w.place + 1 }
     else record w { place = 0; sent = sent_with (news_of title w.sent) w.sent }
@@ -32,13 +32,13 @@ after_byte w title =
 -- rule: Metadata count
 abbrev pub woven : Weaving → Option (List ℕ) → List ℕ → List ℕ
 woven w title [] = []
-woven w title (b ∷ sound) = b ∷ (block_after_byte w title ++ woven (after_byte w title) title sound)
+woven w title (b ∷ sound) = b ∷ (block_after_byte w title ++ woven (after_woven_byte w title) title sound)
 
 -- the weaver after a piece of sound
 -- rule: Metadata count
 abbrev pub after_weaving : Weaving → Option (List ℕ) → List ℕ → Weaving
 after_weaving w title [] = w
-after_weaving w title (b ∷ sound) = after_weaving (after_byte w title) title sound
+after_weaving w title (b ∷ sound) = after_weaving (after_woven_byte w title) title sound
 
 -- one call of a weaver: a piece of sound, and the title of the stream at that moment
 pub record Call : Type 0 where

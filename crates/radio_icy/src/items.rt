@@ -27,9 +27,9 @@ pub struct Items {
 
 impl Model for Items {
     ghost use Rattle.std.specs.Prelude.{List, ◌++◌, map};
-    ghost use Rattle.radio_icy.specs.Unweaving.{Atom, SoundByte};
+    ghost use Rattle.radio_icy.specs.Unweaving.{StreamItem, SoundByte};
 
-    ghost Value = { List Atom };
+    ghost Value = { List StreamItem };
 
     ghost use Rattle.radio_icy.specs.Items.{atoms_of, AreRuns, EndsInText};
 

@@ -7,8 +7,8 @@ ghost use Rattle.std.specs.List.{concat, list_all};
 ghost use Rattle.std.specs.Str.{IsUtf8, chars};
 ghost use Rattle.radio_icy.specs.Block.{metadata_block, title_text};
 ghost use Rattle.radio_icy.specs.Weaving.{Call, Weaving, after_calls, after_weaving, new_weaving, woven, woven_by_calls};
-ghost use Rattle.radio_icy.specs.Stream.{IsWoven, AreUntitled, sound_of_calls, parts_of, news_at, titles_sent};
-ghost use Rattle.radio_icy.specs.Unweaving.{Unweaving, new_unweaving, heard, after_feeding, heard_by_pieces, after_pieces};
+ghost use Rattle.radio_icy.specs.Stream.{IsWoven, AreUntitled, sound_of_calls, interval_count, news_at, titles_sent};
+ghost use Rattle.radio_icy.specs.Unweaving.{Unweaving, new_unweaving, atoms_of_piece, after_feeding, heard_by_pieces, after_pieces};
 ghost use Rattle.radio_icy.specs.Bare.{bare, after_block, block_texts, sound_in, texts_in};
 ghost use Rattle.radio_icy.specs.Titles.{title_of, HasNoUrlInside, IsTitleIn};
 
@@ -51,7 +51,7 @@ pub fn bare_of_woven()
     ensures sound { (n : ℕ) (calls : List Call) (out : List ℕ)
         → 0 < n → IsWoven n calls out → bare n out ≡ sound_of_calls calls }
     ensures texts { (n : ℕ) (calls : List Call) (out : List ℕ)
-        → 0 < n → IsWoven n calls out → block_texts n out ≡ map title_text (titles_sent n calls (parts_of n calls)) }
+        → 0 < n → IsWoven n calls out → block_texts n out ≡ map title_text (titles_sent n calls (interval_count n calls)) }
 {}
 
 /// However a stream is cut into pieces, the same is taken out of it, and the reader is at the same place
@@ -59,7 +59,7 @@ pub fn bare_of_woven()
 // rule: Metadata block
 pub fn cut_streams()
     ensures heard { (u : Unweaving) (pieces : List (List ℕ))
-        → heard_by_pieces u pieces ≡ heard u (concat pieces) }
+        → heard_by_pieces u pieces ≡ atoms_of_piece u (concat pieces) }
     ensures after { (u : Unweaving) (pieces : List (List ℕ))
         → after_pieces u pieces ≡ after_feeding u (concat pieces) }
 {}
@@ -67,8 +67,8 @@ pub fn cut_streams()
 /// What is taken out of a stream from its start is its bare sound and the texts of its blocks.
 // rule: Metadata block
 pub fn unwoven_streams()
-    ensures sound { (n : ℕ) (out : List ℕ) → sound_in (heard (new_unweaving n) out) ≡ bare n out }
-    ensures texts { (n : ℕ) (out : List ℕ) → texts_in (heard (new_unweaving n) out) ≡ block_texts n out }
+    ensures sound { (n : ℕ) (out : List ℕ) → sound_in (atoms_of_piece (new_unweaving n) out) ≡ bare n out }
+    ensures texts { (n : ℕ) (out : List ℕ) → texts_in (atoms_of_piece (new_unweaving n) out) ≡ block_texts n out }
 {}
 
 /// The title of the text that was made of a title is that title, unless it has `';StreamUrl=` in it; also with a URL

@@ -1,7 +1,7 @@
 //! A woven stream in, sound and the texts of its metadata blocks out.
 ghost use Rattle.std.specs.Prelude.{◌≡◌, ◌+◌, ◌<◌, ◌≤◌, ◌++◌, IfOk, IfSome, OnOk, OnErr};
 ghost use Rattle.std.specs.Option.{option_copied};
-ghost use Rattle.radio_icy.specs.Unweaving.{new_unweaving, reading, at_sound, heard, after_feeding};
+ghost use Rattle.radio_icy.specs.Unweaving.{new_unweaving, reading, at_sound, atoms_of_piece, after_feeding};
 ghost use Rattle.radio_icy.specs.Items.{atoms_of, AreRuns};
 
 use crate::OutOfMemory;
@@ -67,7 +67,7 @@ impl Unweaver {
     /// An `Err` means that memory ran out: the reader is then as it was, and the piece may be fed again.
     // rule: Metadata block
     pub fn feed(&mut self, bytes: &[u8]) -> Result<Vec<Item>, OutOfMemory>
-        ensures heard { IfOk result (λ items. atoms_of items.items ≡ heard self.old bytes.now) }
+        ensures heard { IfOk result (λ items. atoms_of items.items ≡ atoms_of_piece self.old bytes.now) }
         ensures runs { IfOk result (λ items. AreRuns items.items) }
         ensures after { OnOk result (self.new ≡ after_feeding self.old bytes.now) }
         ensures err { OnErr result (self.new ≡ self.old) }
@@ -97,7 +97,7 @@ impl Unweaver {
         items: Items,
     ) -> Result<Vec<Item>, OutOfMemory>
         ensures heard { let start = at_sound self.old.interval left in
-            IfOk result (λ found. atoms_of found.items ≡ items ++ heard start bytes.now) }
+            IfOk result (λ found. atoms_of found.items ≡ items ++ atoms_of_piece start bytes.now) }
         ensures runs { IfOk result (λ found. AreRuns found.items) }
         ensures after { let start = at_sound self.old.interval left in
             OnOk result (self.new ≡ after_feeding start bytes.now) }
@@ -126,7 +126,7 @@ fn read_intervals<'b>(
     bytes: &'b [u8],
     items: &mut Items,
 ) -> Result<Rest<'b>, OutOfMemory>
-    ensures heard { OnOk result (items.new ≡ items.old ++ heard (at_sound interval left) bytes.now) }
+    ensures heard { OnOk result (items.new ≡ items.old ++ atoms_of_piece (at_sound interval left) bytes.now) }
     ensures after { let end = after_feeding (at_sound interval left) bytes.now in
         IfOk result (λ rest. reading interval rest.left (option_copied rest.block) ≡ end) }
     ensures begun { IfOk result (λ rest. IfSome rest.block (λ _. 0 < rest.left)) }

@@ -27,13 +27,13 @@ pub data Need : Type 0 where
   required_with : Key → Need
 
 -- a row of the table: a key, the kind of its value, and whether it must be there
-pub record Row : Type 0 where
+pub record KeyRow : Type 0 where
   pub key : Key
   pub kind : Kind
   pub need : Need
 
-abbrev pub row : Key → Kind → Need → Row
-row key kind need = record { key = key; kind = kind; need = need }
+abbrev pub key_row : Key → Kind → Need → KeyRow
+key_row key kind need = record { key = key; kind = kind; need = need }
 
 -- a fault, unless all is well
 abbrev pub unless : Bool → SettingsFault → Option SettingsFault
@@ -69,12 +69,12 @@ fault_with key is_needed fault None = unless (not is_needed) (Missing key)
 fault_with key is_needed fault (Some d) = fault d
 
 -- the fault of a row in a table, if it has one
-unfoldable pub fault_at : Row → Members → Option SettingsFault
-fault_at r table = fault_with r.key (is_needed r.need table) (value_fault r.kind r.key) (value_at r.key table)
+unfoldable pub row_fault : KeyRow → Members → Option SettingsFault
+row_fault r table = fault_with r.key (is_needed r.need table) (value_fault r.kind r.key) (value_at r.key table)
 
 -- the faults of rows in a table, row by row
-abbrev pub faults_in : List Row → Members → List (Option SettingsFault)
-faults_in rows table = map (λ r. fault_at r table) rows
+abbrev pub faults_in : List KeyRow → Members → List (Option SettingsFault)
+faults_in rows table = map (λ r. row_fault r table) rows
 
 -- the fault of the name of a table
 unfoldable pub table_fault : Key → Members → Option SettingsFault

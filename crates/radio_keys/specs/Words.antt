@@ -5,11 +5,11 @@ use Rattle.radio_keys.specs.declared.fault.SettingsFault.TheVariants.{NotToml, M
 use Rattle.radio_keys.specs.Keys.{word}
 
 -- rule: Reading settings
-abbrev pub fault_text : SettingsFault → List ℕ
-fault_text NotToml = codes "not toml"
-fault_text (Missing key) = codes "missing " ++ word key
-fault_text (WrongKind key) = codes "wrong kind " ++ word key
-fault_text (OutOfRange key) = codes "out of range " ++ word key
-fault_text (MountTwice name) = codes "mount twice " ++ name
-fault_text (BadName key) = codes "bad name " ++ word key
-fault_text OutOfMemory = codes "out of memory"
+abbrev pub settings_fault_text : SettingsFault → List ℕ
+settings_fault_text NotToml = codes "not toml"
+settings_fault_text (Missing key) = codes "missing " ++ word key
+settings_fault_text (WrongKind key) = codes "wrong kind " ++ word key
+settings_fault_text (OutOfRange key) = codes "out of range " ++ word key
+settings_fault_text (MountTwice name) = codes "mount twice " ++ name
+settings_fault_text (BadName key) = codes "bad name " ++ word key
+settings_fault_text OutOfMemory = codes "out of memory"

@@ -1,7 +1,7 @@
 //! What can be wrong with the text of some settings.
 ghost use Rattle.std.specs.Prelude.{◌≡◌, ◌++◌, Some};
 ghost use Rattle.std.specs.Fmt.{WritesOnOk};
-ghost use Rattle.radio_keys.specs.Words.{fault_text};
+ghost use Rattle.radio_keys.specs.Words.{settings_fault_text};
 ghost use Rattle.radio_keys.specs.declared.fault.SettingsFault.TheVariants.{OutOfMemory as NoMemory};
 
 use crate::{Key, OutOfMemory};
@@ -33,7 +33,7 @@ pub enum SettingsFault {
 }
 
 impl fmt::Display for SettingsFault {
-    ghost output = { λ fault. Some (fault_text fault) };
+    ghost output = { λ fault. Some (settings_fault_text fault) };
 
     fn fmt<W: fmt::Write>(&self, f: &mut fmt::Formatter<W>) -> fmt::Result {
         match self {

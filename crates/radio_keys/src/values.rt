@@ -1,11 +1,11 @@
 //! What a table holds at one key. The contract of each reader names the row that it asks for; the fault is that row's.
-#![tactic(auto, unfolding(crate::specs::Lookup::text_at, crate::specs::Lookup::text_or, crate::specs::Lookup::field_at, crate::specs::Lookup::field_or_empty, crate::specs::Lookup::number_at, crate::specs::Lookup::number_or, crate::specs::Lookup::flag_or, crate::specs::Rows::fault_at))]
+#![tactic(auto, unfolding(crate::specs::Lookup::text_at, crate::specs::Lookup::text_or, crate::specs::Lookup::field_at, crate::specs::Lookup::field_or_empty, crate::specs::Lookup::number_at, crate::specs::Lookup::number_or, crate::specs::Lookup::flag_or, crate::specs::Rows::row_fault))]
 
 ghost use Rattle.std.specs.Prelude.{◌≡◌, ◌≤◌, IfOk, codes, [], false, Some, None, if◌then◌else◌};
 ghost use Rattle.std.specs.Option.{option_copied, option_map};
 ghost use Rattle.toml.specs.View.{view, table_view};
 ghost use Rattle.radio_keys.specs.Lookup.{value_at, text_at, text_or, field_at, field_or_empty, number_at, number_or, flag_or, natural};
-ghost use Rattle.radio_keys.specs.Rows.{text, number, flag, mount_name, origin, required, optional, required_with, row, fault_at, is_between};
+ghost use Rattle.radio_keys.specs.Rows.{text, number, flag, mount_name, origin, required, optional, required_with, key_row, row_fault, is_between};
 ghost use Rattle.radio_keys.specs.Reading.{Reads, ReadsAs};
 
 use crate::{Key, SettingsFault};
@@ -23,7 +23,7 @@ pub fn value_at(table: &Table, key: Key) -> Option<&Value>
 /// The text at a key, as `text` reads it.
 fn read_text(table: &Table, key: Key) -> Result<Option<&str>, SettingsFault>
     ensures { let t = table_view table.now in
-        ReadsAs option_copied (fault_at (row key text optional) t) (text_at key t) result }
+        ReadsAs option_copied (row_fault (key_row key text optional) t) (text_at key t) result }
 {
     let Some(value) = value_at(table, key) else {
         return Ok(None);
@@ -37,7 +37,7 @@ fn read_text(table: &Table, key: Key) -> Result<Option<&str>, SettingsFault>
 /// The text at a key that must be there, as `required_text` reads it.
 fn read_required_text(table: &Table, key: Key) -> Result<&str, SettingsFault>
     ensures { let t = table_view table.now in
-        ReadsAs (λ s. s.now) (fault_at (row key text required) t) (text_or key t []) result }
+        ReadsAs (λ s. s.now) (row_fault (key_row key text required) t) (text_or key t []) result }
 {
     let Some(value) = value_at(table, key) else {
         return Err(SettingsFault::Missing { key });
@@ -53,7 +53,7 @@ fn read_required_text(table: &Table, key: Key) -> Result<&str, SettingsFault>
 /// `WrongKind`: the value is no text. `OutOfMemory`: there was no memory for the copy.
 pub fn text(alloc: Global, table: &Table, key: Key) -> Result<Option<Text>, SettingsFault>
     ensures { let t = table_view table.now in
-        Reads (fault_at (row key text optional) t) (text_at key t) result }
+        Reads (row_fault (key_row key text optional) t) (text_at key t) result }
 {
     match read_text(table, key)? {
         Some(text) => Ok(Some(Text::new(alloc, text)?)),
@@ -66,7 +66,7 @@ pub fn text(alloc: Global, table: &Table, key: Key) -> Result<Option<Text>, Sett
 /// `WrongKind`: the value is no text. `OutOfMemory`: there was no memory for the copy.
 pub fn text_or(alloc: Global, table: &Table, key: Key, default: &str) -> Result<Text, SettingsFault>
     ensures { let t = table_view table.now in
-        Reads (fault_at (row key text optional) t) (text_or key t default.now) result }
+        Reads (row_fault (key_row key text optional) t) (text_or key t default.now) result }
 {
     match read_text(table, key)? {
         Some(text) => Ok(Text::new(alloc, text)?),
@@ -79,7 +79,7 @@ pub fn text_or(alloc: Global, table: &Table, key: Key, default: &str) -> Result<
 /// `Missing`: the key is absent. `WrongKind`: the value is no text. `OutOfMemory`: there was no memory for the copy.
 pub fn required_text(alloc: Global, table: &Table, key: Key) -> Result<Text, SettingsFault>
     ensures { let t = table_view table.now in
-        Reads (fault_at (row key text required) t) (text_or key t []) result }
+        Reads (row_fault (key_row key text required) t) (text_or key t []) result }
 {
     let text = read_required_text(table, key)?;
     Ok(Text::new(alloc, text)?)
@@ -96,7 +96,7 @@ pub fn text_with(
     other: Key,
 ) -> Result<Option<Text>, SettingsFault>
     ensures { let t = table_view table.now in
-        Reads (fault_at (row key text (required_with other)) t) (text_at key t) result }
+        Reads (row_fault (key_row key text (required_with other)) t) (text_at key t) result }
 {
     if value_at(table, other).is_some() {
         return Ok(Some(required_text(alloc, table, key)?));
@@ -109,7 +109,7 @@ pub fn text_with(
 /// `WrongKind`: the value is no text. `OutOfMemory`: there was no memory for the copy.
 pub fn field(alloc: Global, table: &Table, key: Key) -> Result<Option<Field>, SettingsFault>
     ensures { let t = table_view table.now in
-        Reads (fault_at (row key text optional) t) (field_at key t) result }
+        Reads (row_fault (key_row key text optional) t) (field_at key t) result }
 {
     match read_text(table, key)? {
         Some(text) => Ok(Some(Field::clean(alloc, text.as_bytes())?)),
@@ -122,7 +122,7 @@ pub fn field(alloc: Global, table: &Table, key: Key) -> Result<Option<Field>, Se
 /// `Missing`: the key is absent. `WrongKind`: the value is no text. `OutOfMemory`: there was no memory for the copy.
 pub fn required_field(alloc: Global, table: &Table, key: Key) -> Result<Field, SettingsFault>
     ensures { let t = table_view table.now in
-        Reads (fault_at (row key text required) t) (field_or_empty key t) result }
+        Reads (row_fault (key_row key text required) t) (field_or_empty key t) result }
 {
     let text = read_required_text(table, key)?;
     Ok(Field::clean(alloc, text.as_bytes())?)
@@ -138,7 +138,7 @@ pub fn origin(
     key: Key,
 ) -> Result<Option<AllowedOrigin>, SettingsFault>
     ensures { let t = table_view table.now in
-        Reads (fault_at (row key origin optional) t) (text_at key t) result }
+        Reads (row_fault (key_row key origin optional) t) (text_at key t) result }
 {
     let Some(text) = read_text(table, key)? else {
         return Ok(None);
@@ -157,7 +157,7 @@ pub fn number<const LOW: u32, const HIGH: u32>(
     key: Key,
 ) -> Result<Option<Within<LOW, HIGH>>, SettingsFault>
     ensures { let t = table_view table.now in
-        Reads (fault_at (row key (number LOW HIGH) optional) t) (number_at key t) result }
+        Reads (row_fault (key_row key (number LOW HIGH) optional) t) (number_at key t) result }
 {
     let Some(value) = value_at(table, key) else {
         return Ok(None);
@@ -182,7 +182,7 @@ pub fn number_or<const LOW: u32, const HIGH: u32>(
     requires low { LOW ≤ default }
     requires high { default ≤ HIGH }
     ensures { let t = table_view table.now in
-        Reads (fault_at (row key (number LOW HIGH) optional) t) (number_or key t default) result }
+        Reads (row_fault (key_row key (number LOW HIGH) optional) t) (number_or key t default) result }
 {
     match number(table, key)? {
         Some(number) => Ok(number),
@@ -211,7 +211,7 @@ fn within<const LOW: u32, const HIGH: u32>(integer: i64) -> Option<Within<LOW, H
 /// `WrongKind`: the value is no boolean.
 pub fn flag_or(table: &Table, key: Key, default: bool) -> Result<bool, SettingsFault>
     ensures { let t = table_view table.now in
-        Reads (fault_at (row key flag optional) t) (flag_or key t default) result }
+        Reads (row_fault (key_row key flag optional) t) (flag_or key t default) result }
 {
     let Some(value) = value_at(table, key) else {
         return Ok(default);
@@ -227,7 +227,7 @@ pub fn flag_or(table: &Table, key: Key, default: bool) -> Result<bool, SettingsF
 /// `WrongKind`: the value is no text. `BadName`: the text is not the name of a mount.
 pub fn name(table: &Table, key: Key) -> Result<Option<MountName>, SettingsFault>
     ensures { let t = table_view table.now in
-        Reads (fault_at (row key mount_name optional) t) (text_at key t) result }
+        Reads (row_fault (key_row key mount_name optional) t) (text_at key t) result }
 {
     let Some(text) = read_text(table, key)? else {
         return Ok(None);
@@ -243,7 +243,7 @@ pub fn name(table: &Table, key: Key) -> Result<Option<MountName>, SettingsFault>
 /// `WrongKind`: the value is no text. `BadName`: the text is not the name of a mount.
 pub fn name_or(table: &Table, key: Key, default: MountName) -> Result<MountName, SettingsFault>
     ensures { let t = table_view table.now in
-        Reads (fault_at (row key mount_name optional) t) (text_or key t default) result }
+        Reads (row_fault (key_row key mount_name optional) t) (text_or key t default) result }
 {
     Ok(name(table, key)?.unwrap_or(default))
 }
@@ -253,7 +253,7 @@ pub fn name_or(table: &Table, key: Key, default: MountName) -> Result<MountName,
 /// `Missing`: the key is absent. `WrongKind`: the value is no text. `BadName`: the text is not the name of a mount.
 pub fn required_name(table: &Table, key: Key) -> Result<MountName, SettingsFault>
     ensures { let t = table_view table.now in
-        Reads (fault_at (row key mount_name required) t) (text_or key t []) result }
+        Reads (row_fault (key_row key mount_name required) t) (text_or key t []) result }
 {
     let text = read_required_text(table, key)?;
     match MountName::read(text.as_bytes()) {

@@ -53,21 +53,21 @@ IsLive w mount = (session : Session) × (session_of w.station.live mount ≡ Som
 -- what a command needs is there: a live mount. To move its listeners, there is another one; to finish a listener, it sits there. To change users,
 -- there is a mount that has users, live or not; to take one away, it is one of them
 -- rule: Commands are done
-abbrev pub IsThere : World → TheCommand → Type 0
-IsThere w (MoveClients mount destination) = IsLive w mount × IsLive w destination × (mount ≡ destination → ⊥)
-IsThere w (KillClient mount listener) = IsLive w mount × (seat : Seat) × (seat_of w.seats listener ≡ Some seat) × (seat.mount ≡ mount)
-IsThere w (KillSource mount) = IsLive w mount
-IsThere w (SetTitle mount text) = IsLive w mount
-IsThere w (SetFallback mount fallback) = IsLive w mount
-IsThere w (AddUser mount user password) = has_users w.station.lists mount ≡ true
-IsThere w (DeleteUser mount user) = has_user_at w.station.lists mount user ≡ true
+abbrev pub HasTarget : World → TheCommand → Type 0
+HasTarget w (MoveClients mount destination) = IsLive w mount × IsLive w destination × (mount ≡ destination → ⊥)
+HasTarget w (KillClient mount listener) = IsLive w mount × (seat : Seat) × (seat_of w.seats listener ≡ Some seat) × (seat.mount ≡ mount)
+HasTarget w (KillSource mount) = IsLive w mount
+HasTarget w (SetTitle mount text) = IsLive w mount
+HasTarget w (SetFallback mount fallback) = IsLive w mount
+HasTarget w (AddUser mount user password) = has_users w.station.lists mount ≡ true
+HasTarget w (DeleteUser mount user) = has_user_at w.station.lists mount user ≡ true
 
 -- a client that has asked for nothing yet, and may give the command, reads that it was done if what it needs is
 -- there
 -- rule: Commands are done
 abbrev pub WhoMayIsServed : World → Type 0
 WhoMayIsServed w = (asked : CommandRequest) (peer : Peer) (command : TheCommand) (pair : Credentials) → standing_of w asked.id ≡ Undecided peer
-    → asked.asked ≡ Asks command → asked.pair ≡ Some pair → MayGive w pair command → IsThere w command
+    → asked.asked ≡ Asks command → asked.pair ≡ Some pair → MayGive w pair command → HasTarget w command
     → (text : ReplyText) × (reply_to w (Command asked) ≡ SaysText text) × IsShort text
 
 -- a command was given by one who may, and what it needs was there
@@ -79,7 +79,7 @@ pub record IsGivenByRight (w : World) (event : Event) : Type 0 where
   pub pair : Credentials
   pub sent : asked.pair ≡ Some pair
   pub may : MayGive w pair command
-  pub there : IsThere w command
+  pub there : HasTarget w command
 
 -- only a client that may give a command reads that it was done, if what it needs was there
 -- rule: Who may command

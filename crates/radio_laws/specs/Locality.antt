@@ -108,7 +108,7 @@ ReachesWithin w within (Clock ms) = IsAll within
 -- what the event can reach is within reach: and if its client is a listener, the mount where that sits, or sat last
 -- rule: Reach of a start; Reach of a block; Reach of an end; Reach of a listen; Reach of a listener
 -- rule: Reach of a command; Reach of the clock
-pub record IsWithin (w : World) (within : List ℕ → Bool) (event : Event) : Type 0 where
+pub record IsWithinReach (w : World) (within : List ℕ → Bool) (event : Event) : Type 0 where
   pub reached : ReachesWithin w within event
   pub client : (id : ℕ) → client_in event ≡ Some id → LastWithin w within id
 
@@ -120,10 +120,10 @@ pub record IsLeftAlone (within : List ℕ → Bool) (w later : World) : Type 0 w
 -- states that agree on all that the event can reach answer it alike, and agree on that still
 -- rule: Reach of a start
 abbrev pub AnswersAlike : (List ℕ → Bool) → World → World → Event → Type 0
-AnswersAlike within v w event = AgreeWithin within v w → IsWithin w within event
+AnswersAlike within v w event = AgreeWithin within v w → IsWithinReach w within event
     → (reply_to v event ≡ reply_to w event) × AgreeWithin within (world_after v event) (world_after w event)
 
 -- and what it cannot reach is left alone
 -- rule: Beyond its reach
 abbrev pub LeavesAlone : (List ℕ → Bool) → World → Event → Type 0
-LeavesAlone within w event = IsWithin w within event → IsLeftAlone within w (world_after w event)
+LeavesAlone within w event = IsWithinReach w within event → IsLeftAlone within w (world_after w event)

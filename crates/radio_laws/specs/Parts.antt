@@ -34,8 +34,8 @@ pub record IsPartOf (w : World) (p : Part) : Type 0 where
   pub seats : (id : ℕ) → seat_at p.mount p.listeners id ≡ seat_at p.mount w.seats id
 
 -- it has heard the stream up to this place
-abbrev pub part_heard : Part → ℕ → ℕ → Part
-part_heard p him place = record p { listeners = with_place p.listeners him place }
+abbrev pub part_with_place : Part → ℕ → ℕ → Part
+part_with_place p him place = record p { listeners = with_place p.listeners him place }
 
 abbrev pub is_mount_of : Part → List ℕ → Bool
 is_mount_of p mount = bytes_eq mount p.mount
@@ -50,7 +50,7 @@ pub record IsPartsStep (w later : World) (p after : Part) : Type 0 where
 pub record DrawsByItsPart (w : World) (p : Part) (id room : ℕ) : Type 0 where
   pub by_part : outcome w (Draw id room) ≡ part_draws (as_heard w.station p) id room
   pub step : (place : ℕ) → (part_draws (as_heard w.station p) id room).change ≡ Advance id place
-      → IsPartsStep w (world_after w (Draw id room)) p (part_heard p id place)
+      → IsPartsStep w (world_after w (Draw id room)) p (part_with_place p id place)
 
 -- a draw of one who sits there
 abbrev pub PartsDraw : World → Type 0

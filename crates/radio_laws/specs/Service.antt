@@ -25,7 +25,7 @@ use Rattle.radio_laws.specs.Walks.{ComesBy}
 use Rattle.radio_parts_station.specs.Waiting.{heard_at}
 
 -- a listener was seated in the session of a mount, or where one is awaited, by which a walk comes from the one that it asked for, and shown what it shows
-pub record IsTakenIn (w : World) (asked : ListenRequest) : Type 0 where
+pub record IsSeatedByWalk (w : World) (asked : ListenRequest) : Type 0 where
   pub session : Session
   pub steps : ℕ
   pub not_too_far : steps < 10
@@ -39,7 +39,7 @@ pub record IsTakenIn (w : World) (asked : ListenRequest) : Type 0 where
 -- a listener got the data at its place in the stream of its mount, as much as is there and as it has room for, and the title that it has. Its place is
 -- behind them
 -- rule: Draws
-pub record IsHanded (w : World) (id room : ℕ) : Type 0 where
+pub record DrawsData (w : World) (id room : ℕ) : Type 0 where
   pub seat : Seat
   pub has_the_seat : seat_of w.seats id ≡ Some seat
   pub session : Session
@@ -79,8 +79,8 @@ pub record Serves (w : World) : Type 0 where
   pub goes_down : (id : ℕ) (mount : List ℕ) → standing_of w id ≡ Feeds mount → has_relay w id ≡ true → (reply_to w (RelayDown id) ≡ Noted)
       × (session_of (world_after w (RelayDown id)).station.live mount ≡ None) × (standing_of (world_after w (RelayDown id)) id ≡ Unknown)
   pub seats : (asked : ListenRequest) (peer : Peer) → standing_of w asked.id ≡ Undecided peer → Allows (rows_to_listen w asked)
-      → IsTakenIn w asked
-  pub hands_out : (id room : ℕ) → standing_of w id ≡ Sits → IsHanded w id room
+      → IsSeatedByWalk w asked
+  pub hands_out : (id room : ℕ) → standing_of w id ≡ Sits → DrawsData w id room
 
 -- what is out of place changes nothing, nor does an event of a client that learns that it was
 -- finished

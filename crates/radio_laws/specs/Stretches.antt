@@ -24,13 +24,13 @@ pub record Sitting : Type 0 where
   pub source : ℕ
   pub start : ℕ
 
-abbrev pub sitting_in : Seat → Sitting
-sitting_in seat = record { mount = seat.mount; source = seat.session; start = seat.place }
+abbrev pub sitting_of_seat : Seat → Sitting
+sitting_of_seat seat = record { mount = seat.mount; source = seat.session; start = seat.place }
 
 -- the sitting that begins where its seat was the one and is the other now: a seat in another session is a new sitting
 abbrev pub begun_sittings : Option Seat → Option Seat → List Sitting
-begun_sittings None (Some seat) = sitting_in seat ∷ []
-begun_sittings (Some old) (Some seat) = (if old.session == seat.session then [] else sitting_in seat ∷ [])
+begun_sittings None (Some seat) = sitting_of_seat seat ∷ []
+begun_sittings (Some old) (Some seat) = (if old.session == seat.session then [] else sitting_of_seat seat ∷ [])
 begun_sittings before None = []
 
 -- the listener's sittings through the events, in their order

@@ -13,7 +13,7 @@ use Rattle.radio_events.specs.declared.reply.Reply.{Reply}
 use Rattle.radio_events.specs.declared.reply.Reply.TheVariants.{Drawn, Noted, Text as SaysText}
 use Rattle.radio_events.specs.declared.text.ReplyText.TheVariants.{Done}
 use Rattle.radio_seats_rows.specs.declared.seat.Seat.{Seat}
-use Rattle.radio_core.specs.Handing.{is_number, of_client}
+use Rattle.radio_core.specs.Handing.{is_same_number, of_client}
 use Rattle.radio_parts_mount.specs.Sessions.{session_of}
 use Rattle.radio_core.specs.Run.{run_after}
 use Rattle.radio_seats_rows.specs.Seats.{seat_of}
@@ -21,9 +21,9 @@ use Rattle.radio_parts.specs.Step.{reply_to, world_after}
 use Rattle.radio_parts_station.specs.World.{World, opening}
 
 -- the title in an event
-abbrev pub title_in : Event → List (List ℕ)
-title_in (Title id text) = text ∷ []
-title_in _ = []
+abbrev pub title_of_event : Event → List (List ℕ)
+title_of_event (Title id text) = text ∷ []
+title_of_event _ = []
 
 -- titles count where the reply is that they were noted
 abbrev pub if_noted : Reply → List (List ℕ) → List (List ℕ)
@@ -41,7 +41,7 @@ source_at w mount = option_map (λ session. session.number) (session_of w.statio
 
 -- the title of a command, where this source feeds the mount that it names
 abbrev pub commanded_at : World → Asked → ℕ → List (List ℕ)
-commanded_at w (Asks (SetTitle mount text)) id = (if is_number id (source_at w mount) then text ∷ [] else [])
+commanded_at w (Asks (SetTitle mount text)) id = (if is_same_number id (source_at w mount) then text ∷ [] else [])
 commanded_at w asked id = []
 
 abbrev pub commanded_in : World → Event → ℕ → List (List ℕ)
@@ -51,7 +51,7 @@ commanded_in w event id = []
 -- the title that an event sets for the source of this number: by a command that names the mount that it feeds, or by the source itself
 -- rule: Title of a session
 abbrev pub set_by : World → Event → Reply → ℕ → List (List ℕ)
-set_by w event reply id = if_done reply (commanded_in w event id) ++ of_client event id (if_noted reply (title_in event))
+set_by w event reply id = if_done reply (commanded_in w event id) ++ of_client event id (if_noted reply (title_of_event event))
 
 abbrev pub set_at : World → Event → ℕ → List (List ℕ)
 set_at w event id = set_by w event (reply_to w event) id

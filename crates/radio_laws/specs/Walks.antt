@@ -15,13 +15,13 @@ pub data FallsBack (w : World) (mount next : List ℕ) : Type 0 where
 -- a walk goes on from the mount to the next one, to which its listeners fall back. The mount has no source and waits for none, or as many sit there as may and
 -- `fallback-when-full` is set
 -- rule: Passing a walk on; End at a waiting mount
-pub data GoesOn (w : World) (mount next : List ℕ) : Type 0 where
-  HasNoSource : FallsBack w mount next → heard_at w.station mount ≡ None → GoesOn w mount next
+pub data PassesWalkOn (w : World) (mount next : List ℕ) : Type 0 where
+  HasNoSource : FallsBack w mount next → heard_at w.station mount ≡ None → PassesWalkOn w mount next
   IsFull : FallsBack w mount next
-      → (options_for w.station.settings mount).listeners.fallback_when_full ≡ true → IsFullAt w mount → GoesOn w mount next
+      → (options_for w.station.settings mount).listeners.fallback_when_full ≡ true → IsFullAt w mount → PassesWalkOn w mount next
 
 -- a walk from the mount comes by another one, as the first, the second and so on after it
 -- rule: Fallback depth
 pub data ComesBy (w : World) (mount : List ℕ) : ℕ → List ℕ → Type 0 where
   AtFirst : ComesBy w mount 0 mount
-  Next : (steps : ℕ) (here next : List ℕ) → ComesBy w mount steps here → GoesOn w here next → ComesBy w mount (suc steps) next
+  Next : (steps : ℕ) (here next : List ℕ) → ComesBy w mount steps here → PassesWalkOn w here next → ComesBy w mount (suc steps) next

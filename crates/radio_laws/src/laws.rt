@@ -27,7 +27,7 @@ ghost use Rattle.radio_laws.specs.TitlesTold.{TitlesAreTold};
 ghost use Rattle.radio_parts_station.specs.Timeouts.{TestsAreInNumbers};
 ghost use Rattle.radio_laws.specs.Outstaying.{NobodyOutstays};
 ghost use Rattle.radio_laws.specs.LentParts.{all_but};
-ghost use Rattle.radio_laws.specs.Locality.{AgreeWithin, AnswersAlike, IsWithin, LeavesAlone};
+ghost use Rattle.radio_laws.specs.Locality.{AgreeWithin, AnswersAlike, IsWithinReach, LeavesAlone};
 ghost use Rattle.radio_parts_changes.specs.Counts.{counted};
 ghost use Rattle.radio_parts_changes.specs.Lent.{IsLentTo};
 ghost use Rattle.radio_parts.specs.Planned.{planned, with_counts};
@@ -314,5 +314,5 @@ pub fn lent_parts_are_enough()
     ensures others { (part there : MountPart) (before after : World) → IsLentTo part there before after → AgreeWithin (all_but part.mount) before after }
     // a control replies as the server does in every state that agrees with it on the mounts that the event can reach
     ensures replies { (core w lent : World) (within : List ℕ → Bool) (event : Event) → Represents core w → AgreeWithin within lent core
-        → IsWithin core within event → with_counts (planned lent event).reply (counted lent (planned lent event).change) ≡ reply_to w event }
+        → IsWithinReach core within event → with_counts (planned lent event).reply (counted lent (planned lent event).change) ≡ reply_to w event }
 {}

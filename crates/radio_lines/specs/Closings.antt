@@ -6,7 +6,7 @@ use Rattle.radio_lines.specs.declared.closing.FoundClosing.{FoundClosing}
 abbrev pub most_held : ℕ
 most_held = 500
 
--- whether a closing is answered at this moment: all have drawn what had come at that many tellings of news
+-- whether a closing is answered at this moment: all have drawn what had come when news was raised so often
 -- rule: Closing of a source
-abbrev pub tells_closing : FoundClosing → ℕ → ℕ → Bool
-tells_closing found drawn ms = nat_le found.told drawn || nat_le most_held (ms - found.ms)
+abbrev pub answers_closing : FoundClosing → ℕ → ℕ → Bool
+answers_closing found drawn ms = nat_le found.raised drawn || nat_le most_held (ms - found.ms)

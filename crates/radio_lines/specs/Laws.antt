@@ -3,17 +3,17 @@ use Rattle.std.specs.Prelude.{◌≡◌, ◌≤◌, ◌<◌, ◌+◌, ◌^◌, �
 use Rattle.radio_lines.specs.declared.closing.FoundClosing.{FoundClosing}
 use Rattle.radio_lines.specs.declared.ready.SocketReport.{SocketReport}
 use Rattle.radio_lines.specs.declared.ready.Ready.{Ready}
-use Rattle.radio_lines.specs.Closings.{tells_closing}
-use Rattle.radio_lines.specs.Ready.{after_read, after_told, brings_work, may_read, may_write, without_room}
+use Rattle.radio_lines.specs.Closings.{answers_closing}
+use Rattle.radio_lines.specs.Ready.{after_read, after_report, brings_work, may_read, may_write, without_room}
 
 -- the end of a source is answered once all have drawn what came before, and half a second after it was found in any case
-abbrev pub EndsAreTold : Type 0
-EndsAreTold = (found : FoundClosing) (drawn ms : ℕ)
-    → (found.told ≤ drawn → tells_closing found drawn ms ≡ true) × (found.ms + 500 ≤ ms → tells_closing found drawn ms ≡ true)
+abbrev pub EndsAreAnsweredInTime : Type 0
+EndsAreAnsweredInTime = (found : FoundClosing) (drawn ms : ℕ)
+    → (found.raised ≤ drawn → answers_closing found drawn ms ≡ true) × (found.ms + 500 ≤ ms → answers_closing found drawn ms ≡ true)
 
 -- and not before
 abbrev pub EndsAreHeld : Type 0
-EndsAreHeld = (found : FoundClosing) (drawn ms : ℕ) → drawn < found.told → ms < found.ms + 500 → tells_closing found drawn ms ≡ false
+EndsAreHeld = (found : FoundClosing) (drawn ms : ℕ) → drawn < found.raised → ms < found.ms + 500 → answers_closing found drawn ms ≡ false
 
 -- what nobody wants is read once in a tenth of a second at most
 abbrev pub UnwantedWait : Type 0
@@ -32,4 +32,4 @@ StalledAreAskedAgain = (ready : Ready) (ms now : ℕ) → ms < 2 ^ 63
 
 -- unless the system reports room
 abbrev pub RoomIsTaken : Type 0
-RoomIsTaken = (ready : Ready) (notice : SocketReport) (ms now : ℕ) → notice.writes ≡ true → may_write now (after_told notice (without_room ms ready)) ≡ true
+RoomIsTaken = (ready : Ready) (notice : SocketReport) (ms now : ℕ) → notice.writes ≡ true → may_write now (after_report notice (without_room ms ready)) ≡ true

@@ -13,14 +13,14 @@ holds Slow gave ms = gave == ms
 holds Stopped gave ms = true
 
 -- the number by which a pace is shared
-abbrev pub number_of : Pace → ℕ
-number_of Free = 0
-number_of Slow = 1
-number_of Stopped = 2
+abbrev pub pace_number : Pace → ℕ
+pace_number Free = 0
+pace_number Slow = 1
+pace_number Stopped = 2
 
 -- whether a line has given so many bytes as only that of a source does, and they are wanted
-abbrev pub is_source : ℕ → Bool → Bool
-is_source gave passed_over = nat_le 16384 gave && not passed_over
+abbrev pub is_source_line : ℕ → Bool → Bool
+is_source_line gave passed_over = nat_le 16384 gave && not passed_over
 
 -- there is something to do in the next turn, or nothing
 abbrev pub more_if : Bool → Need

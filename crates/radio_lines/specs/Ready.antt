@@ -7,12 +7,12 @@ use Rattle.radio_lines.specs.declared.ready.Ready.{Ready}
 use Rattle.radio_lines.specs.declared.ready.SocketReport.{SocketReport}
 
 -- nothing was reported of it yet: it is to be asked, and what comes is wanted
-abbrev pub fresh : Ready
-fresh = record { is_readable = true; is_writable = true; is_over = false; is_passed_over = false; read_from_ms = 0; write_from_ms = 0 }
+abbrev pub initial_ready : Ready
+initial_ready = record { is_readable = true; is_writable = true; is_over = false; is_passed_over = false; read_from_ms = 0; write_from_ms = 0 }
 
 -- the system has reported this; a socket that is over is to be asked at once, since it says so then
-abbrev pub after_told : SocketReport → Ready → Ready
-after_told notice r = record r {
+abbrev pub after_report : SocketReport → Ready → Ready
+after_report notice r = record r {
   is_readable = r.is_readable || notice.reads || notice.is_over;
   is_writable = r.is_writable || notice.writes || notice.is_over;
   is_over = r.is_over || notice.is_over;

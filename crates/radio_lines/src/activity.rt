@@ -91,7 +91,7 @@ pub struct Activity {
     /// The number of the pace.
     pace: AtomicU64,
     /// How often listeners had got news when the turn began.
-    told: AtomicU64,
+    raised: AtomicU64,
     /// Up to which of these times all had drawn.
     drawn: AtomicU64,
     /// The number of the most urgent need of a line.
@@ -105,7 +105,7 @@ impl Activity {
         Activity {
             now_ms: AtomicU64::new(0),
             pace: AtomicU64::new(Pace::Free.number()),
-            told: AtomicU64::new(0),
+            raised: AtomicU64::new(0),
             drawn: AtomicU64::new(0),
             need: AtomicU64::new(0),
             received: AtomicU64::new(0),
@@ -117,7 +117,7 @@ impl Activity {
     pub fn begin_turn(&self, ms: u64, pace: Pace, news: NewsCount) {
         self.now_ms.store(ms, Ordering::SeqCst);
         self.pace.store(pace.number(), Ordering::SeqCst);
-        self.told.store(news.told, Ordering::SeqCst);
+        self.raised.store(news.raised, Ordering::SeqCst);
         self.drawn.store(news.drawn, Ordering::SeqCst);
     }
 
@@ -132,7 +132,7 @@ impl Activity {
             ms: self.now_ms(),
             pace: Pace::of(self.pace.load(Ordering::SeqCst)),
             news: NewsCount {
-                told: self.told.load(Ordering::SeqCst),
+                raised: self.raised.load(Ordering::SeqCst),
                 drawn: self.drawn.load(Ordering::SeqCst),
             },
         }

@@ -2,10 +2,10 @@
 
 ghost use Rattle.std.specs.Prelude.{◌≡◌};
 ghost use Rattle.radio_connections.specs.declared.line.Received.TheVariants.{Bytes, Closed};
-ghost use Rattle.radio_lines.specs.Courses.{after_bytes, after_closing, begun, call_of, closing_found, holds_closing, passes_closing, reading_of, source_bytes, writing_of};
+ghost use Rattle.radio_lines.specs.Courses.{course_after_bytes, after_closing, fresh_course, call_of, closing_found, holds_closing, passes_closing, line_reading, source_bytes, writing_of};
 
 use crate::activity::{LineTurn, Need};
-use crate::closing::{FoundClosing, tells_closing};
+use crate::closing::{FoundClosing, answers_closing};
 use crate::pace::is_source;
 use crate::ready::Ready;
 use radio_connections::{Received, Sent};
@@ -59,7 +59,7 @@ pub(crate) struct Writing {
 impl Course {
     /// Returns the course of a line that has given nothing.
     pub(crate) fn begun() -> Course
-        ensures { result ≡ begun }
+        ensures { result ≡ fresh_course }
     {
         Course {
             gave_ms: 0,
@@ -84,7 +84,7 @@ impl Course {
 
     /// Returns the course once so many bytes have come at `ms`.
     fn after_bytes(self, count: usize, ms: u64) -> Course
-        ensures { result ≡ after_bytes count ms self }
+        ensures { result ≡ course_after_bytes count ms self }
     {
         Course {
             gave_ms: ms,
@@ -119,7 +119,7 @@ impl Course {
             Some(closing) => closing,
             None => FoundClosing {
                 ms: turn.ms,
-                told: turn.news.told,
+                raised: turn.news.raised,
             },
         }
     }
@@ -142,7 +142,7 @@ impl Course {
         ensures { result ≡ holds_closing ready turn self }
     {
         let found = self.closing_found(turn);
-        !self.passes_closing(ready) && !tells_closing(found, turn.news.drawn, turn.ms)
+        !self.passes_closing(ready) && !answers_closing(found, turn.news.drawn, turn.ms)
     }
 
     /// Returns what the line answers in this turn whose socket was asked, has answered so, and is so ready since. The buffer
@@ -155,7 +155,7 @@ impl Course {
         ready: Ready,
         turn: LineTurn,
     ) -> Reading
-        ensures { result ≡ reading_of received room ready turn self }
+        ensures { result ≡ line_reading received room ready turn self }
     {
         match received {
             Received::Bytes(count) => self.bytes_read(count, room, ready, turn),
@@ -172,7 +172,7 @@ impl Course {
 
     /// Returns what the line answers if so many bytes have come.
     fn bytes_read(self, count: usize, room: usize, ready: Ready, turn: LineTurn) -> Reading
-        ensures { result ≡ reading_of (Bytes count) room ready turn self }
+        ensures { result ≡ line_reading (Bytes count) room ready turn self }
     {
         let course = self.after_bytes(count, turn.ms);
         let after = ready.after_read(count == room, turn.ms);
@@ -187,7 +187,7 @@ impl Course {
 
     /// Returns what the line answers if its peer has closed.
     fn closing_read(self, ready: Ready, turn: LineTurn) -> Reading
-        ensures { result ≡ reading_of Closed 0 ready turn self }
+        ensures { result ≡ line_reading Closed 0 ready turn self }
     {
         let is_held = self.holds_closing(ready, turn);
         Reading {

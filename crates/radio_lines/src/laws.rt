@@ -1,11 +1,11 @@
 //! Laws of sources' ends, and of sockets that are asked. Each is a function that does nothing, and its contract is the law.
 
-ghost use Rattle.radio_lines.specs.Laws.{EndsAreHeld, EndsAreTold, RoomIsTaken, StalledAreAskedAgain, UnwantedWait, UnwantedWakeNobody};
+ghost use Rattle.radio_lines.specs.Laws.{EndsAreHeld, EndsAreAnsweredInTime, RoomIsTaken, StalledAreAskedAgain, UnwantedWait, UnwantedWakeNobody};
 
 /// The end of a source waits for listeners, for half a second at most.
 // rule: Closing of a source
-pub fn ends_are_told()
-    ensures told { EndsAreTold }
+pub fn ends_are_answered()
+    ensures in_time { EndsAreAnsweredInTime }
     // but not before, unless listeners have drawn
     ensures held { EndsAreHeld }
 {}

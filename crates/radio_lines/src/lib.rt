@@ -7,7 +7,7 @@
 //! - [`Activity`]: what the lines of a thread share with its loop; [`Pace`]: how fast they give what sources send;
 //!   [`NewsCount`]: what listeners have drawn, by which a source's end is held back.
 //! - [`Network`], [`SystemNet`]: the net; [`moment`], [`moment_us`]: the clock.
-//! - [`ends_are_told`], [`sockets_are_left_alone`]: laws, which run no code.
+//! - [`ends_are_answered`], [`sockets_are_left_alone`]: laws, which run no code.
 //!
 //! No clause says what a socket gives or takes, since the system holds it. What is proved is that a
 //! line gives its worker the bytes that it got from the system, and no others.
@@ -29,7 +29,7 @@ mod stream;
 pub use activity::Activity;
 pub use clock::{moment, moment_us};
 pub use closing::NewsCount;
-pub use laws::{ends_are_told, sockets_are_left_alone};
+pub use laws::{ends_are_answered, sockets_are_left_alone};
 pub use line::SocketLine;
 pub use pace::Pace;
 pub use reach::{Network, SystemNet};

@@ -1,8 +1,8 @@
 //! A connection's socket as a line.
 
 ghost use Rattle.std.specs.Prelude.{◌≡◌, ◌<◌, [], length};
-ghost use Rattle.radio_connections.specs.Lines.{HasGiven, HasTaken, after_read, after_write, no_calls};
-ghost use Rattle.radio_lines.specs.Courses.{begun};
+ghost use Rattle.radio_connections.specs.Lines.{HasGiven, HasTaken, calls_after_read, after_write, no_calls};
+ghost use Rattle.radio_lines.specs.Courses.{fresh_course};
 ghost use Rattle.radio_lines.specs.Streams.{IsGivenBy, IsTakenBy};
 
 use crate::activity::{Activity, Need};
@@ -40,7 +40,7 @@ impl<S: Read + Write + Shut + Drop> SocketLine<S> {
         activity: Arc<Activity>,
     ) -> SocketLine<S>
         ensures stream { result.stream ≡ stream }
-        ensures course { result.course ≡ begun }
+        ensures course { result.course ≡ fresh_course }
         ensures given { result.given.items ≡ [] }
         ensures taken { result.taken.items ≡ [] }
         ensures calls { result.calls ≡ no_calls }
@@ -135,7 +135,7 @@ impl<S: Read + Write + Shut + Drop> Line for SocketLine<S> {
         ensures stream { IsGivenBy (S.remaining self.old.stream) (S.remaining self.new.stream) buffer.new result }
         ensures given { HasGiven result buffer.new self.old.given.items self.new.given.items }
         ensures taken { self.new.taken.items ≡ self.old.taken.items }
-        ensures calls { self.new.calls ≡ after_read result (length buffer.new) self.old.calls }
+        ensures calls { self.new.calls ≡ calls_after_read result (length buffer.new) self.old.calls }
     {
         let received = self.receive(buffer);
         self.calls.count_read(received, buffer);

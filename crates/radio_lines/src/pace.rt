@@ -1,7 +1,7 @@
 //! How fast sources are read.
 
 ghost use Rattle.std.specs.Prelude.{◌≡◌};
-ghost use Rattle.radio_lines.specs.Paces.{holds, is_source, number_of};
+ghost use Rattle.radio_lines.specs.Paces.{holds, is_source_line, pace_number};
 
 /// How fast sources are read, so that listeners can follow.
 #[derive(Clone, Copy, Debug, PartialEq, Eq)]
@@ -29,7 +29,7 @@ impl Pace {
 
     /// Returns the number of the pace, by which it is shared.
     pub(crate) fn number(self) -> u64
-        ensures { result ≡ number_of self }
+        ensures { result ≡ pace_number self }
     {
         match self {
             Pace::Free => 0,
@@ -40,7 +40,7 @@ impl Pace {
 
     /// Returns the pace of this number: the slowest, if there is none.
     pub(crate) fn of(number: u64) -> Pace
-        ensures { (pace : Pace) → number ≡ number_of pace → result ≡ pace }
+        ensures { (pace : Pace) → number ≡ pace_number pace → result ≡ pace }
     {
         match number {
             0 => Pace::Free,
@@ -56,7 +56,7 @@ const MOST_OF_OTHERS: u64 = 16_384;
 /// Returns whether a line has given so many bytes as only that of a source does, and they are wanted.
 // rule: Sources wait
 pub(crate) fn is_source(gave: u64, is_passed_over: bool) -> bool
-    ensures { result ≡ is_source gave is_passed_over }
+    ensures { result ≡ is_source_line gave is_passed_over }
 {
     gave >= MOST_OF_OTHERS && !is_passed_over
 }

@@ -1,7 +1,7 @@
 //! What a socket is ready for, as plain values.
 
 ghost use Rattle.std.specs.Prelude.{◌≡◌};
-ghost use Rattle.radio_lines.specs.Ready.{fresh, after_told, brings_work, after_read, has_more, may_read, may_write, notice_of, unwanted, without_bytes, without_room};
+ghost use Rattle.radio_lines.specs.Ready.{initial_ready, after_report, brings_work, after_read, has_more, may_read, may_write, notice_of, unwanted, without_bytes, without_room};
 
 use mio::event::Event;
 
@@ -58,7 +58,7 @@ impl Ready {
     /// Returns the readiness of a socket of which nothing was reported yet: it is to be asked, and what comes is
     /// wanted.
     pub(crate) fn fresh() -> Ready
-        ensures { result ≡ fresh }
+        ensures { result ≡ initial_ready }
     {
         Ready {
             is_readable: true,
@@ -72,8 +72,8 @@ impl Ready {
 
     /// Returns the readiness once the system has reported this. A socket that is over says so when it is
     /// asked.
-    pub(crate) fn after_told(self, notice: SocketReport) -> Ready
-        ensures { result ≡ after_told notice self }
+    pub(crate) fn after_report(self, notice: SocketReport) -> Ready
+        ensures { result ≡ after_report notice self }
     {
         Ready {
             is_readable: self.is_readable || notice.reads || notice.is_over,

@@ -5,7 +5,7 @@ ghost use Rattle.std.specs.Arc.{arc_value};
 ghost use Rattle.std.specs.List.{list_any};
 ghost use Rattle.mio.specs.Event.{event_token};
 ghost use Rattle.mio.specs.Events.{items};
-ghost use Rattle.radio_lines.specs.Waits.{ends_wait, heard_at, is_waker};
+ghost use Rattle.radio_lines.specs.Waits.{ends_wait, polled_at, is_waker};
 
 use crate::activity::{Activity, Need};
 use crate::clock::moment_us;
@@ -54,7 +54,7 @@ struct PollReport {
 impl PollReport {
     /// Returns what was reported, at this moment in microseconds.
     fn at(self, us: u64) -> Polled
-        ensures { result ≡ heard_at us self }
+        ensures { result ≡ polled_at us self }
     {
         Polled {
             ms: us / 1000,
@@ -86,7 +86,7 @@ pub struct Sockets {
 }
 
 impl Sockets {
-    /// Returns those of a thread that has none yet, and its waker, which ends a wait of [`hear`](Sockets::hear) from
+    /// Returns those of a thread that has none yet, and its waker, which ends a wait of [`poll`](Sockets::poll) from
     /// another thread; the system's fault if it reports nothing of sockets.
     ///
     /// `OutOfMemory` if memory was refused.
@@ -146,16 +146,16 @@ impl Sockets {
 
     /// Asks the system what is ready. Waits until a line has something to do or the waker is called, so many
     /// milliseconds at most. The system's fault if it reports nothing any more.
-    pub fn hear<C: Clock>(&mut self, clock: &C, wait_ms: u64) -> io::Result<Polled>
-        ensures { IfOk result (λ heard. heard.ms ≡ heard.us / 1000) }
+    pub fn poll<C: Clock>(&mut self, clock: &C, wait_ms: u64) -> io::Result<Polled>
+        ensures { IfOk result (λ polled. polled.ms ≡ polled.us / 1000) }
     {
         let mut us = moment_us(clock);
         let ends_ms = (us / 1000).saturating_add(wait_ms);
         for _ in 0..EVENTS {
-            let told = self.poll(ends_ms.saturating_sub(us / 1000))?;
+            let report = self.poll_once(ends_ms.saturating_sub(us / 1000))?;
             us = moment_us(clock);
-            if told.ends_wait(us, ends_ms) {
-                return Ok(told.at(us));
+            if report.ends_wait(us, ends_ms) {
+                return Ok(report.at(us));
             }
         }
         let nothing = PollReport {
@@ -166,8 +166,8 @@ impl Sockets {
     }
 
     /// Notes what the system reports within so many milliseconds.
-    fn poll(&mut self, wait_ms: u64) -> io::Result<PollReport>
-        ensures { IfOk result (λ told. told.is_called ≡ list_any (λ e. is_waker (event_token e)) (items self.new.events)) }
+    fn poll_once(&mut self, wait_ms: u64) -> io::Result<PollReport>
+        ensures { IfOk result (λ report. report.is_called ≡ list_any (λ e. is_waker (event_token e)) (items self.new.events)) }
     {
         let wait = Duration::from_millis(wait_ms);
         self.poll.poll(&mut self.events, Some(wait))?;
@@ -176,7 +176,7 @@ impl Sockets {
             if let Some(readiness) = self.readiness.get(event.token().0) {
                 let before = readiness.load();
                 let notice = SocketReport::of(event);
-                readiness.store(before.after_told(notice));
+                readiness.store(before.after_report(notice));
                 is_ready = is_ready || before.brings_work(notice);
             }
         }

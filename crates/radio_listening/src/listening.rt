@@ -1,7 +1,7 @@
 //! A bound socket, and the service behind it.
 
 ghost use Rattle.std.specs.Prelude.{◌≡◌, ◌+◌, ◌≤◌, ◌<◌, ℕ, All, IfErr, IfOk, if◌then◌else◌, length, slice_index_or, vec_len};
-ghost use Rattle.radio_intake.specs.Passes.{all_parts};
+ghost use Rattle.radio_workers.specs.Passes.{all_parts};
 ghost use Rattle.radio_sockets.specs.declared.fault.BindFault.TheVariants.{NoAddress};
 ghost use Rattle.radio_sockets.specs.declared.fault.ServeFault.TheVariants.{OutOfMemory as NoMemory};
 ghost use Rattle.radio_sockets.specs.Peers.{IsNoIp};
@@ -12,13 +12,13 @@ use mio::net::TcpStream;
 use radio_addr::AddressList;
 use radio_board::{Limits, Shared};
 use radio_events::SharedServer;
-use radio_intake::{Intake, IntakePass};
 use radio_lines::{Network, Sockets};
 use radio_outlet::LogQueue;
 use radio_proxy::Pending;
 use radio_serving::WebAnswers;
 use radio_settings_values::Settings;
 use radio_sockets::{Accepted, Acceptor, ListeningSocket, open_desks};
+use radio_workers::{Intake, IntakePass};
 use std::alloc::Global;
 use std::io;
 use std::net::{Net, SocketAddr};
@@ -250,9 +250,16 @@ where
     requires parts { all_parts ≤ pass.old.parts }
     ensures { pass.new.intake ≡ intake.now }
 {
-    let mut hand = intake.split(pass);
-    let (fault, are_seated) = work_together(station, intake, &mut hand, pass, sockets, acceptor);
-    drop(hand);
+    let mut intake_pass = intake.split(pass);
+    let (fault, are_seated) = work_together(
+        station,
+        intake,
+        &mut intake_pass,
+        pass,
+        sockets,
+        acceptor,
+    );
+    drop(intake_pass);
     fault_of(fault, are_seated)
 }
 

@@ -1,29 +1,28 @@
 //! The threads of a server: who accepts, who works, and who keeps relays running.
 
 ghost use Rattle.std.specs.Prelude.{◌≡◌, ◌+◌, ◌≤◌, ◌<◌, ℕ, All, length, slice_index_or};
-ghost use Rattle.radio_intake.specs.Passes.{all_parts};
-ghost use Rattle.radio_workers.specs.Hands.{HasTakenMore};
+ghost use Rattle.radio_workers.specs.Passes.{all_parts};
+ghost use Rattle.radio_workers.specs.TakenConnections.{HasTakenMore};
 
 use crate::ServeFault;
 use crate::listening::ServedStation;
 use mio::net::TcpStream;
 use radio_events::SharedServer;
-use radio_intake::{Intake, IntakePass};
 use radio_lines::{Network, SocketLine, Sockets};
 use radio_pullers::{has_relays, keep_relays};
 use radio_serving::OpenGate;
 use radio_sockets::{Accepted, Acceptor, SocketTurns, slots_of};
-use radio_workers::{WorkerSlot, Workplace, run_workers};
+use radio_workers::{Intake, IntakePass, WorkerSlot, Workplace, run_workers};
 use std::sync::Wait;
 use std::thread::{Threads, join_mut};
 use std::time::Clock;
 
-/// The acceptor puts connections into this intake by its hand, and workers with these sockets take them out by their pass,
+/// The acceptor puts connections into this intake by its pass, and workers with these sockets take them out by theirs,
 /// until all stop. Its fault, and whether there was memory for the workers' slots.
 pub(crate) fn work_together<R, N, S>(
     station: &ServedStation<'_, R, N, S>,
     intake: &Intake<Accepted>,
-    hand: &mut IntakePass<Accepted>,
+    intake_pass: &mut IntakePass<Accepted>,
     pass: &mut IntakePass<Accepted>,
     sockets: &mut Vec<Sockets>,
     acceptor: &mut Acceptor,
@@ -33,18 +32,18 @@ where
     N: Network + Sync,
     S: SharedServer + Sync,
     S::Pass: Send,
-    requires hand { hand.old.intake ≡ intake.now }
+    requires intake_pass { intake_pass.old.intake ≡ intake.now }
     requires own { pass.old.intake ≡ intake.now }
     requires parts { all_parts ≤ pass.old.parts + 1 }
-    ensures hand { hand.new.intake ≡ intake.now }
+    ensures intake_pass { intake_pass.new.intake ≡ intake.now }
     ensures own { pass.new.intake ≡ intake.now }
 {
     join_mut(
         station.rt,
         &mut || -> ServeFault
-            requires { hand.now.intake ≡ intake.now }
-            ensures { hand.exit.now.intake ≡ intake.entry.now }
-        { accept(station, intake, hand, acceptor) },
+            requires { intake_pass.now.intake ≡ intake.now }
+            ensures { intake_pass.exit.now.intake ≡ intake.entry.now }
+        { accept(station, intake, intake_pass, acceptor) },
         &mut || -> bool
             requires { (pass.now.intake ≡ intake.now) × (all_parts ≤ pass.now.parts + 1) }
             ensures { pass.exit.now.intake ≡ intake.entry.now }
@@ -52,20 +51,20 @@ where
     )
 }
 
-/// The acceptor puts connections into this intake by its hand, until all stop. Its fault.
+/// The acceptor puts connections into this intake by its pass, until all stop. Its fault.
 fn accept<R, N, S>(
     station: &ServedStation<'_, R, N, S>,
     intake: &Intake<Accepted>,
-    hand: &mut IntakePass<Accepted>,
+    intake_pass: &mut IntakePass<Accepted>,
     acceptor: &mut Acceptor,
 ) -> ServeFault
 where
     R: Clock + Wait,
     N: Network,
-    requires { hand.old.intake ≡ intake.now }
-    ensures { hand.new.intake ≡ intake.now }
+    requires { intake_pass.old.intake ≡ intake.now }
+    ensures { intake_pass.new.intake ≡ intake.now }
 {
-    acceptor.work(station.rt, station.shared, intake, hand)
+    acceptor.work(station.rt, station.shared, intake, intake_pass)
 }
 
 /// Runs the workers with these sockets until all are to stop. Returns whether there was memory for their slots: if not,
@@ -115,9 +114,9 @@ where
     N: Network + Sync,
     S: SharedServer + Sync,
     S::Pass: Send,
-    requires { All (λ slot. slot.hand.intake ≡ intake.now) slots.old }
+    requires { All (λ slot. slot.intake_pass.intake ≡ intake.now) slots.old }
     // the note of each goes on from before with what was taken at its slot
-    ensures { (i : ℕ) (d : _) → i < length slots.old → HasTakenMore (slice_index_or slots.old i d).hand (slice_index_or slots.new i d).hand }
+    ensures { (i : ℕ) (d : _) → i < length slots.old → HasTakenMore (slice_index_or slots.old i d).intake_pass (slice_index_or slots.new i d).intake_pass }
 {
     if !has_relays(station.settings) {
         return run_at(station, intake, slots);
@@ -134,9 +133,9 @@ where
             )
         },
         &mut ||
-            requires { All (λ slot. slot.hand.intake ≡ intake.now) slots.now }
+            requires { All (λ slot. slot.intake_pass.intake ≡ intake.now) slots.now }
             ensures { (i : ℕ) (d : _) → i < length slots.entry.now
-                → HasTakenMore (slice_index_or slots.entry.now i d).hand (slice_index_or slots.exit.now i d).hand }
+                → HasTakenMore (slice_index_or slots.entry.now i d).intake_pass (slice_index_or slots.exit.now i d).intake_pass }
         { run_at(station, intake, slots) },
     );
 }
@@ -152,9 +151,9 @@ where
     N: Network + Sync,
     S: SharedServer + Sync,
     S::Pass: Send,
-    requires { All (λ slot. slot.hand.intake ≡ intake.now) slots.old }
+    requires { All (λ slot. slot.intake_pass.intake ≡ intake.now) slots.old }
     // the note of each goes on from before with what was taken at its slot
-    ensures { (i : ℕ) (d : _) → i < length slots.old → HasTakenMore (slice_index_or slots.old i d).hand (slice_index_or slots.new i d).hand }
+    ensures { (i : ℕ) (d : _) → i < length slots.old → HasTakenMore (slice_index_or slots.old i d).intake_pass (slice_index_or slots.new i d).intake_pass }
 {
     let place = Workplace {
         server: station.server,

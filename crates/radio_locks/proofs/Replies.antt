@@ -10,11 +10,11 @@ use Rattle.radio_book.specs.declared.mount_book.Own.TheVariants.{Made, Elsewhere
 use Rattle.radio_events.specs.declared.event.Event.{Event}
 use Rattle.radio_events.specs.declared.reply.Reply.{Reply}
 use Rattle.radio_parts_station.specs.World.{World}
-use Rattle.radio_locks.specs.Replies.{IsReplied, IsRepliedIf, IsTried}
+use Rattle.radio_locks.specs.Replies.{IsReplied, IsRepliedIf, IsReplyOrElsewhere}
 use Rattle.radio_locks.specs.Replies.IsReplied.{ByMount, ByControl}
 
 pub tried_by : (opening : World) (before after : BookOfMount) (event : Event) (result : Result Own AllocError) → IfOk result (λ own. IsOf event own)
-    → (CanOwn before event → IfOk result (λ own. IsDone before event own after)) → IfOk result (λ own. ∥ IsTried opening event own ∥₁)
+    → (CanOwn before event → IfOk result (λ own. IsDone before event own after)) → IfOk result (λ own. ∥ IsReplyOrElsewhere opening event own ∥₁)
 tried_by opening before after event (Ok (Made receipt)) is done = ∣ ByMount before after done ∣₁
 tried_by opening before after event (Ok (Elsewhere same)) is done = ∣ is ∣₁
 tried_by opening before after event (Err refused) is done = tt

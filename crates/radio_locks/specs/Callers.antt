@@ -11,7 +11,7 @@ use Rattle.radio_book.specs.Newcomers.{is_here}
 use Rattle.radio_events.specs.declared.entry.Entry.{Entry}
 use Rattle.radio_chronicle.specs.Stamps.{stamp}
 use Rattle.radio_chronicle.specs.declared.stamp.Stamp.{Stamp}
-use Rattle.radio_book.specs.Receipts.{entry_of, has_fed, receipt_of, ReceiptOf}
+use Rattle.radio_book.specs.Receipts.{receipt_entry, has_fed, receipt_of, ReceiptOf}
 use Rattle.radio_locks.specs.Replies.{IsReplied}
 use Rattle.radio_events.specs.Servers.{Chain}
 
@@ -49,4 +49,4 @@ pub record MayBeRefused (keeps : Bool) (before : List ReceiptOf) (event : Event)
 -- If entries are stored, the pass gains the receipts of what was applied, in its order.
 abbrev pub PassesGainWhatWasApplied : Type 0
 PassesGainWhatWasApplied = (opening : World) (before after : List ReceiptOf) (entries : List Entry) → Chain (IsCalled true opening) before entries after
-    → (receipts : List ReceiptOf) × (after ≡ before ++ receipts) × (map entry_of receipts ≡ entries)
+    → (receipts : List ReceiptOf) × (after ≡ before ++ receipts) × (map receipt_entry receipts ≡ entries)

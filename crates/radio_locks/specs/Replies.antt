@@ -15,9 +15,9 @@ pub data IsReplied (opening : World) (event : Event) (reply : Reply) : Type 0 wh
   ByControl : IsControlReply opening event reply → IsReplied opening event reply
 
 -- the part has replied, or its client is somewhere else
-abbrev pub IsTried : World → Event → Own → Type 0
-IsTried opening event (Made receipt) = IsReplied opening event receipt.reply
-IsTried opening event (Elsewhere same) = same ≡ event
+abbrev pub IsReplyOrElsewhere : World → Event → Own → Type 0
+IsReplyOrElsewhere opening event (Made receipt) = IsReplied opening event receipt.reply
+IsReplyOrElsewhere opening event (Elsewhere same) = same ≡ event
 
 -- the reply is such a one, if there is one
 abbrev pub IsRepliedIf : World → Event → Option Reply → Type 0

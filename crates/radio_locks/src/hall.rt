@@ -8,7 +8,7 @@ ghost use Rattle.radio_book.specs.declared.newcomer.Newcomer.{Newcomer};
 ghost use Rattle.radio_events.specs.Events.{EventTakesNoMemory};
 ghost use Rattle.radio_parts_station.specs.World.{opening};
 ghost use Rattle.radio_locks.specs.Callers.{IsResultOfCall, MayBeRefused};
-ghost use Rattle.radio_locks.specs.Replies.{IsTried};
+ghost use Rattle.radio_locks.specs.Replies.{IsReplyOrElsewhere};
 
 use crate::OutOfMemory;
 use crate::concerned::{mount_in, own_client};
@@ -176,7 +176,7 @@ impl<C: Chronicle, H: Origin> Hall<C, H> {
         event: Event,
     ) -> Result<Own, OutOfMemory>
         ensures event { IfOk result (λ own. IsOf event own) }
-        ensures tried { IfOk result (λ own. ∥ IsTried H.opening event own ∥₁) }
+        ensures tried { IfOk result (λ own. ∥ IsReplyOrElsewhere H.opening event own ∥₁) }
         ensures pass { C.KEEPS ≡ true → IfOk result (λ own. pass.new ≡ noted_own own pass.old) }
         ensures unkept { C.KEEPS ≡ false → (pass.new ≡ pass.old) × IfOk result (λ own. IsNowhere own) }
         ensures err { OnErr result (pass.new ≡ pass.old) }

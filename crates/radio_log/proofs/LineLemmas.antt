@@ -12,8 +12,8 @@ use Rattle.radio_log.specs.declared.facts.Fact.TheVariants.{Started, Ended, Clie
 use Rattle.radio_log.specs.declared.moment.Moment.{Moment}
 use Rattle.radio_log.specs.declared.notes.Note.{Note}
 use Rattle.radio_log.specs.Moments.{day_text, time_text, moment_text}
-use Rattle.radio_log.specs.Shown.{shown}
-use Rattle.radio_log.specs.Lines.{Field, word, spaced, kind_of, fields_of, told, body, line}
+use Rattle.radio_log.specs.Shown.{shown_value}
+use Rattle.radio_log.specs.Lines.{Field, spaced, fields_of, fact_text, body, field_word, fact_kind, note_line}
 use Rattle.radio_log.specs.Laws.{IsText, IsMoment, IsPrintable, read_word}
 use Rattle.radio_log.proofs.ShownLemmas.{IsVisible, Each-append, Each-weaker, shown_visible, decoded_shown}
 use Rattle.radio_log.proofs.WordLemmas.{Lacks, cut_at, words_read}
@@ -28,7 +28,7 @@ is_name text = list_all is_name_byte text
 abbrev pub has_name : Field → Bool
 has_name field = is_name field.0
 
-kinds_are_names : (fact : Fact) → is_name (kind_of fact) ≡ true
+kinds_are_names : (fact : Fact) → is_name (fact_kind fact) ≡ true
 kinds_are_names (Started version address) = refl
 kinds_are_names (Ended why) = refl
 kinds_are_names (ClientEnded c) = refl
@@ -91,28 +91,28 @@ visible_lacks c low text h = Each-weaker IsVisible (λ b. b ≢ c) (λ b v e. om
 
 -- words
 
-word_visible : (field : Field) → has_name field ≡ true → AllByRecursion IsVisible (word field)
-unfolding word
+word_visible : (field : Field) → has_name field ≡ true → AllByRecursion IsVisible (field_word field)
+unfolding field_word
 word_visible field named =
-    Each-append IsVisible (field.0 ++ codes "=") (shown field.1)
+    Each-append IsVisible (field.0 ++ codes "=") (shown_value field.1)
     (Each-append IsVisible field.0 (codes "=") (name_visible field.0 named) ((omega arith, omega arith), tt))
     (shown_visible field.1)
 
-words_visible : (fields : List Field) → AllByRecursion (λ (field : Field). has_name field ≡ true) fields → AllByRecursion (AllByRecursion IsVisible) (map word fields)
+words_visible : (fields : List Field) → AllByRecursion (λ (field : Field). has_name field ≡ true) fields → AllByRecursion (AllByRecursion IsVisible) (map field_word fields)
 words_visible [] h = tt
 words_visible (field ∷ fields) h = (word_visible field h.0, words_visible fields h.1)
 
-word_read : (field : Field) → has_name field ≡ true → IsText field.1 → read_word (word field) ≡ Some field
-unfolding word
+word_read : (field : Field) → has_name field ≡ true → IsText field.1 → read_word (field_word field) ≡ Some field
+unfolding field_word
 word_read field named bytes =
-    let place = append_assoc field.0 (codes "=") (shown field.1) in
-    let found = ap (cut 61) place ∙ cut_at 61 field.0 (shown field.1) (name_lacks field.0 named) in
+    let place = append_assoc field.0 (codes "=") (shown_value field.1) in
+    let found = ap (cut 61) place ∙ cut_at 61 field.0 (shown_value field.1) (name_lacks field.0 named) in
     rw (found, decoded_shown field.1 bytes) refl
 
-pub words_told : (fields : List Field) → AllByRecursion (λ (field : Field). has_name field ≡ true) fields → AllByRecursion (λ (field : Field). IsText field.1) fields
-    → map read_word (map word fields) ≡ map (λ (field : Field). Some field) fields
-words_told [] h k = refl
-words_told (field ∷ fields) h k = rw (word_read field h.0 k.0) (ap (λ fs. Some field ∷ fs) (words_told fields h.1 k.1))
+pub fields_read : (fields : List Field) → AllByRecursion (λ (field : Field). has_name field ≡ true) fields → AllByRecursion (λ (field : Field). IsText field.1) fields
+    → map read_word (map field_word fields) ≡ map (λ (field : Field). Some field) fields
+fields_read [] h k = refl
+fields_read (field ∷ fields) h k = rw (word_read field h.0 k.0) (ap (λ fs. Some field ∷ fs) (fields_read fields h.1 k.1))
 
 -- moments
 
@@ -148,23 +148,23 @@ moment_visible m h =
 
 -- the kind and the fields of a fact
 abbrev pub words_of : Fact → List (List ℕ)
-words_of fact = kind_of fact ∷ map word (fields_of fact)
+words_of fact = fact_kind fact ∷ map field_word (fields_of fact)
 
-told_in_words : (fact : Fact) → told fact ≡ flat_map spaced (words_of fact)
-told_in_words fact = ap (λ (text : List ℕ). spaced (kind_of fact) ++ text) (sym (flat_map-map spaced word (fields_of fact)))
+fact_in_words : (fact : Fact) → fact_text fact ≡ flat_map spaced (words_of fact)
+fact_in_words fact = ap (λ (text : List ℕ). spaced (fact_kind fact) ++ text) (sym (flat_map-map spaced field_word (fields_of fact)))
 
 fact_visible : (fact : Fact) → AllByRecursion (AllByRecursion IsVisible) (words_of fact)
 fact_visible fact =
-    (name_visible (kind_of fact) (kinds_are_names fact), words_visible (fields_of fact) (from_test has_name (fields_of fact) (fields_have_names fact)))
+    (name_visible (fact_kind fact) (kinds_are_names fact), words_visible (fields_of fact) (from_test has_name (fields_of fact) (fields_have_names fact)))
 
 pub fields_named : (fact : Fact) → AllByRecursion (λ (field : Field). has_name field ≡ true) (fields_of fact)
 fields_named fact = from_test has_name (fields_of fact) (fields_have_names fact)
 
 pub body_read : (note : Note) → IsMoment note.moment
-    → fields_at 32 (body note) ≡ moment_text note.moment ∷ kind_of note.fact ∷ map word (fields_of note.fact)
+    → fields_at 32 (body note) ≡ moment_text note.moment ∷ fact_kind note.fact ∷ map field_word (fields_of note.fact)
 body_read note h =
     let lacks = Each-weaker (AllByRecursion IsVisible) (Lacks 32) (visible_lacks 32 (omega arith)) (words_of note.fact) (fact_visible note.fact) in
-    ap (λ (text : List ℕ). fields_at 32 (moment_text note.moment ++ text)) (told_in_words note.fact)
+    ap (λ (text : List ℕ). fields_at 32 (moment_text note.moment ++ text)) (fact_in_words note.fact)
     ∙ words_read (moment_text note.moment) (words_of note.fact) (visible_lacks 32 (omega arith) (moment_text note.moment) (moment_visible note.moment h)) lacks
 
 -- printable bytes
@@ -180,7 +180,7 @@ spaced_printable (text ∷ words) h =
 
 pub body_printable : (note : Note) → IsMoment note.moment → AllByRecursion IsPrintable (body note)
 body_printable note h =
-    rw (told_in_words note.fact)
+    rw (fact_in_words note.fact)
     (Each-append IsPrintable (moment_text note.moment) (flat_map spaced (words_of note.fact))
     (Each-weaker IsVisible IsPrintable visible_printable (moment_text note.moment) (moment_visible note.moment h))
     (spaced_printable (words_of note.fact) (fact_visible note.fact)))
@@ -188,8 +188,8 @@ body_printable note h =
 printable_apart : (b : ℕ) → IsPrintable b → b ≢ 10
 printable_apart b h e = omega (arith, h.0, e)
 
-pub line_ends : (note : Note) (rest : List ℕ) → IsMoment note.moment → cut 10 (line note ++ rest) ≡ Some (body note, rest)
-unfolding line
+pub line_ends : (note : Note) (rest : List ℕ) → IsMoment note.moment → cut 10 (note_line note ++ rest) ≡ Some (body note, rest)
+unfolding note_line
 line_ends note rest h =
     ap (cut 10) (append_assoc (body note) (codes "\n") rest)
     ∙ cut_at 10 (body note) rest (Each-weaker IsPrintable (λ b. b ≢ 10) printable_apart (body note) (body_printable note h))

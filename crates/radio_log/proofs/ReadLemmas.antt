@@ -1,4 +1,4 @@
--- A reader of lines, and that it gives back what was told.
+-- A reader of lines, and that it gives back what was written.
 use Rattle.std.proofs.Common.{◌≡◌, ℕ, ◌+◌, ◌-◌, ◌*◌, ◌/◌, ◌%◌, List, [], ◌∷◌, Some, refl, sym, ap, ◌∙◌, arith, get_or, drop}
 use Rattle.std.specs.Prelude.{map, codes, unwrap_or, if◌then◌else◌}
 use Rattle.std.specs.List.{AllByRecursion, flat_map}
@@ -17,9 +17,9 @@ use Rattle.radio_log.specs.declared.facts.Fact.TheVariants.{Started, Ended, Clie
 use Rattle.radio_log.specs.declared.moment.Moment.{Moment}
 use Rattle.radio_log.specs.declared.notes.Note.{Note}
 use Rattle.radio_log.specs.Moments.{day_text, time_text, moment_text}
-use Rattle.radio_log.specs.Lines.{Field, word, kind_of, fields_of, body, line}
+use Rattle.radio_log.specs.Lines.{Field, field_word, fact_kind, fields_of, body, note_line}
 use Rattle.radio_log.specs.Laws.{IsCount, IsFact, IsNote, read_word, log}
-use Rattle.radio_log.proofs.LineLemmas.{fields_named, words_told, body_read, line_ends}
+use Rattle.radio_log.proofs.LineLemmas.{fields_named, fields_read, body_read, line_ends}
 use Rattle.radio_log.proofs.ByteLemmas.{values_are_bytes}
 
 -- what is written of a peer is read back
@@ -47,8 +47,8 @@ value k fields = (get_or fields k ([], [])).1
 abbrev pub is_kind : List ℕ → List ℕ → Fact → Fact → Fact
 is_kind kind name fact other = if bytes_eq kind name then fact else other
 
-abbrev pub fact_told : List ℕ → List Field → Fact
-fact_told kind fs =
+abbrev pub fact_of : List ℕ → List Field → Fact
+fact_of kind fs =
     is_kind kind (codes "started") (Started (value 0 fs) (value 1 fs))
     (is_kind kind (codes "ended") (Ended (value 0 fs))
     (is_kind kind (codes "client") (ClientEnded (record {
@@ -108,7 +108,7 @@ fact_told kind fs =
     }))
     (Lost (count_in (value 0 fs))))))))))))))))
 
-fact_read : ReadsPeers → (fact : Fact) → IsFact fact → fact_told (kind_of fact) (fields_of fact) ≡ fact
+fact_read : ReadsPeers → (fact : Fact) → IsFact fact → fact_of (fact_kind fact) (fields_of fact) ≡ fact
 fact_read peers (Started version address) h = refl
 fact_read peers (Ended why) h = refl
 fact_read peers (ClientEnded c) h =
@@ -140,8 +140,8 @@ year_read n = omega arith
 abbrev pub pair_at : ℕ → List ℕ → ℕ
 pair_at k text = pair_of (get_or text k 0) (get_or text (k + 1) 0)
 
-abbrev pub moment_told : List ℕ → Moment
-moment_told text = record {
+abbrev pub moment_of : List ℕ → Moment
+moment_of text = record {
   year = pair_at 0 text * 100 + pair_at 2 text;
   month = pair_at 5 text;
   day = pair_at 8 text;
@@ -150,7 +150,7 @@ moment_told text = record {
   second = pair_at 17 text;
 }
 
-moment_read : (m : Moment) → moment_told (moment_text m) ≡ m
+moment_read : (m : Moment) → moment_of (moment_text m) ≡ m
 unfolding day_text time_text moment_text
 moment_read m =
     rw (pair_read (m.year / 100), pair_read (m.year % 100), pair_read m.month, pair_read m.day, pair_read m.hour, pair_read m.minute, pair_read m.second, year_read m.year) refl
@@ -170,12 +170,12 @@ fields_in (text ∷ words) (field ∷ fields) e =
     rw first (ap (λ (fs : List Field). field ∷ fs) (fields_in words fields others))
 
 abbrev pub note_in : List (List ℕ) → Note
-note_in words = record { moment = moment_told (get_or words 0 []); fact = fact_told (get_or words 1 []) (map field_in (drop 2 words)) }
+note_in words = record { moment = moment_of (get_or words 0 []); fact = fact_of (get_or words 1 []) (map field_in (drop 2 words)) }
 
 note_read : ReadsPeers → (note : Note) → IsNote note → note_in (fields_at 32 (body note)) ≡ note
 note_read peers note h =
-    let fields = fields_in (map word (fields_of note.fact)) (fields_of note.fact)
-    (words_told (fields_of note.fact) (fields_named note.fact) (values_are_bytes note.fact h.1)) in
+    let fields = fields_in (map field_word (fields_of note.fact)) (fields_of note.fact)
+    (fields_read (fields_of note.fact) (fields_named note.fact) (values_are_bytes note.fact h.1)) in
     rw (body_read note h.0, moment_read note.moment, fields, fact_read peers note.fact h.1) refl
 
 same_note : ReadsPeers → (note other : Note) → IsNote note → IsNote other → body note ≡ body other → note ≡ other
@@ -186,14 +186,14 @@ pub same_logs : ReadsPeers → (notes others : List Note) → AllByRecursion IsN
 unfolding log
 same_logs peers [] [] h k e = refl
 same_logs peers [] (other ∷ others) h k e =
-    let cuts = ap (cut 10) e ∙ line_ends other (flat_map line others) k.0.0 in
+    let cuts = ap (cut 10) e ∙ line_ends other (flat_map note_line others) k.0.0 in
     cc
 same_logs peers (note ∷ notes) [] h k e =
-    let cuts = sym (line_ends note (flat_map line notes) h.0.0) ∙ ap (cut 10) e in
+    let cuts = sym (line_ends note (flat_map note_line notes) h.0.0) ∙ ap (cut 10) e in
     cc
 same_logs peers (note ∷ notes) (other ∷ others) h k e =
-    let cuts = sym (line_ends note (flat_map line notes) h.0.0) ∙ ap (cut 10) e ∙ line_ends other (flat_map line others) k.0.0 in
-    let parts = same_Some (body note, flat_map line notes) (body other, flat_map line others) cuts in
+    let cuts = sym (line_ends note (flat_map note_line notes) h.0.0) ∙ ap (cut 10) e ∙ line_ends other (flat_map note_line others) k.0.0 in
+    let parts = same_Some (body note, flat_map note_line notes) (body other, flat_map note_line others) cuts in
     let first = same_note peers note other h.0 k.0 (ap (λ (p : List ℕ × List ℕ). p.0) parts) in
     let behind = same_logs peers notes others h.1 k.1 (ap (λ (p : List ℕ × List ℕ). p.1) parts) in
     rw first (ap (λ (ns : List Note). other ∷ ns) behind)

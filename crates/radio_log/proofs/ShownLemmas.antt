@@ -7,7 +7,7 @@ use Rattle.std.proofs.lemmas.Bool.Decides.{nat_tests}
 use Rattle.percent_encoding.specs.Percent.{percent_encode_byte, percent_decode}
 use Rattle.percent_encoding.proofs.PercentLemmas.{percent_decode-percent_encode_byte, percent_decode_not_percent}
 use Rattle.radio_log.specs.Laws.{IsText}
-use Rattle.radio_log.specs.Shown.{is_plain, shown, shown_byte}
+use Rattle.radio_log.specs.Shown.{is_plain, shown_value, shown_byte}
 
 -- a letter, a digit or a sign
 abbrev pub IsVisible : ℕ → Type 0
@@ -30,8 +30,8 @@ byte_visible b true is = ((grind (arith, nat_tests), grind (arith, nat_tests)), 
 byte_visible b false is =
     ((omega arith, omega arith), (glyph_visible (b / 16 % 16) (omega arith), (glyph_visible (b % 16) (omega arith), tt)))
 
-pub shown_visible : (value : List ℕ) → AllByRecursion IsVisible (shown value)
-unfolding shown
+pub shown_visible : (value : List ℕ) → AllByRecursion IsVisible (shown_value value)
+unfolding shown_value
 shown_visible [] = tt
 shown_visible (b ∷ value) = Each-append IsVisible (shown_byte b) (flat_map shown_byte value) (byte_visible b (is_plain b) refl) (shown_visible value)
 
@@ -44,8 +44,8 @@ decoded_byte b rest small true is = percent_decode_not_percent b rest (no_percen
 decoded_byte b rest small false is = percent_decode-percent_encode_byte b rest small
 
 -- what is shown of a value is decoded to it
-pub decoded_shown : (value : List ℕ) → IsText value → percent_decode (shown value) ≡ value
-unfolding shown percent_decode
+pub decoded_shown : (value : List ℕ) → IsText value → percent_decode (shown_value value) ≡ value
+unfolding shown_value percent_decode
 decoded_shown [] h = refl
 decoded_shown (b ∷ value) h =
     decoded_byte b (flat_map shown_byte value) h.0 (is_plain b) refl ∙ ap (λ (bytes : List ℕ). b ∷ bytes) (decoded_shown value h.1)

@@ -11,7 +11,7 @@ use Rattle.radio_log.specs.declared.facts.Fact.TheVariants.{Started, Ended, Clie
 use Rattle.radio_log.specs.declared.moment.Moment.{Moment}
 use Rattle.radio_log.specs.declared.notes.Note.{Note}
 use Rattle.radio_log.specs.Moments.{moment_text}
-use Rattle.radio_log.specs.Lines.{Field, word, kind_of, fields_of, body, line}
+use Rattle.radio_log.specs.Lines.{Field, field_word, fact_kind, fields_of, body, note_line}
 
 -- a text of bytes, and a number of 64 bits
 abbrev pub IsText : List ℕ → Type 0
@@ -62,11 +62,11 @@ read_word text = option_map (λ parts. (parts.0, percent_decode parts.1)) (cut 6
 
 -- how a line is read, whatever follows it: it ends at the first LF, its words are parted by single spaces, and each word behind the
 -- second is a field
-pub record IsReadBack (note : Note) : Type 0 where
-  pub ends : (rest : List ℕ) → cut 10 (line note ++ rest) ≡ Some (body note, rest)
-  pub words : fields_at 32 (body note) ≡ moment_text note.moment ∷ kind_of note.fact ∷ map word (fields_of note.fact)
-  pub fields : map read_word (map word (fields_of note.fact)) ≡ map (λ (field : Field). Some field) (fields_of note.fact)
+pub record IsLineReadBack (note : Note) : Type 0 where
+  pub ends : (rest : List ℕ) → cut 10 (note_line note ++ rest) ≡ Some (body note, rest)
+  pub words : fields_at 32 (body note) ≡ moment_text note.moment ∷ fact_kind note.fact ∷ map field_word (fields_of note.fact)
+  pub fields : map read_word (map field_word (fields_of note.fact)) ≡ map (λ (field : Field). Some field) (fields_of note.fact)
 
 -- a log: the lines of the notes, one behind the other
 unfoldable pub log : List Note → List ℕ
-log notes = flat_map line notes
+log notes = flat_map note_line notes

@@ -4,39 +4,39 @@ use Rattle.std.specs.List.{flat_map}
 use Rattle.radio_addr.specs.Writing.{written}
 use Rattle.radio_log.specs.declared.facts.ClientEnded.{ClientEnded as Client}
 use Rattle.radio_log.specs.declared.facts.Fact.{Fact}
-use Rattle.radio_log.specs.declared.facts.FaultNote.{FaultNote as FaultTold}
+use Rattle.radio_log.specs.declared.facts.FaultNote.{FaultNote}
 use Rattle.radio_log.specs.declared.facts.FaultyKey.{FaultyKey}
 use Rattle.radio_log.specs.declared.facts.KeyPlace.{KeyPlace}
 use Rattle.radio_log.specs.declared.facts.Fact.TheVariants.{Started, Ended, ClientEnded, SourceUp, SourceGone, RelayUp, RelayGone, RelayFailed, MountUp, MountGone, Title, Command, Warning, Fault, Lost}
 use Rattle.radio_log.specs.declared.notes.Note.{Note}
 use Rattle.radio_log.specs.Moments.{moment_text}
-use Rattle.radio_log.specs.Shown.{shown}
+use Rattle.radio_log.specs.Shown.{shown_value}
 
 -- a name and a value
 abbrev pub Field : Type 0
 Field = List ℕ × List ℕ
 
 -- a field as a word: its name, `=`, its value
-unfoldable pub word : Field → List ℕ
-word field = field.0 ++ codes "=" ++ shown field.1
+unfoldable pub field_word : Field → List ℕ
+field_word field = field.0 ++ codes "=" ++ shown_value field.1
 
 -- the first word of a fact
-abbrev pub kind_of : Fact → List ℕ
-kind_of (Started version address) = codes "started"
-kind_of (Ended why) = codes "ended"
-kind_of (ClientEnded c) = codes "client"
-kind_of (SourceUp s) = codes "source-up"
-kind_of (SourceGone s) = codes "source-gone"
-kind_of (RelayUp r) = codes "relay-up"
-kind_of (RelayGone r) = codes "relay-gone"
-kind_of (RelayFailed r) = codes "relay-failed"
-kind_of (MountUp mount) = codes "mount-up"
-kind_of (MountGone mount why) = codes "mount-gone"
-kind_of (Title t) = codes "title"
-kind_of (Command c) = codes "command"
-kind_of (Warning w) = codes "warning"
-kind_of (Fault f) = codes "fault"
-kind_of (Lost lines) = codes "lost"
+abbrev pub fact_kind : Fact → List ℕ
+fact_kind (Started version address) = codes "started"
+fact_kind (Ended why) = codes "ended"
+fact_kind (ClientEnded c) = codes "client"
+fact_kind (SourceUp s) = codes "source-up"
+fact_kind (SourceGone s) = codes "source-gone"
+fact_kind (RelayUp r) = codes "relay-up"
+fact_kind (RelayGone r) = codes "relay-gone"
+fact_kind (RelayFailed r) = codes "relay-failed"
+fact_kind (MountUp mount) = codes "mount-up"
+fact_kind (MountGone mount why) = codes "mount-gone"
+fact_kind (Title t) = codes "title"
+fact_kind (Command c) = codes "command"
+fact_kind (Warning w) = codes "warning"
+fact_kind (Fault f) = codes "fault"
+fact_kind (Lost lines) = codes "lost"
 
 -- what a client asked for, and what came of it
 abbrev pub request_fields : Client → List Field
@@ -56,7 +56,7 @@ place_fields k =
     ∷ (codes "belongs-to", k.belongs_to) ∷ []
 
 -- what a fault is, and which key of the settings it is of
-abbrev pub fault_fields : FaultTold → List Field
+abbrev pub fault_fields : FaultNote → List Field
 fault_fields f =
     (codes "why", f.why) ∷ (codes "file", f.file) ∷ (codes "line", decimal f.line) ∷ (codes "column", decimal f.column)
     ∷ (codes "address", f.address) ∷ (codes "reason", f.reason) ∷ []
@@ -101,20 +101,20 @@ spaced text = codes " " ++ text
 
 -- the words of fields, each behind a space
 abbrev pub fields_text : List Field → List ℕ
-fields_text fields = flat_map (λ (field : Field). spaced (word field)) fields
+fields_text fields = flat_map (λ (field : Field). spaced (field_word field)) fields
 
 -- what is written of a fact: its word and its fields
-abbrev pub told : Fact → List ℕ
-told fact = spaced (kind_of fact) ++ fields_text (fields_of fact)
+abbrev pub fact_text : Fact → List ℕ
+fact_text fact = spaced (fact_kind fact) ++ fields_text (fields_of fact)
 
 -- a line without its end: the moment, and the fact
 abbrev pub body : Note → List ℕ
-body note = moment_text note.moment ++ told note.fact
+body note = moment_text note.moment ++ fact_text note.fact
 
 -- a line: its body, and LF
 -- rule: Line of the log; Last line
-unfoldable pub line : Note → List ℕ
-line note = body note ++ codes "\n"
+unfoldable pub note_line : Note → List ℕ
+note_line note = body note ++ codes "\n"
 
 -- so many bytes of lines wait at most in each place where lines wait
 -- rule: Log queue

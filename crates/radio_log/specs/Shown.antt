@@ -12,5 +12,5 @@ abbrev pub shown_byte : ℕ → List ℕ
 shown_byte b = if is_plain b then b ∷ [] else percent_encode_byte b
 
 -- a value in a line
-unfoldable pub shown : List ℕ → List ℕ
-shown value = flat_map shown_byte value
+unfoldable pub shown_value : List ℕ → List ℕ
+shown_value value = flat_map shown_byte value

@@ -1,7 +1,7 @@
 //! A line in the making, to which fields are added.
 ghost use Rattle.std.specs.Prelude.{◌≡◌, ◌++◌, codes, decimal, IfOk, OnOk};
 ghost use Rattle.radio_addr.specs.Writing.{written};
-ghost use Rattle.radio_log.specs.Lines.{spaced, word};
+ghost use Rattle.radio_log.specs.Lines.{spaced, field_word};
 
 use crate::shown::{push_count, push_shown};
 use crate::{OutOfMemory, QuotedText};
@@ -66,9 +66,9 @@ impl Fields {
     }
 
     /// Adds a field whose value is these bytes.
-    #[tactic(auto, unfolding(crate::specs::Lines::spaced, crate::specs::Lines::word))]
+    #[tactic(auto, unfolding(crate::specs::Lines::spaced, crate::specs::Lines::field_word))]
     fn put(&mut self, name: &str, value: &[u8]) -> Result<(), OutOfMemory>
-        ensures { OnOk result (self.new ≡ self.old ++ spaced (word (name.now, value.now))) }
+        ensures { OnOk result (self.new ≡ self.old ++ spaced (field_word (name.now, value.now))) }
     {
         self.put_name(name)?;
         push_shown(&mut self.bytes, value)
@@ -76,15 +76,15 @@ impl Fields {
 
     /// Adds a text.
     pub(crate) fn put_text(&mut self, name: &str, text: &QuotedText<'_>) -> Result<(), OutOfMemory>
-        ensures { OnOk result (self.new ≡ self.old ++ spaced (word (name.now, text.now))) }
+        ensures { OnOk result (self.new ≡ self.old ++ spaced (field_word (name.now, text.now))) }
     {
         self.put(name, text.as_bytes())
     }
 
     /// Adds a number.
-    #[tactic(auto, unfolding(crate::specs::Lines::spaced, crate::specs::Lines::word))]
+    #[tactic(auto, unfolding(crate::specs::Lines::spaced, crate::specs::Lines::field_word))]
     pub(crate) fn put_count(&mut self, name: &str, number: u64) -> Result<(), OutOfMemory>
-        ensures { OnOk result (self.new ≡ self.old ++ spaced (word (name.now, decimal number))) }
+        ensures { OnOk result (self.new ≡ self.old ++ spaced (field_word (name.now, decimal number))) }
     {
         self.put_name(name)?;
         push_count(&mut self.bytes, number)
@@ -92,7 +92,7 @@ impl Fields {
 
     /// Adds an address.
     pub(crate) fn put_peer(&mut self, name: &str, peer: Peer) -> Result<(), OutOfMemory>
-        ensures { OnOk result (self.new ≡ self.old ++ spaced (word (name.now, written peer))) }
+        ensures { OnOk result (self.new ≡ self.old ++ spaced (field_word (name.now, written peer))) }
     {
         let mut address = String::with_capacity(self.alloc, LONGEST_ADDRESS)?;
         write!(address, "{peer}")?;

@@ -4,7 +4,7 @@
 //! A caller that needs a law in a proof calls the function, and cites its clause.
 ghost use Rattle.std.specs.Prelude.{◌≡◌, List};
 ghost use Rattle.std.specs.List.{AllByRecursion};
-ghost use Rattle.radio_log.specs.Laws.{IsNote, IsPrintable, IsReadBack, log};
+ghost use Rattle.radio_log.specs.Laws.{IsLineReadBack, IsNote, IsPrintable, log};
 ghost use Rattle.radio_log.specs.Lines.{body};
 ghost use Rattle.radio_log.specs.declared.notes.Note.{Note as NoteOf};
 
@@ -21,12 +21,12 @@ pub fn lines_are_printable()
 /// Each word after the second is a field: its name ends at the first `=`, and its value is percent-encoded.
 // rule: Line of the log
 pub fn lines_are_read_back()
-    ensures { (note : NoteOf) → IsNote note → IsReadBack note }
+    ensures { (note : NoteOf) → IsNote note → IsLineReadBack note }
 {}
 
 /// A log has one list of notes alone: nobody can forge a line, or a part of one.
 // rule: Line of the log
-pub fn logs_tell_one_story()
+pub fn a_log_has_one_reading()
     ensures { (notes others : List NoteOf)
         → AllByRecursion IsNote notes → AllByRecursion IsNote others
         → log notes ≡ log others → notes ≡ others }

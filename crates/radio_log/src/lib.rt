@@ -15,8 +15,8 @@ pub mod laws;
 mod moment;
 mod notes;
 mod shown;
-mod telling;
 mod text;
+mod writing;
 
 pub use facts::{
     ClientEnded, CommandNote, Fact, FaultNote, FaultyKey, KeyPlace, RelayFailed, RelayGone,

@@ -1,6 +1,6 @@
 //! Notes, and their lines.
 ghost use Rattle.std.specs.Prelude.{◌≡◌, IfOk};
-ghost use Rattle.radio_log.specs.Lines.{body, line};
+ghost use Rattle.radio_log.specs.Lines.{body, note_line};
 
 use crate::facts::Fact;
 use crate::fields::Fields;
@@ -26,9 +26,9 @@ pub struct Note<'a> {
 ///
 /// The only error is `OutOfMemory`, if memory was refused; nothing was written then.
 // rule: Line of the log; Last line
-#[tactic(auto, unfolding(crate::specs::Lines::line))]
+#[tactic(auto, unfolding(crate::specs::Lines::note_line))]
 pub fn line(alloc: Global, note: &Note<'_>) -> Result<Vec<u8>, OutOfMemory>
-    ensures { IfOk result (λ bytes. bytes.items ≡ line note.now) }
+    ensures { IfOk result (λ bytes. bytes.items ≡ note_line note.now) }
 {
     let fields = body(alloc, note)?;
     fields.into_line()
@@ -41,6 +41,6 @@ fn body(alloc: Global, note: &Note<'_>) -> Result<Fields, OutOfMemory>
     let mut bytes = Vec::with_capacity(alloc, USUAL_LENGTH)?;
     note.moment.push_to(&mut bytes)?;
     let mut fields = Fields::behind(alloc, bytes);
-    note.fact.tell(&mut fields)?;
+    note.fact.push_to(&mut fields)?;
     Ok(fields)
 }

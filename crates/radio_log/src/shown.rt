@@ -1,6 +1,6 @@
 //! How the bytes of a value are written in a line.
 ghost use Rattle.std.specs.Prelude.{◌≡◌, ◌++◌, OnOk, decimal, not, position};
-ghost use Rattle.radio_log.specs.Shown.{is_plain, shown};
+ghost use Rattle.radio_log.specs.Shown.{is_plain, shown_value};
 
 use crate::OutOfMemory;
 use itoa::Buffer;
@@ -8,7 +8,7 @@ use percent_encoding::percent_encode_byte;
 
 /// Adds the bytes of a value: plain ones as they are, and `%` with two digits for each other.
 pub(crate) fn push_shown(line: &mut Vec<u8>, value: &[u8]) -> Result<(), OutOfMemory>
-    ensures { OnOk result (line.new.items ≡ line.old.items ++ shown value.now) }
+    ensures { OnOk result (line.new.items ≡ line.old.items ++ shown_value value.now) }
 {
     let mut rest = value;
     'runs: while let Some(at) = first_encoded(rest) {
@@ -22,7 +22,7 @@ pub(crate) fn push_shown(line: &mut Vec<u8>, value: &[u8]) -> Result<(), OutOfMe
 /// Adds a number. Its digits are plain bytes.
 #[tactic(auto, using(crate::proofs::RunLemmas::count_shown))]
 pub(crate) fn push_count(line: &mut Vec<u8>, number: u64) -> Result<(), OutOfMemory>
-    ensures { OnOk result (line.new.items ≡ line.old.items ++ shown (decimal number)) }
+    ensures { OnOk result (line.new.items ≡ line.old.items ++ shown_value (decimal number)) }
 {
     let mut digits = Buffer::new();
     line.extend_from_slice(digits.format(number).as_bytes())

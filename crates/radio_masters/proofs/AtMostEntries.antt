@@ -10,15 +10,15 @@ use Rattle.radio_events.specs.declared.state.State.{State}
 use Rattle.radio_events.specs.declared.state.State.TheVariants.{Running, Shut}
 use Rattle.radio_events.specs.Events.{entry}
 use Rattle.radio_events.specs.Servers.{Chain, Steps}
-use Rattle.radio_masters.specs.Pulls.{HearsAtMost}
+use Rattle.radio_masters.specs.Pulls.{AppliesAtMost}
 use Rattle.radio_masters.proofs.PullEntries.{event_entries}
-use Rattle.radio_pull.specs.Applied.{AreOfEvent, AreOfEventAnd, AreOfEventIf, AreOfItems, AreOfPulled, AreOfTurn, IsDownIfShut, IsGoingDown}
-use Rattle.radio_pull.specs.Applied.{number_after, probe_of}
-use Rattle.radio_pull.specs.Course.{Asks, AsksAtMost, AsksAtMostIf, BringsAtMost, Follows, OnwardsAtMost, TakesAtMost}
-use Rattle.radio_pull.specs.Pulling.{Pulling, Standing, answered, event_for, going_on}
+use Rattle.radio_relay.specs.Applied.{AreOfEvent, AreOfEventAnd, AreOfEventIf, AreOfItems, AreOfPulled, AreOfTurn, IsDownIfShut, IsGoingDown}
+use Rattle.radio_relay.specs.Applied.{number_after, probe_of}
+use Rattle.radio_relay.specs.Course.{Asks, AsksAtMost, AsksAtMostIf, BringsAtMost, Follows, OnwardsAtMost, TakesAtMost}
+use Rattle.radio_relay.specs.Pulling.{Pulling, NumberedState, state_after_reply, event_for, running_pull}
 use Rattle.radio_relay.specs.declared.items.PullItem.{PullItem}
 use Rattle.radio_relay.specs.Items.{Answers, items_of}
-use Rattle.radio_relay.specs.Pulled.{GoesOn, Pulled, Standing as AnswerStanding}
+use Rattle.radio_relay.specs.Pulled.{GoesOn, Pulled, PullProgress as AnswerStanding}
 
 abbrev nil : List Entry
 nil = []
@@ -33,34 +33,34 @@ shut_somehow Running number = ([], refl)
 shut_somehow (Shut ending) number = down_somehow number
 
 -- an event with its reply, and what may come behind it
-event_somehow : (number : Option ℕ) (event : Event) (reply : Reply) → (down : List Entry) × AreOfEvent number event (entry event reply ∷ down) (answered number reply)
+event_somehow : (number : Option ℕ) (event : Event) (reply : Reply) → (down : List Entry) × AreOfEvent number event (entry event reply ∷ down) (state_after_reply number reply)
 event_somehow number event reply =
-    let down = shut_somehow (answered number reply).state (answered number reply).number in
+    let down = shut_somehow (state_after_reply number reply).state (state_after_reply number reply).number in
     (down.0, record { reply = reply; down = down.0; in_order = refl; is_answered = refl; goes_down = down.1 })
 
 -- the number after an event by which the pull goes on, and later ones
-numbered_then : (number : Option ℕ) (event : Event) (now : Standing) → now.state ≡ Running → (first : List Entry) → AreOfEvent number event first now
+numbered_then : (number : Option ℕ) (event : Event) (now : NumberedState) → now.state ≡ Running → (first : List Entry) → AreOfEvent number event first now
     → (later : List Entry) → number_after now.number later ≡ number_after number (first ++ later)
 numbered_then number event now run first are later =
     let none : are.down ≡ [] = subst (λ (s : State). IsDownIfShut s now.number are.down) run are.goes_down in
-    ap (λ (s : Standing). number_after s.number later) are.is_answered
+    ap (λ (s : NumberedState). number_after s.number later) are.is_answered
     ∙ sym (ap (λ (es : List Entry). number_after number (es ++ later)) are.in_order
-    ∙ ap (λ (es : List Entry). number_after (answered number are.reply).number (es ++ later)) none)
+    ∙ ap (λ (es : List Entry). number_after (state_after_reply number are.reply).number (es ++ later)) none)
 
 module _ (mount : List ℕ) where
   -- these are the first of what the items ask for
   abbrev AreFirst : Option ℕ → List PullItem → List Entry → Type 0
-  AreFirst number items entries = (more : List Entry) × (after : Standing) × AreOfItems mount number items (entries ++ more) after
+  AreFirst number items entries = (more : List Entry) × (after : NumberedState) × AreOfItems mount number items (entries ++ more) after
 
   abbrev AreFirstAnd : Option ℕ → Option Event → List PullItem → List Entry → Type 0
-  AreFirstAnd number event items entries = (more : List Entry) × (after : Standing)
+  AreFirstAnd number event items entries = (more : List Entry) × (after : NumberedState)
       × AreOfEventAnd number event (entries ++ more) (λ now later. AreOfItems mount now.number items later after) after
 
-  abbrev RestAfter : List PullItem → Standing → Type 0
-  RestAfter items now = (later : List Entry) × (after : Standing)
+  abbrev RestAfter : List PullItem → NumberedState → Type 0
+  RestAfter items now = (later : List Entry) × (after : NumberedState)
       × Follows now.state (AreOfItems mount now.number items later after) ((after ≡ now) × (later ≡ []))
 
-  rest_by : (items : List PullItem) (now : Standing) → AreFirst now.number items [] → (state : State) → now.state ≡ state → RestAfter items now
+  rest_by : (items : List PullItem) (now : NumberedState) → AreFirst now.number items [] → (state : State) → now.state ≡ state → RestAfter items now
   rest_by items now first Running run = (
     first.0,
     first.1,
@@ -70,20 +70,20 @@ module _ (mount : List ℕ) where
       ([], now, subst (λ (s : State). Follows s (AreOfItems mount now.number items [] now) ((now ≡ now) × (nil ≡ nil))) (sym shut) (refl, refl))
 
   -- an event with its reply is the first of what comes of it and of the rest
-  event_first : (number : Option ℕ) (event : Event) (items : List PullItem) (reply : Reply) → AreFirst (answered number reply).number items []
+  event_first : (number : Option ℕ) (event : Event) (items : List PullItem) (reply : Reply) → AreFirst (state_after_reply number reply).number items []
       → AreFirstAnd number (Some event) items (entry event reply ∷ [])
   event_first number event items reply first =
-      let now = answered number reply in
+      let now = state_after_reply number reply in
       let one = event_somehow number event reply in
       let rest = rest_by items now first now.state refl in
       (one.0 ++ rest.0, rest.1, (now, entry event reply ∷ one.0, rest.0, refl, one.1, rest.2))
 
   -- nothing is the first of anything
   none_first : (items : List PullItem) (number : Option ℕ) → AreFirst number items []
-  none_first [] number = ([], going_on number, (refl, refl))
+  none_first [] number = ([], running_pull number, (refl, refl))
   none_first (item ∷ items) number = by_event (event_for mount number item) (none_first items number) where
     by_event : (event : Option Event) → AreFirst number items [] → AreFirstAnd number event items []
-    by_event None rest = ([], going_on number, (refl, refl))
+    by_event None rest = ([], running_pull number, (refl, refl))
     by_event (Some event) rest = let some = event_first number event items Stray rest in (entry event Stray ∷ some.0, some.1, some.2)
 
   module _ {S : Type 0} (steps : Steps S) where
@@ -109,14 +109,14 @@ module _ (mount : List ℕ) where
           one_made : (event : Event) → AreFirstAnd number (Some event) items [] → AsksAtMost steps number event from number' to
               → Front number from number' to (AreFirstAnd number (Some event) items)
           one_made event none (inl same) = nothing_made number from number' to (AreFirstAnd number (Some event) items) none same
-          one_made event none (inr (reply, step, same)) = record {
+          one_made event none (inr (reply, step, shut, same)) = record {
             entries = entry event reply ∷ [];
             chain = chain_one steps from to (entry event reply) step;
-            first = event_first number event items reply (none_first items (answered number reply).number);
+            first = event_first number event items reply (none_first items (state_after_reply number reply).number);
             numbered = same;
           }
 
-          then_made : (event : Event) (now : Standing) (mid : S) → Asks steps number event from now mid → now.state ≡ Running
+          then_made : (event : Event) (now : NumberedState) (mid : S) → Asks steps number event from now mid → now.state ≡ Running
               → Front now.number mid number' to (AreFirst now.number items) → Front number from number' to (AreFirstAnd number (Some event) items)
           then_made event now mid asks run later =
               let made = event_entries steps number event from now mid asks in
@@ -148,7 +148,7 @@ module _ (mount : List ℕ) where
 module _ {S : Type 0} (steps : Steps S) where
   -- memory was refused as bytes came
   pub taken_at_most : (relay : Pulling) (bytes : List ℕ) (from : S) (relay' : Pulling) (to : S) → 0 < length bytes
-      → TakesAtMost steps relay bytes from relay'.number to → HearsAtMost steps relay bytes from relay' to
+      → TakesAtMost steps relay bytes from relay'.number to → AppliesAtMost steps relay bytes from relay' to
   taken_at_most relay [] from relay' to some takes = absurd (omega (arith, some))
   taken_at_most relay (byte ∷ bytes) from relay' to some (inl (same, stays)) = record { entries = []; chain = stays; are = inl refl; numbered = same }
   taken_at_most relay (byte ∷ bytes) from relay' to some (inr (items, stage, (pulled, is, answers), brings)) =
@@ -176,13 +176,13 @@ module _ {S : Type 0} (steps : Steps S) where
 
   -- memory was refused as nothing came
   pub asked_at_most : (relay : Pulling) (from : S) (relay' : Pulling) (to : S) → AsksAtMostIf steps relay.number (probe_of relay.number) from relay'.number to
-      → HearsAtMost steps relay [] from relay' to
+      → AppliesAtMost steps relay [] from relay' to
   asked_at_most relay from relay' to asks = by_event (probe_of relay.number) refl asks where
     probed : (event : Event) → probe_of relay.number ≡ Some event → (reply : Reply)
         → (more : List Entry) × (last : Pulling) × (state : State) × AreOfTurn relay [] (entry event reply ∷ more) last state
     probed event is reply =
         let one = event_somehow relay.number event reply in
-        let after = answered relay.number reply in (
+        let after = state_after_reply relay.number reply in (
           one.0,
           record relay { number = after.number },
           after.state,
@@ -195,10 +195,10 @@ module _ {S : Type 0} (steps : Steps S) where
         )
 
     by_event : (event : Option Event) → probe_of relay.number ≡ event → AsksAtMostIf steps relay.number event from relay'.number to
-        → HearsAtMost steps relay [] from relay' to
+        → AppliesAtMost steps relay [] from relay' to
     by_event None is (same, stays) = record { entries = []; chain = stays; are = inl refl; numbered = same }
     by_event (Some event) is (inl (same, stays)) = record { entries = []; chain = stays; are = inl refl; numbered = same }
-    by_event (Some event) is (inr (reply, step, same)) = record {
+    by_event (Some event) is (inr (reply, step, shut, same)) = record {
       entries = entry event reply ∷ [];
       chain = chain_one steps from to (entry event reply) step;
       are = inr (probed event is reply);

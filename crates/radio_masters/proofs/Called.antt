@@ -5,7 +5,7 @@ use Rattle.radio_events.specs.Servers.{Steps}
 use Rattle.radio_masters.specs.declared.mount_pull.PullTurn.{PullTurn}
 use Rattle.radio_masters.specs.declared.mount_pull.PullTurn.TheVariants.{Running, Shut, Closed, Failed, OutOfMemory}
 use Rattle.radio_masters.specs.ListAnswers.{ListOver}
-use Rattle.radio_masters.specs.Pulls.{Comes, GoesOnHere, IsCalledIn, IsTurn, FrontIsTaken, KeepsFront, PullOver, front_with}
+use Rattle.radio_masters.specs.Pulls.{Comes, GoesOnHere, IsCalledIn, IsPullTurn, FrontIsTaken, KeepsFront, PullOver, front_with}
 
 -- a turn that does not end by its line, and has read from it once
 pub called_on : (turn : PullTurn) (before now : Calls) → GoesOnHere turn → now.reads ≡ suc before.reads → IsCalledIn turn before now
@@ -23,13 +23,13 @@ kept_on Closed front bytes front' e = e
 kept_on Failed front bytes front' e = e
 kept_on OutOfMemory front bytes front' e = tt
 
--- a turn in which bytes came, told of how the pull stands within
-pub turn_heard : {S : Type 0} (steps : Steps S) (pull before after : PullOver) (bytes : List ℕ) (from to : S) (turn : PullTurn) → before ≡ pull
+-- a turn in which bytes came, by how the pull stands within
+pub turn_with_bytes : {S : Type 0} (steps : Steps S) (pull before after : PullOver) (bytes : List ℕ) (from to : S) (turn : PullTurn) → before ≡ pull
     → FrontIsTaken before.outgoing before.taken after.outgoing after.taken → after.given ≡ before.given ++ bytes
     → Comes steps before.relay bytes from turn after.relay to → IsCalledIn turn before.calls after.calls
-    → KeepsFront turn before.front bytes after.front → IsTurn steps pull from turn after to
-turn_heard steps pull before after bytes from to turn e written given comes called front =
-    subst (λ (p : PullOver). IsTurn steps p from turn after to) e
+    → KeepsFront turn before.front bytes after.front → IsPullTurn steps pull from turn after to
+turn_with_bytes steps pull before after bytes from to turn e written given comes called front =
+    subst (λ (p : PullOver). IsPullTurn steps p from turn after to) e
     (record { bytes = bytes; written = written; given = given; comes = comes; called = called; front = front })
 
 -- bytes that a line gave stand behind what came

@@ -8,14 +8,14 @@ use Rattle.radio_events.specs.declared.state.State.{State}
 use Rattle.radio_events.specs.declared.state.State.TheVariants.{Running, Shut}
 use Rattle.radio_events.specs.Events.{entry}
 use Rattle.radio_events.specs.Servers.{Chain, Steps}
-use Rattle.radio_masters.specs.Pulls.{Comes, Hears, HearsAtMost, turn_of}
-use Rattle.radio_pull.specs.Applied.{AreAtMostOfTurn, AreOfBytes, AreOfEvent, AreOfEventAnd, AreOfEventIf, AreOfItems, AreOfPulled, IsDownIfShut, IsGoingDown}
-use Rattle.radio_pull.specs.Applied.{number_after, probe_of}
-use Rattle.radio_pull.specs.Course.{Asks, AsksAtMost, AsksAtMostIf, AsksIf, Brings, BringsAtMost, ComesOf, Follows, GoesDown, GoesDownIfShut, Onwards, OnwardsAtMost, Takes, TakesAtMost}
-use Rattle.radio_pull.specs.Pulling.{Pulling, Standing, event_for}
+use Rattle.radio_masters.specs.Pulls.{Comes, AppliesAll, AppliesAtMost, turn_by_state}
+use Rattle.radio_relay.specs.Applied.{AreAtMostOfTurn, AreOfBytes, AreOfEvent, AreOfEventAnd, AreOfEventIf, AreOfItems, AreOfPulled, IsDownIfShut, IsGoingDown}
+use Rattle.radio_relay.specs.Applied.{number_after, probe_of}
+use Rattle.radio_relay.specs.Course.{Asks, AsksAtMost, AsksAtMostIf, AsksIf, BringsItems, BringsAtMost, ComesOf, Follows, GoesDown, GoesDownIfShut, Onwards, OnwardsAtMost, Takes, TakesAtMost}
+use Rattle.radio_relay.specs.Pulling.{Pulling, NumberedState, event_for}
 use Rattle.radio_relay.specs.declared.items.PullItem.{PullItem}
 use Rattle.radio_relay.specs.Items.{items_of}
-use Rattle.radio_relay.specs.Pulled.{GoesOn, Standing as AnswerStanding, Stops}
+use Rattle.radio_relay.specs.Pulled.{GoesOn, PullProgress as AnswerStanding, Stops}
 
 module _ {S : Type 0} (steps : Steps S) where
   -- entries of this kind were applied, one after another
@@ -32,7 +32,7 @@ module _ {S : Type 0} (steps : Steps S) where
   shut_entries Running number from to same = ([], same, refl)
   shut_entries (Shut ending) number from to down = down_entries number from to down
 
-  pub event_entries : (number : Option ℕ) (event : Event) (from : S) (after : Standing) (to : S) → Asks steps number event from after to
+  pub event_entries : (number : Option ℕ) (event : Event) (from : S) (after : NumberedState) (to : S) → Asks steps number event from after to
       → Applied from to (λ entries. AreOfEvent number event entries after)
   event_entries number event from after to asks =
       let down = shut_entries after.state after.number asks.mid to asks.goes in
@@ -42,31 +42,31 @@ module _ {S : Type 0} (steps : Steps S) where
         record { reply = asks.reply; down = down.0; in_order = refl; is_answered = asks.is_answered; goes_down = down.2 },
       )
 
-  pub event_entries_if : (number : Option ℕ) (event : Option Event) (from : S) (after : Standing) (to : S) → AsksIf steps number event from after to
+  pub event_entries_if : (number : Option ℕ) (event : Option Event) (from : S) (after : NumberedState) (to : S) → AsksIf steps number event from after to
       → Applied from to (λ entries. AreOfEventIf number event entries after)
   event_entries_if number None from after to (stays, same) = ([], same, (refl, stays))
   event_entries_if number (Some event) from after to asks = event_entries number event from after to asks
 
   -- the rest, if the pull is not shut
-  rest_entries : (state : State) (now after : Standing) (mid to : S) (Rest : S → Type 0) (AreRest : List Entry → Type 0)
+  rest_entries : (state : State) (now after : NumberedState) (mid to : S) (Rest : S → Type 0) (AreRest : List Entry → Type 0)
       → (Rest to → Applied mid to AreRest) → Follows state (Rest to) ((after ≡ now) × (to ≡ mid))
       → Applied mid to (λ later. Follows state (AreRest later) ((after ≡ now) × (later ≡ [])))
   rest_entries Running now after mid to Rest AreRest rest follows = rest follows
   rest_entries (Shut ending) now after mid to Rest AreRest rest (stays, same) = ([], same, (stays, refl))
 
-  items_entries : (mount : List ℕ) (number : Option ℕ) (items : List PullItem) (from : S) (after : Standing) (to : S)
-      → Brings steps mount number items from after to → Applied from to (λ entries. AreOfItems mount number items entries after)
+  items_entries : (mount : List ℕ) (number : Option ℕ) (items : List PullItem) (from : S) (after : NumberedState) (to : S)
+      → BringsItems steps mount number items from after to → Applied from to (λ entries. AreOfItems mount number items entries after)
   items_entries mount number [] from after to (stays, same) = ([], same, (refl, stays))
   items_entries mount number (item ∷ items) from after to brings =
       by_event (λ number mid. items_entries mount number items mid after to) (event_for mount number item) brings where
-        by_event : ((number : Option ℕ) (mid : S) → Brings steps mount number items mid after to
+        by_event : ((number : Option ℕ) (mid : S) → BringsItems steps mount number items mid after to
             → Applied mid to (λ later. AreOfItems mount number items later after))
-            → (event : Option Event) → Onwards steps number event from (λ now mid. Brings steps mount now.number items mid after to) after to
+            → (event : Option Event) → Onwards steps number event from (λ now mid. BringsItems steps mount now.number items mid after to) after to
             → Applied from to (λ entries. AreOfEventAnd number event entries (λ now later. AreOfItems mount now.number items later after) after)
         by_event rest None (stays, same) = ([], same, (refl, stays))
         by_event rest (Some event) (now, mid, asks, follows) =
             let first = event_entries number event from now mid asks in
-            let later = rest_entries now.state now after mid to (λ last. Brings steps mount now.number items mid after last)
+            let later = rest_entries now.state now after mid to (λ last. BringsItems steps mount now.number items mid after last)
             (λ later. AreOfItems mount now.number items later after) (rest now.number mid) follows in (
               first.0 ++ later.0,
               chain_then steps from mid to first.0 later.0 first.1 later.1,
@@ -88,23 +88,23 @@ module _ {S : Type 0} (steps : Steps S) where
       (are.0, are.1, (pulled, is, are.2))
 
   -- the result of a turn by the state of the pull
-  comes_by : (relay : Pulling) (bytes : List ℕ) (from : S) (state : State) (relay' : Pulling) (to : S) → Hears steps relay bytes from relay' state to
-      → Comes steps relay bytes from (turn_of state) relay' to
-  comes_by relay bytes from Running relay' to hears = hears
-  comes_by relay bytes from (Shut ending) relay' to hears = hears
+  comes_by : (relay : Pulling) (bytes : List ℕ) (from : S) (state : State) (relay' : Pulling) (to : S) → AppliesAll steps relay bytes from relay' state to
+      → Comes steps relay bytes from (turn_by_state state) relay' to
+  comes_by relay bytes from Running relay' to applies = applies
+  comes_by relay bytes from (Shut ending) relay' to applies = applies
 
   -- some bytes came
   pub taken_comes : (relay : Pulling) (bytes : List ℕ) (from : S) (state : State) (relay' : Pulling) (to : S) → 0 < length bytes
-      → Takes steps relay bytes from relay' state to → Comes steps relay bytes from (turn_of state) relay' to
+      → Takes steps relay bytes from relay' state to → Comes steps relay bytes from (turn_by_state state) relay' to
   taken_comes relay [] from state relay' to some takes = absurd (omega (arith, some))
   taken_comes relay (byte ∷ bytes) from state relay' to some takes =
       let are = bytes_entries relay (byte ∷ bytes) from relay' state to takes in
       comes_by relay (byte ∷ bytes) from state relay' to (record { entries = are.0; chain = are.1; are = are.2 })
 
   -- nothing came
-  pub asked_comes : (relay : Pulling) (from : S) (state : State) (relay' : Pulling) (to : S) (after : Standing)
+  pub asked_comes : (relay : Pulling) (from : S) (state : State) (relay' : Pulling) (to : S) (after : NumberedState)
       → AsksIf steps relay.number (probe_of relay.number) from after to → state ≡ after.state → relay' ≡ record relay { number = after.number }
-      → Comes steps relay [] from (turn_of state) relay' to
+      → Comes steps relay [] from (turn_by_state state) relay' to
   asked_comes relay from state relay' to after asks stands numbered =
       let are = event_entries_if relay.number (probe_of relay.number) from after to asks in
       comes_by relay [] from state relay' to

@@ -29,15 +29,15 @@ IsSayingOf event saying = saying ≡ Nothing
 
 -- what of it is logged, by the reply: a relay is up if it has a number, and sound and titles count if they were
 -- taken
-abbrev pub due : Reply → Saying → Saying
-due (Arrived id) (Up text) = Up text
-due Noted (Sound count) = Sound count
-due Noted (Title title) = Title title
-due reply saying = Nothing
+abbrev pub logged_saying : Reply → Saying → Saying
+logged_saying (Arrived id) (Up text) = Up text
+logged_saying Noted (Sound count) = Sound count
+logged_saying Noted (Title title) = Title title
+logged_saying reply saying = Nothing
 
 -- a relay that was not tried yet
-abbrev pub begun : RelayCourse
-begun = record { is_up = false; sound = 0; failing = None }
+abbrev pub untried_course : RelayCourse
+untried_course = record { is_up = false; sound = 0; failing = None }
 
 -- a relay that has just come up: what was before is forgotten
 abbrev pub up : RelayCourse
@@ -55,15 +55,15 @@ after_saying course (Title title) = course
 after_saying course Nothing = course
 
 -- the line of a failure that is logged so often, if it is logged
-abbrev pub line_of : Option ℕ → EndLine
-line_of None = NoLine
-line_of (Some times) = Failed times
+abbrev pub failure_line : Option ℕ → EndLine
+failure_line None = NoLine
+failure_line (Some times) = Failed times
 
 -- the pull of a relay that was not up has ended: it has failed, which is logged as `FailureIsNoted` says
 abbrev pub HasFailed : RelayCourse → RelayEnd → ℕ → RelayCourse → EndLine → Type 0
 HasFailed course why ms after line =
-    (failed : Failing) × (told : Option ℕ) × FailureIsNoted course.failing why ms failed told
-    × (after ≡ record course { failing = Some failed }) × (line ≡ line_of told)
+    (failed : Failing) × (logged : Option ℕ) × FailureIsNoted course.failing why ms failed logged
+    × (after ≡ record course { failing = Some failed }) × (line ≡ failure_line logged)
 
 -- the pull has ended: a relay that was up is gone
 -- rule: Failures of relays

@@ -9,8 +9,8 @@ use Rattle.radio_heads.specs.declared.outcome.HeadFault.{HeadFault}
 use Rattle.radio_heads.specs.declared.outcome.Progress.{Progress}
 use Rattle.radio_heads.specs.declared.outcome.Progress.TheVariants.{More, Whole}
 use Rattle.radio_heads.specs.Response.{ResponseParts}
-use Rattle.radio_pull.specs.Applied.{AreAtMostOfTurn, AreOfTurn, number_after}
-use Rattle.radio_pull.specs.Pulling.{Pulling}
+use Rattle.radio_relay.specs.Applied.{AreAtMostOfTurn, AreOfTurn, number_after}
+use Rattle.radio_relay.specs.Pulling.{Pulling}
 use Rattle.radio_masters.specs.declared.mount_pull.PullTurn.{PullTurn}
 use Rattle.radio_masters.specs.declared.mount_pull.PullTurn.TheVariants.{Running as GoesOn, Shut as IsShut, Closed, Failed, OutOfMemory}
 
@@ -50,9 +50,9 @@ pub record PullOver : Type 0 where
   pub front : List ℕ
 
 -- the result of a turn if the pull has this state
-abbrev pub turn_of : State → PullTurn
-turn_of Running = GoesOn
-turn_of (Shut ending) = IsShut ending
+abbrev pub turn_by_state : State → PullTurn
+turn_by_state Running = GoesOn
+turn_by_state (Shut ending) = IsShut ending
 
 -- the front of the answer is kept, unless memory was refused
 abbrev pub KeepsFront : PullTurn → List ℕ → List ℕ → List ℕ → Type 0
@@ -74,13 +74,13 @@ IsCalledIn turn before now = now.reads ≡ suc before.reads
 
 module _ {S : Type 0} (steps : Steps S) where
   -- these events were applied one after another, and no others
-  pub record Hears (relay : Pulling) (bytes : List ℕ) (from : S) (relay' : Pulling) (state : State) (to : S) : Type 0 where
+  pub record AppliesAll (relay : Pulling) (bytes : List ℕ) (from : S) (relay' : Pulling) (state : State) (to : S) : Type 0 where
     pub entries : List Entry
     pub chain : Chain steps from entries to
     pub are : AreOfTurn relay bytes entries relay' state
 
   -- memory was refused: at most the first of these events were applied, and no others
-  pub record HearsAtMost (relay : Pulling) (bytes : List ℕ) (from : S) (relay' : Pulling) (to : S) : Type 0 where
+  pub record AppliesAtMost (relay : Pulling) (bytes : List ℕ) (from : S) (relay' : Pulling) (to : S) : Type 0 where
     pub entries : List Entry
     pub chain : Chain steps from entries to
     pub are : AreAtMostOfTurn relay bytes entries
@@ -89,16 +89,16 @@ module _ {S : Type 0} (steps : Steps S) where
   -- its result by the turn's end; if the line is over nothing came
   -- rule: Turn of a pull
   abbrev pub Comes : Pulling → List ℕ → S → PullTurn → Pulling → S → Type 0
-  Comes relay bytes from GoesOn relay' to = Hears relay bytes from relay' Running to
-  Comes relay bytes from (IsShut ending) relay' to = Hears relay bytes from relay' (Shut ending) to
+  Comes relay bytes from GoesOn relay' to = AppliesAll relay bytes from relay' Running to
+  Comes relay bytes from (IsShut ending) relay' to = AppliesAll relay bytes from relay' (Shut ending) to
   Comes relay bytes from Closed relay' to = (bytes ≡ []) × (relay' ≡ relay) × (to ≡ from)
   Comes relay bytes from Failed relay' to = (bytes ≡ []) × (relay' ≡ relay) × (to ≡ from)
-  Comes relay bytes from OutOfMemory relay' to = HearsAtMost relay bytes from relay' to
+  Comes relay bytes from OutOfMemory relay' to = AppliesAtMost relay bytes from relay' to
 
   -- a turn: the line takes the front of what is pending and is read from once, unless it has failed by then, and the result of what it
   -- gave
   -- rule: Turn of a pull
-  pub record IsTurn (pull : PullOver) (from : S) (turn : PullTurn) (pull' : PullOver) (to : S) : Type 0 where
+  pub record IsPullTurn (pull : PullOver) (from : S) (turn : PullTurn) (pull' : PullOver) (to : S) : Type 0 where
     pub bytes : List ℕ
     pub written : FrontIsTaken pull.outgoing pull.taken pull'.outgoing pull'.taken
     pub given : pull'.given ≡ pull.given ++ bytes

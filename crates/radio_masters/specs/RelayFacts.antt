@@ -63,5 +63,5 @@ long_list = Warning (record {
 })
 
 -- the first list is logged that is too long after one that was not
-abbrev pub is_told : Bool → Bool → Bool
-is_told was_long is_long = is_long && not was_long
+abbrev pub is_newly_long : Bool → Bool → Bool
+is_newly_long was_long is_long = is_long && not was_long

@@ -55,7 +55,7 @@ impl<S: Server + Drop> RelayServer<S> {
     }
 
     /// Logs that the pull of the relay has ended so, or that the relay did not come up by it.
-    pub fn tell_end(&mut self, end: PullEnd)
+    pub fn log_end(&mut self, end: PullEnd)
         ensures { HasEndedBy end self.old self.new }
     {
         self.log.end(end);

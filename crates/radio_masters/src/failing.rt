@@ -1,12 +1,12 @@
 //! How often the log says that a relay fails.
 
 ghost use Rattle.std.specs.Prelude.{◌≡◌, Some};
-ghost use Rattle.radio_masters.specs.Failures.{FailureIsNoted, told_now};
+ghost use Rattle.radio_masters.specs.Failures.{FailureIsNoted, logged_now};
 
 use crate::RelayEnd;
 
 /// For how long a failure that lasts is not logged again, in milliseconds: an hour.
-pub const TOLD_AGAIN_MS: u64 = 3_600_000;
+pub const LOGGED_AGAIN_MS: u64 = 3_600_000;
 
 /// A relay that has failed, and may have failed again and again for one reason.
 #[derive(Clone, Copy, Debug, PartialEq, Eq)]
@@ -14,9 +14,9 @@ pub struct Failing {
     /// Why it has failed last.
     pub why: RelayEnd,
     /// When that was last logged, in milliseconds.
-    pub told_ms: u64,
+    pub logged_ms: u64,
     /// How often it has failed so since then; a count that has reached 2^64 - 1 stays.
-    pub untold: u64,
+    pub unlogged: u64,
 }
 
 /// Notes that a relay has failed for this reason at this moment, in milliseconds. Returns what is known of it from then
@@ -41,11 +41,11 @@ pub fn note_failure(before: Option<Failing>, why: RelayEnd, ms: u64) -> (Failing
 fn failed_again(failing: Failing, ms: u64) -> (Failing, Option<u64>)
     ensures { FailureIsNoted (Some failing) failing.why ms result.0 result.1 }
 {
-    let times = failing.untold.saturating_add(1);
-    if ms.saturating_sub(failing.told_ms) < TOLD_AGAIN_MS {
+    let times = failing.unlogged.saturating_add(1);
+    if ms.saturating_sub(failing.logged_ms) < LOGGED_AGAIN_MS {
         (
             Failing {
-                untold: times,
+                unlogged: times,
                 ..failing
             },
             None,
@@ -56,11 +56,11 @@ fn failed_again(failing: Failing, ms: u64) -> (Failing, Option<u64>)
 }
 
 fn first_of(why: RelayEnd, ms: u64) -> Failing
-    ensures { result ≡ told_now why ms }
+    ensures { result ≡ logged_now why ms }
 {
     Failing {
         why,
-        told_ms: ms,
-        untold: 0,
+        logged_ms: ms,
+        unlogged: 0,
     }
 }

@@ -26,7 +26,7 @@ mod relay_log;
 mod turns;
 
 pub use asked::RelayServer;
-pub use failing::{Failing, TOLD_AGAIN_MS, note_failure};
+pub use failing::{Failing, LOGGED_AGAIN_MS, note_failure};
 pub use list_answer::{MAX_LIST, MasterListFault, read_list_answer};
 pub use list_log::ListLog;
 pub use list_pull::ListPull;

@@ -1,7 +1,7 @@
 //! What the log says of a slave's list.
 
 ghost use Rattle.std.specs.Prelude.{◌≡◌, false};
-ghost use Rattle.radio_masters.specs.RelayFacts.{is_told, long_list};
+ghost use Rattle.radio_masters.specs.RelayFacts.{is_newly_long, long_list};
 
 use crate::MOST_LISTED;
 use radio_log::{Fact, KeyPlace, QuotedText, Warning};
@@ -45,7 +45,7 @@ impl ListLog {
     pub fn note_list(&mut self, is_long: bool)
         ensures { self.new ≡ is_long }
     {
-        if is_told(self.is_long, is_long) {
+        if is_newly_long(self.is_long, is_long) {
             self.log.note(long_list());
         }
         self.is_long = is_long;
@@ -53,8 +53,8 @@ impl ListLog {
 }
 
 /// Returns whether a list is logged, by whether the last one was too long and this one is.
-fn is_told(was_long: bool, is_long: bool) -> bool
-    ensures { result ≡ is_told was_long is_long }
+fn is_newly_long(was_long: bool, is_long: bool) -> bool
+    ensures { result ≡ is_newly_long was_long is_long }
 {
     is_long && !was_long
 }

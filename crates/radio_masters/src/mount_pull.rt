@@ -2,21 +2,20 @@
 
 ghost use Rattle.std.specs.Prelude.{◌≡◌, ◌<◌, ℕ, List, [], length, Option, Result, IfOk, OnErr, OnOk};
 ghost use Rattle.radio_relay.specs.Request.{request_text};
-ghost use Rattle.radio_pull.specs.Pulling.{begun};
-ghost use Rattle.radio_pull.specs.Course.{GoesDown, RefusesDown};
+ghost use Rattle.radio_relay.specs.Pulling.{pulling_begun};
+ghost use Rattle.radio_relay.specs.Course.{GoesDown, RefusesDown};
 ghost use Rattle.radio_heads.specs.declared.outcome.HeadFault.{HeadFault};
 ghost use Rattle.radio_heads.specs.declared.outcome.Progress.{Progress};
 ghost use Rattle.radio_heads.specs.Reading.{IsReading};
 ghost use Rattle.radio_heads.specs.Response.{ResponseParts, ShowsResponse};
-ghost use Rattle.radio_masters.specs.Pulls.{Comes, GoesOnHere, IsTurn, KeepsFront, front_with, status_in, turn_of};
+ghost use Rattle.radio_masters.specs.Pulls.{Comes, GoesOnHere, IsPullTurn, KeepsFront, front_with, status_in, turn_by_state};
 
 use crate::OutOfMemory;
 use crate::asking::Asking;
 use radio_connections::{Line, Received};
 use radio_events::Event;
 use radio_heads::{MAX_HEAD, Progress, read_response};
-use radio_pull::{RelayPull, ask, close, take};
-use radio_relay::request_text;
+use radio_relay::{RelayPull, ask, close, request_text, take};
 use radio_session::{Ending, Server, State};
 use radio_settings_values::RelaySetting;
 use std::alloc::Global;
@@ -63,7 +62,7 @@ impl<L: Line> MountPull<L> {
     /// `OutOfMemory` if memory was refused; the line is closed then.
     pub fn new(alloc: Global, relay: &RelaySetting, line: L) -> Result<MountPull<L>, OutOfMemory>
         ensures { IfOk result (λ pull. pull ≡ record {
-          relay = begun relay.now.local_mount;
+          relay = pulling_begun relay.now.local_mount;
           outgoing = request_text relay.now;
           given = L.given line;
           taken = L.taken line;
@@ -102,7 +101,7 @@ impl<L: Line> MountPull<L> {
     /// nothing has come, the server is asked whether the relay goes on.
     // rule: Turn of a pull
     pub fn turn<S: Server>(&mut self, server: &mut S, buffer: &mut [u8]) -> PullTurn
-        ensures { IsTurn S.steps self.old server.old result self.new server.new }
+        ensures { IsPullTurn S.steps self.old server.old result self.new server.new }
     {
         if !self.asking.write(&mut self.line) {
             return PullTurn::Failed;
@@ -110,7 +109,7 @@ impl<L: Line> MountPull<L> {
         match self.line.read(buffer) {
             Received::Bytes(count) => {
                 let bytes = &buffer[..count];
-                keep_and_hear(server, &mut self.relay, &mut self.front, bytes)
+                keep_and_apply(server, &mut self.relay, &mut self.front, bytes)
             }
             Received::Nothing => probe(server, &mut self.relay),
             Received::Closed => PullTurn::Closed,
@@ -131,7 +130,7 @@ impl<L: Line> MountPull<L> {
 
 /// The next bytes of the master's answer, which are added to its front.
 #[tactic(auto, using(crate::proofs::Called::kept_on))]
-fn keep_and_hear<S: Server>(
+fn keep_and_apply<S: Server>(
     server: &mut S,
     relay: &mut RelayPull,
     front: &mut Vec<u8>,
@@ -142,7 +141,7 @@ fn keep_and_hear<S: Server>(
     ensures front { KeepsFront result front.old.items bytes.now front.new.items }
 {
     match keep_front(front, bytes) {
-        Ok(()) => hear(server, relay, bytes),
+        Ok(()) => apply_bytes(server, relay, bytes),
         Err(_) => PullTurn::OutOfMemory,
     }
 }
@@ -156,18 +155,18 @@ fn keep_front(front: &mut Vec<u8>, bytes: &[u8]) -> Result<(), OutOfMemory>
 }
 
 /// The next bytes of the master's answer, if there are some.
-fn hear<S: Server>(server: &mut S, relay: &mut RelayPull, bytes: &[u8]) -> PullTurn
+fn apply_bytes<S: Server>(server: &mut S, relay: &mut RelayPull, bytes: &[u8]) -> PullTurn
     ensures comes { Comes S.steps relay.old bytes.now server.old result relay.new server.new }
     ensures goes { GoesOnHere result }
 {
     if bytes.is_empty() {
         return probe(server, relay);
     }
-    hear_some(server, relay, bytes)
+    apply_some(server, relay, bytes)
 }
 
 #[tactic(auto, using(crate::proofs::PullEntries::taken_comes, crate::proofs::AtMostEntries::taken_at_most))]
-fn hear_some<S: Server>(server: &mut S, relay: &mut RelayPull, bytes: &[u8]) -> PullTurn
+fn apply_some<S: Server>(server: &mut S, relay: &mut RelayPull, bytes: &[u8]) -> PullTurn
     requires { 0 < length bytes.now }
     ensures comes { Comes S.steps relay.old bytes.now server.old result relay.new server.new }
     ensures goes { GoesOnHere result }
@@ -191,7 +190,7 @@ fn probe<S: Server>(server: &mut S, relay: &mut RelayPull) -> PullTurn
 }
 
 fn turn_of(state: State) -> PullTurn
-    ensures { result ≡ turn_of state }
+    ensures { result ≡ turn_by_state state }
 {
     match state {
         State::Running => PullTurn::Running,

@@ -1,7 +1,7 @@
 //! What is noted of a relay for the log, and what is logged of it.
 
 ghost use Rattle.std.specs.Prelude.{◌≡◌};
-ghost use Rattle.radio_masters.specs.Courses.{PullHasEnded, IsCopyOf, IsSayingOf, begun, due, line_of, after_saying, sounded, up};
+ghost use Rattle.radio_masters.specs.Courses.{PullHasEnded, IsCopyOf, IsSayingOf, untried_course, logged_saying, failure_line, after_saying, sounded, up};
 
 use crate::RelayEnd;
 use crate::failing::{Failing, note_failure};
@@ -44,7 +44,7 @@ impl Saying {
 
     /// Returns what of it is logged, once the server has replied so: what it says is done.
     pub(crate) fn due(self, reply: &Reply) -> Saying
-        ensures { result ≡ due reply.now self }
+        ensures { result ≡ logged_saying reply.now self }
     {
         match self {
             Saying::Up(content_type) if matches!(reply, Reply::Arrived(_)) => {
@@ -93,7 +93,7 @@ pub(crate) struct RelayCourse {
 impl RelayCourse {
     /// Of a relay that was not tried yet.
     pub(crate) fn begun() -> RelayCourse
-        ensures { result ≡ begun }
+        ensures { result ≡ untried_course }
     {
         RelayCourse {
             is_up: false,
@@ -149,20 +149,20 @@ impl RelayCourse {
                 EndLine::Gone,
             );
         }
-        let (failing, told) = note_failure(self.failing, why, ms);
+        let (failing, logged) = note_failure(self.failing, why, ms);
         let course = RelayCourse {
             failing: Some(failing),
             ..self
         };
-        (course, line_of(told))
+        (course, line_of(logged))
     }
 }
 
 /// Returns the line about a failure so often, if it is logged.
-fn line_of(told: Option<u64>) -> EndLine
-    ensures { result ≡ line_of told }
+fn line_of(logged: Option<u64>) -> EndLine
+    ensures { result ≡ failure_line logged }
 {
-    match told {
+    match logged {
         Some(times) => EndLine::Failed(times),
         None => EndLine::Nothing,
     }

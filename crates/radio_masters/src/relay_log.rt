@@ -2,7 +2,7 @@
 
 ghost use Rattle.std.specs.Prelude.{◌≡◌, IfOk};
 ghost use Rattle.std.specs.String.{string_bytes};
-ghost use Rattle.radio_masters.specs.Courses.{PullHasEnded, IsCopyOf, IsSayingOf, begun, due, after_saying};
+ghost use Rattle.radio_masters.specs.Courses.{PullHasEnded, IsCopyOf, IsSayingOf, untried_course, logged_saying, after_saying};
 ghost use Rattle.radio_masters.specs.declared.relay_course.EndLine.{EndLine};
 ghost use Rattle.radio_masters.specs.RelayFacts.{failed_fact, gone_fact, master_text, mount_gone_fact, relay_word, title_fact, up_fact};
 
@@ -43,7 +43,7 @@ impl RelayLog {
     pub(crate) fn new(alloc: Global, relay: &RelaySetting) -> Result<RelayLog, OutOfMemory>
         ensures mount { IfOk result (λ log. log.mount ≡ relay.now.local_mount) }
         ensures master { IfOk result (λ log. string_bytes log.master ≡ master_text relay.now.master) }
-        ensures course { IfOk result (λ log. log.course ≡ begun) }
+        ensures course { IfOk result (λ log. log.course ≡ untried_course) }
     {
         let server = relay.master.server.as_str();
         let port = relay.master.port.get();
@@ -71,14 +71,14 @@ impl RelayLog {
 
     /// Notes what was asked for, and logs it, if this reply says that it is done.
     pub(crate) fn note(&mut self, saying: Saying, reply: &Reply)
-        ensures course { self.new.course ≡ after_saying self.old.course (due reply.now saying) }
+        ensures course { self.new.course ≡ after_saying self.old.course (logged_saying reply.now saying) }
         ensures mount { self.new.mount ≡ self.old.mount }
         ensures master { self.new.master ≡ self.old.master }
     {
-        let told = saying.due(reply);
-        self.course = self.course.after(&told);
+        let due = saying.due(reply);
+        self.course = self.course.after(&due);
         let mount = self.mount.as_bytes();
-        match told {
+        match due {
             Saying::Up(content_type) => {
                 let master = self.master.as_bytes();
                 self.log

@@ -10,7 +10,7 @@ use Rattle.radio_events.specs.declared.event.Event.TheVariants.{Source, Command 
 use Rattle.radio_events.specs.declared.event.SourceRequest.{SourceRequest}
 use Rattle.radio_log.specs.declared.facts.Fact.{Fact}
 use Rattle.radio_log.specs.declared.facts.Fact.TheVariants.{SourceUp, MountUp, Title, Command as CommandFact}
-use Rattle.radio_notes.specs.Requests.{user_in}
+use Rattle.radio_notes.specs.Requests.{user_of_pair}
 
 -- the name of a command, as the last part of its path
 abbrev pub command_name : Command → List ℕ
@@ -76,5 +76,5 @@ facts_of_asked peer user asked = []
 -- rule: Lines of changes
 abbrev pub facts_of : Peer → List ℕ → Event → List Fact
 facts_of peer agent (Source asked) = facts_of_source peer agent asked
-facts_of peer agent (Commands asked) = facts_of_asked peer (user_in asked.pair) asked.asked
+facts_of peer agent (Commands asked) = facts_of_asked peer (user_of_pair asked.pair) asked.asked
 facts_of peer agent event = []

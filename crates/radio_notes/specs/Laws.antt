@@ -6,24 +6,24 @@ use Rattle.radio_notes.specs.declared.visit.Happening.TheVariants.{Replied, Hand
 use Rattle.radio_notes.specs.declared.visit.Part.{Part}
 use Rattle.radio_notes.specs.declared.visit.Visit.{Visit}
 use Rattle.radio_notes.specs.Ends.{code_of_end}
-use Rattle.radio_notes.specs.Visits.{after, begun, first_of, is_shown, part_given, status_told}
+use Rattle.radio_notes.specs.Visits.{visit_after, new_visit, first_of, reply_shows_station, part_given, status_of_note}
 
 -- what has happened on a connection that came at this moment
 abbrev pub visit_of : ℕ → List Happening → Visit
-visit_of ms happenings = fold after (begun ms) happenings
+visit_of ms happenings = fold visit_after (new_visit ms) happenings
 
 -- the end that comes first
 -- rule: Line of a client
 abbrev pub first_end_of : List Happening → Option End
 first_end_of [] = None
-first_end_of (Replied told ∷ later) = first_end_of later
+first_end_of (Replied reply_note ∷ later) = first_end_of later
 first_end_of (Handed count ∷ later) = first_end_of later
 first_end_of (Fed count ∷ later) = first_end_of later
 first_end_of (Ended end ∷ later) = Some end
 
 -- the status that a happening has, if it has one
 abbrev pub status_of_happening : Happening → ℕ
-status_of_happening (Replied told) = status_told told
+status_of_happening (Replied reply_note) = status_of_note reply_note
 status_of_happening (Handed count) = 0
 status_of_happening (Fed count) = 0
 status_of_happening (Ended end) = code_of_end end
@@ -46,13 +46,13 @@ fed_in happening = 0
 
 -- something of the station is shown by it
 abbrev pub shows_station : Happening → Bool
-shows_station (Replied told) = is_shown told
+shows_station (Replied reply_note) = reply_shows_station reply_note
 shows_station happening = false
 
 -- the part of the reply that gave one last
 abbrev pub last_part_of : Part → List Happening → Part
 last_part_of part [] = part
-last_part_of part (Replied told ∷ later) = last_part_of (part_given told part) later
+last_part_of part (Replied reply_note ∷ later) = last_part_of (part_given reply_note part) later
 last_part_of part (Handed count ∷ later) = last_part_of part later
 last_part_of part (Fed count ∷ later) = last_part_of part later
 last_part_of part (Ended end ∷ later) = last_part_of part later

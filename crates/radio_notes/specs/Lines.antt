@@ -4,13 +4,13 @@ use Rattle.std.specs.List.{flat_map}
 use Rattle.radio_log.specs.declared.facts.Fact.{Fact}
 use Rattle.radio_log.specs.declared.facts.Fact.TheVariants.{Lost}
 use Rattle.radio_log.specs.declared.moment.Moment.{Moment}
-use Rattle.radio_log.specs.Lines.{line}
+use Rattle.radio_log.specs.Lines.{note_line}
 use Rattle.radio_notes.specs.Counts.{capped}
 use Rattle.radio_notes.specs.Waiting.{Waiting}
 
 -- the line of a fact at a moment
 abbrev pub line_at : Moment → Fact → List ℕ
-line_at moment fact = line (record { moment = moment; fact = fact })
+line_at moment fact = note_line (record { moment = moment; fact = fact })
 
 -- the lines of facts, one behind the other
 abbrev pub lines_at : Moment → List Fact → List ℕ

@@ -11,24 +11,24 @@ use Rattle.radio_heads.specs.Head.{RequestParts, ShowsRequest}
 use Rattle.radio_heads.specs.Headers.{value_of}
 use Rattle.radio_heads.specs.Reading.{IsReading}
 use Rattle.radio_texts.specs.Cuts.{fields_at}
-use Rattle.radio_notes.specs.declared.heard.Heard.{Heard}
-use Rattle.radio_notes.specs.declared.heard.Heard.TheVariants.{Part, Request, Nothing}
+use Rattle.radio_notes.specs.declared.request_so_far.RequestSoFar.{RequestSoFar}
+use Rattle.radio_notes.specs.declared.request_so_far.RequestSoFar.TheVariants.{Part, Request, Nothing}
 use Rattle.radio_notes.specs.Agents.{agent_among}
 use Rattle.radio_notes.specs.Kept.{Kept, no_request_kept}
 
 -- what is kept of a request, if one was read
-abbrev pub request_kept : Heard → Kept
+abbrev pub request_kept : RequestSoFar → Kept
 request_kept (Request request) = request
-request_kept heard = no_request_kept
+request_kept request = no_request_kept
 
 -- at most 255 bytes are kept of a text
 abbrev pub front_of : List ℕ → List ℕ
 front_of text = take 255 text
 
 -- the user of a pair; empty if there is none
-abbrev pub user_in : Option Credentials → List ℕ
-user_in None = []
-user_in (Some pair) = pair.user
+abbrev pub user_of_pair : Option Credentials → List ℕ
+user_of_pair None = []
+user_of_pair (Some pair) = pair.user
 
 -- the value of a header; empty if it is not there
 abbrev pub header : List ℕ → RequestParts → List ℕ
@@ -40,7 +40,7 @@ abbrev pub kept_of_head : RequestParts → Kept
 kept_of_head parts = record {
   method = front_of parts.method;
   path = front_of (percent_decode parts.path);
-  user = front_of (user_in (basic_pair (header (codes "Authorization") parts)));
+  user = front_of (user_of_pair (basic_pair (header (codes "Authorization") parts)));
   agent = front_of (header (codes "User-Agent") parts);
 }
 
@@ -50,7 +50,7 @@ abbrev pub kept_of_listener : ListenRequest → List ℕ → Kept
 kept_of_listener asked agent = record {
   method = codes "GET";
   path = front_of asked.mount;
-  user = front_of (user_in asked.pair);
+  user = front_of (user_of_pair asked.pair);
   agent = front_of agent;
 }
 
@@ -66,9 +66,9 @@ IsRequestIn bytes events kept = IsOfHead bytes kept
 
 -- what is read from the bytes of a head, which mean these events: the bytes are kept up to the first event, and then the
 -- request. If memory is refused, nothing is known
-abbrev pub IsHeardBy : List ℕ → List Event → Heard → Type 0
-IsHeardBy bytes events Nothing = Unit {0}
-IsHeardBy bytes [] (Part held) = held.items ≡ bytes
-IsHeardBy bytes (event ∷ events) (Part held) = ⊥
-IsHeardBy bytes [] (Request kept) = ⊥
-IsHeardBy bytes (event ∷ events) (Request kept) = IsRequestIn bytes (event ∷ events) kept
+abbrev pub IsReceived : List ℕ → List Event → RequestSoFar → Type 0
+IsReceived bytes events Nothing = Unit {0}
+IsReceived bytes [] (Part held) = held.items ≡ bytes
+IsReceived bytes (event ∷ events) (Part held) = ⊥
+IsReceived bytes [] (Request kept) = ⊥
+IsReceived bytes (event ∷ events) (Request kept) = IsRequestIn bytes (event ∷ events) kept

@@ -4,9 +4,9 @@ use Rattle.radio_addr.specs.declared.peer.Peer.{Peer}
 use Rattle.radio_log.specs.declared.facts.ClientEnded.{ClientEnded}
 use Rattle.radio_log.specs.declared.facts.SourceGone.{SourceGone}
 use Rattle.radio_notes.specs.declared.ends.End.{End}
-use Rattle.radio_notes.specs.declared.heard.Heard.{Heard}
-use Rattle.radio_notes.specs.declared.told.Told.{Told}
-use Rattle.radio_notes.specs.declared.told.Told.TheVariants.{Seated, Feeding, Text, Shown, Denied}
+use Rattle.radio_notes.specs.declared.request_so_far.RequestSoFar.{RequestSoFar}
+use Rattle.radio_notes.specs.declared.reply_note.ReplyNote.{ReplyNote}
+use Rattle.radio_notes.specs.declared.reply_note.ReplyNote.TheVariants.{Seated, Feeding, Text, Shown, Denied}
 use Rattle.radio_notes.specs.declared.visit.Part.{Part}
 use Rattle.radio_notes.specs.declared.visit.Part.TheVariants.{Neither, Listener, Source}
 use Rattle.radio_notes.specs.declared.visit.Visit.{Visit}
@@ -26,45 +26,45 @@ first_end None end = Some end
 first_end (Some before) end = Some before
 
 -- a connection has come, and nothing has happened on it
-abbrev pub begun : ℕ → Visit
-begun ms = record { since_ms = ms; handed = 0; fed = 0; status = 0; part = Neither; is_poll = false; end = None }
+abbrev pub new_visit : ℕ → Visit
+new_visit ms = record { since_ms = ms; handed = 0; fed = 0; status = 0; part = Neither; is_poll = false; end = None }
 
 -- what a client does once this was replied
-abbrev pub part_given : Told → Part → Part
+abbrev pub part_given : ReplyNote → Part → Part
 part_given Seated before = Listener
 part_given Feeding before = Source
-part_given told before = before
+part_given reply_note before = before
 
 -- the status of an answer (RFC 9110, section 15); 0 for none
-abbrev pub status_told : Told → ℕ
-status_told Seated = 200
-status_told Feeding = 200
-status_told Text = 200
-status_told Shown = 200
-status_told (Denied rule) = code_of rule
-status_told told = 0
+abbrev pub status_of_note : ReplyNote → ℕ
+status_of_note Seated = 200
+status_of_note Feeding = 200
+status_of_note Text = 200
+status_of_note Shown = 200
+status_of_note (Denied rule) = code_of rule
+status_of_note reply_note = 0
 
 -- something of the station is shown
 -- rule: Polls
-abbrev pub is_shown : Told → Bool
-is_shown Shown = true
-is_shown told = false
+abbrev pub reply_shows_station : ReplyNote → Bool
+reply_shows_station Shown = true
+reply_shows_station reply_note = false
 
 -- a reply gives the client its part, and the first status counts
-abbrev pub replied : Visit → Told → Visit
-replied visit told = record visit {
-  part = part_given told visit.part;
-  status = first_of visit.status (status_told told);
-  is_poll = is_shown told || visit.is_poll;
+abbrev pub replied : Visit → ReplyNote → Visit
+replied visit reply_note = record visit {
+  part = part_given reply_note visit.part;
+  status = first_of visit.status (status_of_note reply_note);
+  is_poll = reply_shows_station reply_note || visit.is_poll;
 }
 
 -- what has happened once this has happened too
 -- rule: Line of a client
-abbrev pub after : Visit → Happening → Visit
-after visit (Replied told) = replied visit told
-after visit (Handed count) = record visit { handed = capped (visit.handed + count) }
-after visit (Fed count) = record visit { fed = capped (visit.fed + count) }
-after visit (Ended end) =
+abbrev pub visit_after : Visit → Happening → Visit
+visit_after visit (Replied reply_note) = replied visit reply_note
+visit_after visit (Handed count) = record visit { handed = capped (visit.handed + count) }
+visit_after visit (Fed count) = record visit { fed = capped (visit.fed + count) }
+visit_after visit (Ended end) =
     record visit { status = first_of visit.status (code_of_end end); end = first_end visit.end end }
 
 -- whole seconds from one moment to another, in milliseconds
@@ -81,24 +81,24 @@ mount_of_visit Source asked last = asked
 
 -- what the log says of a client who is gone
 -- rule: Line of a client
-abbrev pub client_ended : Peer → ℕ → Visit → Heard → List ℕ → ClientEnded
-client_ended peer ms visit heard last = record {
+abbrev pub client_ended : Peer → ℕ → Visit → RequestSoFar → List ℕ → ClientEnded
+client_ended peer ms visit request last = record {
   peer = peer;
-  method = (request_kept heard).method;
-  path = (request_kept heard).path;
-  mount = mount_of_visit visit.part (request_kept heard).path last;
+  method = (request_kept request).method;
+  path = (request_kept request).path;
+  mount = mount_of_visit visit.part (request_kept request).path last;
   status = visit.status;
   why = end_word visit.end;
-  user = (request_kept heard).user;
+  user = (request_kept request).user;
   seconds = seconds_between visit.since_ms ms;
   bytes = visit.handed;
-  agent = (request_kept heard).agent;
+  agent = (request_kept request).agent;
 }
 
 -- what the log says of a source that is gone
-abbrev pub source_gone : Peer → ℕ → Visit → Heard → SourceGone
-source_gone peer ms visit heard = record {
-  mount = (request_kept heard).path;
+abbrev pub source_gone : Peer → ℕ → Visit → RequestSoFar → SourceGone
+source_gone peer ms visit request = record {
+  mount = (request_kept request).path;
   peer = peer;
   why = end_word visit.end;
   seconds = seconds_between visit.since_ms ms;

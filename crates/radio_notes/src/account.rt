@@ -1,10 +1,10 @@
 //! What is noted of one connection.
 
 use crate::ends::End;
-use crate::heard::Heard;
-use crate::hearing::heard_by;
+use crate::receiving::received;
+use crate::request_so_far::RequestSoFar;
 use crate::visit::{Happening, Part, Visit, elsewhere};
-use crate::{Log, Notice, Told};
+use crate::{Log, Notice, ReplyNote};
 use radio_addr::Peer;
 use radio_events::{Ending, Event, State};
 use radio_log::Fact;
@@ -15,16 +15,16 @@ use std::cell::Cell;
 /// What is noted of a connection: what has happened on it, what was read from it, and what was logged of it. It changes
 /// nothing of what is answered.
 ///
-/// [`Visit`], [`heard_by`] and [`Notice`] decide what is noted and logged; this only keeps it.
+/// [`Visit`], [`received`] and [`Notice`] decide what is noted and logged; this only keeps it.
 #[derive(Drop)]
 pub struct Account {
     alloc: Global,
     visit: Cell<Visit>,
-    heard: Cell<Heard>,
+    request: Cell<RequestSoFar>,
     /// The mount where the client was last, if it is not the one that it asked for; else empty.
     last_mount: Cell<Vec<u8>>,
-    is_source_told: Cell<bool>,
-    is_told: Cell<bool>,
+    is_source_logged: Cell<bool>,
+    is_end_logged: Cell<bool>,
 }
 
 impl Account {
@@ -33,10 +33,10 @@ impl Account {
         Account {
             alloc,
             visit: Cell::new(Visit::begun(ms)),
-            heard: Cell::new(Heard::Part(Vec::new(alloc))),
+            request: Cell::new(RequestSoFar::Part(Vec::new(alloc))),
             last_mount: Cell::new(Vec::new(alloc)),
-            is_source_told: Cell::new(false),
-            is_told: Cell::new(false),
+            is_source_logged: Cell::new(false),
+            is_end_logged: Cell::new(false),
         }
     }
 
@@ -48,18 +48,18 @@ impl Account {
     /// Notes that the client was at this mount at last. If memory is refused for it, the mount that it asked
     /// for is logged.
     pub fn note_last_mount(&self, mount: &MountName) {
-        let heard = self.heard.replace(Heard::Nothing);
+        let request = self.request.replace(RequestSoFar::Nothing);
         self.last_mount
-            .set(elsewhere(self.alloc, heard.path(), mount));
-        self.heard.set(heard);
+            .set(elsewhere(self.alloc, request.path(), mount));
+        self.request.set(request);
     }
 
     /// Notes that these bytes have come, and mean these events. Up to the first events they are kept, and then what the
     /// head asks for.
-    pub fn hear(&self, bytes: &[u8], events: &Vec<Event>) {
-        match self.heard.replace(Heard::Nothing) {
-            Heard::Part(held) => self.heard.set(heard_by(self.alloc, held, bytes, events)),
-            other @ (Heard::Request(_) | Heard::Nothing) => self.heard.set(other),
+    pub fn receive(&self, bytes: &[u8], events: &Vec<Event>) {
+        match self.request.replace(RequestSoFar::Nothing) {
+            RequestSoFar::Part(held) => self.request.set(received(self.alloc, held, bytes, events)),
+            other @ (RequestSoFar::Request(_) | RequestSoFar::Nothing) => self.request.set(other),
         }
     }
 
@@ -69,8 +69,8 @@ impl Account {
     }
 
     /// The server has replied so.
-    pub fn note_reply(&self, told: Told) {
-        self.note(Happening::Replied(told));
+    pub fn note_reply(&self, note: ReplyNote) {
+        self.note(Happening::Replied(note));
     }
 
     /// Its line has taken so many bytes.
@@ -80,33 +80,33 @@ impl Account {
 
     /// Returns what is to be logged of this event, if it is done.
     pub fn notice(&self, log: &Log, peer: Peer, event: &Event) -> Notice {
-        let heard = self.heard.replace(Heard::Nothing);
-        let notice = Notice::of(self.alloc, log.seconds(), peer, heard.agent(), event);
-        self.heard.set(heard);
+        let request = self.request.replace(RequestSoFar::Nothing);
+        let notice = Notice::of(self.alloc, log.seconds(), peer, request.agent(), event);
+        self.request.set(request);
         notice
     }
 
     /// Notes that the server has replied so to an event of which this is to be logged, if it is
     /// done.
-    pub fn hear_reply(&self, log: &Log, notice: Notice, told: Told) {
-        match told {
-            Told::Nothing => drop(notice),
-            Told::Noted
-            | Told::Feeding
-            | Told::Seated
-            | Told::Text
-            | Told::Shown
-            | Told::Denied(_) => self.hear_told(log, notice, told),
+    pub fn log_reply(&self, log: &Log, notice: Notice, note: ReplyNote) {
+        match note {
+            ReplyNote::Nothing => drop(notice),
+            ReplyNote::Noted
+            | ReplyNote::Feeding
+            | ReplyNote::Seated
+            | ReplyNote::Text
+            | ReplyNote::Shown
+            | ReplyNote::Denied(_) => self.log_and_note(log, notice, note),
         }
     }
 
     /// The same, where something of the reply is noted. It is no part of what is done for each draw.
     #[cold]
-    fn hear_told(&self, log: &Log, notice: Notice, told: Told) {
-        let due = notice.due(told);
+    fn log_and_note(&self, log: &Log, notice: Notice, note: ReplyNote) {
+        let due = notice.due(note);
         self.note(Happening::Fed(due.fed()));
-        log.tell(due);
-        self.note_reply(told);
+        log.add_notice(due);
+        self.note_reply(note);
     }
 
     /// The connection goes on, or has ended.
@@ -127,7 +127,7 @@ impl Account {
     }
 
     /// Notes that memory was refused to an event of which this was to be logged.
-    pub fn hear_refusal(&self, notice: Notice) {
+    pub fn note_refusal(&self, notice: Notice) {
         drop(notice);
         self.note_no_memory();
     }
@@ -138,27 +138,27 @@ impl Account {
     }
 
     /// Logs, once, a source whose conversation has ended at this moment, in milliseconds.
-    pub fn tell_source(&self, log: &Log, peer: Peer, ms: u64) {
+    pub fn log_source_gone(&self, log: &Log, peer: Peer, ms: u64) {
         let visit = self.visit.get();
-        if visit.part != Part::Source || self.is_source_told.replace(true) {
+        if visit.part != Part::Source || self.is_source_logged.replace(true) {
             return;
         }
-        let heard = self.heard.replace(Heard::Nothing);
-        log.note(Fact::SourceGone(visit.source_gone(peer, ms, &heard)));
-        log.note(visit.mount_gone(&heard));
-        self.heard.set(heard);
+        let request = self.request.replace(RequestSoFar::Nothing);
+        log.note(Fact::SourceGone(visit.source_gone(peer, ms, &request)));
+        log.note(visit.mount_gone(&request));
+        self.request.set(request);
     }
 
     /// Logs, once, a client that is gone at this moment, in milliseconds. The log may leave out those that were only
     /// shown something of the station.
-    pub fn tell_client(&self, log: &Log, peer: Peer, ms: u64) {
+    pub fn log_client_ended(&self, log: &Log, peer: Peer, ms: u64) {
         let visit = self.visit.get();
-        if self.is_told.replace(true) || (visit.is_poll && !log.has_polls()) {
+        if self.is_end_logged.replace(true) || (visit.is_poll && !log.has_polls()) {
             return;
         }
-        let heard = self.heard.replace(Heard::Nothing);
+        let request = self.request.replace(RequestSoFar::Nothing);
         let last = self.last_mount.replace(Vec::new(self.alloc));
-        log.note(Fact::ClientEnded(visit.client_ended(peer, ms, &heard, last.as_slice())));
-        self.heard.set(heard);
+        log.note(Fact::ClientEnded(visit.client_ended(peer, ms, &request, last.as_slice())));
+        self.request.set(request);
     }
 }

@@ -3,7 +3,7 @@
 //! - [`Visit`]: what has happened on a connection, after each [`Happening`]; [`laws`] says what it then holds.
 //! - [`Account`]: what is noted of one connection, from its coming to its end.
 //! - [`Notice`]: what is to be logged of an event, if it is done.
-//! - [`Told`]: what of a reply is noted.
+//! - [`ReplyNote`]: what of a reply is noted.
 //! - [`mount_word_by`]: the word for the end of a mount, also of a relay's.
 //! - [`Log`]: the lines that wait to be written, as many as there is room for.
 //!
@@ -16,21 +16,21 @@ mod account;
 mod agent;
 mod ends;
 mod facts;
-mod heard;
-mod hearing;
 pub mod laws;
 mod lines;
 mod log;
 mod notice;
+mod receiving;
+mod reply_note;
 mod request;
-mod told;
+mod request_so_far;
 mod visit;
 
 pub use account::Account;
 pub use ends::{End, mount_word_by};
 pub use log::Log;
 pub use notice::Notice;
-pub use told::Told;
+pub use reply_note::ReplyNote;
 pub use visit::{Happening, Part, Visit};
 
 /// What a call answers if memory was refused.

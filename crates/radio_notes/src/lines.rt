@@ -2,7 +2,7 @@
 
 ghost use Rattle.std.specs.Prelude.{◌≡◌, ◌+◌, ◌++◌, [], true, false, IfOk, if◌then◌else◌};
 ghost use Rattle.radio_notes.specs.Lines.{IsAdded, IsNoted, IsPushed, line_at, report_of};
-ghost use Rattle.radio_notes.specs.Notices.{IsToldOf};
+ghost use Rattle.radio_notes.specs.Notices.{IsNoticeAdded};
 ghost use Rattle.radio_notes.specs.Counts.{capped};
 
 use crate::{Notice, OutOfMemory};
@@ -65,8 +65,8 @@ impl Lines {
 
     /// Adds the lines of a notice at this moment, or counts as lost those for which memory was refused.
     // rule: Log queue
-    pub(crate) fn tell(&mut self, alloc: Global, moment: Moment, notice: Notice)
-        ensures { IsToldOf moment notice self.old self.new }
+    pub(crate) fn add_notice(&mut self, alloc: Global, moment: Moment, notice: Notice)
+        ensures { IsNoticeAdded moment notice self.old self.new }
     {
         match notice {
             Notice::Lines { lines, count } => self.push(alloc, moment, lines.as_slice(), count),

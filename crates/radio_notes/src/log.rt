@@ -71,9 +71,9 @@ impl Log {
     }
 
     /// The lines of a notice wait, or are lost.
-    pub(crate) fn tell(&self, notice: Notice) {
+    pub(crate) fn add_notice(&self, notice: Notice) {
         let mut lines = self.lines.replace(Lines::new(self.alloc));
-        lines.tell(self.alloc, Moment::at(self.seconds.get()), notice);
+        lines.add_notice(self.alloc, Moment::at(self.seconds.get()), notice);
         self.lines.set(lines);
     }
 }

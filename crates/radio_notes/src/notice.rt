@@ -2,13 +2,13 @@
 
 ghost use Rattle.std.specs.Prelude.{◌≡◌, MatchResult};
 ghost use Rattle.radio_notes.specs.Facts.{facts_of_asked, facts_of_command, facts_of_source};
-ghost use Rattle.radio_notes.specs.Requests.{user_in};
-ghost use Rattle.radio_notes.specs.Notices.{IsMadeAt, IsNoticeAt, IsToldAt, due, fed, if_answered, if_taken};
+ghost use Rattle.radio_notes.specs.Requests.{user_of_pair};
+ghost use Rattle.radio_notes.specs.Notices.{IsMadeAt, IsNoticeAt, IsNoticeOfFacts, logged_notice, stream_bytes, if_answered, if_taken};
 ghost use Rattle.radio_notes.specs.declared.notice.Notice.TheVariants.{Lines as LinesOf, Lost as LostOf};
 
 use crate::facts::{command_lines, count_of_command, source_lines};
 use crate::request::user_of;
-use crate::{OutOfMemory, Told};
+use crate::{OutOfMemory, ReplyNote};
 use radio_addr::Peer;
 use radio_events::{Asked, Command, CommandRequest, Event, SourceRequest};
 use radio_log::Moment;
@@ -53,19 +53,19 @@ impl Notice {
     /// Returns what of it is to be logged, if this is noted of the server's reply: lines of what was answered as done,
     /// and the block that was taken.
     // rule: Lines of changes
-    pub(crate) fn due(self, told: Told) -> Notice
-        ensures { result ≡ due told self }
+    pub(crate) fn due(self, note: ReplyNote) -> Notice
+        ensures { result ≡ logged_notice note self }
     {
-        match told {
-            Told::Feeding | Told::Text | Told::Shown => self.lines(),
-            Told::Noted => self.block(),
-            Told::Nothing | Told::Seated | Told::Denied(_) => Notice::Nothing,
+        match note {
+            ReplyNote::Feeding | ReplyNote::Text | ReplyNote::Shown => self.lines(),
+            ReplyNote::Noted => self.block(),
+            ReplyNote::Nothing | ReplyNote::Seated | ReplyNote::Denied(_) => Notice::Nothing,
         }
     }
 
     /// Returns how many bytes of a stream have come by what is logged.
     pub(crate) fn fed(&self) -> u64
-        ensures { result ≡ fed self.now }
+        ensures { result ≡ stream_bytes self.now }
     {
         match self {
             Notice::Block(count) => *count,
@@ -107,7 +107,7 @@ fn of_source(
 
 /// Returns what is to be logged of a request: only of a command there is something.
 fn of_request(alloc: Global, seconds: u64, peer: Peer, request: &CommandRequest) -> Notice
-    ensures { IsToldAt seconds (facts_of_asked peer (user_in request.now.pair) request.now.asked) result }
+    ensures { IsNoticeOfFacts seconds (facts_of_asked peer (user_of_pair request.now.pair) request.now.asked) result }
 {
     match &request.asked {
         Asked::Command(command) => {

@@ -3,7 +3,7 @@
 ghost use Rattle.std.specs.Prelude.{◌≡◌, ◌≤◌, [], take, length, IfOk, unwrap_or};
 ghost use Rattle.std.specs.Option.{IfSome};
 ghost use Rattle.radio_heads.specs.Headers.{value_of as header_value};
-ghost use Rattle.radio_notes.specs.Requests.{front_of, kept_of_head, kept_of_listener, user_in};
+ghost use Rattle.radio_notes.specs.Requests.{front_of, kept_of_head, kept_of_listener, user_of_pair};
 
 use crate::OutOfMemory;
 use radio_admin::read_path;
@@ -143,7 +143,7 @@ impl Request {
 
 /// The user of a pair, empty if there is none.
 pub(crate) fn user_of(pair: &Option<Pair>) -> &[u8]
-    ensures { result.now ≡ user_in pair.now }
+    ensures { result.now ≡ user_of_pair pair.now }
 {
     match pair {
         Some(pair) => pair.user(),

@@ -5,11 +5,11 @@ ghost use Rattle.radio_log.specs.declared.facts.Fact.TheVariants.{MountGone};
 ghost use Rattle.radio_notes.specs.Ends.{code_of_end, mount_word};
 ghost use Rattle.radio_notes.specs.Requests.{request_kept};
 ghost use Rattle.radio_notes.specs.declared.visit.Happening.TheVariants.{Handed};
-ghost use Rattle.radio_notes.specs.Visits.{after, begun, client_ended, first_of, first_end, is_shown, mount_of_visit, part_given, replied, seconds_between, source_gone, status_told};
+ghost use Rattle.radio_notes.specs.Visits.{visit_after, new_visit, client_ended, first_of, first_end, reply_shows_station, mount_of_visit, part_given, replied, seconds_between, source_gone, status_of_note};
 
-use crate::Told;
+use crate::ReplyNote;
 use crate::ends::{End, code_of, end_word, mount_word};
-use crate::heard::Heard;
+use crate::request_so_far::RequestSoFar;
 use radio_addr::Peer;
 use radio_log::{ClientEnded, Fact, QuotedText, SourceGone};
 use radio_values::MountName;
@@ -30,7 +30,7 @@ pub enum Part {
 #[derive(Clone, Copy)]
 pub enum Happening {
     /// The server has replied to an event, and this is noted of it.
-    Replied(Told),
+    Replied(ReplyNote),
     /// Its line has taken so many bytes.
     Handed(u64),
     /// So many bytes of its stream have come.
@@ -61,7 +61,7 @@ pub struct Visit {
 impl Visit {
     /// A connection comes at this moment, in milliseconds, and nothing has happened on it.
     pub fn begun(ms: u64) -> Visit
-        ensures { result ≡ begun ms }
+        ensures { result ≡ new_visit ms }
     {
         Visit {
             since_ms: ms,
@@ -77,10 +77,10 @@ impl Visit {
     /// Returns what has happened once this has happened too.
     // rule: Polls; Line of a client
     pub fn after(self, happening: Happening) -> Visit
-        ensures { result ≡ after self happening }
+        ensures { result ≡ visit_after self happening }
     {
         match happening {
-            Happening::Replied(told) => self.replied(told),
+            Happening::Replied(note) => self.replied(note),
             Happening::Handed(count) => self.handed_more(count),
             Happening::Fed(count) => Visit {
                 fed: self.fed.saturating_add(count),
@@ -92,7 +92,7 @@ impl Visit {
 
     /// Returns what has happened once its line has taken so many bytes more.
     pub(crate) fn handed_more(self, count: u64) -> Visit
-        ensures { result ≡ after self (Handed count) }
+        ensures { result ≡ visit_after self (Handed count) }
     {
         Visit {
             handed: self.handed.saturating_add(count),
@@ -101,13 +101,13 @@ impl Visit {
     }
 
     /// A reply gives the client its part, and the first status counts.
-    fn replied(self, told: Told) -> Visit
-        ensures { result ≡ replied self told }
+    fn replied(self, note: ReplyNote) -> Visit
+        ensures { result ≡ replied self note }
     {
         Visit {
-            part: part_given(told, self.part),
-            status: first_of(self.status, status_told(told)),
-            is_poll: is_shown(told) || self.is_poll,
+            part: part_given(note, self.part),
+            status: first_of(self.status, status_of_note(note)),
+            is_poll: is_shown(note) || self.is_poll,
             ..self
         }
     }
@@ -149,32 +149,37 @@ impl Visit {
         self,
         peer: Peer,
         ms: u64,
-        heard: &'a Heard,
+        request: &'a RequestSoFar,
         last: &'a [u8],
     ) -> ClientEnded<'a>
-        ensures { result ≡ client_ended peer ms self heard.now last.now }
+        ensures { result ≡ client_ended peer ms self request.now last.now }
     {
         ClientEnded {
             peer,
-            method: QuotedText::of(heard.method()),
-            path: QuotedText::of(heard.path()),
-            mount: QuotedText::of(self.mount(heard.path(), last)),
+            method: QuotedText::of(request.method()),
+            path: QuotedText::of(request.path()),
+            mount: QuotedText::of(self.mount(request.path(), last)),
             status: self.status,
             why: QuotedText::of(end_word(self.end).as_bytes()),
-            user: QuotedText::of(heard.user()),
+            user: QuotedText::of(request.user()),
             seconds: self.seconds(ms),
             bytes: self.handed,
-            agent: QuotedText::of(heard.agent()),
+            agent: QuotedText::of(request.agent()),
         }
     }
 
     /// What the log says of its source, which is gone at this moment, in milliseconds.
     // rule: Lines of changes
-    pub(crate) fn source_gone<'a>(self, peer: Peer, ms: u64, heard: &'a Heard) -> SourceGone<'a>
-        ensures { result ≡ source_gone peer ms self heard.now }
+    pub(crate) fn source_gone<'a>(
+        self,
+        peer: Peer,
+        ms: u64,
+        request: &'a RequestSoFar,
+    ) -> SourceGone<'a>
+        ensures { result ≡ source_gone peer ms self request.now }
     {
         SourceGone {
-            mount: QuotedText::of(heard.path()),
+            mount: QuotedText::of(request.path()),
             peer,
             why: QuotedText::of(end_word(self.end).as_bytes()),
             seconds: self.seconds(ms),
@@ -184,46 +189,54 @@ impl Visit {
 
     /// What the log says of the mount of its source, which is live no more.
     // rule: Lines of changes
-    pub(crate) fn mount_gone<'a>(self, heard: &'a Heard) -> Fact<'a>
-        ensures { result ≡ MountGone (request_kept heard.now).path (mount_word self.end) }
+    pub(crate) fn mount_gone<'a>(self, request: &'a RequestSoFar) -> Fact<'a>
+        ensures { result ≡ MountGone (request_kept request.now).path (mount_word self.end) }
     {
         Fact::MountGone {
-            mount: QuotedText::of(heard.path()),
+            mount: QuotedText::of(request.path()),
             why: QuotedText::of(mount_word(self.end).as_bytes()),
         }
     }
 }
 
 /// What a client does once this was replied.
-fn part_given(told: Told, before: Part) -> Part
-    ensures { result ≡ part_given told before }
+fn part_given(note: ReplyNote, before: Part) -> Part
+    ensures { result ≡ part_given note before }
 {
-    match told {
-        Told::Seated => Part::Listener,
-        Told::Feeding => Part::Source,
-        Told::Nothing | Told::Noted | Told::Text | Told::Shown | Told::Denied(_) => before,
+    match note {
+        ReplyNote::Seated => Part::Listener,
+        ReplyNote::Feeding => Part::Source,
+        ReplyNote::Nothing
+        | ReplyNote::Noted
+        | ReplyNote::Text
+        | ReplyNote::Shown
+        | ReplyNote::Denied(_) => before,
     }
 }
 
 /// The status of an answer (RFC 9110, section 15); 0 for none.
-fn status_told(told: Told) -> u16
-    ensures { result ≡ status_told told }
+fn status_of_note(note: ReplyNote) -> u16
+    ensures { result ≡ status_of_note note }
 {
-    match told {
-        Told::Seated | Told::Feeding | Told::Text | Told::Shown => 200,
-        Told::Denied(rule) => code_of(rule),
-        Told::Nothing | Told::Noted => 0,
+    match note {
+        ReplyNote::Seated | ReplyNote::Feeding | ReplyNote::Text | ReplyNote::Shown => 200,
+        ReplyNote::Denied(rule) => code_of(rule),
+        ReplyNote::Nothing | ReplyNote::Noted => 0,
     }
 }
 
 /// Whether something of the station is shown.
-fn is_shown(told: Told) -> bool
-    ensures { result ≡ is_shown told }
+fn is_shown(note: ReplyNote) -> bool
+    ensures { result ≡ reply_shows_station note }
 {
-    match told {
-        Told::Shown => true,
-        Told::Nothing | Told::Noted | Told::Feeding | Told::Seated | Told::Text | Told::Denied(_) =>
-            false,
+    match note {
+        ReplyNote::Shown => true,
+        ReplyNote::Nothing
+        | ReplyNote::Noted
+        | ReplyNote::Feeding
+        | ReplyNote::Seated
+        | ReplyNote::Text
+        | ReplyNote::Denied(_) => false,
     }
 }
 

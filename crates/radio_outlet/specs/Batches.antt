@@ -29,8 +29,8 @@ some_written count WithinLine rest = record { place = place_behind (slice_index 
 
 -- so many of the next bytes were written
 -- rule: Log failures
-abbrev pub written : ℕ → InHand → InHand
-written count b = if count == 0 then b else some_written count b.place b.rest
+abbrev pub with_written : ℕ → InHand → InHand
+with_written count b = if count == 0 then b else some_written count b.place b.rest
 
 -- whether a byte ends a line
 abbrev pub is_line_end : ℕ → Bool

@@ -1,7 +1,7 @@
 //! The lines that are being written.
 
 ghost use Rattle.std.specs.Prelude.{◌≡◌, ◌≤◌, length, drop, position, []};
-ghost use Rattle.radio_outlet.specs.Batches.{InHand, next_bytes, written, cut_off, lost_by_cut, place_behind, behind_line, is_line_end};
+ghost use Rattle.radio_outlet.specs.Batches.{InHand, next_bytes, with_written, cut_off, lost_by_cut, place_behind, behind_line, is_line_end};
 ghost use Rattle.radio_outlet.specs.declared.batch.LinePlace.TheVariants.{LineStart};
 
 use std::alloc::Global;
@@ -72,7 +72,7 @@ impl Batch {
     /// Notes that so many of the next bytes were written.
     pub fn note_written(&mut self, count: usize)
         requires { count ≤ length (next_bytes self.old) }
-        ensures { self.new ≡ written count self.old }
+        ensures { self.new ≡ with_written count self.old }
     {
         if count == 0 {
             return;

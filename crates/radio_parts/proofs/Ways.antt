@@ -32,7 +32,7 @@ use Rattle.radio_fallback.proofs.TurnLemmas.{lands_where_he_fits}
 use Rattle.radio_parts_station.specs.declared.standing.Standing.{Standing}
 use Rattle.radio_parts_station.specs.declared.standing.Standing.TheVariants.{Unknown, Undecided, Feeds, Sits, Answered, Finished}
 use Rattle.radio_parts_station.specs.World.{World, standing_of, has_relay}
-use Rattle.radio_parts_station.specs.Facts.{largest_number, is_full, is_known, sight_of, arrive_facts, source_facts_at, relay_facts_at, rows_to_arrive, rows_to_feed, rows_to_raise, names_mount}
+use Rattle.radio_parts_station.specs.Facts.{largest_number, is_limit_reached, is_known, sight_of, arrive_facts, source_facts_at, relay_facts_at, rows_to_arrive, rows_to_feed, rows_to_raise, names_mount}
 use Rattle.radio_parts_station.specs.Facts.{rows_to_push, rows_to_listen, walks_to, walk_stops}
 use Rattle.radio_parts.specs.Outcomes.{says, on_verdict, out_of_place, if_undecided, if_feeding, unless_relayed, if_sitting}
 use Rattle.radio_parts.specs.Arrive.{admits_client}
@@ -190,7 +190,7 @@ has_number_left station peer v =
 
 -- there are fewer clients than there may be
 pub has_room_left : (station : StationState) (peer : Peer) → verdict_in (rows_to_arrive station peer) ≡ Allow
-    → is_full (length station.clients) station.settings.limits.clients ≡ false
+    → is_limit_reached (length station.clients) station.settings.limits.clients ≡ false
 has_room_left station peer v =
     let facts = arrive_facts station peer in
     (passes_by facts.address_is_denied facts.address_is_allowed facts.clients_are_full facts.number_is_spent v).2

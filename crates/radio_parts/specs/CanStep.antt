@@ -11,7 +11,7 @@ use Rattle.radio_seats_rows.specs.declared.seat.Seat.{Seat}
 use Rattle.radio_seats_rows.specs.Seats.{seat_of}
 
 -- the one of this number may draw, if it has a seat
-pub record CanDraw (w : World) (id : ℕ) : Type 0 where
+pub record MayDraw (w : World) (id : ℕ) : Type 0 where
   pub sits : (seat : Seat) → seat_of w.seats id ≡ Some seat → standing_of w id ≡ Sits
   pub kept : (seat : Seat) → seat_of w.seats id ≡ Some seat → IsKept (session_of w.station.live seat.mount) seat.place
 
@@ -22,7 +22,7 @@ CanStep w (Push id block) = Unit {0}
 CanStep w (SourceEnd id) = Unit {0}
 CanStep w (Title id text) = Unit {0}
 CanStep w (Listen asked) = Unit {0}
-CanStep w (Draw id room) = CanDraw w id
+CanStep w (Draw id room) = MayDraw w id
 CanStep w (Command asked) = Unit {0}
 CanStep w (Leave id) = Unit {0}
 CanStep w (RelayUp mount shown) = Unit {0}

@@ -42,6 +42,6 @@ does_asked w id asked = says Stray Nothing
 
 -- a client gives a command
 -- rule: Move clients
-abbrev pub gives_command : World → CommandRequest → Outcome
-gives_command w asked = if_undecided (standing_of w asked.id) (λ _.
+abbrev pub command_outcome : World → CommandRequest → Outcome
+command_outcome w asked = if_undecided (standing_of w asked.id) (λ _.
     on_verdict (verdict_in (rows_to_command w asked)) (Answer asked.id) (does_asked w asked.id asked.asked))

@@ -46,6 +46,6 @@ sits_where station asked peer (Lands mount) = takes_seat station asked peer (hea
 
 -- a client wants to hear the mount of this path
 -- rule: Start of the burst
-abbrev pub asks_to_hear : World → ListenRequest → Outcome
-asks_to_hear w asked = if_undecided (standing_of w asked.id) (λ peer.
+abbrev pub listen_outcome : World → ListenRequest → Outcome
+listen_outcome w asked = if_undecided (standing_of w asked.id) (λ peer.
     on_verdict (verdict_in (rows_to_listen w asked)) (Answer asked.id) (sits_where w.station asked peer (walks_to w.station w.seats asked.mount asked.pair)))

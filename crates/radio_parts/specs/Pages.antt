@@ -11,7 +11,7 @@ use Rattle.radio_events.specs.declared.text.ReplyText.{ReplyText}
 use Rattle.radio_parts_changes.specs.declared.change.Change.TheVariants.{Answer}
 use Rattle.radio_parts.specs.declared.outcome.Outcome.{Outcome}
 use Rattle.radio_parts.specs.Allowed.{IsListed}
-use Rattle.radio_parts.specs.Listen.{asks_to_hear}
+use Rattle.radio_parts.specs.Listen.{listen_outcome}
 use Rattle.radio_parts_facts.specs.Listings.{shown}
 use Rattle.radio_parts_facts.specs.Pages.{page_at}
 use Rattle.radio_parts.specs.Outcomes.{says, if_undecided}
@@ -23,7 +23,7 @@ shows_page w asked path = says (SaysText (page_at w path asked.visit)) (Answer a
 
 -- a client asks by a path, which is one of the web site's, or may be that of a mount
 abbrev pub asks_by : World → ListenRequest → Option WebPath → Outcome
-asks_by w asked None = asks_to_hear w asked
+asks_by w asked None = listen_outcome w asked
 asks_by w asked (Some path) = if_undecided (standing_of w asked.id) (λ _. shows_page w asked path)
 
 -- rule: Icecast status

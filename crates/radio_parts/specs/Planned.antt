@@ -7,7 +7,7 @@ use Rattle.radio_events.specs.declared.text.ReplyText.{ReplyText}
 use Rattle.radio_events.specs.declared.text.ReplyText.TheVariants.{Moved, Ended}
 use Rattle.radio_parts.specs.declared.outcome.Outcome.{Outcome}
 use Rattle.radio_fallback.specs.declared.moves.Carried.{Carried}
-use Rattle.radio_parts.specs.Command.{gives_command}
+use Rattle.radio_parts.specs.Command.{command_outcome}
 use Rattle.radio_parts_changes.specs.Counts.{nobody}
 use Rattle.radio_parts.specs.Step.{outcome}
 use Rattle.radio_parts_station.specs.World.{World}
@@ -28,5 +28,5 @@ uncounted o = record o { reply = with_counts o.reply nobody }
 
 -- what is worked out beforehand
 unfoldable pub planned : World → Event → Outcome
-planned w (Command asked) = uncounted (gives_command w asked)
+planned w (Command asked) = uncounted (command_outcome w asked)
 planned w event = outcome w event

@@ -15,6 +15,6 @@ begins station asked = says Feeding (Begin asked.id asked.mount (shown_for stati
 
 -- a client wants to feed the mount of this path
 -- rule: Session
-abbrev pub asks_to_feed : World → SourceRequest → Outcome
-asks_to_feed w asked = if_undecided (standing_of w asked.id) (λ _.
+abbrev pub source_outcome : World → SourceRequest → Outcome
+source_outcome w asked = if_undecided (standing_of w asked.id) (λ _.
     on_verdict (verdict_in (rows_to_feed w.station asked)) (Answer asked.id) (begins w.station asked))

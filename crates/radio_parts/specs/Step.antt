@@ -7,13 +7,13 @@ use Rattle.radio_events.specs.declared.reply.Reply.{Reply}
 use Rattle.radio_parts.specs.declared.outcome.Outcome.{Outcome}
 use Rattle.radio_parts_station.specs.World.{World}
 use Rattle.radio_parts.specs.Arrive.{arrives}
-use Rattle.radio_parts.specs.Source.{asks_to_feed}
+use Rattle.radio_parts.specs.Source.{source_outcome}
 use Rattle.radio_parts.specs.Push.{delivers}
 use Rattle.radio_parts.specs.SourceEnd.{stops_feeding}
 use Rattle.radio_parts.specs.Title.{sets_title}
 use Rattle.radio_parts.specs.Pages.{asks_by_path}
 use Rattle.radio_parts.specs.Draw.{draws}
-use Rattle.radio_parts.specs.Command.{gives_command}
+use Rattle.radio_parts.specs.Command.{command_outcome}
 use Rattle.radio_parts.specs.Leave.{leaves}
 use Rattle.radio_parts.specs.RelayUp.{comes_up}
 use Rattle.radio_parts.specs.RelayDown.{goes_down}
@@ -23,13 +23,13 @@ use Rattle.radio_parts_changes.specs.Changes.{changed}
 -- the outcome of each event
 unfoldable pub outcome : World → Event → Outcome
 outcome w (Arrive peer) = arrives w peer
-outcome w (Source asked) = asks_to_feed w asked
+outcome w (Source asked) = source_outcome w asked
 outcome w (Push id block) = delivers w id block
 outcome w (SourceEnd id) = stops_feeding w id
 outcome w (Title id text) = sets_title w id text
 outcome w (Listen asked) = asks_by_path w asked
 outcome w (Draw id room) = draws w id room
-outcome w (Command asked) = gives_command w asked
+outcome w (Command asked) = command_outcome w asked
 outcome w (Leave id) = leaves w id
 outcome w (RelayUp mount shown) = comes_up w mount shown
 outcome w (RelayDown id) = goes_down w id

@@ -1,5 +1,5 @@
 ghost use Rattle.std.specs.Prelude.{◌≡◌, IfOk};
-ghost use Rattle.radio_parts.specs.Command.{gives_command, does_asked, said_of};
+ghost use Rattle.radio_parts.specs.Command.{command_outcome, does_asked, said_of};
 ghost use Rattle.radio_parts_facts.specs.CommandFacts.{rows_to_command};
 ghost use Rattle.radio_parts.specs.Outcomes.{on_verdict};
 ghost use Rattle.radio_parts_changes.specs.Counts.{nobody};
@@ -20,7 +20,7 @@ impl Control {
     /// A client gives a command. `OutOfMemory` if memory was refused. A reply that names how many were
     /// moved or have finished names none here: that is known only when the change is made.
     pub(crate) fn command(&self, asked: CommandRequest) -> Result<Outcome, OutOfMemory>
-        ensures { IfOk result (λ o. o ≡ uncounted (gives_command self.now asked)) }
+        ensures { IfOk result (λ o. o ≡ uncounted (command_outcome self.now asked)) }
     {
         match self.standing(asked.id) {
             Standing::Undecided(_) => self.judged(asked),

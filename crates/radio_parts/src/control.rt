@@ -11,7 +11,7 @@ ghost use Rattle.radio_parts_changes.specs.KeptChanges.{kept_changed};
 ghost use Rattle.radio_parts.specs.Common.{common_after, common_of};
 ghost use Rattle.radio_parts.specs.Draw.{draws, moves_to, IsMove};
 ghost use Rattle.radio_parts.specs.Planned.{planned, with_counts};
-ghost use Rattle.radio_parts.specs.CanStep.{CanDraw, CanStep};
+ghost use Rattle.radio_parts.specs.CanStep.{MayDraw, CanStep};
 ghost use Rattle.radio_parts.specs.ControlSteps.{control_after, control_reply, three_of};
 ghost use Rattle.radio_events.specs.declared.event.Event.{Event as EventOf};
 ghost use Rattle.radio_events.specs.declared.reply.Reply.{Reply as ReplyOf};
@@ -130,7 +130,7 @@ impl Control {
     /// Returns the outcome of a draw, before its change is made. `OutOfMemory` if memory was
     /// refused.
     fn drawing_outcome(&self, id: u64, room: u32) -> Result<Outcome, OutOfMemory>
-        ensures value { CanDraw self.now id → IfOk result (λ outcome. outcome ≡ draws self.now id room) }
+        ensures value { MayDraw self.now id → IfOk result (λ outcome. outcome ≡ draws self.now id room) }
         ensures drawn { IfOk result (λ outcome. IsMove id outcome.change) }
     {
         Ok(self.draw(id, room)?.outcome(id))
@@ -187,8 +187,8 @@ impl Control {
 
     /// A draw, as a step. It comes for each listener and block, so it makes no outcome, which is large.
     fn step_drawing(&mut self, id: u64, room: u32) -> Result<Reply, OutOfMemory>
-        ensures ok { CanDraw self.old id → OnOk result (self.new ≡ kept_changed self.old (draws self.old id room).change) }
-        ensures told { CanDraw self.old id → IfOk result (λ reply. reply ≡ (draws self.old id room).reply) }
+        ensures ok { MayDraw self.old id → OnOk result (self.new ≡ kept_changed self.old (draws self.old id room).change) }
+        ensures told { MayDraw self.old id → IfOk result (λ reply. reply ≡ (draws self.old id room).reply) }
         ensures common { common_of self.new ≡ common_of self.old }
         ensures err { OnErr result (self.new ≡ self.old) }
     {

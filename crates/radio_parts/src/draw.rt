@@ -7,7 +7,7 @@ ghost use Rattle.std.specs.Option.{option_copied};
 ghost use Rattle.radio_seats_rows.specs.declared.seat.Seat.{Seat as SeatOf};
 ghost use Rattle.radio_seats.specs.Lent.{lent_seat};
 ghost use Rattle.radio_parts_station.specs.Waiting.{heard_at, silence_of};
-ghost use Rattle.radio_parts.specs.CanStep.{CanDraw};
+ghost use Rattle.radio_parts.specs.CanStep.{MayDraw};
 ghost use Rattle.radio_parts_mount.specs.Steps.{IsKept};
 ghost use Rattle.radio_parts_mount.specs.Kept.{first_start};
 ghost use Rattle.radio_parts_mount.specs.Stream.{end_of};
@@ -62,7 +62,7 @@ impl Control {
     /// A listener has room for so many bytes. `OutOfMemory` if memory was refused. A client with a
     /// seat is a listener, so the client is looked up only if it has none.
     pub(crate) fn draw(&self, id: u64, room: u32) -> Result<Drawing, OutOfMemory>
-        ensures { CanDraw self.now id → IfOk result (λ drawing. comes_to id drawing ≡ draws self.now id room) }
+        ensures { MayDraw self.now id → IfOk result (λ drawing. comes_to id drawing ≡ draws self.now id room) }
     {
         match self.seats().hearing(id) {
             Some(hearing) => {

@@ -2,7 +2,7 @@
 
 ghost use Rattle.std.specs.Prelude.{◌≡◌, Err, IfOk, OnErr, MatchOption};
 ghost use Rattle.radio_parts_changes.specs.Lent.{IsLentTo};
-ghost use Rattle.radio_parts.specs.Lending.{IsTakenOut, StandsIn};
+ghost use Rattle.radio_parts.specs.Lending.{IsTakenOut, IsUnattachedPart};
 ghost use Rattle.radio_parts_table.specs.Exchange.{IsUnfit};
 
 use crate::OutOfMemory;
@@ -53,7 +53,7 @@ impl Control {
     /// Returns a part of the mount without data, which the same source feeds, if one does.
     /// `OutOfMemory` if memory was refused.
     fn stand_in(&self, mount: &MountName) -> Result<MountPart, OutOfMemory>
-        ensures { IfOk result (λ part. StandsIn mount.now part) }
+        ensures { IfOk result (λ part. IsUnattachedPart mount.now part) }
     {
         let Some(session) = self.station().session(mount) else {
             return Ok(MountPart::new(*mount));

@@ -3,7 +3,7 @@ ghost use Rattle.radio_parts_station.specs.Waiting.{heard_at, silence_at, silenc
 ghost use Rattle.radio_events.specs.declared.reply.Reply.TheVariants.{Seated};
 ghost use Rattle.radio_parts_changes.specs.declared.change.Change.TheVariants.{TakeSeat};
 ghost use Rattle.radio_parts.specs.Outcomes.{says};
-ghost use Rattle.radio_parts.specs.Listen.{asks_to_hear, sits_where, takes_seat, first_seat};
+ghost use Rattle.radio_parts.specs.Listen.{listen_outcome, sits_where, takes_seat, first_seat};
 ghost use Rattle.radio_parts_facts.specs.Streams.{head_of};
 
 use crate::OutOfMemory;
@@ -34,7 +34,7 @@ struct AdmittedGuest {
 impl Control {
     /// A client wants to hear a mount. `OutOfMemory` if memory was refused.
     pub(crate) fn listen(&self, asked: ListenRequest) -> Result<Outcome, OutOfMemory>
-        ensures { IfOk result (λ o. o ≡ asks_to_hear self.now asked) }
+        ensures { IfOk result (λ o. o ≡ listen_outcome self.now asked) }
     {
         match self.may_listen(&asked) {
             Ok(welcome) => self.sit_where(asked, welcome),
@@ -46,8 +46,8 @@ impl Control {
     /// the outcome of its request if it may not.
     fn may_listen(&self, asked: &ListenRequest) -> Result<AdmittedGuest, Outcome>
         ensures { MatchResult result
-            (λ may. (may.home ≡ asked.now.mount) × (asks_to_hear self.now asked.now ≡ sits_where self.now.station asked.now may.peer may.landing))
-            (λ other. other ≡ asks_to_hear self.now asked.now) }
+            (λ may. (may.home ≡ asked.now.mount) × (listen_outcome self.now asked.now ≡ sits_where self.now.station asked.now may.peer may.landing))
+            (λ other. other ≡ listen_outcome self.now asked.now) }
     {
         let peer = match self.standing(asked.id) {
             Standing::Undecided(peer) => peer,

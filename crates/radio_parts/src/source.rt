@@ -2,7 +2,7 @@ ghost use Rattle.std.specs.Prelude.{◌≡◌, MatchResult, IfOk};
 ghost use Rattle.radio_parts_changes.specs.declared.change.Change.TheVariants.{Begin};
 ghost use Rattle.radio_events.specs.declared.reply.Reply.TheVariants.{Feeding};
 ghost use Rattle.radio_parts.specs.Outcomes.{says};
-ghost use Rattle.radio_parts.specs.Source.{asks_to_feed, begins};
+ghost use Rattle.radio_parts.specs.Source.{source_outcome, begins};
 ghost use Rattle.radio_parts_station.specs.Streams.{shown_for};
 
 use crate::OutOfMemory;
@@ -18,7 +18,7 @@ use radio_values::{MountName, Shown};
 impl Control {
     /// A client wants to feed a mount. `OutOfMemory` if memory was refused.
     pub(crate) fn source(&self, asked: SourceRequest) -> Result<Outcome, OutOfMemory>
-        ensures { IfOk result (λ o. o ≡ asks_to_feed self.now asked) }
+        ensures { IfOk result (λ o. o ≡ source_outcome self.now asked) }
     {
         match self.may_feed(&asked) {
             Ok(mount) => self.begin_session(asked.id, mount, &asked.shown),
@@ -45,8 +45,8 @@ impl Control {
     /// Returns the mount that the client may feed. `Err` has the outcome of its request if it may
     /// not.
     fn may_feed(&self, asked: &SourceRequest) -> Result<MountName, Outcome>
-        ensures { MatchResult result (λ mount. (mount ≡ asked.now.mount) × (asks_to_feed self.now asked.now ≡ begins self.now.station asked.now))
-            (λ other. other ≡ asks_to_feed self.now asked.now) }
+        ensures { MatchResult result (λ mount. (mount ≡ asked.now.mount) × (source_outcome self.now asked.now ≡ begins self.now.station asked.now))
+            (λ other. other ≡ source_outcome self.now asked.now) }
     {
         match self.standing(asked.id) {
             Standing::Undecided(_) => {}

@@ -1,7 +1,7 @@
 //! Parts without data that the control has in the place of those that are lent.
 
 ghost use Rattle.std.specs.Prelude.{◌≡◌, IsTrue, MatchOption};
-ghost use Rattle.radio_parts.specs.Lending.{IsTakenOut, StandsIn};
+ghost use Rattle.radio_parts.specs.Lending.{IsTakenOut, IsUnattachedPart};
 
 use crate::Control;
 use radio_parts_mount::ListedPart;
@@ -29,7 +29,7 @@ impl Control {
 
     /// Takes the mount's part out, and leaves this part without data in its place, if the same source feeds both; else one is made.
     fn exchange_for(&mut self, mount: &MountName, stand_in: ListedPart) -> Option<ListedPart>
-        requires { StandsIn mount.now stand_in }
+        requires { IsUnattachedPart mount.now stand_in }
         ensures { MatchOption result (self.new ≡ self.old) (λ part. IsTakenOut mount.now part self.old self.new) }
     {
         match self.exchange(stand_in) {
@@ -54,7 +54,7 @@ impl Control {
 
 /// Returns whether it is a part of the mount to which nobody is attached.
 fn is_stand_in(part: &ListedPart, mount: &MountName) -> bool
-    ensures { IsTrue result → StandsIn mount.now part.now }
+    ensures { IsTrue result → IsUnattachedPart mount.now part.now }
 {
     let part = part.part();
     part.mount == *mount && part.attachments.is_empty() && part.lagged.is_empty()

@@ -6,7 +6,7 @@ use Rattle.std.proofs.lemmas.Slice.Eq.{bytes_eq-Decides}
 use Rattle.radio_settings_values.specs.declared.settings.Settings.{Settings}
 use Rattle.radio_parts_table.specs.Listening.{Listening}
 use Rattle.radio_parts_station.specs.declared.live.LiveMount.{LiveMount}
-use Rattle.radio_parts_station.specs.Live.{AreLive, live_mount, with_live}
+use Rattle.radio_parts_station.specs.Live.{AreLive, live_mount, with_live_mount}
 use Rattle.radio_parts_station.proofs.LiveMounts.{one_begun}
 use Rattle.radio_parts_mount.specs.Sessions.{Session, with_session}
 use Rattle.radio_parts_mount.proofs.PreparedLemmas.{begun_prepared}
@@ -26,7 +26,7 @@ module _ (before prepared : Listening) (mount : List ℕ)
 pub session_begins : (settings other : Settings) (rows noted : List LiveMount) (before prepared later : Listening) (session : Session)
     → prepared.seats ≡ before.seats → prepared.live ≡ before.live
     → ((mount : List ℕ) → is_prepared prepared.prepared mount ≡ (is_prepared before.prepared mount || bytes_eq session.mount mount))
-    → other ≡ settings → noted ≡ with_live rows (live_mount session) → later ≡ record prepared { live = with_session prepared.live session }
+    → other ≡ settings → noted ≡ with_live_mount rows (live_mount session) → later ≡ record prepared { live = with_session prepared.live session }
     → AllPrepared settings before → AreLive rows before.live → AllPrepared other later × AreLive noted later.live
 session_begins settings other rows noted before prepared later session same_seats same_live more same is_noted is_later are live =
     let sessions = with_session prepared.live session in

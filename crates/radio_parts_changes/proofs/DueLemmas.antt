@@ -23,7 +23,7 @@ use Rattle.radio_fallback.proofs.Faring.{each_carried}
 use Rattle.radio_parts_changes.specs.Changes.{changed, answered, done, session_ended_by, session_killed, carried_along, session_over, session_ended, called_home, client_gone, before_silence, session_begun, session_raised}
 use Rattle.radio_parts_changes.specs.Changes.{session_silenced, silent_in, ticked, on_air}
 use Rattle.radio_parts_changes.proofs.PartChanges.{is_on_air}
-use Rattle.radio_parts_station.specs.Clients.{Client, newcomer, is_client, by_number, with_state, in_state}
+use Rattle.radio_parts_station.specs.Clients.{Client, undecided_client, is_client, by_number, with_client_state, in_state}
 use Rattle.radio_parts_mount.specs.Due.{last_moment, due_at, listener_due, session_due, earliest}
 use Rattle.radio_parts_station.specs.Due.{due_in_state, client_due, first_due}
 use Rattle.radio_parts_changes.specs.Due.{IsDueFrom, due_by, at_moment}
@@ -63,7 +63,7 @@ module _ (w : World) (moment ms : ℕ) (due : IsDueFrom moment w) (before : ms <
       let seconds = w.station.settings.limits.header_timeout in
       map_same (timed_out seconds ms) w.station.clients
       (Each_each (λ client. moment ≤ client_due seconds client) (λ client. timed_out seconds ms client ≡ client)
-      (λ client h. ap (λ (b : Bool). with_state (if b then Ended HeaderTimeout else client.state) client)
+      (λ client h. ap (λ (b : Bool). with_client_state (if b then Ended HeaderTimeout else client.state) client)
       (may_ask_yet seconds ms client.arrived client.state (omega (arith, before, h)))) w.station.clients due.clients)
 
   nobody_sits_out : with_ended w.seats (has_sat_out w.station.settings ms) TimeOver ≡ w.seats
@@ -183,13 +183,13 @@ module _ (moment : ℕ) (last : moment ≤ last_moment) where
   }
 
   answered_are_due : (w : World) (id : ℕ) → ClientsAreDue w w.station.clients → ClientsAreDue w (in_state w.station.clients id Answered)
-  answered_are_due w id all = Each_updated _ (is_client id) (with_state Answered) (λ client h. last) w.station.clients all
+  answered_are_due w id all = Each_updated _ (is_client id) (with_client_state Answered) (λ client h. last) w.station.clients all
 
   ended_by_due : (rule : Rule) (w : World) (session : Session) → IsDueFrom moment w → IsDueFrom moment (session_ended_by rule w session)
   ended_by_due rule w session due =
       let over = over_due w session.mount due in
       record {
-        clients = Each_updated _ (is_client session.number) (with_state (Ended rule)) (λ client h. last) w.station.clients over.clients;
+        clients = Each_updated _ (is_client session.number) (with_client_state (Ended rule)) (λ client h. last) w.station.clients over.clients;
         listeners = over.listeners;
         sessions = over.sessions;
       }
@@ -236,7 +236,7 @@ module _ (moment : ℕ) (last : moment ≤ last_moment) where
   silence_due (session ∷ sessions) w due = silence_due sessions (session_silenced w session) (ended_by_due SourceSilent w session due)
 
   timed_out_due : (seconds ms : ℕ) (client : Client) (late : Bool) → moment ≤ client_due seconds client
-      → moment ≤ client_due seconds (with_state (if late then Ended HeaderTimeout else client.state) client)
+      → moment ≤ client_due seconds (with_client_state (if late then Ended HeaderTimeout else client.state) client)
   timed_out_due seconds ms client true h = last
   timed_out_due seconds ms client false h = h
 
@@ -262,12 +262,12 @@ module _ (moment : ℕ) (last : moment ≤ last_moment) where
   stays_due w Nothing due h = due
   stays_due w (Answer id) due h = answered_due w id due
   stays_due w (Admit id peer) due h = record {
-    clients = Each_placed _ by_number (newcomer id peer w.station.time) w.station.clients h due.clients;
+    clients = Each_placed _ by_number (undecided_client id peer w.station.time) w.station.clients h due.clients;
     listeners = due.listeners;
     sessions = due.sessions;
   }
   stays_due w (Begin id mount shown) due h = called_due (session_begun w id mount shown) mount (record {
-    clients = Each_updated _ (is_client id) (with_state (Feeds mount)) (λ client k. last) w.station.clients due.clients;
+    clients = Each_updated _ (is_client id) (with_client_state (Feeds mount)) (λ client k. last) w.station.clients due.clients;
     listeners = given_are_due w mount id due.listeners;
     sessions = Each_placed _ by_mount (opened mount id shown w.station.time) w.station.live h due.sessions;
   })
@@ -279,7 +279,7 @@ module _ (moment : ℕ) (last : moment ≤ last_moment) where
   stays_due w (Receive mount block) due h = received_due w mount block due h
   stays_due w (SetTitle mount title) due h = on_air_due w mount title due
   stays_due w (TakeSeat id seat) due h = record {
-    clients = Each_updated _ (is_client id) (with_state Listens) (λ client k. last) w.station.clients due.clients;
+    clients = Each_updated _ (is_client id) (with_client_state Listens) (λ client k. last) w.station.clients due.clients;
     listeners = Each_placed _ by_listener (seated id seat) w.seats h due.listeners;
     sessions = due.sessions;
   }

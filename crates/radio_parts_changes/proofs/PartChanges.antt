@@ -11,7 +11,7 @@ use Rattle.radio_parts_mount.proofs.SessionLookups.{beside_fed, beside_titled, i
 use Rattle.radio_parts_mount.proofs.PartLemmas.{in_its_place, end_received}
 use Rattle.radio_parts_station.specs.StationChanges.{received, retitled}
 use Rattle.radio_parts_station.specs.World.{World}
-use Rattle.radio_parts_changes.specs.Changes.{laggards_ended, taken_in, on_air}
+use Rattle.radio_parts_changes.specs.Changes.{laggards_ended, block_received, on_air}
 
 module _ (w : World) (mount : List ℕ) where
   abbrev with_live : List Session → World
@@ -33,7 +33,7 @@ module _ (w : World) (mount : List ℕ) where
   abbrev lagging : List Session → ℕ → World
   lagging live end = record (with_live live) { seats = with_ended w.seats (lags_behind mount end w.station.settings.limits.queue_size) Lagged }
 
-  pub is_taken_in : (block : List ℕ) → taken_in w mount block ≡ laggards_ended (record w { station = received w.station mount block }) mount
+  pub is_taken_in : (block : List ℕ) → block_received w mount block ≡ laggards_ended (record w { station = received w.station mount block }) mount
   is_taken_in block =
       let longer_now = longer block w.station.time in
       let end = end_in (option_map longer_now (session_of w.station.live mount)) in
@@ -41,11 +41,11 @@ module _ (w : World) (mount : List ℕ) where
       ∙ ap (lagging (fed w.station.live mount block w.station.time)) (end_received w.station.live mount block w.station.time)
 
   pub taken_in_there : (block : List ℕ) (session : Session) → session_of w.station.live mount ≡ Some session
-      → session_of (taken_in w mount block).station.live mount ≡ Some (longer block w.station.time session)
+      → session_of (block_received w mount block).station.live mount ≡ Some (longer block w.station.time session)
   taken_in_there block session live =
       ap (λ (later : World). session_of later.station.live mount) (is_taken_in block) ∙ is_longer w.station.live mount block w.station.time session live
 
   pub taken_in_beside : (block other : List ℕ) → bytes_eq mount other ≡ false
-      → session_of (taken_in w mount block).station.live other ≡ session_of w.station.live other
+      → session_of (block_received w mount block).station.live other ≡ session_of w.station.live other
   taken_in_beside block other apart =
       ap (λ (later : World). session_of later.station.live other) (is_taken_in block) ∙ beside_fed w.station.live mount other apart block w.station.time

@@ -15,7 +15,7 @@ use Rattle.radio_parts_changes.specs.declared.change.Change.TheVariants.{EndAndL
 use Rattle.radio_parts_station.specs.Clients.{without_client}
 use Rattle.radio_parts_station.specs.Relays.{without_relay}
 use Rattle.radio_values.specs.declared.field.Shown.{Shown}
-use Rattle.radio_parts_station.specs.StationChanges.{now_in_state, admitted, begun, raised, finished_in, falling_back, timed_out_by, with_user, without_user}
+use Rattle.radio_parts_station.specs.StationChanges.{now_in_state, with_arrival, begun, raised, finished_in, falling_back, timed_out_by, with_mount_user, without_mount_user}
 use Rattle.radio_parts_station.specs.Outsiders.{is_shut_out}
 use Rattle.radio_parts_mount.specs.StatePart.{Part, part_received, part_titled, with_its_session}
 use Rattle.radio_parts_mount.specs.Sessions.{Session, session_of, without_session}
@@ -72,8 +72,8 @@ with_part w p = record { station = record w.station { live = with_its_session w.
 
 -- the block has come to the mount
 -- rule: The clock
-abbrev pub taken_in : World → List ℕ → List ℕ → World
-taken_in w mount block = with_part w (part_received w.station.settings.limits.queue_size w.station.time block (part_at w mount))
+abbrev pub block_received : World → List ℕ → List ℕ → World
+block_received w mount block = with_part w (part_received w.station.settings.limits.queue_size w.station.time block (part_at w mount))
 
 -- this is on the air at the mount
 abbrev pub on_air : World → List ℕ → List ℕ → World
@@ -118,11 +118,11 @@ outsiders_ended w mount = record w { seats = with_ended w.seats (is_shut_out w.s
 
 -- the users of the mount let this one in with this password, and nobody has lost its seat yet
 abbrev pub user_added : World → List ℕ → List ℕ → List ℕ → World
-user_added w mount user password = record w { station = with_user w.station mount user password }
+user_added w mount user password = record w { station = with_mount_user w.station mount user password }
 
 -- the users of the mount do not let this one in, and nobody has lost its seat yet
 abbrev pub user_deleted : World → List ℕ → List ℕ → World
-user_deleted w mount user = record w { station = without_user w.station mount user }
+user_deleted w mount user = record w { station = without_mount_user w.station mount user }
 
 -- what a command does
 -- rule: Move clients; Metadata
@@ -148,10 +148,10 @@ answered w id = record w { station = now_in_state w.station id Answered }
 abbrev pub changed : World → Change → World
 changed w Nothing = w
 changed w (Answer id) = answered w id
-changed w (Admit id peer) = record w { station = admitted w.station id peer }
+changed w (Admit id peer) = record w { station = with_arrival w.station id peer }
 changed w (Begin id mount shown) = called_home (session_begun w id mount shown) mount
 changed w (Raise id mount shown) = called_home (session_raised w id mount shown) mount
-changed w (Receive mount block) = taken_in w mount block
+changed w (Receive mount block) = block_received w mount block
 changed w (SetTitle mount title) = on_air w mount title
 changed w (TakeSeat id seat) = record { station = now_in_state w.station id Listens; seats = with_seat w.seats id seat }
 changed w (Advance id place) = record w { seats = with_place w.seats id place }

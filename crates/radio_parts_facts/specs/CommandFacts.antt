@@ -57,8 +57,8 @@ abbrev pub is_live : StationState → List ℕ → Bool
 is_live station mount = is_some (session_of station.live mount)
 
 -- the listener of this number sits at the mount
-abbrev pub sits_at : List Listener → List ℕ → ℕ → Bool
-sits_at seats mount id = option_map_or (λ seat. bytes_eq seat.mount mount) (seat_of seats id) false
+abbrev pub is_listener_at : List Listener → List ℕ → ℕ → Bool
+is_listener_at seats mount id = option_map_or (λ seat. bytes_eq seat.mount mount) (seat_of seats id) false
 
 -- what it needs, and whether it is there
 -- rule: No mount; No destination; Same mount; No client; No users; No user; Waiting is not live
@@ -68,7 +68,7 @@ needs_of w (MoveClients mount destination) = Destination (record {
   destination_is_live = is_live w.station destination;
   is_same_mount = bytes_eq mount destination;
 })
-needs_of w (KillClient mount listener) = Client (is_live w.station mount) (sits_at w.seats mount listener)
+needs_of w (KillClient mount listener) = Client (is_live w.station mount) (is_listener_at w.seats mount listener)
 needs_of w (KillSource mount) = Mount (is_live w.station mount)
 needs_of w (SetTitle mount title) = Mount (is_live w.station mount)
 needs_of w (SetFallback mount fallback) = Mount (is_live w.station mount)

@@ -42,8 +42,8 @@ public_row w session = record {
   about = about_row session.shown.about;
 }
 
-abbrev pub mount_row : World → Session → MountRow
-mount_row w session = record {
+abbrev pub row_of_session : World → Session → MountRow
+row_of_session w session = record {
   public = public_row w session;
   hidden = (options_for w.station.settings session.mount).stream.hidden;
   session = session.number;
@@ -53,7 +53,7 @@ mount_row w session = record {
 -- the live mounts, in the order of their names
 -- rule: Public status
 abbrev pub mount_rows : World → List MountRow
-mount_rows w = map (mount_row w) w.station.live
+mount_rows w = map (row_of_session w) w.station.live
 
 -- how many whole seconds have gone by since a moment
 abbrev pub seconds_since : ℕ → ℕ → ℕ

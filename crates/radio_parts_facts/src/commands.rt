@@ -4,7 +4,7 @@ ghost use Rattle.std.specs.Prelude.{◌≡◌, []};
 ghost use Rattle.std.specs.Option.{option_copied};
 ghost use Rattle.std.specs.Str.{bytes_eq};
 ghost use Rattle.radio_parts_station.specs.World.{world};
-ghost use Rattle.radio_parts_facts.specs.CommandFacts.{opened_by, opener_in, opens, opens_as_source, is_live, sits_at, needs_of, facts_for, access_to, facts_to_list, facts_asked};
+ghost use Rattle.radio_parts_facts.specs.CommandFacts.{opened_by, opener_in, opens, opens_as_source, is_live, is_listener_at, needs_of, facts_for, access_to, facts_to_list, facts_asked};
 
 use radio_access::{is_admin_pair, is_named_source_pair, is_relay_pair};
 use radio_creds::Pair;
@@ -185,7 +185,7 @@ fn opens_as_source(settings: &Settings, by: &OpenedBy, pair: Option<&Pair>) -> b
 
 /// Whether the listener of this number sits at the mount.
 fn sits_at(seats: &Listeners, mount: &MountName, id: u64) -> bool
-    ensures { result ≡ sits_at seats.now.seats mount.now id }
+    ensures { result ≡ is_listener_at seats.now.seats mount.now id }
 {
     match seats.seat(id) {
         Some(seat) => *seat.mount == *mount,

@@ -3,7 +3,7 @@
 
 ghost use Rattle.std.specs.Prelude.{◌≡◌, true, false, length, MatchOption};
 ghost use Rattle.std.specs.Option.{option_copied};
-ghost use Rattle.radio_parts_station.specs.Facts.{arrive_facts, source_facts_at, relay_facts_at, push_facts, listen_facts_at, walks_to, is_full, is_in_settings, is_known, names_mount};
+ghost use Rattle.radio_parts_station.specs.Facts.{arrive_facts, source_facts_at, relay_facts_at, push_facts, listen_facts_at, walks_to, is_limit_reached, is_in_settings, is_known, names_mount};
 
 use radio_access::{is_refused_type, is_source_pair};
 use radio_addr::Peer;
@@ -118,7 +118,7 @@ fn is_known(station: &StationState<'_>, mount: &MountName) -> bool
 
 /// Whether there are as many sessions as there may be.
 fn sources_are_full(station: &StationState<'_>) -> bool
-    ensures { result ≡ is_full (length station.now.live) station.now.settings.limits.sources }
+    ensures { result ≡ is_limit_reached (length station.now.live) station.now.settings.limits.sources }
 {
     is_full(
         station.live_count(),
@@ -128,7 +128,7 @@ fn sources_are_full(station: &StationState<'_>) -> bool
 
 /// Whether there are as many as there may be.
 fn is_full(count: u64, limit: u32) -> bool
-    ensures { result ≡ is_full count limit }
+    ensures { result ≡ is_limit_reached count limit }
 {
     count >= u64::from(limit)
 }

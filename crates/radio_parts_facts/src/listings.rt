@@ -5,7 +5,7 @@ ghost use Rattle.std.specs.Option.{option_map};
 ghost use Rattle.radio_listing.specs.Listeners.{listeners_text};
 ghost use Rattle.radio_listing.specs.Public.{status_text};
 ghost use Rattle.radio_seats.specs.Listed.{lent_guest};
-ghost use Rattle.radio_parts_facts.specs.Listings.{about_row, shown, public_row, mount_row, mount_rows, listener_row, listener_rows, user_of};
+ghost use Rattle.radio_parts_facts.specs.Listings.{about_row, shown, public_row, row_of_session, mount_rows, listener_row, listener_rows, user_of};
 ghost use Rattle.radio_parts_station.specs.World.{world};
 ghost use Rattle.radio_parts_table.specs.Parts.{live_in};
 ghost use Rattle.radio_events.specs.declared.command.Listing.TheVariants.{Status, Stats, Mounts, Streams};
@@ -133,7 +133,7 @@ fn add_mount_row<'a>(
     seats: &Listeners,
     part: &'a MountPart,
 ) -> Result<(), OutOfMemory>
-    ensures { OnOk result (rows.new.items ≡ rows.old.items ++ map (mount_row (world station.now seats.now.seats)) (live_in (part.now ∷ []))) }
+    ensures { OnOk result (rows.new.items ≡ rows.old.items ++ map (row_of_session (world station.now seats.now.seats)) (live_in (part.now ∷ []))) }
 {
     if let Some(session) = &part.session {
         rows.push(mount_row(station, seats, session))?;
@@ -148,7 +148,7 @@ fn mount_row<'a>(
     seats: &Listeners,
     session: &'a Session,
 ) -> MountRow<'a>
-    ensures { result ≡ mount_row (world station.now seats.now.seats) session.now }
+    ensures { result ≡ row_of_session (world station.now seats.now.seats) session.now }
 {
     let mount = session.mount.get();
     MountRow {

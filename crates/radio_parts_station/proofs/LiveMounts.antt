@@ -15,7 +15,7 @@ use Rattle.radio_parts_station.specs.declared.live.LiveMount.{LiveMount}
 use Rattle.radio_parts_station.specs.Registry.{Registry, station_state}
 use Rattle.radio_parts_station.specs.Facts.{fallback_of, live_end, live_number, sight_of}
 use Rattle.radio_parts_station.specs.StationState.{StationState}
-use Rattle.radio_parts_station.specs.Live.{AreLive, bare_station, bare_session, is_live_mount, live_by_name, live_mount, sight_in, with_live, without_live}
+use Rattle.radio_parts_station.specs.Live.{AreLive, bare_station, bare_session, is_live_mount, live_by_name, live_mount, sight_in, with_live_mount, without_live}
 use Rattle.radio_parts_station.specs.Waiting.{heard_at, is_on_demand, silence_at, silence_of}
 
 -- what the registry knows of a mount
@@ -86,9 +86,9 @@ module _ (registry : Registry) (live : List Session) (are : AreLive registry.liv
 
 -- after each change of the sessions
 module _ (rows later : List LiveMount) (live new : List Session) (are : AreLive rows live) where
-  pub one_begun : (session : Session) → later ≡ with_live rows (live_mount session) → new ≡ with_session live session → AreLive later new
+  pub one_begun : (session : Session) → later ≡ with_live_mount rows (live_mount session) → new ≡ with_session live session → AreLive later new
   one_begun session is_later is_new =
-      is_later ∙ ap (λ (known : List LiveMount). with_live known (live_mount session)) are
+      is_later ∙ ap (λ (known : List LiveMount). with_live_mount known (live_mount session)) are
       ∙ sym (map_placed live_mount by_mount live_by_name session (λ other. refl) live) ∙ sym (ap (map live_mount) is_new)
 
   pub one_ended : (mount : List ℕ) → later ≡ without_live rows mount → new ≡ without_session live mount → AreLive later new

@@ -10,9 +10,9 @@ use Rattle.radio_tables.proofs.FindLaws.{find_here, find_later, find_same, find_
 use Rattle.radio_tables.proofs.KeyLaws.{number_is, name_is, find_placed}
 use Rattle.radio_parts_mount.proofs.SessionLookups.{chosen, passed}
 use Rattle.radio_parts_station.specs.declared.clients.ClientState.{ClientState}
-use Rattle.radio_parts_station.specs.Clients.{Client, is_client, client_of, with_client, with_state, in_state, without_client}
+use Rattle.radio_parts_station.specs.Clients.{Client, is_client, client_of, with_client, with_client_state, in_state, without_client}
 use Rattle.radio_policy.specs.declared.rule.Rule.{Rule}
-use Rattle.radio_parts_station.specs.Relays.{Relay, is_relay, relay_of, with_relay, ended, with_relay_ended, without_relay}
+use Rattle.radio_parts_station.specs.Relays.{Relay, is_relay, relay_of, with_relay, relay_ended, with_relay_ended, without_relay}
 use Rattle.radio_parts_station.specs.Fallbacks.{Fallback, is_set_for, set_for, with_fallback}
 
 -- clients
@@ -22,14 +22,14 @@ module _ (clients : List Client) (him id : ℕ) (other : (him == id) ≡ false) 
   not_his x e = ap (λ n. n == id) (eqb-true x.id him e) ∙ other
 
   pub beside_state : (state : ClientState) → client_of (in_state clients him state) id ≡ client_of clients id
-  beside_state state = find_apart (is_client id) (is_client him) (with_state state) (λ x e. (not_his x e, not_his x e)) clients
+  beside_state state = find_apart (is_client id) (is_client him) (with_client_state state) (λ x e. (not_his x e, not_his x e)) clients
 
   pub beside_forgotten : client_of (without_client clients him) id ≡ client_of clients id
   beside_forgotten = find_others (is_client id) (is_client him) not_his clients
 
 pub does : (clients : List Client) (id : ℕ) (state : ClientState) (client : Client) → client_of clients id ≡ Some client
-    → client_of (in_state clients id state) id ≡ Some (with_state state client)
-does clients id state client e = find_same (is_client id) (with_state state) (λ x. refl) clients client e
+    → client_of (in_state clients id state) id ≡ Some (with_client_state state client)
+does clients id state client e = find_same (is_client id) (with_client_state state) (λ x. refl) clients client e
 
 -- where nobody is found, nobody is changed
 pub still_none : (him : ℕ) (state : ClientState) (xs : List Client) → client_of xs him ≡ None → client_of (in_state xs him state) him ≡ None
@@ -63,14 +63,14 @@ module _ (relays : List Relay) (him id : ℕ) (other : (him == id) ≡ false) wh
   not_its x e = ap (λ n. n == id) (eqb-true x.id him e) ∙ other
 
   pub relay_beside_ended : (rule : Rule) → relay_of (with_relay_ended relays him rule) id ≡ relay_of relays id
-  relay_beside_ended rule = find_apart (is_relay id) (is_relay him) (ended rule) (λ x e. (not_its x e, not_its x e)) relays
+  relay_beside_ended rule = find_apart (is_relay id) (is_relay him) (relay_ended rule) (λ x e. (not_its x e, not_its x e)) relays
 
   pub relay_beside_gone : relay_of (without_relay relays him) id ≡ relay_of relays id
   relay_beside_gone = find_others (is_relay id) (is_relay him) not_its relays
 
 pub is_ended_relay : (relays : List Relay) (id : ℕ) (rule : Rule) (relay : Relay) → relay_of relays id ≡ Some relay
-    → relay_of (with_relay_ended relays id rule) id ≡ Some (ended rule relay)
-is_ended_relay relays id rule relay e = find_same (is_relay id) (ended rule) (λ x. refl) relays relay e
+    → relay_of (with_relay_ended relays id rule) id ≡ Some (relay_ended rule relay)
+is_ended_relay relays id rule relay e = find_same (is_relay id) (relay_ended rule) (λ x. refl) relays relay e
 
 pub is_no_relay : (relays : List Relay) (id : ℕ) → relay_of (without_relay relays id) id ≡ None
 is_no_relay relays id = find_removed (is_relay id) (is_relay id) relays

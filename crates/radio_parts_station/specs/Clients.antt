@@ -17,8 +17,8 @@ pub record Client : Type 0 where
   pub state : ClientState
 
 -- a client who has just arrived
-abbrev pub newcomer : ℕ → Peer → ℕ → Client
-newcomer id peer moment = record { id = id; peer = peer; arrived = moment; state = Undecided }
+abbrev pub undecided_client : ℕ → Peer → ℕ → Client
+undecided_client id peer moment = record { id = id; peer = peer; arrived = moment; state = Undecided }
 
 abbrev pub is_client : ℕ → Client → Bool
 is_client id client = client.id == id
@@ -35,12 +35,12 @@ by_number a b = nat_cmp a.id b.id
 abbrev pub with_client : List Client → Client → List Client
 with_client clients client = placed by_number client clients
 
-abbrev pub with_state : ClientState → Client → Client
-with_state state client = record client { state = state }
+abbrev pub with_client_state : ClientState → Client → Client
+with_client_state state client = record client { state = state }
 
 -- the client of this number does something else from now on
 abbrev pub in_state : List Client → ℕ → ClientState → List Client
-in_state clients id state = update_first (is_client id) (with_state state) clients
+in_state clients id state = update_first (is_client id) (with_client_state state) clients
 
 -- the client of this number is gone
 abbrev pub without_client : List Client → ℕ → List Client

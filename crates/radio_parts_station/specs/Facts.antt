@@ -36,8 +36,8 @@ abbrev pub largest_number : ℕ
 largest_number = 2 ^ 64 - 1
 
 -- there are as many as there may be
-abbrev pub is_full : ℕ → ℕ → Bool
-is_full count limit = not (nat_lt count limit)
+abbrev pub is_limit_reached : ℕ → ℕ → Bool
+is_limit_reached count limit = not (nat_lt count limit)
 
 -- the path names a mount: it has the form of a name, and is none of the web site's
 -- rule: Bad mount; Paths of the web site
@@ -96,14 +96,14 @@ abbrev pub arrive_facts : StationState → Peer → ArriveFacts
 arrive_facts station peer = record {
   address_is_denied = is_denied station.lists peer;
   address_is_allowed = is_allowed station.lists peer;
-  clients_are_full = is_full (length station.clients) station.settings.limits.clients;
+  clients_are_full = is_limit_reached (length station.clients) station.settings.limits.clients;
   number_is_spent = station.last_id == largest_number;
 }
 
 abbrev pub source_facts_at : StationState → List ℕ → SourceRequest → SourceFacts
 source_facts_at station mount asked = record {
   is_source_pair = is_source_pair station.settings mount asked.pair;
-  sources_are_full = is_full (length station.live) station.settings.limits.sources;
+  sources_are_full = is_limit_reached (length station.live) station.settings.limits.sources;
   mount_is_live = is_some (session_of station.live mount);
   type_is_refused = is_refused_type asked.shown.content_type;
 }
@@ -113,7 +113,7 @@ source_facts station asked = (if names_mount station.settings asked.mount then S
 
 abbrev pub relay_facts_at : StationState → List ℕ → Shown → RelayFacts
 relay_facts_at station mount shown = record {
-  sources_are_full = is_full (length station.live) station.settings.limits.sources;
+  sources_are_full = is_limit_reached (length station.live) station.settings.limits.sources;
   mount_is_live = is_some (session_of station.live mount);
   type_is_refused = is_refused_type shown.content_type;
   number_is_spent = station.last_id == largest_number;

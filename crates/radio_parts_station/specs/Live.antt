@@ -21,8 +21,8 @@ abbrev pub live_by_name : LiveMount → LiveMount → Ordering
 live_by_name a b = slice_cmp nat_cmp a.mount b.mount
 
 -- one more is live
-abbrev pub with_live : List LiveMount → LiveMount → List LiveMount
-with_live rows row = placed live_by_name row rows
+abbrev pub with_live_mount : List LiveMount → LiveMount → List LiveMount
+with_live_mount rows row = placed live_by_name row rows
 
 -- one is live no more
 abbrev pub without_live : List LiveMount → List ℕ → List LiveMount

@@ -37,13 +37,13 @@ with_relay relays relay = placed in_order_of_number relay relays
 abbrev pub doing : RelayState → Relay → Relay
 doing state relay = record relay { state = state }
 
-abbrev pub ended : Rule → Relay → Relay
-ended rule relay = doing (Ended rule) relay
+abbrev pub relay_ended : Rule → Relay → Relay
+relay_ended rule relay = doing (Ended rule) relay
 
 -- the rule has finished the relay of this number
 -- rule: Relay goes down
 abbrev pub with_relay_ended : List Relay → ℕ → Rule → List Relay
-with_relay_ended relays id rule = update_first (is_relay id) (ended rule) relays
+with_relay_ended relays id rule = update_first (is_relay id) (relay_ended rule) relays
 
 -- the relay of this number is gone
 -- rule: Relay goes down

@@ -8,7 +8,7 @@ use Rattle.radio_parts_mount.specs.Sessions.{opened, with_session, fed, titled}
 use Rattle.radio_access.specs.Lists.{with_user_at, without_user_at}
 use Rattle.radio_parts_station.specs.declared.clients.ClientState.{ClientState}
 use Rattle.radio_parts_station.specs.declared.clients.ClientState.TheVariants.{Feeds, Ended}
-use Rattle.radio_parts_station.specs.Clients.{newcomer, with_client, in_state}
+use Rattle.radio_parts_station.specs.Clients.{undecided_client, with_client, in_state}
 use Rattle.radio_parts_station.specs.Fallbacks.{with_fallback}
 use Rattle.radio_parts_station.specs.StationState.{StationState}
 use Rattle.radio_parts_station.specs.Relays.{risen, with_relay, with_relay_ended}
@@ -19,8 +19,8 @@ abbrev pub now_in_state : StationState → ℕ → ClientState → StationState
 now_in_state station id state = record station { clients = in_state station.clients id state }
 
 -- one client more, who has asked for nothing
-abbrev pub admitted : StationState → ℕ → Peer → StationState
-admitted station id peer = record station { clients = with_client station.clients (newcomer id peer station.time); last_id = id }
+abbrev pub with_arrival : StationState → ℕ → Peer → StationState
+with_arrival station id peer = record station { clients = with_client station.clients (undecided_client id peer station.time); last_id = id }
 
 -- a session has begun on the mount, which this client feeds
 abbrev pub begun : StationState → ℕ → List ℕ → Shown → StationState
@@ -65,9 +65,9 @@ abbrev pub timed_out_by : StationState → ℕ → StationState
 timed_out_by station ms = record station { time = ms; clients = map (timed_out station.settings.limits.header_timeout ms) station.clients }
 
 -- the users of the mount let this one in with this password
-abbrev pub with_user : StationState → List ℕ → List ℕ → List ℕ → StationState
-with_user station mount user password = record station { lists = with_user_at station.lists mount user password }
+abbrev pub with_mount_user : StationState → List ℕ → List ℕ → List ℕ → StationState
+with_mount_user station mount user password = record station { lists = with_user_at station.lists mount user password }
 
 -- the users of the mount do not let this one in
-abbrev pub without_user : StationState → List ℕ → List ℕ → StationState
-without_user station mount user = record station { lists = without_user_at station.lists mount user }
+abbrev pub without_mount_user : StationState → List ℕ → List ℕ → StationState
+without_mount_user station mount user = record station { lists = without_user_at station.lists mount user }

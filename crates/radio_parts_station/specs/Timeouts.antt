@@ -8,7 +8,7 @@ use Rattle.radio_parts_mount.specs.Sessions.{Session}
 use Rattle.radio_parts_mount.specs.Timeouts.{lies_back, lags_behind, has_sat_out, is_silent}
 use Rattle.radio_parts_station.specs.declared.clients.ClientState.{ClientState}
 use Rattle.radio_parts_station.specs.declared.clients.ClientState.TheVariants.{Undecided, Ended}
-use Rattle.radio_parts_station.specs.Clients.{Client, with_state}
+use Rattle.radio_parts_station.specs.Clients.{Client, with_client_state}
 
 -- a client of this state, who arrived then, has asked for nothing in so many seconds
 abbrev pub asks_nothing : ℕ → ℕ → ℕ → ClientState → Bool
@@ -21,7 +21,7 @@ asks_too_late seconds now client = asks_nothing seconds now client.arrived clien
 
 -- such a client is finished; any other does what it did
 abbrev pub timed_out : ℕ → ℕ → Client → Client
-timed_out seconds now client = with_state (if asks_too_late seconds now client then Ended HeaderTimeout else client.state) client
+timed_out seconds now client = with_client_state (if asks_too_late seconds now client then Ended HeaderTimeout else client.state) client
 
 -- these tests in numbers: more bytes behind than a queue has, and so many seconds or more
 -- rule: The clock

@@ -47,12 +47,12 @@ standing_of_listener None = IsAnswered
 standing_of_listener (Some listener) = standing_seated listener.seating
 
 -- the standing of a client from this address that does this, and is this listener if it is one
-abbrev pub standing_by : Option Listener → Peer → ClientState → Standing
-standing_by listener peer Undecided = IsUndecided peer
-standing_by listener peer (Feeds mount) = IsFeeding mount
-standing_by listener peer Listens = standing_of_listener listener
-standing_by listener peer Answered = IsAnswered
-standing_by listener peer (Ended rule) = Finished rule
+abbrev pub standing_of_client : Option Listener → Peer → ClientState → Standing
+standing_of_client listener peer Undecided = IsUndecided peer
+standing_of_client listener peer (Feeds mount) = IsFeeding mount
+standing_of_client listener peer Listens = standing_of_listener listener
+standing_of_client listener peer Answered = IsAnswered
+standing_of_client listener peer (Ended rule) = Finished rule
 
 -- and of a relay that does this
 abbrev pub standing_relayed : RelayState → Standing
@@ -63,14 +63,14 @@ abbrev pub standing_of_relay : Option Relay → Standing
 standing_of_relay None = Unknown
 standing_of_relay (Some relay) = standing_relayed relay.state
 
-abbrev pub standing_in : Option Relay → Option Listener → Option Client → Standing
-standing_in relay listener None = standing_of_relay relay
-standing_in relay listener (Some client) = standing_by listener client.peer client.state
+abbrev pub standing_of_found : Option Relay → Option Listener → Option Client → Standing
+standing_of_found relay listener None = standing_of_relay relay
+standing_of_found relay listener (Some client) = standing_of_client listener client.peer client.state
 
 -- the standing of the client or relay of this number
 -- rule: Client states
 abbrev pub standing_of : World → ℕ → Standing
-standing_of w id = standing_in (relay_of w.station.relays id) (listener_of w.seats id) (client_of w.station.clients id)
+standing_of w id = standing_of_found (relay_of w.station.relays id) (listener_of w.seats id) (client_of w.station.clients id)
 
 -- there is a relay of this number
 -- rule: Relay is no client

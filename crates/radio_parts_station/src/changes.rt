@@ -3,9 +3,9 @@
 ghost use Rattle.std.specs.Prelude.{◌≡◌, true, map, OnOk, OnErr};
 ghost use Rattle.std.specs.Option.{option_map};
 ghost use Rattle.radio_access.specs.Lists.{with_user_at, without_user_at};
-ghost use Rattle.radio_parts_station.specs.Clients.{newcomer, in_state, with_client, without_client};
+ghost use Rattle.radio_parts_station.specs.Clients.{undecided_client, in_state, with_client, without_client};
 ghost use Rattle.radio_parts_station.specs.Fallbacks.{with_fallback};
-ghost use Rattle.radio_parts_station.specs.Live.{with_live};
+ghost use Rattle.radio_parts_station.specs.Live.{with_live_mount};
 ghost use Rattle.radio_parts_mount.specs.Sessions.{opened, with_session};
 ghost use Rattle.radio_seats_rows.specs.SeatTable.{is_prepared};
 ghost use Rattle.radio_parts_station.specs.Relays.{Relay as RelayOf, relay_of, risen, with_relay, with_relay_ended, without_relay, put_back};
@@ -38,7 +38,7 @@ impl Registry {
     /// A client has come, and has this number. `OutOfMemory` if memory was refused; nothing has
     /// changed then.
     pub fn admit(&mut self, id: u64, peer: Peer) -> Result<(), OutOfMemory>
-        ensures ok { OnOk result (self.new ≡ record self.old { clients = with_client self.old.clients (newcomer id peer self.old.time); last_id = id }) }
+        ensures ok { OnOk result (self.new ≡ record self.old { clients = with_client self.old.clients (undecided_client id peer self.old.time); last_id = id }) }
         ensures err { OnErr result (self.new ≡ self.old) }
     {
         self.clients.insert(Client {
@@ -63,7 +63,7 @@ impl Registry {
         shown: Shown,
     ) -> Result<(), OutOfMemory>
         requires { is_prepared seats.old.prepared mount ≡ true }
-        ensures ok { OnOk result (self.new ≡ record self.old { clients = in_state self.old.clients id (Feeds mount); live = with_live self.old.live (record { mount = mount; number = id }) }) }
+        ensures ok { OnOk result (self.new ≡ record self.old { clients = in_state self.old.clients id (Feeds mount); live = with_live_mount self.old.live (record { mount = mount; number = id }) }) }
         ensures seats { OnOk result (seats.new ≡ record seats.old { live = with_session seats.old.live (opened mount id shown self.old.time) }) }
         ensures err { OnErr result (self.new ≡ self.old) }
         ensures err_seats { OnErr result (seats.new ≡ seats.old) }
@@ -86,7 +86,7 @@ impl Registry {
         shown: Shown,
     ) -> Result<(), OutOfMemory>
         requires { is_prepared seats.old.prepared mount ≡ true }
-        ensures ok { OnOk result (self.new ≡ record self.old { relays = with_relay self.old.relays (risen id mount); live = with_live self.old.live (record { mount = mount; number = id }); last_id = id }) }
+        ensures ok { OnOk result (self.new ≡ record self.old { relays = with_relay self.old.relays (risen id mount); live = with_live_mount self.old.live (record { mount = mount; number = id }); last_id = id }) }
         ensures seats { OnOk result (seats.new ≡ record seats.old { live = with_session seats.old.live (opened mount id shown self.old.time) }) }
         ensures err { OnErr result (self.new ≡ self.old) }
         ensures err_seats { OnErr result (seats.new ≡ seats.old) }

@@ -64,9 +64,9 @@ pub(crate) struct SetState {
 
 impl RowChange<Client> for SetState {
     ghost use Rattle.std.specs.Prelude.{refl};
-    ghost use Rattle.radio_parts_station.specs.Clients.{with_state};
+    ghost use Rattle.radio_parts_station.specs.Clients.{with_client_state};
 
-    ghost gives = { λ change client. with_state change.state client };
+    ghost gives = { λ change client. with_client_state change.state client };
 
     ghost keeps_key = { λ change client. refl };
 

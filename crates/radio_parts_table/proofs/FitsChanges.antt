@@ -30,7 +30,7 @@ use Rattle.radio_fallback.specs.Carry.{numbers_of}
 use Rattle.radio_fallback.specs.Heard.{Heard, OthersStay, Fits, GoesOver, GoesOff}
 use Rattle.radio_fallback.proofs.FitsLemmas.{sits_last}
 use Rattle.radio_attachments.specs.declared.attachment.Attachment.{Attachment}
-use Rattle.radio_parts_table.specs.Losses.{ended_where}
+use Rattle.radio_parts_table.specs.Losses.{ended_if_lost}
 use Rattle.radio_parts_table.proofs.LossLemmas.{FitsHim}
 
 abbrev at_mount : List ℕ → Option Seat → Bool
@@ -189,19 +189,19 @@ all_fit f seats fits rising = each_fits f seats seats fits (each_found seats ris
 -- those have lost their seats who lag at a mount, and were taken out there
 module _ (f g : Heard) (mount : List ℕ) (lost : ℕ → Bool) (rule : Rule) (seats : List Listener) where
   abbrev pub after_losses : List Listener
-  after_losses = map (ended_where lost rule) seats
+  after_losses = map (ended_if_lost lost rule) seats
 
   abbrev no_seat_at_all : Option Seat
   no_seat_at_all = None
 
-  ended_id : (x : Listener) (n : ℕ) → is_listener n (ended_where lost rule x) ≡ is_listener n x
+  ended_id : (x : Listener) (n : ℕ) → is_listener n (ended_if_lost lost rule x) ≡ is_listener n x
   ended_id x n = by_loss (lost x.id) where
     by_loss : (b : Bool) → is_listener n (if b then loses rule x else x) ≡ is_listener n x
     by_loss true = refl
     by_loss false = refl
 
   pub seat_left : (n : ℕ) → seat_of after_losses n ≡ (if lost n then None else seat_of seats n)
-  seat_left n = ap seat_in (find_mapped (is_listener n) (ended_where lost rule) (λ x. ended_id x n) seats) ∙ by_found (listener_of seats n) refl where
+  seat_left n = ap seat_in (find_mapped (is_listener n) (ended_if_lost lost rule) (λ x. ended_id x n) seats) ∙ by_found (listener_of seats n) refl where
     no_seat : (seating : Seating) → seat_held (lost_by rule seating) ≡ None
     no_seat (Sits seat) = refl
     no_seat (Finished other last) = refl
@@ -214,7 +214,7 @@ module _ (f g : Heard) (mount : List ℕ) (lost : ℕ → Bool) (rule : Rule) (s
     none_if true = refl
     none_if false = refl
 
-    by_found : (found : Option Listener) → listener_of seats n ≡ found → seat_in (option_map (ended_where lost rule) found) ≡ (if lost n then None else seat_in found)
+    by_found : (found : Option Listener) → listener_of seats n ≡ found → seat_in (option_map (ended_if_lost lost rule) found) ≡ (if lost n then None else seat_in found)
     by_found None e = none_if (lost n)
     by_found (Some x) e =
         by_loss x (lost x.id) ∙ ap (λ k. if lost k then None else seat_held x.seating) (eqb-true x.id n (found_passes (is_listener n) seats x e))

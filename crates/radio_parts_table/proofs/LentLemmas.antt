@@ -24,7 +24,7 @@ use Rattle.radio_parts_table.specs.Parts.{ByMount, has_part}
 use Rattle.radio_parts_mount.specs.Parts.{MountAttachments}
 use Rattle.radio_parts_mount.specs.declared.part.MountPart.{MountPart}
 use Rattle.radio_parts_table.specs.Lent.{AsBefore, HeardTo, LaggedOut, HaveTheirPlaces, IsLent, IsSeenAfter}
-use Rattle.radio_parts_table.specs.Losses.{ended_where}
+use Rattle.radio_parts_table.specs.Losses.{ended_if_lost}
 use Rattle.radio_parts_table.proofs.FitsChanges.{each_found, seat_left}
 use Rattle.radio_parts_table.proofs.HeardReads.{heard_seat, seat_heard}
 
@@ -79,7 +79,7 @@ module _ (part there : MountPart) (before after : ByMount) (x : IsExchanged (rec
   lost = kept (λ n. sits_at seats n part.mount) 0 part.lagged
 
   abbrev pub later : List Listener
-  later = map (ended_where (is_among lost) Lagged) seats
+  later = map (ended_if_lost (is_among lost) Lagged) seats
 
   abbrev f : Heard
   f = places_in before.attached
@@ -115,7 +115,7 @@ module _ (part there : MountPart) (before after : ByMount) (x : IsExchanged (rec
   seen_by n (Finished rule last) false has among = AsBefore refl
 
   all_seen : (rest : List Listener) → Each (λ (l : Listener). listener_of seats l.id ≡ Some l) rest
-      → AllAgree (IsSeenAfter part.mount) (heard f rest) (heard g (map (ended_where (is_among lost) Lagged) rest))
+      → AllAgree (IsSeenAfter part.mount) (heard f rest) (heard g (map (ended_if_lost (is_among lost) Lagged) rest))
   all_seen [] all = tt
   all_seen (l ∷ rest) all = (seen_by l.id l.seating (is_among lost l.id) (ap seat_in all.0) refl, all_seen rest all.1)
 

@@ -18,7 +18,7 @@ use Rattle.radio_seats_rows.specs.declared.seat.Seating.TheVariants.{Sits, Finis
 use Rattle.radio_seats_rows.specs.Seats.{seat_held, loses, lost_by, with_end, with_ended, finished_if, ended_if, AreByNumber}
 use Rattle.radio_fallback.specs.Carry.{numbers_of}
 use Rattle.radio_fallback.specs.Heard.{Heard, heard_seating, heard_by, heard}
-use Rattle.radio_parts_table.specs.Losses.{ended_where}
+use Rattle.radio_parts_table.specs.Losses.{ended_if_lost}
 use Rattle.radio_parts_mount.specs.Attached.{is_among}
 
 -- it is attached where it sits, and nowhere else
@@ -66,10 +66,10 @@ module _ (f g : Heard) (m : List ℕ) (q : ℕ → Bool) (rule : Rule) (lost : �
         by_place id seat is e (f seat.mount id) refl (fits seat.mount ∙ (bytes_eq-Decides seat.mount seat.mount).1 refl) (lost id)
         (sym (is_lost id ∙ ap (λ (k : List ℕ). option_map_or q (f k id) false) (sym is))) refl
 
-  pub losses_heard : (seats : List Listener) → Each (FitsHim f) seats → heard g (map (ended_where lost rule) seats) ≡ with_ended (heard f seats) lags rule
+  pub losses_heard : (seats : List Listener) → Each (FitsHim f) seats → heard g (map (ended_if_lost lost rule) seats) ≡ with_ended (heard f seats) lags rule
   losses_heard [] fit = refl
   losses_heard (l ∷ seats) fit =
-      ap (λ (x : Listener). x ∷ heard g (map (ended_where lost rule) seats)) (by_seating l.id l.seating fit.0)
+      ap (λ (x : Listener). x ∷ heard g (map (ended_if_lost lost rule) seats)) (by_seating l.id l.seating fit.0)
       ∙ ap (λ ls. finished_if lags rule (heard_by f l) ∷ ls) (losses_heard seats fit.1)
 
 -- one after another
@@ -78,19 +78,19 @@ module _ (rule : Rule) where
   one id n = n == id
 
   none_ends : (id : ℕ) (n : ℕ) → (n == id) ≡ true → (seats : List Listener) → AllByRecursion (λ k. nat_cmp n k ≡ Less) (numbers_of seats)
-      → map (ended_where (λ k. k == id) rule) seats ≡ seats
+      → map (ended_if_lost (λ k. k == id) rule) seats ≡ seats
   none_ends id n is [] all = refl
   none_ends id n is (l ∷ seats) all = rw (later l.id all.0) (ap (λ ls. l ∷ ls) (none_ends id n is seats all.1)) where
     later : (k : ℕ) → nat_cmp n k ≡ Less → (k == id) ≡ false
     later k less = grind (arith, nat_tests)
 
   ends_at : (id : ℕ) (l : Listener) (seats : List Listener) (b : Bool) → (l.id == id) ≡ b → AllByRecursion (λ k. nat_cmp l.id k ≡ Less) (numbers_of seats)
-      → with_end seats id rule ≡ map (ended_where (λ k. k == id) rule) seats
-      → (if b then loses rule l ∷ seats else l ∷ with_end seats id rule) ≡ (if b then loses rule l else l) ∷ map (ended_where (λ k. k == id) rule) seats
+      → with_end seats id rule ≡ map (ended_if_lost (λ k. k == id) rule) seats
+      → (if b then loses rule l ∷ seats else l ∷ with_end seats id rule) ≡ (if b then loses rule l else l) ∷ map (ended_if_lost (λ k. k == id) rule) seats
   ends_at id l seats true e all later = ap (λ ls. loses rule l ∷ ls) (sym (none_ends id l.id e seats all))
   ends_at id l seats false e all later = ap (λ ls. l ∷ ls) later
 
-  pub ends_one : (id : ℕ) (seats : List Listener) → AreByNumber seats → with_end seats id rule ≡ map (ended_where (λ k. k == id) rule) seats
+  pub ends_one : (id : ℕ) (seats : List Listener) → AreByNumber seats → with_end seats id rule ≡ map (ended_if_lost (λ k. k == id) rule) seats
   ends_one id [] rising = refl
   ends_one id (l ∷ seats) rising =
       ends_at id l seats (l.id == id) refl (sorted_head nat_cmp l.id (numbers_of seats) rising)
@@ -102,17 +102,17 @@ module _ (rule : Rule) where
   twice (Finished other mount) = refl
 
   pub ends_more : (lost : ℕ → Bool) (id : ℕ) (seats : List Listener)
-      → map (ended_where lost rule) (map (ended_where (λ k. k == id) rule) seats) ≡ map (ended_where (λ k. (k == id) || lost k) rule) seats
+      → map (ended_if_lost lost rule) (map (ended_if_lost (λ k. k == id) rule) seats) ≡ map (ended_if_lost (λ k. (k == id) || lost k) rule) seats
   ends_more lost id [] = refl
-  ends_more lost id (l ∷ seats) = ap (λ (x : Listener). x ∷ map (ended_where lost rule) (map (ended_where (λ k. k == id) rule) seats))
-      (by_tests (l.id == id) (lost l.id) refl) ∙ ap (λ ls. ended_where (λ k. (k == id) || lost k) rule l ∷ ls) (ends_more lost id seats) where
-        by_tests : (b c : Bool) → lost l.id ≡ c → (ended_where lost rule (if b then loses rule l else l)) ≡ (if b || c then loses rule l else l)
+  ends_more lost id (l ∷ seats) = ap (λ (x : Listener). x ∷ map (ended_if_lost lost rule) (map (ended_if_lost (λ k. k == id) rule) seats))
+      (by_tests (l.id == id) (lost l.id) refl) ∙ ap (λ ls. ended_if_lost (λ k. (k == id) || lost k) rule l ∷ ls) (ends_more lost id seats) where
+        by_tests : (b c : Bool) → lost l.id ≡ c → (ended_if_lost lost rule (if b then loses rule l else l)) ≡ (if b || c then loses rule l else l)
         by_tests true true e = rw e (ap (λ (s : Seating). record { id = l.id; seating = s }) (twice l.seating))
         by_tests true false e = rw e refl
         by_tests false true e = rw e refl
         by_tests false false e = rw e refl
 
   -- nobody at all
-  pub ends_nobody : (seats : List Listener) → map (ended_where (is_among []) rule) seats ≡ seats
+  pub ends_nobody : (seats : List Listener) → map (ended_if_lost (is_among []) rule) seats ≡ seats
   ends_nobody [] = refl
   ends_nobody (l ∷ seats) = ap (λ ls. l ∷ ls) (ends_nobody seats)

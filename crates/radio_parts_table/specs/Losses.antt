@@ -5,5 +5,5 @@ use Rattle.radio_seats_rows.specs.declared.seat.Listener.{Listener}
 use Rattle.radio_seats_rows.specs.Seats.{loses}
 
 -- who is among the lost has lost its seat by the rule
-abbrev pub ended_where : (ℕ → Bool) → Rule → Listener → Listener
-ended_where lost rule listener = (if lost listener.id then loses rule listener else listener)
+abbrev pub ended_if_lost : (ℕ → Bool) → Rule → Listener → Listener
+ended_if_lost lost rule listener = (if lost listener.id then loses rule listener else listener)

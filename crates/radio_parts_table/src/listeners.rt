@@ -11,7 +11,7 @@ ghost use Rattle.radio_parts_mount.specs.Timeouts.{lags_behind};
 ghost use Rattle.radio_fallback.specs.Carry.{carried};
 ghost use Rattle.radio_fallback.specs.Walk.{with_ends};
 ghost use Rattle.radio_parts_mount.specs.StatePart.{ends_in};
-ghost use Rattle.radio_parts_table.specs.Losses.{ended_where};
+ghost use Rattle.radio_parts_table.specs.Losses.{ended_if_lost};
 ghost use Rattle.radio_fallback.specs.Heard.{OthersStay, GoesOff};
 ghost use Rattle.radio_parts_table.specs.Attached.{places_in};
 ghost use Rattle.radio_parts_mount.specs.Attached.{is_among};
@@ -247,7 +247,7 @@ fn note_place(seats: &mut Seats, is_whole: bool, id: u64, place: Place)
 
 /// Ends the seat of each listener that is attached here, because it lags. It takes no memory.
 pub(crate) fn end_each(seats: &mut Seats, lagging: AttachmentTree)
-    ensures seats { seats.new ≡ record seats.old { seats = map (ended_where (is_among lagging) RuleOf.Lagged) seats.old.seats } }
+    ensures seats { seats.new ≡ record seats.old { seats = map (ended_if_lost (is_among lagging) RuleOf.Lagged) seats.old.seats } }
     ensures rising { AreByNumber seats.old.seats }
 {
     let mut lagging = lagging;
@@ -261,7 +261,7 @@ pub(crate) fn end_each(seats: &mut Seats, lagging: AttachmentTree)
 
 /// Ends the listener's seat, because it lags. It takes no memory.
 fn end_one(seats: &mut Seats, id: u64)
-    ensures { seats.new ≡ record seats.old { seats = map (ended_where (λ n. n == id) RuleOf.Lagged) seats.old.seats } }
+    ensures { seats.new ≡ record seats.old { seats = map (ended_if_lost (λ n. n == id) RuleOf.Lagged) seats.old.seats } }
 {
     // the listeners are in the order of their numbers
     let _ = seats.len();

@@ -9,7 +9,7 @@ use Rattle.std.proofs.lemmas.List.{get_or-append_right, length-take, take_more, 
 use Rattle.radio_texts.specs.Cuts.{cut}
 use Rattle.radio_texts.proofs.LawLemmas.{cut-first}
 use Rattle.radio_addr.specs.declared.address.Address.{Address}
-use Rattle.radio_proxy.specs.Headers.{address_in, by_family, fields_of, header_by, header_of, header_with, is_port, line_text, named_by, named_in, tcp_of, unended}
+use Rattle.radio_proxy.specs.Headers.{address_in, by_family, header_by, header_of, header_with, is_port, client_in_fields, named_in, tcp_of, unended, client_of_family, line_without_return}
 use Rattle.radio_proxy.specs.Laws.{AreTcpFields, Behind as BehindFamily, IsHeader, IsIgnored, Names, Nothing, ByNone, ByTcp, family_word}
 use Rattle.radio_proxy.specs.declared.header.Header.TheVariants.{Partial, Whole, Bad}
 use Rattle.radio_proxy.specs.declared.header.AddressFamily.{AddressFamily}
@@ -122,9 +122,9 @@ bad bytes more len named is h =
 last_at : (xs : List ℕ) (n : ℕ) → length xs ≡ n + 1 → xs ≡ take n xs ++ get_or xs n 0 ∷ []
 last_at xs n is = sym (take_all (n + 1) xs (omega arith)) ∙ take_more xs n 0 (omega arith)
 
-ends_with : (line text : List ℕ) (b : Bool) → nat_eq (slice_index line (length line - 1)) 13 ≡ b → line_text line ≡ Some text → line ≡ text ++ 13 ∷ []
+ends_with : (line text : List ℕ) (b : Bool) → nat_eq (slice_index line (length line - 1)) 13 ≡ b → line_without_return line ≡ Some text → line ≡ text ++ 13 ∷ []
 ends_with [] text b is e = cc
-ends_with (x ∷ line) text false is e = let no : line_text (x ∷ line) ≡ None = rw is refl in cc
+ends_with (x ∷ line) text false is e = let no : line_without_return (x ∷ line) ≡ None = rw is refl in cc
 ends_with (x ∷ line) text true is e =
     let n = length (x ∷ line) - 1 in
     let last : get_or (x ∷ line) n 0 ≡ 13 = (Decides-eqb _ 13).0 is in
@@ -132,7 +132,7 @@ ends_with (x ∷ line) text true is e =
     let split : x ∷ line ≡ take n (x ∷ line) ++ get_or (x ∷ line) n 0 ∷ [] = last_at (x ∷ line) n (omega arith) in
     cc
 
-has_end : (text : List ℕ) → line_text (text ++ 13 ∷ []) ≡ Some text
+has_end : (text : List ℕ) → line_without_return (text ++ 13 ∷ []) ≡ Some text
 has_end text =
     let n : length (text ++ 13 ∷ []) - 1 ≡ length text = omega (arith, length-append text (13 ∷ [])) in
     let none : length text - length text ≡ 0 = omega arith in
@@ -197,7 +197,7 @@ abbrev IsChosen : List ℕ → List ℕ → NamedClient → Type 0
 IsChosen word rest named = ((word ≡ codes "UNKNOWN") × (named ≡ Nobody)) ⊎ ((family : AddressFamily) × (word ≡ family_word family) × IsTcp family rest named)
 
 is_chosen : (word rest : List ℕ) (named : NamedClient) (a b c : Bool) → bytes_eq word (codes "UNKNOWN") ≡ a → bytes_eq word (codes "TCP4") ≡ b
-    → bytes_eq word (codes "TCP6") ≡ c → fields_of word rest ≡ Some named → IsChosen word rest named
+    → bytes_eq word (codes "TCP6") ≡ c → client_of_family word rest ≡ Some named → IsChosen word rest named
 is_chosen word rest named true b c u v w e = let nobody : Some Nobody ≡ Some named = rw u at e in inl ((bytes_eq-Decides word (codes "UNKNOWN")).0 u, cc)
 is_chosen word rest named false true c u v w e = inr (V4, (bytes_eq-Decides word (codes "TCP4")).0 v, is_tcp V4 rest named (rw (u, v) at e))
 is_chosen word rest named false false true u v w e = inr (V6, (bytes_eq-Decides word (codes "TCP6")).0 w, is_tcp V6 rest named (rw (u, v, w) at e))
@@ -218,24 +218,24 @@ is_behind fields named (Some (word, rest)) is e =
     (λ t. subst (Behind fields) (sym t.2.2) (tcp t.0 rest t.2.0 t.2.1 (found.0 ∙ ap (λ w. w ++ 32 ∷ rest) t.1)))
     (is_chosen word rest named _ _ _ refl refl refl e)
 
-named_behind : (fields : List ℕ) (named : NamedClient) → named_by fields ≡ Some named → Behind fields named
-unfolding named_by
+named_behind : (fields : List ℕ) (named : NamedClient) → client_in_fields fields ≡ Some named → Behind fields named
+unfolding client_in_fields
 named_behind fields named e = is_behind fields named (cut 32 fields) refl e
 
-reads_v4 : (rest : List ℕ) (peer : Address) → AreTcpFields V4 rest peer → named_by (codes "TCP4" ++ 32 ∷ rest) ≡ Some (Client peer)
-unfolding named_by
+reads_v4 : (rest : List ℕ) (peer : Address) → AreTcpFields V4 rest peer → client_in_fields (codes "TCP4" ++ 32 ∷ rest) ≡ Some (Client peer)
+unfolding client_in_fields
 reads_v4 rest peer f = reads_tcp V4 rest peer f
 
-reads_v6 : (rest : List ℕ) (peer : Address) → AreTcpFields V6 rest peer → named_by (codes "TCP6" ++ 32 ∷ rest) ≡ Some (Client peer)
-unfolding named_by
+reads_v6 : (rest : List ℕ) (peer : Address) → AreTcpFields V6 rest peer → client_in_fields (codes "TCP6" ++ 32 ∷ rest) ≡ Some (Client peer)
+unfolding client_in_fields
 reads_v6 rest peer f = reads_tcp V6 rest peer f
 
-reads_none : (ignored : List ℕ) → IsIgnored ignored → named_by (codes "UNKNOWN" ++ ignored) ≡ Some Nobody
-unfolding named_by
+reads_none : (ignored : List ℕ) → IsIgnored ignored → client_in_fields (codes "UNKNOWN" ++ ignored) ≡ Some Nobody
+unfolding client_in_fields
 reads_none _ Nothing = refl
 reads_none _ (BehindFamily more) = refl
 
-reads_family : (family : AddressFamily) (rest : List ℕ) (peer : Address) → AreTcpFields family rest peer → named_by (family_word family ++ 32 ∷ rest) ≡ Some (Client peer)
+reads_family : (family : AddressFamily) (rest : List ℕ) (peer : Address) → AreTcpFields family rest peer → client_in_fields (family_word family ++ 32 ∷ rest) ≡ Some (Client peer)
 reads_family V4 rest peer f = reads_v4 rest peer f
 reads_family V6 rest peer f = reads_v6 rest peer f
 
@@ -245,8 +245,8 @@ whole line fields _ is (tcp family rest peer f at) =
     ByTcp family rest peer f (is ∙ ap (λ t. codes "PROXY " ++ t) (ap (λ t. t ++ 13 ∷ []) at ∙ append_assoc (family_word family) (32 ∷ rest) (13 ∷ [])))
 whole line fields _ is (none ignored i at) = ByNone ignored i (is ∙ ap (λ t. codes "PROXY " ++ (t ++ 13 ∷ [])) at)
 
-with_word : (line text word fields : List ℕ) (named : NamedClient) (b : Bool) → bytes_eq word (codes "PROXY") ≡ b → line_text line ≡ Some text
-    → cut 32 text ≡ Some (word, fields) → cond b (named_by fields) None ≡ Some named → Names line named
+with_word : (line text word fields : List ℕ) (named : NamedClient) (b : Bool) → bytes_eq word (codes "PROXY") ≡ b → line_without_return line ≡ Some text
+    → cut 32 text ≡ Some (word, fields) → cond b (client_in_fields fields) None ≡ Some named → Names line named
 with_word line text word fields named false is ends cuts e = cc
 with_word line text word fields named true is ends cuts e =
     let proxy = (bytes_eq-Decides word (codes "PROXY")).0 is in
@@ -258,13 +258,13 @@ with_word line text word fields named true is ends cuts e =
 is_named : (line : List ℕ) (named : NamedClient) → named_in line ≡ Some named → Names line named
 unfolding named_in
 is_named line named e =
-    option_and_then_some _ (line_text line) named e (λ text ends e1.
+    option_and_then_some _ (line_without_return line) named e (λ text ends e1.
     option_and_then_some _ (cut 32 text) named e1 (λ word cuts e2.
     with_word line text word.0 word.1 named (bytes_eq word.0 (codes "PROXY")) refl ends cuts e2))
 
-reads_line : (line fields : List ℕ) → line ≡ codes "PROXY " ++ (fields ++ 13 ∷ []) → named_in line ≡ named_by fields
+reads_line : (line fields : List ℕ) → line ≡ codes "PROXY " ++ (fields ++ 13 ∷ []) → named_in line ≡ client_in_fields fields
 unfolding named_in
-reads_line line fields is = let ends : line_text line ≡ Some (codes "PROXY " ++ fields) = ap line_text is ∙ has_end (codes "PROXY " ++ fields) in rw ends refl
+reads_line line fields is = let ends : line_without_return line ≡ Some (codes "PROXY " ++ fields) = ap line_without_return is ∙ has_end (codes "PROXY " ++ fields) in rw ends refl
 
 reads_names : (line : List ℕ) (named : NamedClient) → Names line named → named_in line ≡ Some named
 reads_names line _ (ByTcp family fields peer f is) =

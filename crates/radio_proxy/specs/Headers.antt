@@ -37,8 +37,8 @@ tcp_of family fields =
     (cut 32 server.1)) (cut 32 client.1)) (cut 32 fields)
 
 -- a family, and what it needs: behind `UNKNOWN` anything may come
-abbrev pub fields_of : List ℕ → List ℕ → Option NamedClient
-fields_of family rest =
+abbrev pub client_of_family : List ℕ → List ℕ → Option NamedClient
+client_of_family family rest =
     if bytes_eq family (codes "UNKNOWN") then Some Nobody
     else if bytes_eq family (codes "TCP4") then tcp_of V4 rest
     else if bytes_eq family (codes "TCP6") then tcp_of V6 rest
@@ -46,21 +46,21 @@ fields_of family rest =
 
 -- the fields behind `PROXY`
 abbrev pub by_family : List ℕ → Option (List ℕ × List ℕ) → Option NamedClient
-by_family fields None = fields_of fields []
-by_family fields (Some parts) = fields_of parts.0 parts.1
+by_family fields None = client_of_family fields []
+by_family fields (Some parts) = client_of_family parts.0 parts.1
 
-unfoldable pub named_by : List ℕ → Option NamedClient
-named_by fields = by_family fields (cut 32 fields)
+unfoldable pub client_in_fields : List ℕ → Option NamedClient
+client_in_fields fields = by_family fields (cut 32 fields)
 
 -- a line without the carriage return at its end, if it has one
-abbrev pub line_text : List ℕ → Option (List ℕ)
-line_text line = if slice_index line (length line - 1) == 13 then Some (take (length line - 1) line) else None
+abbrev pub line_without_return : List ℕ → Option (List ℕ)
+line_without_return line = if slice_index line (length line - 1) == 13 then Some (take (length line - 1) line) else None
 
 -- whom a line names, which is given without its LF
 unfoldable pub named_in : List ℕ → Option NamedClient
 named_in line =
-    option_and_then (λ text. option_and_then (λ word. if bytes_eq word.0 (codes "PROXY") then named_by word.1 else None) (cut 32 text))
-    (line_text line)
+    option_and_then (λ text. option_and_then (λ word. if bytes_eq word.0 (codes "PROXY") then client_in_fields word.1 else None) (cut 32 text))
+    (line_without_return line)
 
 -- the header of a line, with its LF
 abbrev pub header_with : ℕ → Option NamedClient → Header

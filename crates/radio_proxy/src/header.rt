@@ -3,7 +3,7 @@
 ghost use Rattle.std.specs.Prelude.{◌≡◌, ◌≤◌, ◌<◌, ℕ, length, take};
 ghost use Rattle.std.specs.Option.{option_map};
 ghost use Rattle.radio_addr.specs.declared.address.Address.{Address};
-ghost use Rattle.radio_proxy.specs.Headers.{address_in, fields_of, header_in, header_of, is_port, line_text, named_by, named_in, tcp_of, unended};
+ghost use Rattle.radio_proxy.specs.Headers.{address_in, header_in, header_of, is_port, client_in_fields, named_in, tcp_of, unended, client_of_family, line_without_return};
 ghost use Rattle.radio_proxy.specs.declared.header.Header.TheVariants.{Whole};
 ghost use Rattle.radio_proxy.specs.declared.header.NamedClient.{NamedClient as NamedOf};
 
@@ -132,7 +132,7 @@ fn named_in(line: &[u8]) -> Option<NamedClient>
 
 /// Returns the line without the carriage return at its end. `None` if it has none.
 fn line_text(line: &[u8]) -> Option<&[u8]>
-    ensures { option_map (λ text. text.now) result ≡ line_text line.now }
+    ensures { option_map (λ text. text.now) result ≡ line_without_return line.now }
 {
     match line {
         [text @ .., b'\r'] => Some(text),
@@ -141,9 +141,9 @@ fn line_text(line: &[u8]) -> Option<&[u8]>
 }
 
 /// Returns whom the fields behind the word `PROXY` name: a family of addresses, and what it needs.
-#[tactic(auto, unfolding(crate::specs::Headers::named_by))]
+#[tactic(auto, unfolding(crate::specs::Headers::client_in_fields))]
 fn named_by(fields: &[u8]) -> Option<NamedClient>
-    ensures { result ≡ named_by fields.now }
+    ensures { result ≡ client_in_fields fields.now }
 {
     match cut(fields, b' ') {
         Some((family, rest)) => fields_of(family, rest),
@@ -153,7 +153,7 @@ fn named_by(fields: &[u8]) -> Option<NamedClient>
 
 /// Returns whom the fields behind this family name. Behind `UNKNOWN` anything may come.
 fn fields_of(family: &[u8], rest: &[u8]) -> Option<NamedClient>
-    ensures { result ≡ fields_of family.now rest.now }
+    ensures { result ≡ client_of_family family.now rest.now }
 {
     if family == b"UNKNOWN".as_slice() {
         return Some(NamedClient::Nobody);

@@ -7,9 +7,9 @@ use Rattle.radio_masters.specs.Askers.{AskedOf, AskedSteps}
 use Rattle.radio_masters.specs.declared.mount_pull.PullTurn.{PullTurn}
 use Rattle.radio_masters.specs.declared.mount_pull.PullTurn.TheVariants.{Running, Shut, Closed, Failed, OutOfMemory}
 use Rattle.radio_masters.specs.declared.relay_end.RelayEnd.{RelayEnd}
-use Rattle.radio_masters.specs.Pulls.{Comes, IsTurn, PullOver}
-use Rattle.radio_pull.specs.Course.{GoesDown, RefusesDown}
-use Rattle.radio_pull.specs.Pulling.{Pulling}
+use Rattle.radio_masters.specs.Pulls.{Comes, IsPullTurn, PullOver}
+use Rattle.radio_relay.specs.Course.{GoesDown, RefusesDown}
+use Rattle.radio_relay.specs.Pulling.{Pulling}
 use Rattle.radio_pullers.specs.Running.{Begun}
 use Rattle.radio_pullers.specs.Threads.{HasGoneOn, HasPulled, HasHadTurns, IsLetDown, IsNewPull, IsPullOf, no_pull, no_turn, one_pull, one_turn}
 use Rattle.radio_pullers.specs.Turns.{MayTurn}
@@ -42,8 +42,8 @@ module _ {S : Type 0} (steps : Steps S) where
   comes_within relay relay' bytes from to OutOfMemory comes =
       record { entries = comes.entries; chain = chain_within from to comes.entries comes.chain; are = comes.are; numbered = comes.numbered }
 
-  turn_within : (pull pull' : PullOver) (from to : Asker) (turn : PullTurn) → IsTurn asks pull from turn pull' to
-      → IsTurn steps pull from.server.server turn pull' to.server.server
+  turn_within : (pull pull' : PullOver) (from to : Asker) (turn : PullTurn) → IsPullTurn asks pull from turn pull' to
+      → IsPullTurn steps pull from.server.server turn pull' to.server.server
   turn_within pull pull' from to turn is = record {
     bytes = is.bytes;
     written = is.written;
@@ -70,7 +70,7 @@ module _ {S : Type 0} (steps : Steps S) where
       → HasGoneOn steps first from last to.server.server
   gone_then began end first mid last from between to before (inl (turn, ms, is, ends)) none =
       one_turn mid last between.server.server to.server.server before
-      (subst (λ (t : PullTurn). IsTurn steps mid between.server.server t last to.server.server) (goes_on_by turn last (is_late began ms) end ends none)
+      (subst (λ (t : PullTurn). IsPullTurn steps mid between.server.server t last to.server.server) (goes_on_by turn last (is_late began ms) end ends none)
       (turn_within mid last between to turn is))
   gone_then began end first mid last from between to before (inr (same, stays, inl left)) none = absurd (some_none (sym left ∙ none))
   gone_then began end first mid last from between to before (inr (same, stays, inr stops)) none = absurd (some_none (sym stops ∙ none))

@@ -14,8 +14,8 @@ pub record Begun : Type 0 where
   pub failing : Option Failing
 
 -- the mounts that relays feed
-abbrev pub mounts_of : List Begun → List (List ℕ)
-mounts_of relays = map (λ (relay : Begun). relay.setting.local_mount) relays
+abbrev pub pulled_mounts : List Begun → List (List ℕ)
+pulled_mounts relays = map (λ (relay : Begun). relay.setting.local_mount) relays
 
 -- whether these are the same names in the same order
 abbrev pub are_same : List (List ℕ) → List (List ℕ) → Bool

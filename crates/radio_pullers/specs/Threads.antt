@@ -4,15 +4,15 @@ use Rattle.radio_events.specs.declared.event.Event.{Event}
 use Rattle.radio_events.specs.Servers.{Steps}
 use Rattle.radio_masters.specs.declared.mount_pull.PullTurn.{PullTurn}
 use Rattle.radio_masters.specs.declared.mount_pull.PullTurn.TheVariants.{Running}
-use Rattle.radio_masters.specs.Pulls.{IsTurn, PullOver}
-use Rattle.radio_pull.specs.Course.{GoesDown, RefusesDown}
-use Rattle.radio_pull.specs.Pulling.{begun}
+use Rattle.radio_masters.specs.Pulls.{IsPullTurn, PullOver}
+use Rattle.radio_relay.specs.Course.{GoesDown, RefusesDown}
+use Rattle.radio_relay.specs.Pulling.{pulling_begun}
 use Rattle.radio_relay.specs.Request.{request_text}
 use Rattle.radio_settings_values.specs.declared.settings.RelaySetting.{RelaySetting}
 
 -- a pull of a relay as it begins: nothing has come, its request is still to be written, and its line has given and taken nothing
 pub record IsNewPull (relay : RelaySetting) (pull : PullOver) : Type 0 where
-  pub is_begun : pull.relay ≡ begun relay.local_mount
+  pub is_begun : pull.relay ≡ pulling_begun relay.local_mount
   pub request : pull.outgoing ≡ request_text relay
   pub given : pull.given ≡ []
   pub taken : pull.taken ≡ []
@@ -22,7 +22,7 @@ module _ {S : Type 0} (steps : Steps S) where
   -- a pull had turns by which it went on, each from the state in which the one before has left it
   pub data HasGoneOn (pull : PullOver) (from : S) : PullOver → S → Type 0 where
     no_turn : HasGoneOn pull from pull from
-    one_turn : (mid last : PullOver) (between to : S) → HasGoneOn pull from mid between → IsTurn steps mid between Running last to
+    one_turn : (mid last : PullOver) (between to : S) → HasGoneOn pull from mid between → IsPullTurn steps mid between Running last to
         → HasGoneOn pull from last to
 
   -- and then its last turn, unless it was to stop before that
@@ -30,7 +30,7 @@ module _ {S : Type 0} (steps : Steps S) where
     pub mid : PullOver
     pub between : S
     pub goes_on : HasGoneOn pull from mid between
-    pub ends : ((last ≡ mid) × (to ≡ between)) ⊎ ((turn : PullTurn) × IsTurn steps mid between turn last to)
+    pub ends : ((last ≡ mid) × (to ≡ between)) ⊎ ((turn : PullTurn) × IsPullTurn steps mid between turn last to)
 
 module _ {S : Type 0} (steps : Steps S) (refuses : S → Event → Type 0) where
   -- at the end of its pull a relay that is up goes down, unless memory is refused for that

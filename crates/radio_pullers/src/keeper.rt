@@ -7,11 +7,11 @@ ghost use Rattle.std.specs.Map.{set_value};
 ghost use Rattle.radio_relay.specs.Orders.{orders};
 ghost use Rattle.radio_relay.specs.StreamList.{name_order};
 ghost use Rattle.radio_settings_values.specs.declared.settings.RelaySetting.{RelaySetting};
-ghost use Rattle.radio_tries.specs.Tries.{ended, is_known, kept_after, kept_at, no_trials, not_started, queue, tried_at};
+ghost use Rattle.radio_tries.specs.Tries.{thread_ended, is_wanted_relay, kept_after, kept_at, no_trials, not_started, queue, tried_at};
 ghost use Rattle.radio_tries.specs.Wishes.{in_order, started_by};
 ghost use Rattle.radio_connections.specs.Moments.{later};
 ghost use Rattle.radio_tries.specs.Pauses.{rest};
-ghost use Rattle.radio_pullers.specs.Running.{IsChosen, are_same, mounts_of};
+ghost use Rattle.radio_pullers.specs.Running.{IsChosen, are_same, pulled_mounts};
 
 use crate::OutOfMemory;
 use crate::roster::Roster;
@@ -113,7 +113,7 @@ impl Keeper {
         was_stopped: bool,
     ) -> Result<(), OutOfMemory>
         ensures planned { self.new.is_planned ≡ (self.old.is_planned && not was_stopped) }
-        ensures tried { self.new.tries.tried ≡ set_value (is_at (name_order mount.now)) self.old.tries.tried (ended outcome) }
+        ensures tried { self.new.tries.tried ≡ set_value (is_at (name_order mount.now)) self.old.tries.tried (thread_ended outcome) }
         ensures kept { OnOk result (self.new.tries.kept ≡ kept_after outcome self.old.tries.kept) }
         ensures names { self.new.names ≡ self.old.names }
         ensures wanted { self.new.wanted ≡ self.old.wanted }
@@ -130,7 +130,7 @@ impl Keeper {
     fn note_list(&mut self, settings: &Settings, names: BTreeSet<MountName>)
         ensures names { self.new.names ≡ names }
         ensures planned { self.new.is_planned ≡ false }
-        ensures tries { self.new.tries ≡ record self.old.tries { tried = filter (λ e. is_known settings.now names.keys e.0) self.old.tries.tried } }
+        ensures tries { self.new.tries ≡ record self.old.tries { tried = filter (λ e. is_wanted_relay settings.now names.keys e.0) self.old.tries.tried } }
         ensures wished { self.new.wished ≡ self.old.wished }
         ensures running { self.new.roster ≡ self.old.roster }
     {
@@ -167,7 +167,7 @@ impl Keeper {
     // rule: Relay places
     fn make_plan(&mut self, settings: &Settings) -> Result<(), OutOfMemory>
         ensures wished { OnOk result ((rest : List RelaySetting) × (map arc_value self.new.wished.items ≡
-            in_order settings.now (started_by (orders settings.now self.old.names.keys (mounts_of (map arc_value self.old.roster.running.items)) self.old.wanted.items)) ++ rest)) }
+            in_order settings.now (started_by (orders settings.now self.old.names.keys (pulled_mounts (map arc_value self.old.roster.running.items)) self.old.wanted.items)) ++ rest)) }
         ensures tries { self.new.tries ≡ self.old.tries }
         ensures running { self.new.roster ≡ self.old.roster }
     {

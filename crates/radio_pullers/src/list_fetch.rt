@@ -25,8 +25,8 @@ const READ_ROOM: usize = 4096;
 /// How long it is waited at once, in milliseconds.
 const WAIT_MS: u64 = 500;
 
-/// Asks the master of this slave for its list, again after each interval, until all are to stop. Each list that comes whole is
-/// handed over; one that does not leaves the last one in force.
+/// Asks the master of this slave for its list, again after each interval, until all are to stop. Each list that comes whole
+/// is put in force; one that does not leaves the last one so.
 pub(crate) fn keep_list<R: Clock + Wait, N: Network, S>(
     rt: &R,
     station: &RelayedStation<'_, N, S>,
@@ -36,7 +36,7 @@ pub(crate) fn keep_list<R: Clock + Wait, N: Network, S>(
     'lists: for _ in rt.forever() {
         let next_ms = list_due_ms(moment(rt), slave.master_update_interval.get());
         if let Some(names) = fetch(rt, station.net, station.shared, slave) {
-            hand_over(rt, station, &mut log, names);
+            set_list(rt, station, &mut log, names);
         }
         if !waits_until(rt, station.shared, None, next_ms) {
             return;
@@ -44,8 +44,8 @@ pub(crate) fn keep_list<R: Clock + Wait, N: Network, S>(
     }
 }
 
-/// Hands the front of a list over, and logs if there was more of it.
-fn hand_over<R: Clock + Wait, N: Network, S>(
+/// Puts the front of a list in force, and logs if there was more of it.
+fn set_list<R: Clock + Wait, N: Network, S>(
     rt: &R,
     station: &RelayedStation<'_, N, S>,
     log: &mut ListLog,
@@ -119,8 +119,8 @@ fn list_in<R: Clock + Wait>(
     let mut buffer = [0u8; READ_ROOM];
     'turns: for _ in rt.forever() {
         let wait_ms = sockets.activity().wait_ms(WAIT_MS);
-        let heard = sockets.hear(rt, wait_ms).ok()?;
-        let pause = pause_at(shared.is_over(), heard.ms, ends_ms);
+        let polled = sockets.poll(rt, wait_ms).ok()?;
+        let pause = pause_at(shared.is_over(), polled.ms, ends_ms);
         if !matches!(pause, Pause::Waits(_)) {
             return None;
         }

@@ -2,7 +2,7 @@
 
 ghost use Rattle.std.specs.Prelude.{◌≡◌, ◌⊎◌, IfOk, IfErr, IfSome, OnErr, OnOk};
 ghost use Rattle.radio_masters.specs.declared.relay_end.RelayEnd.TheVariants.{NoAnswer, NotWished, OutOfMemory as NoMemory};
-ghost use Rattle.radio_pull.specs.Course.{GoesDown, RefusesDown};
+ghost use Rattle.radio_relay.specs.Course.{GoesDown, RefusesDown};
 ghost use Rattle.radio_masters.specs.Askers.{AskedSteps};
 ghost use Rattle.radio_serving.specs.Watching.{WatchedSteps, watched_of};
 ghost use Rattle.radio_pullers.specs.Threads.{HasPulled, HasHadTurns, IsLetDown, IsNewPull, IsPullOf};
@@ -178,7 +178,7 @@ impl<'a, R: Clock + Wait, N: Network, S: Server + Drop> Puller<'a, R, N, S> {
         ensures began { self.new.began_ms ≡ self.old.began_ms }
     {
         let was_up = self.asked.is_up();
-        self.tell_end(why);
+        self.log_end(why);
         let until_ms = after(moment(self.rt), REST_MS);
         was_up && waits_until(self.rt, self.shared, Some(self.relay), until_ms)
     }
@@ -286,7 +286,7 @@ impl<'a, R: Clock + Wait, N: Network, S: Server + Drop> Puller<'a, R, N, S> {
         ensures relay { self.new.relay.now ≡ self.old.relay.now }
     {
         let ended = pull.close(&mut self.asked);
-        self.tell_others();
+        self.report();
         ended
     }
 
@@ -317,38 +317,38 @@ impl<'a, R: Clock + Wait, N: Network, S: Server + Drop> Puller<'a, R, N, S> {
         ensures relay { self.new.relay.now ≡ self.old.relay.now }
         ensures began { self.new.began_ms ≡ self.old.began_ms }
     {
-        let Some(ms) = self.hear() else {
+        let Some(ms) = self.poll() else {
             return Some(RelayEnd::Left);
         };
         if self.relay.is_stopped() || self.shared.is_over() {
             return Some(RelayEnd::NotWished);
         }
         let turn = pull.turn(&mut self.asked, buffer);
-        self.tell_others();
+        self.report();
         end_of(turn, pull, self.began_ms, ms)
     }
 
     /// Asks the system what is ready on the socket, and waits for it. Returns the moment then, in milliseconds; `None`
     /// if the system reports nothing.
-    fn hear(&mut self) -> Option<u64>
+    fn poll(&mut self) -> Option<u64>
         ensures asked { self.new.asked ≡ self.old.asked }
         ensures relay { self.new.relay.now ≡ self.old.relay.now }
         ensures began { self.new.began_ms ≡ self.old.began_ms }
     {
         let wait_ms = self.sockets.activity().wait_ms(WAIT_MS);
-        let heard = self.sockets.hear(self.rt, wait_ms).ok()?;
+        let polled = self.sockets.poll(self.rt, wait_ms).ok()?;
         self.sockets
             .activity()
-            .begin_turn(heard.ms, self.shared.pace(), self.shared.news_count());
+            .begin_turn(polled.ms, self.shared.pace(), self.shared.news_count());
         if let Ok(since) = self.rt.since_1970() {
             self.seconds = since.as_secs();
             self.asked.log().lines().set_moment(self.seconds);
         }
-        Some(heard.ms)
+        Some(polled.ms)
     }
 
     /// Gives news to the workers, and the lines that wait to the log.
-    fn tell_others(&self) {
+    fn report(&self) {
         let found = self.asked.server().take_found(Take::News);
         let received = self.sockets.activity().take_received();
         let news = NewsFor::from(found.has_news);
@@ -362,13 +362,13 @@ impl<'a, R: Clock + Wait, N: Network, S: Server + Drop> Puller<'a, R, N, S> {
     }
 
     /// Logs that the pull has ended.
-    fn tell_end(&mut self, why: RelayEnd)
+    fn log_end(&mut self, why: RelayEnd)
         ensures server { self.new.asked.server ≡ self.old.asked.server }
         ensures relay { self.new.relay.now ≡ self.old.relay.now }
         ensures began { self.new.began_ms ≡ self.old.began_ms }
     {
         let end = pull_end(why, self.began_ms, moment(self.rt));
-        self.asked.tell_end(end);
-        self.tell_others();
+        self.asked.log_end(end);
+        self.report();
     }
 }

@@ -4,7 +4,7 @@ ghost use Rattle.std.specs.Prelude.{◌≡◌, ◌<◌, ◌-◌, ℕ, List, [], 
 ghost use Rattle.std.specs.Arc.{arc_value};
 ghost use Rattle.std.specs.List.{swap_remove};
 ghost use Rattle.radio_settings_values.specs.declared.settings.RelaySetting.{RelaySetting};
-ghost use Rattle.radio_pullers.specs.Running.{mounts_of};
+ghost use Rattle.radio_pullers.specs.Running.{pulled_mounts};
 
 use crate::OutOfMemory;
 use crate::running::RunningRelay;
@@ -50,7 +50,7 @@ impl Roster {
 
     /// Returns the mounts of those that run. `OutOfMemory` if memory was refused.
     pub(crate) fn live(&self) -> Result<Vec<MountName>, OutOfMemory>
-        ensures { IfOk result (λ mounts. mounts.items ≡ mounts_of (map arc_value self.now.running.items)) }
+        ensures { IfOk result (λ mounts. mounts.items ≡ pulled_mounts (map arc_value self.now.running.items)) }
     {
         let mut mounts = Vec::new(self.alloc);
         'relays: for relay in &self.running {

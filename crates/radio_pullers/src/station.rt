@@ -13,8 +13,8 @@ use std::sync::Mutex;
 pub(crate) type NewestList = Mutex<Option<BTreeSet<MountName>>>;
 
 /// A station whose relays are kept running. It has the net over which their masters are reached, the server that
-/// they feed, and what its threads report to each other. It has its settings, and where the slave's list is handed
-/// over.
+/// they feed, and what its threads report to each other. It has its settings, and where the slave's newest list
+/// is put.
 #[derive(Drop)]
 pub(crate) struct RelayedStation<'a, N: Network, S> {
     pub(crate) net: &'a N,

@@ -9,18 +9,18 @@ use Rattle.radio_heads.specs.declared.outcome.Progress.TheVariants.{More, Whole}
 use Rattle.radio_heads.specs.declared.outcome.HeadFault.{HeadFault}
 use Rattle.radio_heads.specs.Reading.{IsReading}
 use Rattle.radio_heads.specs.Response.{ResponseParts, ShowsResponse}
-use Rattle.radio_heads.specs.Laws.{ReadingsAgree, IsSettled, HeadsLieWithin}
-use Rattle.radio_icy.specs.Unweaving.{Unweaving, heard, after_feeding, heard_by_pieces, after_pieces}
+use Rattle.radio_heads.specs.Laws.{ReadingsAgree, IsStableReading, HeadsLieWithin}
+use Rattle.radio_icy.specs.Unweaving.{Unweaving, atoms_of_piece, after_feeding, heard_by_pieces, after_pieces}
 use Rattle.radio_relay.specs.declared.fault.PullFault.{PullFault}
 use Rattle.radio_relay.specs.declared.pull.PullStage.{PullStage}
 use Rattle.radio_relay.specs.declared.pull.PullStage.TheVariants.{Head, Behind, Over}
 use Rattle.radio_relay.specs.declared.stream.PulledStream.{PulledStream}
 use Rattle.radio_relay.specs.declared.stream.PulledStream.TheVariants.{Plain, Woven}
-use Rattle.radio_relay.specs.Answer.{interval_in, shown_by}
-use Rattle.radio_relay.specs.Pulled.{Part, ShownPart, SoundPart, parts_of_atom, parts_heard, stream_parts, after_bytes, stream_with}
-use Rattle.radio_relay.specs.Pulled.{Standing, GoesOn, Stops, Pulled, goes_on}
+use Rattle.radio_relay.specs.Answer.{interval_in, shown_in_response}
+use Rattle.radio_relay.specs.Pulled.{PulledPart, ShownPart, SoundPart, parts_of_atom, parts_heard, stream_parts, after_bytes, stream_with}
+use Rattle.radio_relay.specs.Pulled.{PullProgress, GoesOn, Stops, Pulled, goes_on}
 use Rattle.radio_relay.specs.Pulled.{stream_pulled, pulled_by_interval, answer_pulled, pulled_as, IsPulled, IsPulledAt}
-use Rattle.radio_relay.specs.Cuts.{behind, Continues, IsPulledIn, CutsDoNotMatter, PullingIsOne}
+use Rattle.radio_relay.specs.Cuts.{behind, Continues, IsPulledIn, PiecesArePulledAsOne, PullingIsOne}
 
 -- two faults pull in the same
 faults-alike : (bytes : List ℕ) (r s : Result (Progress ResponseParts) HeadFault) → IsErr r → IsErr s → pulled_as bytes r ≡ pulled_as bytes s
@@ -45,7 +45,7 @@ nothing_came = record { open_end = λ place end ends. let is = ends.line in cc; 
 
 -- what is heard of pieces is heard of their bytes
 abbrev pub HeardInPieces : Type 0
-HeardInPieces = (u : Unweaving) (pieces : List (List ℕ)) → heard_by_pieces u pieces ≡ heard u (concat pieces)
+HeardInPieces = (u : Unweaving) (pieces : List (List ℕ)) → heard_by_pieces u pieces ≡ atoms_of_piece u (concat pieces)
 
 abbrev pub AfterPieces : Type 0
 AfterPieces = (u : Unweaving) (pieces : List (List ℕ)) → after_pieces u pieces ≡ after_feeding u (concat pieces)
@@ -54,10 +54,10 @@ module _ (in_pieces : HeardInPieces) (after : AfterPieces) where
   pub parts-cut : (stream : PulledStream) (one two : List ℕ) → stream_parts stream (one ++ two) ≡ stream_parts stream one ++ stream_parts (after_bytes stream one) two
   parts-cut Plain one two = map-append (λ b. SoundPart b) one two
   parts-cut (Woven reader) one two =
-      let first = heard reader one in
-      let second = heard (after_feeding reader one) two in
-      let joined : heard reader (one ++ two) ≡ first ++ second =
-      ap (λ (bytes : List ℕ). heard reader (one ++ bytes)) (sym (append-nil two)) ∙ sym (in_pieces reader (one ∷ two ∷ []))
+      let first = atoms_of_piece reader one in
+      let second = atoms_of_piece (after_feeding reader one) two in
+      let joined : atoms_of_piece reader (one ++ two) ≡ first ++ second =
+      ap (λ (bytes : List ℕ). atoms_of_piece reader (one ++ bytes)) (sym (append-nil two)) ∙ sym (in_pieces reader (one ∷ two ∷ []))
       ∙ ap (λ atoms. first ++ atoms) (append-nil second) in
       ap parts_heard joined ∙ flat_map-append parts_of_atom first second
 
@@ -67,7 +67,7 @@ module _ (in_pieces : HeardInPieces) (after : AfterPieces) where
       ap Woven (ap (λ (bytes : List ℕ). after_feeding reader (one ++ bytes)) (sym (append-nil two)) ∙ sym (after reader (one ∷ two ∷ [])))
 
   -- bytes of a stream in two pieces
-  stream-cut : (before : List Part) (stream : PulledStream) (one two : List ℕ) (Next : PullStage → Pulled → Type 0) (cut : Pulled)
+  stream-cut : (before : List PulledPart) (stream : PulledStream) (one two : List ℕ) (Next : PullStage → Pulled → Type 0) (cut : Pulled)
       → ((stage : PullStage) (rest : Pulled) → Next stage rest → IsPulledAt stage two rest)
       → Continues (before ++ stream_parts stream one) (GoesOn (Behind (after_bytes stream one))) Next cut
       → cut ≡ stream_pulled before stream (one ++ two)
@@ -76,9 +76,9 @@ module _ (in_pieces : HeardInPieces) (after : AfterPieces) where
       let second = stream_parts (after_bytes stream one) two in
       let late : rest ≡ stream_pulled [] (after_bytes stream one) two = next (Behind (after_bytes stream one)) rest h in
       let parts : (before ++ first) ++ second ≡ before ++ stream_parts stream (one ++ two) =
-      append_assoc before first second ∙ ap (λ (parts : List Part). before ++ parts) (sym (parts-cut stream one two)) in
+      append_assoc before first second ∙ ap (λ (parts : List PulledPart). before ++ parts) (sym (parts-cut stream one two)) in
       e ∙ ap (behind (before ++ first)) late
-      ∙ ap (λ (parts : List Part). goes_on parts (Behind (after_bytes (after_bytes stream one) two))) parts
+      ∙ ap (λ (parts : List PulledPart). goes_on parts (Behind (after_bytes (after_bytes stream one) two))) parts
       ∙ ap (λ (s : PulledStream). goes_on (before ++ stream_parts stream (one ++ two)) (Behind s)) (sym (after-cut stream one two))
 
   -- bytes behind a head in two pieces
@@ -87,9 +87,9 @@ module _ (in_pieces : HeardInPieces) (after : AfterPieces) where
       → Continues (pulled_by_interval head one interval).parts (pulled_by_interval head one interval).standing Next cut
       → cut ≡ pulled_by_interval head (one ++ two) interval
   answer-cut head (Err fault) one two Next cut next e = e
-  answer-cut head (Ok interval) one two Next cut next e = stream-cut (ShownPart (shown_by head) ∷ []) (stream_with interval) one two Next cut next e
+  answer-cut head (Ok interval) one two Next cut next e = stream-cut (ShownPart (shown_in_response head) ∷ []) (stream_with interval) one two Next cut next e
 
-  module _ (settled : IsSettled ShowsResponse) (fits : HeadsLieWithin ShowsResponse) where
+  module _ (settled : IsStableReading ShowsResponse) (fits : HeadsLieWithin ShowsResponse) where
     -- a head in two pieces, by what the first is read as
     head-cut : (held one two : List ℕ) (r : Result (Progress ResponseParts) HeadFault) (Next : PullStage → Pulled → Type 0) (cut : Pulled)
         → IsReading ShowsResponse (held ++ one) r → ((stage : PullStage) (rest : Pulled) → Next stage rest → IsPulledAt stage two rest)
@@ -121,15 +121,15 @@ module _ (in_pieces : HeardInPieces) (after : AfterPieces) where
     stage-cut Over one two first Next cut h next c = subst (λ (p : Pulled). Continues p.parts p.standing Next cut) h c
 
     -- no bytes at the end
-    at_end : (first cut : Pulled) → Continues first.parts first.standing (IsPulledIn []) cut → (standing : Standing) → first.standing ≡ standing → cut ≡ first
+    at_end : (first cut : Pulled) → Continues first.parts first.standing (IsPulledIn []) cut → (standing : PullProgress) → first.standing ≡ standing → cut ≡ first
     at_end first cut c (GoesOn stage) is =
         let d : Continues first.parts (GoesOn stage) (IsPulledIn []) cut = subst (λ s. Continues first.parts s (IsPulledIn []) cut) is c in
         d.2 ∙ ap (behind first.parts) d.1
-        ∙ ap (λ (parts : List Part). goes_on parts stage) (append-nil first.parts)
-        ∙ ap (λ (s : Standing). record first { standing = s }) (sym is)
+        ∙ ap (λ (parts : List PulledPart). goes_on parts stage) (append-nil first.parts)
+        ∙ ap (λ (s : PullProgress). record first { standing = s }) (sym is)
     at_end first cut c (Stops fault) is =
         let d : Continues first.parts (Stops fault) (IsPulledIn []) cut = subst (λ s. Continues first.parts s (IsPulledIn []) cut) is c in
-        d ∙ ap (λ (s : Standing). record first { standing = s }) (sym is)
+        d ∙ ap (λ (s : PullProgress). record first { standing = s }) (sym is)
 
     in_order : (piece : List ℕ) (pieces : List (List ℕ)) (stage : PullStage) (cut : Pulled) → IsPulledIn (piece ∷ pieces) stage cut
         → IsPulledAt stage (concat (piece ∷ pieces)) cut
@@ -140,7 +140,7 @@ module _ (in_pieces : HeardInPieces) (after : AfterPieces) where
         stage-cut stage piece (concat (other ∷ pieces)) first (IsPulledIn (other ∷ pieces)) cut h (λ late rest k. in_order other pieces late rest k) c
 
     module _ (agree : ReadingsAgree ShowsResponse) where
-      pub cuts_do_not_matter : CutsDoNotMatter
+      pub cuts_do_not_matter : PiecesArePulledAsOne
       cuts_do_not_matter [] cut whole h w = h ∙ sym (w.2 ∙ readings-alike agree [] w.0 (Ok More) w.1 nothing_came)
       cuts_do_not_matter (piece ∷ pieces) cut whole h w =
           pulling_is_one agree (concat (piece ∷ pieces)) cut whole (in_order piece pieces (Head []) cut h) w

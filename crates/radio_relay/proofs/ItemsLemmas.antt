@@ -5,8 +5,8 @@ use Rattle.radio_icy.specs.declared.items.Item.{Item}
 use Rattle.radio_icy.specs.Items.{atoms_of, atoms_of_item}
 use Rattle.radio_icy.specs.Titles.{title_of}
 use Rattle.radio_icy.specs.Unweaving.{SoundByte, WholeText}
-use Rattle.radio_relay.specs.Pulled.{Part, SoundPart, title_parts, parts_of_atom, parts_heard}
-use Rattle.radio_relay.specs.Items.{Gathered, nothing_gathered, all_items, with_part, with_parts, items_of}
+use Rattle.radio_relay.specs.Pulled.{PulledPart, SoundPart, title_parts, parts_of_atom, parts_heard}
+use Rattle.radio_relay.specs.Items.{Gathered, nothing_gathered, all_items, with_gathered_part, with_parts, items_of}
 
 -- sound makes the run longer
 pub with_parts_of_sound : (g : Gathered) (sound : List ℕ) → with_parts g (map (λ b. SoundPart b) sound) ≡ record g { run = g.run ++ sound }
@@ -15,9 +15,9 @@ with_parts_of_sound g (b ∷ sound) =
     with_parts_of_sound (record g { run = g.run ++ b ∷ [] }) sound ∙ ap (λ (run : List ℕ). record g { run = run }) (append_assoc g.run (b ∷ []) sound)
 
 -- parts one after another
-pub with_parts-append : (g : Gathered) (one other : List Part) → with_parts g (one ++ other) ≡ with_parts (with_parts g one) other
+pub with_parts-append : (g : Gathered) (one other : List PulledPart) → with_parts g (one ++ other) ≡ with_parts (with_parts g one) other
 with_parts-append g [] other = refl
-with_parts-append g (part ∷ one) other = with_parts-append (with_part g part) one other
+with_parts-append g (part ∷ one) other = with_parts-append (with_gathered_part g part) one other
 
 -- what is heard of an item and of those behind it
 pub with_parts-heard : (g : Gathered) (item : Item) (items : List Item)
@@ -29,14 +29,14 @@ with_parts-heard g item items =
 -- sound that is heard
 pub parts_heard-sound : (sound : List ℕ) → parts_heard (map (λ b. SoundByte b) sound) ≡ map (λ b. SoundPart b) sound
 parts_heard-sound [] = refl
-parts_heard-sound (b ∷ sound) = ap (λ (parts : List Part). SoundPart b ∷ parts) (parts_heard-sound sound)
+parts_heard-sound (b ∷ sound) = ap (λ (parts : List PulledPart). SoundPart b ∷ parts) (parts_heard-sound sound)
 
 -- a text that is heard
 pub parts_heard-text : (text : List ℕ) → parts_heard (WholeText text ∷ []) ≡ title_parts (title_of text)
 parts_heard-text text = append-nil (title_parts (title_of text))
 
 -- the items of some parts, and of those behind them
-pub items_of-append : (before parts : List Part) → all_items (with_parts (with_parts nothing_gathered before) parts) ≡ items_of (before ++ parts)
+pub items_of-append : (before parts : List PulledPart) → all_items (with_parts (with_parts nothing_gathered before) parts) ≡ items_of (before ++ parts)
 items_of-append before parts = ap all_items (sym (with_parts-append nothing_gathered before parts))
 
 pub ruleset parts_heard_rules = (parts_heard-sound, parts_heard-text)

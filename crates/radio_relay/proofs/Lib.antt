@@ -1,3 +1,4 @@
+mod AtMostLemmas
 pub mod ItemsLemmas
 pub mod PullLemmas
 pub mod RequestLemmas

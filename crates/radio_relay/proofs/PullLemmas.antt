@@ -11,7 +11,7 @@ use Rattle.radio_relay.specs.declared.pull.PullStage.{PullStage}
 use Rattle.radio_relay.specs.declared.pull.PullStage.TheVariants.{Head, Behind}
 use Rattle.radio_relay.specs.declared.stream.PulledStream.{PulledStream}
 use Rattle.radio_relay.specs.Pulled.{goes_on, stream_pulled, stream_parts, after_bytes}
-use Rattle.radio_relay.specs.Items.{Gathered, nothing_gathered, all_items, with_parts, items_of, IsAnswered}
+use Rattle.radio_relay.specs.Items.{Gathered, nothing_gathered, all_items, with_parts, items_of, GivesItems}
 
 -- no parts are no items
 pub items_of-none : blocks_of [] ≡ [] → items_of [] ≡ []
@@ -19,7 +19,7 @@ items_of-none none = ap (λ (blocks : List (List ℕ)). map Sound blocks) none
 
 -- a head that has not ended is answered by nothing, and its bytes are held
 pub answered-more : (held bytes all kept : List ℕ) (items : List PullItem) → blocks_of [] ≡ [] → items ≡ [] → all ≡ held ++ bytes → kept ≡ held ++ bytes
-    → IsReading ShowsResponse all (Ok More) → IsAnswered (Head held) bytes items (Head kept)
+    → IsReading ShowsResponse all (Ok More) → GivesItems (Head held) bytes items (Head kept)
 answered-more held bytes all kept items none empty together same reading = (
   goes_on [] (Head (held ++ bytes)),
   (Ok More, rw together at reading, refl),
@@ -30,7 +30,7 @@ answered-more held bytes all kept items none empty together same reading = (
 pub answered-stream : {X E : Type 0} (r : Result X E) (items : X → List PullItem) (stage : X → PullStage) (old : PullStage) (stream : PulledStream) (bytes : List ℕ)
     (start : Gathered) → old ≡ Behind stream → start ≡ nothing_gathered
     → IfOk r (λ x. items x ≡ all_items (with_parts start (stream_parts stream bytes))) → IfOk r (λ x. stage x ≡ Behind (after_bytes stream bytes))
-    → IfOk r (λ x. IsAnswered old bytes (items x) (stage x))
+    → IfOk r (λ x. GivesItems old bytes (items x) (stage x))
 answered-stream (Ok x) items stage old stream bytes start at none brought after =
     rw at (
       stream_pulled [] stream bytes,

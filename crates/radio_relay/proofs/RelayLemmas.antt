@@ -22,15 +22,15 @@ use Rattle.radio_heads.specs.Laws.{ReadingsAgree, ShortListenerIsReadBack, about
 use Rattle.radio_heads.specs.Response.{ShowsResponse}
 use Rattle.radio_icy.specs.Bare.{bare, block_texts, sound_in as sound_heard, texts_in}
 use Rattle.radio_icy.specs.Block.{title_text}
-use Rattle.radio_icy.specs.Stream.{IsWoven, sound_of_calls, parts_of, titles_sent}
+use Rattle.radio_icy.specs.Stream.{IsWoven, sound_of_calls, interval_count, titles_sent}
 use Rattle.radio_icy.specs.Titles.{title_of, HasNoUrlInside}
-use Rattle.radio_icy.specs.Unweaving.{new_unweaving, heard}
+use Rattle.radio_icy.specs.Unweaving.{new_unweaving, atoms_of_piece}
 use Rattle.radio_icy.specs.Weaving.{Call}
 use Rattle.radio_texts.specs.Numbers.{number_of}
 use Rattle.radio_relay.specs.declared.fault.PullFault.TheVariants.{BadHead}
-use Rattle.radio_relay.specs.Answer.{interval_in, interval_of, interval_told, max_interval}
+use Rattle.radio_relay.specs.Answer.{header_interval, interval_in, interval_of, max_interval}
 use Rattle.radio_relay.specs.Pulled.{Pulled, answer_pulled}
-use Rattle.radio_relay.specs.Laws.{sound_in, titles_in, titles_of_texts, AreRelayable, RelaysLoseNothing}
+use Rattle.radio_relay.specs.Laws.{sound_of_parts, titles_in, titles_of_texts, AreRelayable, RelaysLoseNothing}
 use Rattle.radio_relay.proofs.BareLemmas.{woven_is_bare}
 use Rattle.radio_relay.proofs.CutLemmas.{readings-alike}
 
@@ -148,7 +148,7 @@ some_interval zero low = absurd (omega arith)
 some_interval (suc n) low = refl
 
 told : (coding metaint : Option (List ℕ)) (n : ℕ) → coding ≡ None → metaint ≡ Some (trim_ows (decimal n)) → 1 ≤ n → n ≤ max_interval
-    → (if is_some coding then Err BadHead else interval_told metaint) ≡ Ok (Some n)
+    → (if is_some coding then Err BadHead else header_interval metaint) ≡ Ok (Some n)
 told coding metaint n none some low high =
     rw (none, some) (rw (trim_ows-decimal n (omega arith), number-read n high) (some_interval n low))
 
@@ -169,10 +169,10 @@ sent_titles alone (title ∷ titles) (one, all) =
 -- ---- the whole
 
 pub relays_lose_nothing : ReadingsAgree ShowsResponse → ShortListenerIsReadBack
-    → ((n : ℕ) (out : List ℕ) → sound_heard (heard (new_unweaving n) out) ≡ bare n out)
-    → ((n : ℕ) (out : List ℕ) → texts_in (heard (new_unweaving n) out) ≡ block_texts n out)
+    → ((n : ℕ) (out : List ℕ) → sound_heard (atoms_of_piece (new_unweaving n) out) ≡ bare n out)
+    → ((n : ℕ) (out : List ℕ) → texts_in (atoms_of_piece (new_unweaving n) out) ≡ block_texts n out)
     → ((n : ℕ) (calls : List Call) (out : List ℕ) → 0 < n → IsWoven n calls out → bare n out ≡ sound_of_calls calls)
-    → ((n : ℕ) (calls : List Call) (out : List ℕ) → 0 < n → IsWoven n calls out → block_texts n out ≡ map title_text (titles_sent n calls (parts_of n calls)))
+    → ((n : ℕ) (calls : List Call) (out : List ℕ) → 0 < n → IsWoven n calls out → block_texts n out ≡ map title_text (titles_sent n calls (interval_count n calls)))
     → ((title : List ℕ) → HasNoUrlInside title → title_of (title_text title) ≡ Some title) → RelaysLoseNothing
 relays_lose_nothing agree read sounds texts bare_sound bare_texts alone w n calls out pulled clean short is low high woven titles h =
     let bytes = listener_text w ++ out in
@@ -183,8 +183,8 @@ relays_lose_nothing agree read sounds texts bare_sound bare_texts alone w n call
     h.2 ∙ readings-alike agree bytes h.0 (Ok (Whole (listener_parts w) size)) h.1 head
     ∙ ap (answer_pulled (listener_parts w)) (drop-append_seam (listener_text w) out) in
     let found = woven_is_bare sounds texts (listener_parts w) n out (interval-told w n is low high) in (
-      ap (λ (p : Pulled). sound_in p.parts) same ∙ found.0 ∙ bare_sound n calls out low woven,
+      ap (λ (p : Pulled). sound_of_parts p.parts) same ∙ found.0 ∙ bare_sound n calls out low woven,
       ap (λ (p : Pulled). titles_in p.parts) same ∙ found.1
           ∙ ap titles_of_texts (bare_texts n calls out low woven)
-          ∙ sent_titles alone (titles_sent n calls (parts_of n calls)) titles,
+          ∙ sent_titles alone (titles_sent n calls (interval_count n calls)) titles,
     )

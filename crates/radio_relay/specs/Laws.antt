@@ -10,21 +10,21 @@ use Rattle.radio_icy.specs.Bare.{bare, block_texts}
 use Rattle.radio_values.specs.Cleaning.{cleaned}
 use Rattle.radio_values.specs.Limits.{max_title}
 use Rattle.radio_values.specs.Sendable.{IsTitle}
-use Rattle.radio_icy.specs.Stream.{IsWoven, sound_of_calls, parts_of, titles_sent}
+use Rattle.radio_icy.specs.Stream.{IsWoven, sound_of_calls, interval_count, titles_sent}
 use Rattle.radio_icy.specs.Titles.{title_of, HasNoUrlInside}
 use Rattle.radio_icy.specs.Weaving.{Call}
 use Rattle.radio_relay.specs.Answer.{interval_in, max_interval}
-use Rattle.radio_relay.specs.Pulled.{Part, ShownPart, SoundPart, TitlePart, Pulled, IsPulled, answer_pulled}
+use Rattle.radio_relay.specs.Pulled.{PulledPart, ShownPart, SoundPart, TitlePart, Pulled, IsPulled, answer_pulled}
 
 -- the bytes of sound among parts
-abbrev pub sound_in : List Part → List ℕ
-sound_in [] = []
-sound_in (ShownPart shown ∷ parts) = sound_in parts
-sound_in (SoundPart b ∷ parts) = b ∷ sound_in parts
-sound_in (TitlePart title ∷ parts) = sound_in parts
+abbrev pub sound_of_parts : List PulledPart → List ℕ
+sound_of_parts [] = []
+sound_of_parts (ShownPart shown ∷ parts) = sound_of_parts parts
+sound_of_parts (SoundPart b ∷ parts) = b ∷ sound_of_parts parts
+sound_of_parts (TitlePart title ∷ parts) = sound_of_parts parts
 
 -- the titles among parts
-abbrev pub titles_in : List Part → List (List ℕ)
+abbrev pub titles_in : List PulledPart → List (List ℕ)
 titles_in [] = []
 titles_in (ShownPart shown ∷ parts) = titles_in parts
 titles_in (SoundPart b ∷ parts) = titles_in parts
@@ -37,12 +37,12 @@ titles_of_texts texts = flat_map (λ text. option_to_list (option_map (cleaned m
 -- behind a head without an interval all is sound
 abbrev pub PlainIsSound : Type 0
 PlainIsSound = (head : ResponseParts) (rest : List ℕ) → interval_in head ≡ Ok None
-    → (sound_in (answer_pulled head rest).parts ≡ rest) × (titles_in (answer_pulled head rest).parts ≡ [])
+    → (sound_of_parts (answer_pulled head rest).parts ≡ rest) × (titles_in (answer_pulled head rest).parts ≡ [])
 
 -- behind a head with an interval are the bare sound, and the titles of the texts of its blocks
 abbrev pub WovenIsBare : Type 0
 WovenIsBare = (head : ResponseParts) (n : ℕ) (rest : List ℕ) → interval_in head ≡ Ok (Some n)
-    → (sound_in (answer_pulled head rest).parts ≡ bare n rest)
+    → (sound_of_parts (answer_pulled head rest).parts ≡ bare n rest)
     × (titles_in (answer_pulled head rest).parts ≡ titles_of_texts (block_texts n rest))
 
 -- a title that a relay passes on unchanged
@@ -58,6 +58,6 @@ AreRelayable (title ∷ titles) = IsRelayable title × AreRelayable titles
 abbrev pub RelaysLoseNothing : Type 0
 RelaysLoseNothing = (w : Welcome) (n : ℕ) (calls : List Call) (out : List ℕ) (pulled : Pulled)
     → IsCleanWelcome w → IsShortWelcome w → w.interval ≡ Some n → 1 ≤ n → n ≤ max_interval
-    → IsWoven n calls out → AreRelayable (titles_sent n calls (parts_of n calls))
+    → IsWoven n calls out → AreRelayable (titles_sent n calls (interval_count n calls))
     → IsPulled (listener_text w ++ out) pulled
-    → (sound_in pulled.parts ≡ sound_of_calls calls) × (titles_in pulled.parts ≡ titles_sent n calls (parts_of n calls))
+    → (sound_of_parts pulled.parts ≡ sound_of_calls calls) × (titles_in pulled.parts ≡ titles_sent n calls (interval_count n calls))

@@ -1,3 +1,7 @@
+pub mod Pulling
+pub mod Course
+pub mod Applied
+pub mod PullLaws
 pub mod Answer
 pub mod Pulled
 pub mod Items

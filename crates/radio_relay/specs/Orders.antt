@@ -17,8 +17,8 @@ abbrev pub has_name : List (List ℕ) → List ℕ → Bool
 has_name names name = list_any (λ n. bytes_eq n name) names
 
 -- the same of names in order
-abbrev pub is_listed : List (List ℕ) → List ℕ → Bool
-is_listed names name = list_any (is_at (name_order name)) names
+abbrev pub is_among_names : List (List ℕ) → List ℕ → Bool
+is_among_names names name = list_any (is_at (name_order name)) names
 
 -- the relay of the settings that feeds a mount
 abbrev pub relay_at : Settings → List ℕ → Option RelaySetting
@@ -39,7 +39,7 @@ relay_listed name slave = record { master = slave.master; mount = name; local_mo
 -- the relay of a listed name, where there is a slave and no table of that name
 abbrev pub listed_at : Settings → List (List ℕ) → List ℕ → Option RelaySetting
 listed_at settings list mount =
-    if is_listed list mount && has_no_table settings mount then option_map (relay_listed mount) settings.slave else None
+    if is_among_names list mount && has_no_table settings mount then option_map (relay_listed mount) settings.slave else None
 
 -- the relay that is wished at a mount: the settings' own, or else the listed one
 abbrev pub wished_of : Settings → List (List ℕ) → List (List ℕ) → List ℕ → Option RelaySetting → Option RelaySetting
@@ -60,17 +60,17 @@ abbrev pub order_at : Settings → List (List ℕ) → List (List ℕ) → List 
 order_at settings list live wanted mount = order_of mount (wished_at settings list wanted mount) (has_name live mount)
 
 -- names in order, with others each at its place, once
-abbrev pub with_all : List (List ℕ) → List (List ℕ) → List (List ℕ)
-with_all names [] = names
-with_all names (name ∷ others) = with_all (with_one names name) others
+abbrev pub with_other_names : List (List ℕ) → List (List ℕ) → List (List ℕ)
+with_other_names names [] = names
+with_other_names names (name ∷ others) = with_other_names (with_one names name) others
 
 -- the mounts that relays of the settings feed
-abbrev pub local_mounts : List RelaySetting → List (List ℕ)
-local_mounts relays = map (λ (relay : RelaySetting). relay.local_mount) relays
+abbrev pub relayed_mounts : List RelaySetting → List (List ℕ)
+relayed_mounts relays = map (λ (relay : RelaySetting). relay.local_mount) relays
 
 -- all mounts that relays may feed, and those that they feed, in order
 abbrev pub mounts_in_question : Settings → List (List ℕ) → List (List ℕ) → List (List ℕ)
-mounts_in_question settings list live = with_all (with_all list (local_mounts settings.relays)) live
+mounts_in_question settings list live = with_other_names (with_other_names list (relayed_mounts settings.relays)) live
 
 -- the orders, mount for mount
 -- rule: Pulled relays

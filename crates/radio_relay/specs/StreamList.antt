@@ -25,9 +25,9 @@ with_names names [] = names
 with_names names (text ∷ texts) = with_names (with_name names text) texts
 
 -- what is before each LF and after the last, without one CR at its end
-abbrev pub lines_of : List ℕ → List (List ℕ)
-lines_of text = map without_return (fields_at 10 text)
+abbrev pub stream_list_lines : List ℕ → List (List ℕ)
+stream_list_lines text = map without_return (fields_at 10 text)
 
 -- the lines that are names of mounts, in order, each once
 unfoldable pub names_listed : List ℕ → List (List ℕ)
-names_listed text = with_names [] (lines_of text)
+names_listed text = with_names [] (stream_list_lines text)

@@ -1,7 +1,7 @@
 //! What the head of a master's answer says of the stream behind it.
 ghost use Rattle.std.specs.Prelude.{◌≡◌, ◌≤◌, IfOk, IfSome};
 ghost use Rattle.radio_texts.specs.Numbers.{number_of};
-ghost use Rattle.radio_relay.specs.Answer.{about_by, interval_in, interval_of, max_interval, named_by, shown_by, value_or};
+ghost use Rattle.radio_relay.specs.Answer.{about_in_response, interval_in, interval_of, max_interval, named_in_response, shown_in_response, response_value_or};
 
 use crate::{OutOfMemory, PullFault};
 use radio_heads::{DEFAULT_CONTENT_TYPE, ResponseHead};
@@ -43,7 +43,7 @@ fn interval_of(text: &[u8]) -> Result<Option<usize>, PullFault>
 
 /// What the head shows of the stream, cleaned. `OutOfMemory` if memory was refused.
 pub fn shown_by(alloc: Global, head: &ResponseHead) -> Result<Shown, OutOfMemory>
-    ensures { IfOk result (λ shown. shown ≡ shown_by head.now) }
+    ensures { IfOk result (λ shown. shown ≡ shown_in_response head.now) }
 {
     let shown = named_by(alloc, head)?;
     Ok(shown.with_about(about_by(alloc, head)?))
@@ -51,7 +51,7 @@ pub fn shown_by(alloc: Global, head: &ResponseHead) -> Result<Shown, OutOfMemory
 
 /// Its type, name and genre, cleaned. `OutOfMemory` if memory was refused.
 fn named_by(alloc: Global, head: &ResponseHead) -> Result<Shown, OutOfMemory>
-    ensures { IfOk result (λ shown. shown ≡ named_by head.now) }
+    ensures { IfOk result (λ shown. shown ≡ named_in_response head.now) }
 {
     let content_type = value_or(DEFAULT_CONTENT_TYPE, "Content-Type", head);
     let name = value_or(b"", "icy-name", head);
@@ -61,7 +61,7 @@ fn named_by(alloc: Global, head: &ResponseHead) -> Result<Shown, OutOfMemory>
 
 /// What else it shows of the stream, cleaned. `OutOfMemory` if memory was refused.
 fn about_by(alloc: Global, head: &ResponseHead) -> Result<About, OutOfMemory>
-    ensures { IfOk result (λ about. about ≡ about_by head.now) }
+    ensures { IfOk result (λ about. about ≡ about_in_response head.now) }
 {
     let description = value_or(b"", "icy-description", head);
     let url = value_or(b"", "icy-url", head);
@@ -71,7 +71,7 @@ fn about_by(alloc: Global, head: &ResponseHead) -> Result<About, OutOfMemory>
 
 /// The value of a header, or the other if there is no such header; an empty value is one.
 fn value_or<'b>(other: &'static [u8], name: &str, head: &ResponseHead<'b>) -> &'b [u8]
-    ensures { result.now ≡ value_or other.now name.now head.now }
+    ensures { result.now ≡ response_value_or other.now name.now head.now }
 {
     match head.value(name) {
         Some(value) => value,

@@ -3,7 +3,7 @@ ghost use Rattle.std.specs.Prelude.{◌≡◌, ◌++◌, map, Some, OnOk, IfOk};
 ghost use Rattle.radio_icy.specs.Items.{atoms_of, atoms_of_item};
 ghost use Rattle.radio_icy.specs.Titles.{title_of};
 ghost use Rattle.radio_relay.specs.Pulled.{ShownPart, SoundPart, title_parts, parts_heard};
-ghost use Rattle.radio_relay.specs.Items.{nothing_gathered, all_items, run_ended, with_part, with_parts};
+ghost use Rattle.radio_relay.specs.Items.{nothing_gathered, all_items, run_ended, with_gathered_part, with_parts};
 ghost use Rattle.radio_relay.specs.declared.items.PullItem.TheVariants.{Sound as SoundItem};
 
 use crate::OutOfMemory;
@@ -59,7 +59,7 @@ impl PulledItems {
 
     /// Adds what a head shows. Where a call is refused memory, the items are of no use.
     pub(crate) fn add_shown(&mut self, shown: Shown) -> Result<(), OutOfMemory>
-        ensures { OnOk result (self.new ≡ with_part self.old (ShownPart shown)) }
+        ensures { OnOk result (self.new ≡ with_gathered_part self.old (ShownPart shown)) }
     {
         self.end_run()?;
         self.complete.push(PullItem::Up(shown))?;

@@ -2,7 +2,7 @@
 //!
 //! Each law is a function that does nothing, and its contract is the law.
 //! A caller that needs a law in a proof calls the function, and cites its clause.
-ghost use Rattle.radio_relay.specs.Cuts.{CutsDoNotMatter, PullingIsOne};
+ghost use Rattle.radio_relay.specs.Cuts.{PiecesArePulledAsOne, PullingIsOne};
 ghost use Rattle.radio_relay.specs.Laws.{PlainIsSound, WovenIsBare, RelaysLoseNothing};
 
 use radio_heads::{answers_read_back, heads_lie_within, readings_agree, settled};
@@ -12,7 +12,7 @@ use radio_icy::laws::{bare_of_woven, cut_streams, titles_of_texts, unwoven_strea
 /// and titles in the same order, and the same fault, in the piece that has it.
 // rule: Pulled stream
 pub fn cuts_do_not_matter()
-    ensures cuts { CutsDoNotMatter }
+    ensures cuts { PiecesArePulledAsOne }
     ensures one { PullingIsOne }
 {
     readings_agree();

@@ -1,6 +1,6 @@
 //! Which relays are to start, and which are to stop.
 ghost use Rattle.std.specs.Prelude.{◌≡◌, ◌++◌, IfOk, OnOk};
-ghost use Rattle.radio_relay.specs.Orders.{orders, mounts_in_question, with_all, local_mounts, wished_at, listed_at, relay_listed, is_wished, order_of};
+ghost use Rattle.radio_relay.specs.Orders.{orders, mounts_in_question, with_other_names, wished_at, listed_at, relay_listed, is_wished, order_of, relayed_mounts};
 
 use crate::OutOfMemory;
 use radio_settings_values::{Login, Master, RelaySetting, Settings, SlaveSetting};
@@ -61,7 +61,7 @@ fn mounts_in_question(
 }
 
 fn add_relays(mounts: &mut BTreeSet<MountName>, relays: &[RelaySetting]) -> Result<(), OutOfMemory>
-    ensures { OnOk result (mounts.new.keys ≡ with_all mounts.old.keys (local_mounts relays.now)) }
+    ensures { OnOk result (mounts.new.keys ≡ with_other_names mounts.old.keys (relayed_mounts relays.now)) }
 {
     for relay in relays {
         mounts.insert(relay.local_mount)?;
@@ -70,7 +70,7 @@ fn add_relays(mounts: &mut BTreeSet<MountName>, relays: &[RelaySetting]) -> Resu
 }
 
 fn add_all(mounts: &mut BTreeSet<MountName>, names: &[MountName]) -> Result<(), OutOfMemory>
-    ensures { OnOk result (mounts.new.keys ≡ with_all mounts.old.keys names.now) }
+    ensures { OnOk result (mounts.new.keys ≡ with_other_names mounts.old.keys names.now) }
 {
     for name in names {
         mounts.insert(*name)?;

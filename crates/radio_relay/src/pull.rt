@@ -1,6 +1,6 @@
 //! A pull: what a master answers, taken piece by piece.
 ghost use Rattle.std.specs.Prelude.{◌≡◌, ◌≢◌, ◌≤◌, [], drop, length, IfOk, IfErr, OnErr, Err};
-ghost use Rattle.radio_relay.specs.Items.{IsAnswered, IsRefused, Answers, all_items, with_parts};
+ghost use Rattle.radio_relay.specs.Items.{GivesItems, Answers, all_items, with_parts, IsRefusedPull};
 ghost use Rattle.radio_relay.specs.Pulled.{answer_pulled, stops, stream_parts, after_bytes};
 ghost use Rattle.radio_relay.specs.declared.fault.PullFault.TheVariants.{OutOfMemory as NoMemory, Failed};
 ghost use Rattle.radio_relay.specs.declared.pull.PullStage.TheVariants.{Head, Behind, Over};
@@ -98,8 +98,8 @@ impl Pull {
     /// keeps nothing, and each further feed answers `Failed`, also of an empty piece.
     // rule: Bad pull; Pulled stream
     pub fn feed(&mut self, bytes: &[u8]) -> Result<Vec<PullItem>, PullFault>
-        ensures brings { IfOk result (λ items. IsAnswered self.old bytes.now items.items self.new) }
-        ensures fault { IfErr result (λ fault. fault ≢ NoMemory → IsRefused self.old bytes.now fault) }
+        ensures brings { IfOk result (λ items. GivesItems self.old bytes.now items.items self.new) }
+        ensures fault { IfErr result (λ fault. fault ≢ NoMemory → IsRefusedPull self.old bytes.now fault) }
         // a fault ends the pull, and one that is over answers so
         ensures fails { OnErr result (self.new ≡ Over) }
         ensures failed { self.old ≡ Over → result ≡ Err Failed }
@@ -116,8 +116,8 @@ impl Pull {
 }
 
 fn brought_at(alloc: Global, stage: PullStage, bytes: &[u8]) -> Result<Brought, PullFault>
-    ensures brings { IfOk result (λ brought. IsAnswered stage bytes.now brought.items.items brought.stage) }
-    ensures fault { IfErr result (λ fault. fault ≢ NoMemory → IsRefused stage bytes.now fault) }
+    ensures brings { IfOk result (λ brought. GivesItems stage bytes.now brought.items.items brought.stage) }
+    ensures fault { IfErr result (λ fault. fault ≢ NoMemory → IsRefusedPull stage bytes.now fault) }
     ensures over { stage ≡ Over → result ≡ Err Failed }
 {
     match stage {
@@ -133,8 +133,8 @@ fn brought_at(alloc: Global, stage: PullStage, bytes: &[u8]) -> Result<Brought, 
 
 /// Reads bytes of a head behind those that are held, and what follows it.
 fn read_head(alloc: Global, held: HeldHead, bytes: &[u8]) -> Result<Brought, PullFault>
-    ensures brings { IfOk result (λ brought. IsAnswered (Head held) bytes.now brought.items.items brought.stage) }
-    ensures fault { IfErr result (λ fault. fault ≢ NoMemory → IsRefused (Head held) bytes.now fault) }
+    ensures brings { IfOk result (λ brought. GivesItems (Head held) bytes.now brought.items.items brought.stage) }
+    ensures fault { IfErr result (λ fault. fault ≢ NoMemory → IsRefusedPull (Head held) bytes.now fault) }
 {
     blocks_are_the_data();
     let seen = held.bytes.len();

@@ -1,13 +1,13 @@
 -- Laws of transcripts.
 use Rattle.std.proofs.Common.{◌≡◌, ℕ, ◌+◌, inl, inr, List, [], ◌∷◌, ◌++◌, Option, None, Some, Result, Ok, Err, refl, sym, ap, ◌∙◌, subst}
 use Rattle.std.specs.Io.{StartsWith}
-use Rattle.radio_deliveries.specs.declared.delivery.Delivery.{Delivery}
-use Rattle.radio_deliveries.specs.declared.faults.PlayFault.{PlayFault}
-use Rattle.radio_script.specs.Script.{lines_of, meaning_of, deliveries_from, fault_or, fault_from}
+use Rattle.radio_script.specs.declared.delivery.Delivery.{Delivery}
+use Rattle.radio_script.specs.declared.faults.PlayFault.{PlayFault}
+use Rattle.radio_script.specs.Script.{script_lines, meaning_of, deliveries_from, fault_or, fault_from}
 use Rattle.radio_script.specs.Runs.{Conduct, Runs}
-use Rattle.radio_script.specs.Transcripts.{first_fault}
+use Rattle.radio_script.specs.Transcripts.{run_fault}
 use Rattle.radio_script.specs.Laws.{IsDetermined, HasOneTranscript, GoesOnAsItBegan}
-use Rattle.radio_script.proofs.FeedLemmas.{lines_of-append}
+use Rattle.radio_script.proofs.FeedLemmas.{script_lines-append}
 
 -- two runs of the same deliveries are one
 runs_once : {P : Type 0} (performs : Conduct P) → IsDetermined performs
@@ -32,7 +32,7 @@ runs_once {P} performs once old number (delivery ∷ deliveries) text other stop
 pub one_transcript : {P : Type 0} (performs : Conduct P) → IsDetermined performs → HasOneTranscript performs
 one_transcript performs once old number lines text other fault failure new next s t =
     let same = runs_once performs once old number (deliveries_from number lines) text other s.stop t.stop new next s.run t.run in
-    (same.0, s.ends ∙ ap (λ x. first_fault x (fault_from number lines)) same.1 ∙ sym t.ends, same.2)
+    (same.0, s.ends ∙ ap (λ x. run_fault x (fault_from number lines)) same.1 ∙ sym t.ends, same.2)
 
 StartsWith-append : (xs ys zs : List ℕ) → StartsWith ys zs → StartsWith (xs ++ ys) (xs ++ zs)
 StartsWith-append [] ys zs h = h
@@ -56,7 +56,7 @@ runs_on {P} performs once old number (delivery ∷ deliveries) more text whole s
     subst (λ x. StartsWith x text) (sym (b.parts ∙ ap (λ x. x ++ b.rest) firsts))
     (subst (λ x. StartsWith (a.first ++ b.rest) x) (sym a.parts) both)
 
-no_fault : (stop : Option ℕ) (fault : Option PlayFault) → None ≡ first_fault stop fault → (stop ≡ None) × (fault ≡ None)
+no_fault : (stop : Option ℕ) (fault : Option PlayFault) → None ≡ run_fault stop fault → (stop ≡ None) × (fault ≡ None)
 no_fault None fault e = (refl, sym e)
 no_fault (Some number) fault e = cc
 
@@ -80,9 +80,9 @@ delivers_more number (line ∷ lines) more none =
 
 pub goes_on_as_it_began : {P : Type 0} (performs : Conduct P) → IsDetermined performs → GoesOnAsItBegan performs
 goes_on_as_it_began performs once old number lines rest text whole fault between new h s t =
-    let sound = no_fault s.stop (fault_from number (lines_of lines)) s.ends in
-    let more = delivers_more number (lines_of lines) (lines_of rest) sound.1 in
-    let split = ap (λ ls. deliveries_from number ls) (lines_of-append lines rest h) ∙ more.is in
-    runs_on performs once old number (deliveries_from number (lines_of lines)) more.rest text whole t.stop between new
-    (subst (λ x. Runs performs old number (deliveries_from number (lines_of lines)) text x between) sound.0 s.run)
+    let sound = no_fault s.stop (fault_from number (script_lines lines)) s.ends in
+    let more = delivers_more number (script_lines lines) (script_lines rest) sound.1 in
+    let split = ap (λ ls. deliveries_from number ls) (script_lines-append lines rest h) ∙ more.is in
+    runs_on performs once old number (deliveries_from number (script_lines lines)) more.rest text whole t.stop between new
+    (subst (λ x. Runs performs old number (deliveries_from number (script_lines lines)) text x between) sound.0 s.run)
     (subst (λ ds. Runs performs old number ds whole t.stop new) split t.run)

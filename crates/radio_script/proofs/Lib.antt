@@ -1,3 +1,7 @@
+mod EscapeLemmas
+pub mod DeviceLemmas
+mod SpellingLemmas
+mod LineReadings
 mod FeedLemmas
 mod TranscriptLemmas
 mod LinePlays

@@ -6,17 +6,17 @@ use Rattle.std.proofs.lemmas.List.{length-take, take_min}
 use Rattle.std.specs.Io.{StartsWith}
 use Rattle.std.specs.Io.KnownBytes.{Appends, Consumes, IsAtEnd}
 use Rattle.std.proofs.KnownBytes.{Appends-nil}
-use Rattle.radio_deliveries.specs.Limits.{max_line, max_lines}
-use Rattle.radio_deliveries.specs.declared.faults.PlayFault.{PlayFault}
-use Rattle.radio_deliveries.specs.declared.faults.PlayFault.TheVariants.{Read, Write, Line, TooMuch, OutOfMemory}
-use Rattle.radio_deliveries.specs.declared.reading.LineRead.TheVariants.{Whole, Last, Nothing, TooLong}
-use Rattle.radio_deliveries.specs.Feeds.{has_feed}
-use Rattle.radio_deliveries.specs.Reading.{ReadsLine}
-use Rattle.radio_script.specs.Script.{lines_of}
+use Rattle.radio_script.specs.Limits.{max_line, max_lines}
+use Rattle.radio_script.specs.declared.faults.PlayFault.{PlayFault}
+use Rattle.radio_script.specs.declared.faults.PlayFault.TheVariants.{Read, Write, Line, TooMuch, OutOfMemory}
+use Rattle.radio_script.specs.declared.reading.LineRead.TheVariants.{Whole, Last, Nothing, TooLong}
+use Rattle.radio_script.specs.Feeds.{has_feed}
+use Rattle.radio_script.specs.Reading.{ReadsLine}
+use Rattle.radio_script.specs.Script.{script_lines}
 use Rattle.radio_script.specs.Runs.{Conduct}
 use Rattle.radio_script.specs.Plays.{IfKnown, Writes, IsPlayed, IsPlayedBefore, Plays}
-use Rattle.radio_script.specs.Answers.{IsAnswered, IsAtFault, IsPerformed, AnswersLine, PlaysLine}
-use Rattle.radio_script.proofs.FeedLemmas.{lines_of-line, lines_of-last, lines_of-long, IsOneLine-no_feed, IsOneLine-push}
+use Rattle.radio_script.specs.Answers.{YieldsText, IsAtFault, AnswersLine, PlaysLine, IsLineResult}
+use Rattle.radio_script.proofs.FeedLemmas.{script_lines-line, script_lines-last, script_lines-long, IsOneLine-no_feed, IsOneLine-push}
 use Rattle.radio_script.proofs.TranscriptLemmas.{no_lines, answered_last, at_fault, too_much}
 
 too_long : (a : Bool) (n : ℕ) → max_line < n → (a || nat_lt max_line n) ≡ true
@@ -48,7 +48,7 @@ known_at_end (Some script) (Some left) bytes Q c e q =
 
 -- a line that was not performed: nothing is written
 pub unwritten : {P : Type 0} (performs : Conduct P) (p : P) (number : ℕ) (line text : List ℕ) (fault : PlayFault) (q : P)
-    → IsPerformed performs p number line (Err fault) text q → AnswersLine performs p number line (Err fault) [] 0 q
+    → IsLineResult performs p number line (Err fault) text q → AnswersLine performs p number line (Err fault) [] 0 q
 unwritten performs p number line text Read q h = absurd h
 unwritten performs p number line text Write q h = absurd h
 unwritten performs p number line text (Line n) q h = (h, refl, refl)
@@ -61,7 +61,7 @@ front_starts n text = ap (λ k. take k text) (length-take n text) ∙ take_min n
 
 -- a line that was performed, whose text was written whole
 pub written_whole : {P : Type 0} (performs : Conduct P) (p : P) (number : ℕ) (line text bytes : List ℕ) (q : P) (a b : Option (List ℕ)) (m n : ℕ)
-    → bytes ≡ text → IsPerformed performs p number line (Ok tt) text q → Appends a b bytes → n ≤ m + length bytes
+    → bytes ≡ text → IsLineResult performs p number line (Ok tt) text q → Appends a b bytes → n ≤ m + length bytes
     → Writes a b m n (λ written most_calls. AnswersLine performs p number line (Ok tt) written most_calls q)
 written_whole performs p number line text bytes q a b m n e performed appends called =
     record {
@@ -69,12 +69,12 @@ written_whole performs p number line text bytes q a b m n e performed appends ca
       most_calls = length bytes;
       appends = appends;
       called = called;
-      holds = (subst (λ t. IsAnswered performs p number line t q) (sym e) performed, omega arith);
+      holds = (subst (λ t. YieldsText performs p number line t q) (sym e) performed, omega arith);
     }
 
 -- and one whose text was written in part
 pub written_in_part : {P : Type 0} (performs : Conduct P) (p : P) (number : ℕ) (line text bytes : List ℕ) (q : P) (a b : Option (List ℕ)) (m n : ℕ)
-    → bytes ≡ text → IsPerformed performs p number line (Ok tt) text q → ((k : ℕ) × Appends a b (take k bytes)) → n ≤ m + length bytes
+    → bytes ≡ text → IsLineResult performs p number line (Ok tt) text q → ((k : ℕ) × Appends a b (take k bytes)) → n ≤ m + length bytes
     → Writes a b m n (λ written most_calls. AnswersLine performs p number line (Err Write) written most_calls q)
 written_in_part performs p number line text bytes q a b m n e performed front called =
     record {
@@ -84,7 +84,7 @@ written_in_part performs p number line text bytes q a b m n e performed front ca
       called = called;
       holds = record {
         text = bytes;
-        answer = subst (λ t. IsAnswered performs p number line t q) (sym e) performed;
+        answer = subst (λ t. YieldsText performs p number line t q) (sym e) performed;
         front = front_starts front.0 bytes;
         in_calls = omega arith;
       };
@@ -105,7 +105,7 @@ none_before performs p number script written most_calls h =
 long_part : {P : Type 0} (performs : Conduct P) (p : P) (number : ℕ) (part left : List ℕ) → has_feed part ≡ false → max_line < length part
     → Plays performs p number (part ++ left) left (Err TooMuch) [] 0 p
 long_part performs p number part left one long =
-    let first = lines_of-long part left one (omega arith) in
+    let first = script_lines-long part left one (omega arith) in
     let over : (nat_lt max_lines number || nat_lt max_line (length (part ++ first.more))) ≡ true =
     too_long (nat_lt max_lines number) (length (part ++ first.more)) (omega (arith, length-append part first.more)) in
     record {
@@ -116,7 +116,7 @@ long_part performs p number part left one long =
 -- Plays, where nothing of the line was answered.
 pub refused_at_once : {P : Type 0} (performs : Conduct P) (p : P) (number : ℕ) (line : List ℕ) (lines : List (List ℕ)) (script written : List ℕ)
     (most_calls : ℕ) (fault : PlayFault) (q : P)
-    → lines_of script ≡ line ∷ lines → IsAtFault performs p number line fault q → (written ≡ []) × (most_calls ≡ 0)
+    → script_lines script ≡ line ∷ lines → IsAtFault performs p number line fault q → (written ≡ []) × (most_calls ≡ 0)
     → IsPlayed performs p number script (Some fault) written most_calls q
 refused_at_once performs p number line lines script written most_calls fault q e h nothing =
     record {
@@ -126,10 +126,10 @@ refused_at_once performs p number line lines script written most_calls fault q e
 
 -- the last line, answered
 pub last_answered : {P : Type 0} (performs : Conduct P) (p : P) (number : ℕ) (line written : List ℕ) (most_calls : ℕ) (q : P)
-    → has_feed line ≡ false → 0 < length line → IsAnswered performs p number line written q × (most_calls ≤ length written)
+    → has_feed line ≡ false → 0 < length line → YieldsText performs p number line written q × (most_calls ≤ length written)
     → Plays performs p number line [] (Ok tt) written most_calls q
 last_answered performs p number line written most_calls q one some h =
-    (refl, record { transcript = rw (lines_of-last line one some) (answered_last performs p number line written q h.0); in_calls = h.1 })
+    (refl, record { transcript = rw (script_lines-last line one some) (answered_last performs p number line written q h.0); in_calls = h.1 })
 
 -- the last line, not answered whole
 pub last_failed : {P : Type 0} (performs : Conduct P) (p : P) (number : ℕ) (line written : List ℕ) (most_calls : ℕ) (fault : PlayFault) (q : P)
@@ -148,13 +148,13 @@ last_failed performs p number line written most_calls Write q one some h =
       text = h.text;
       front = written;
       answered = no_lines performs p number;
-      transcript = rw (lines_of-last line one some) (answered_last performs p number line h.text q h.answer);
+      transcript = rw (script_lines-last line one some) (answered_last performs p number line h.text q h.answer);
       cut = h.front;
       is_written = refl;
       in_calls = h.in_calls;
     }
 last_failed performs p number line written most_calls (Line n) q one some h =
-    refused_at_once performs p number line [] line written most_calls (Line n) q (lines_of-last line one some) h.0 (h.1, h.2)
+    refused_at_once performs p number line [] line written most_calls (Line n) q (script_lines-last line one some) h.0 (h.1, h.2)
 last_failed performs p number line written most_calls TooMuch q one some h = absurd h
 last_failed performs p number line written most_calls OutOfMemory q one some h = (
   line,
@@ -180,13 +180,13 @@ whole_failed performs p number line left written most_calls Write q one h =
       text = h.text;
       front = written;
       answered = no_lines performs p number;
-      transcript = rw (lines_of-line line [] one) (answered_last performs p number line h.text q h.answer);
+      transcript = rw (script_lines-line line [] one) (answered_last performs p number line h.text q h.answer);
       cut = h.front;
       is_written = refl;
       in_calls = h.in_calls;
     }
 whole_failed performs p number line left written most_calls (Line n) q one h =
-    refused_at_once performs p number line (lines_of left) (line ++ 10 ∷ left) written most_calls (Line n) q (lines_of-line line left one) h.0 (h.1, h.2)
+    refused_at_once performs p number line (script_lines left) (line ++ 10 ∷ left) written most_calls (Line n) q (script_lines-line line left one) h.0 (h.1, h.2)
 whole_failed performs p number line left written most_calls TooMuch q one h = absurd h
 whole_failed performs p number line left written most_calls OutOfMemory q one h = (
   line ++ 10 ∷ [],

@@ -1,6 +1,6 @@
 -- How a run goes on, delivery after delivery.
 use Rattle.std.proofs.Common.{ℕ, ◌+◌, inl, inr, List, [], ◌∷◌, ◌++◌, Option, None, Some, refl, sym, subst, append-nil, append_assoc}
-use Rattle.radio_deliveries.specs.declared.delivery.Delivery.{Delivery}
+use Rattle.radio_script.specs.declared.delivery.Delivery.{Delivery}
 use Rattle.radio_script.specs.Runs.{Conduct, Runs}
 
 -- What the deliveries left come to from the performer new is what all come to from old, behind the text so far.

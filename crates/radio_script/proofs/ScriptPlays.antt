@@ -3,15 +3,15 @@ use Rattle.std.proofs.Common.{◌≡◌, ◌≢◌, ℕ, ◌+◌, ◌≤◌, ◌
 use Rattle.std.proofs.Common.{subst, arith, append_assoc, length-append, nat_lt, ◌||◌}
 use Rattle.std.proofs.lemmas.Bool.Decides.{nat_tests}
 use Rattle.std.proofs.KnownBytes.{Appends-trans}
-use Rattle.radio_deliveries.specs.Limits.{max_line, max_lines}
-use Rattle.radio_deliveries.specs.declared.faults.PlayFault.{PlayFault}
-use Rattle.radio_deliveries.specs.declared.faults.PlayFault.TheVariants.{Read, Write, Line, TooMuch, OutOfMemory}
-use Rattle.radio_script.specs.Script.{lines_of}
+use Rattle.radio_script.specs.Limits.{max_line, max_lines}
+use Rattle.radio_script.specs.declared.faults.PlayFault.{PlayFault}
+use Rattle.radio_script.specs.declared.faults.PlayFault.TheVariants.{Read, Write, Line, TooMuch, OutOfMemory}
+use Rattle.radio_script.specs.Script.{script_lines}
 use Rattle.radio_script.specs.Runs.{Conduct}
 use Rattle.radio_script.specs.Transcripts.{IsTranscript}
 use Rattle.radio_script.specs.Plays.{EndsThere, IfKnown, Writes, IsLines, IsPlayed, IsPlayedBefore, IsCutOff, Plays}
 use Rattle.radio_script.specs.Answers.{IsLinePlayed, PlaysLine}
-use Rattle.radio_script.proofs.FeedLemmas.{lines_of-line, lines_of-cons, IsLines-push, IsLines-append}
+use Rattle.radio_script.proofs.FeedLemmas.{script_lines-line, script_lines-cons, IsLines-push, IsLines-append}
 use Rattle.radio_script.proofs.TranscriptLemmas.{no_lines, answered, too_much}
 use Rattle.radio_script.proofs.LinePlays.{writes_nothing, before_all}
 
@@ -23,8 +23,8 @@ pub record Leads {P : Type 0} (performs : Conduct P) (old : P) (first : ℕ) (sc
   pub parts : script ≡ front ++ left
   pub whole : IsLines front
   pub in_calls : most_calls ≤ length written
-  pub leads : (tail text : List ℕ) (fault : Option PlayFault) (last : P) → IsTranscript performs new number (lines_of tail) text fault last
-      → IsTranscript performs old first (lines_of (front ++ tail)) (written ++ text) fault last
+  pub leads : (tail text : List ℕ) (fault : Option PlayFault) (last : P) → IsTranscript performs new number (script_lines tail) text fault last
+      → IsTranscript performs old first (script_lines (front ++ tail)) (written ++ text) fault last
 
 -- before the first line
 pub Leads-none : {P : Type 0} (performs : Conduct P) (p : P) (first : ℕ) (script : List ℕ) → Leads performs p first script p first script [] 0
@@ -44,13 +44,13 @@ Leads-more performs old first script new number before written most_calls left m
       whole = IsLines-append l.front (line ++ 10 ∷ []) l.whole (IsLines-push line);
       in_calls = omega (arith, l.in_calls, p.in_calls, length-append written more);
       leads = λ tail text fault last t.
-          let here = subst (λ x. IsTranscript performs new number x (more ++ text) fault last) (sym (lines_of-line line tail p.one_line))
-          (answered performs new number line more next (lines_of tail) text fault last p.answer t) in
+          let here = subst (λ x. IsTranscript performs new number x (more ++ text) fault last) (sym (script_lines-line line tail p.one_line))
+          (answered performs new number line more next (script_lines tail) text fault last p.answer t) in
           let all = l.leads (line ++ 10 ∷ tail) (more ++ text) fault last here in
           let regrouped : l.front ++ (line ++ 10 ∷ tail) ≡ l.front ++ (line ++ 10 ∷ []) ++ tail =
           ap (λ x. l.front ++ x) (sym (append_assoc line (10 ∷ []) tail)) ∙ sym (append_assoc l.front (line ++ 10 ∷ []) tail) in
-          subst (λ x. IsTranscript performs old first (lines_of x) (written ++ more ++ text) fault last) regrouped
-          (subst (λ x. IsTranscript performs old first (lines_of (l.front ++ (line ++ 10 ∷ tail))) x fault last) (sym (append_assoc written more text)) all);
+          subst (λ x. IsTranscript performs old first (script_lines x) (written ++ more ++ text) fault last) regrouped
+          (subst (λ x. IsTranscript performs old first (script_lines (l.front ++ (line ++ 10 ∷ tail))) x fault last) (sym (append_assoc written more text)) all);
     }
 
 -- what was played behind the lines so far, from the first line on
@@ -60,7 +60,7 @@ played : {P : Type 0} (performs : Conduct P) (old : P) (first : ℕ) (script : L
     → IsPlayed performs old first script fault (written ++ more) (most_calls + more_calls) last
 played performs old first script new number before written most_calls more more_calls fault last l p =
     record {
-      transcript = subst (λ x. IsTranscript performs old first (lines_of x) (written ++ more) fault last) (sym l.parts)
+      transcript = subst (λ x. IsTranscript performs old first (script_lines x) (written ++ more) fault last) (sym l.parts)
           (l.leads before more fault last p.transcript);
       in_calls = omega (arith, l.in_calls, p.in_calls, length-append written more);
     }
@@ -98,9 +98,9 @@ cut_off performs old first script new number before written most_calls left more
       text = p.text;
       front = p.front;
       answered = l.leads p.lines p.before None p.between p.answered;
-      transcript = subst (λ x. IsTranscript performs old first (lines_of x) (written ++ p.before ++ p.text) None last)
+      transcript = subst (λ x. IsTranscript performs old first (script_lines x) (written ++ p.before ++ p.text) None last)
           (sym (append_assoc l.front p.lines p.line))
-          (subst (λ x. IsTranscript performs old first (lines_of (l.front ++ (p.lines ++ p.line))) x None last)
+          (subst (λ x. IsTranscript performs old first (script_lines (l.front ++ (p.lines ++ p.line))) x None last)
           (sym (append_assoc written p.before p.text)) all);
       cut = p.cut;
       is_written = ap (λ x. written ++ x) p.is_written ∙ sym (append_assoc written p.before p.front);
@@ -202,7 +202,7 @@ looked : {P : Type 0} (performs : Conduct P) (p : P) (number : ℕ) (before left
 looked performs p number before left (Ok u) over h = (
   h.1,
   record {
-    transcript = subst (λ x. IsTranscript performs p number (lines_of x) [] None p) (sym h.0)
+    transcript = subst (λ x. IsTranscript performs p number (script_lines x) [] None p) (sym h.0)
         (no_lines performs p number);
     in_calls = omega arith;
   },
@@ -212,10 +212,10 @@ looked performs p number before left (Err Read) over h =
 looked performs p number before left (Err Write) over h = absurd h
 looked performs p number before left (Err (Line n)) over h = absurd h
 looked performs p number before left (Err TooMuch) over h =
-    let first = lines_of-cons h.0 left in
+    let first = script_lines-cons h.0 left in
     let past : (nat_lt max_lines number || nat_lt max_line (length first.line)) ≡ true = past_last number (nat_lt max_line (length first.line)) over in
     record {
-      transcript = subst (λ x. IsTranscript performs p number (lines_of x) [] (Some TooMuch) p) (sym h.1)
+      transcript = subst (λ x. IsTranscript performs p number (script_lines x) [] (Some TooMuch) p) (sym h.1)
           (rw first.is (too_much performs p number first.line first.others past));
       in_calls = omega arith;
     }

@@ -1,9 +1,9 @@
 -- A run of one performer is a run of another that does the same.
 use Rattle.std.proofs.Common.{ℕ, ◌+◌, List, [], ◌∷◌, ◌++◌, Option, None, Some, Result, Ok, Err, inl, inr, refl, sym, subst}
-use Rattle.radio_deliveries.specs.declared.delivery.Delivery.{Delivery}
-use Rattle.radio_deliveries.specs.declared.faults.PlayFault.{PlayFault}
-use Rattle.radio_deliveries.specs.declared.faults.PlayFault.TheVariants.{Read, Write, Line, TooMuch, OutOfMemory}
-use Rattle.radio_script.specs.Script.{lines_of, deliveries_from}
+use Rattle.radio_script.specs.declared.delivery.Delivery.{Delivery}
+use Rattle.radio_script.specs.declared.faults.PlayFault.{PlayFault}
+use Rattle.radio_script.specs.declared.faults.PlayFault.TheVariants.{Read, Write, Line, TooMuch, OutOfMemory}
+use Rattle.radio_script.specs.Script.{script_lines, deliveries_from}
 use Rattle.radio_script.specs.Runs.{Conduct, Runs}
 use Rattle.radio_script.specs.Transcripts.{IsTranscript}
 use Rattle.radio_script.specs.Plays.{Plays, IsPlayed, IsPlayedBefore}
@@ -31,7 +31,7 @@ module _ {P Q : Type 0} (C : Conduct P) (D : Conduct Q) (Same : P → Q → Type
   played : (p p' : P) (q : Q) (number : ℕ) (script : List ℕ) (fault : Option PlayFault) (written : List ℕ) (most_calls : ℕ) → Same p q
       → IsPlayed C p number script fault written most_calls p' → (q' : Q) × IsPlayed D q number script fault written most_calls q'
   played p p' q number script fault written most_calls same h =
-      let t = transcripts p p' q number (lines_of script) written fault same h.transcript in
+      let t = transcripts p p' q number (script_lines script) written fault same h.transcript in
       (t.0, record { transcript = t.1; in_calls = h.in_calls })
 
   played_before : (p p' : P) (q : Q) (number : ℕ) (script rest written : List ℕ) (most_calls : ℕ) → Same p q
@@ -50,8 +50,8 @@ module _ {P Q : Type 0} (C : Conduct P) (D : Conduct Q) (Same : P → Q → Type
       let t = played_before p p' q number script (h.0 ++ left) written most_calls same h.2 in
       (t.0, (h.0, h.1, t.1))
   plays p p' q number script left (Err Write) written most_calls same h =
-      let a = transcripts p h.between q number (lines_of h.lines) h.before None same h.answered in
-      let t = transcripts p p' q number (lines_of (h.lines ++ h.line)) (h.before ++ h.text) None same h.transcript in (
+      let a = transcripts p h.between q number (script_lines h.lines) h.before None same h.answered in
+      let t = transcripts p p' q number (script_lines (h.lines ++ h.line)) (h.before ++ h.text) None same h.transcript in (
         t.0,
         record {
           lines = h.lines;

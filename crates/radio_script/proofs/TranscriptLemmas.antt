@@ -1,12 +1,12 @@
 -- Transcripts, line by line.
 use Rattle.std.proofs.Common.{◌≡◌, ℕ, ◌+◌, inl, inr, true, nat_lt, ◌||◌, List, [], ◌∷◌, ◌++◌, length, Option, None, Some, Err, refl, sym, ap, subst, append-nil}
-use Rattle.radio_deliveries.specs.Limits.{max_line, max_lines}
-use Rattle.radio_deliveries.specs.declared.faults.PlayFault.{PlayFault}
-use Rattle.radio_deliveries.specs.declared.faults.PlayFault.TheVariants.{TooMuch}
+use Rattle.radio_script.specs.Limits.{max_line, max_lines}
+use Rattle.radio_script.specs.declared.faults.PlayFault.{PlayFault}
+use Rattle.radio_script.specs.declared.faults.PlayFault.TheVariants.{TooMuch}
 use Rattle.radio_script.specs.Script.{meaning_of, onto_delivery, deliveries_from, fault_or, fault_from}
 use Rattle.radio_script.specs.Runs.{Conduct, Runs}
-use Rattle.radio_script.specs.Transcripts.{first_fault, IsTranscript}
-use Rattle.radio_script.specs.Answers.{IsAnswered, IsAtFault}
+use Rattle.radio_script.specs.Transcripts.{run_fault, IsTranscript}
+use Rattle.radio_script.specs.Answers.{YieldsText, IsAtFault}
 
 -- no line comes to no text
 pub no_lines : {P : Type 0} (performs : Conduct P) (p : P) (number : ℕ) → IsTranscript performs p number [] [] None p
@@ -15,14 +15,14 @@ no_lines performs p number = record { stop = None; run = (refl, refl, refl); end
 -- A line that is answered, and then the lines behind it.
 pub answered : {P : Type 0} (performs : Conduct P) (p : P) (number : ℕ) (line first : List ℕ) (between : P) (lines : List (List ℕ)) (rest : List ℕ)
     (fault : Option PlayFault) (q : P)
-    → IsAnswered performs p number line first between → IsTranscript performs between (number + 1) lines rest fault q
+    → YieldsText performs p number line first between → IsTranscript performs between (number + 1) lines rest fault q
     → IsTranscript performs p number (line ∷ lines) (first ++ rest) fault q
 answered performs p number line first between lines rest fault q a t =
     record {
       stop = t.stop;
       run = subst (λ m. Runs performs p number (onto_delivery m (deliveries_from (number + 1) lines)) (first ++ rest) t.stop q) (sym a.means)
           (inr (record { first = first; rest = rest; between = between; performed = a.performed; parts = refl; others = t.run }));
-      ends = subst (λ m. fault ≡ first_fault t.stop (fault_or m (fault_from (number + 1) lines))) (sym a.means) t.ends;
+      ends = subst (λ m. fault ≡ run_fault t.stop (fault_or m (fault_from (number + 1) lines))) (sym a.means) t.ends;
     }
 
 -- A line that is at fault: nothing behind it is played.
@@ -32,7 +32,7 @@ at_fault performs p number line lines fault q (inl m) =
     record {
       stop = None;
       run = subst (λ x. Runs performs p number (onto_delivery x (deliveries_from (number + 1) lines)) [] None q) (sym m.means) (refl, refl, m.unchanged);
-      ends = subst (λ x. Some fault ≡ first_fault None (fault_or x (fault_from (number + 1) lines))) (sym m.means) refl;
+      ends = subst (λ x. Some fault ≡ run_fault None (fault_or x (fault_from (number + 1) lines))) (sym m.means) refl;
     }
 at_fault performs p number line lines fault q (inr s) =
     record {
@@ -44,7 +44,7 @@ at_fault performs p number line lines fault q (inr s) =
 
 -- the last line, answered
 pub answered_last : {P : Type 0} (performs : Conduct P) (p : P) (number : ℕ) (line text : List ℕ) (q : P)
-    → IsAnswered performs p number line text q → IsTranscript performs p number (line ∷ []) text None q
+    → YieldsText performs p number line text q → IsTranscript performs p number (line ∷ []) text None q
 answered_last performs p number line text q a =
     subst (λ t. IsTranscript performs p number (line ∷ []) t None q) (append-nil text)
     (answered performs p number line text q [] [] None q a (no_lines performs q (number + 1)))

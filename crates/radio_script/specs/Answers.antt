@@ -1,10 +1,10 @@
 -- What the answering of one line does.
 use Rattle.std.specs.Prelude.{ℕ, ◌≡◌, ◌≤◌, ◌⊎◌, Bool, true, false, List, [], ◌∷◌, ◌++◌, length, None, Some, Result, Ok, Err, ⊤}
 use Rattle.std.specs.Io.{StartsWith}
-use Rattle.radio_deliveries.specs.declared.delivery.Delivery.{Delivery}
-use Rattle.radio_deliveries.specs.declared.faults.PlayFault.{PlayFault}
-use Rattle.radio_deliveries.specs.declared.faults.PlayFault.TheVariants.{Write, Line, OutOfMemory}
-use Rattle.radio_deliveries.specs.Feeds.{has_feed}
+use Rattle.radio_script.specs.declared.delivery.Delivery.{Delivery}
+use Rattle.radio_script.specs.declared.faults.PlayFault.{PlayFault}
+use Rattle.radio_script.specs.declared.faults.PlayFault.TheVariants.{Write, Line, OutOfMemory}
+use Rattle.radio_script.specs.Feeds.{has_feed}
 use Rattle.radio_script.specs.Script.{meaning_of}
 use Rattle.radio_script.specs.Runs.{Conduct}
 use Rattle.radio_script.specs.Plays.{Plays}
@@ -12,7 +12,7 @@ use Rattle.radio_script.specs.Plays.{Plays}
 -- The line of this number is answered by the performer old.
 module _ {P : Type 0} (performs : Conduct P) (old : P) (number : ℕ) where
   -- The line is a delivery, which yields this text.
-  pub record IsAnswered (line text : List ℕ) (new : P) : Type 0 where
+  pub record YieldsText (line text : List ℕ) (new : P) : Type 0 where
     pub delivery : Delivery
     pub means : meaning_of number line ≡ Ok delivery
     pub performed : performs old delivery (Some text) new
@@ -34,22 +34,22 @@ module _ {P : Type 0} (performs : Conduct P) (old : P) (number : ℕ) where
   IsAtFault line fault new = IsMeaningless line fault new ⊎ IsStopped line fault new
 
   -- The line was performed, with this text for its transcript, or it was not.
-  abbrev pub IsPerformed : List ℕ → Result (Unit {0}) PlayFault → List ℕ → P → Type 0
-  IsPerformed line (Ok done) text new = IsAnswered line text new
-  IsPerformed line (Err (Line here)) text new = IsAtFault line (Line here) new
-  IsPerformed line (Err OutOfMemory) text new = ⊤
-  IsPerformed line (Err fault) text new = ⊥
+  abbrev pub IsLineResult : List ℕ → Result (Unit {0}) PlayFault → List ℕ → P → Type 0
+  IsLineResult line (Ok done) text new = YieldsText line text new
+  IsLineResult line (Err (Line here)) text new = IsAtFault line (Line here) new
+  IsLineResult line (Err OutOfMemory) text new = ⊤
+  IsLineResult line (Err fault) text new = ⊥
 
   -- The text was written as far as it could be, in at most one call for each byte of it.
   pub record IsWrittenInPart (line written : List ℕ) (most_calls : ℕ) (new : P) : Type 0 where
     pub text : List ℕ
-    pub answer : IsAnswered line text new
+    pub answer : YieldsText line text new
     pub front : StartsWith text written
     pub in_calls : most_calls ≤ length text
 
   -- The line was answered, or it was not.
   abbrev pub AnswersLine : List ℕ → Result (Unit {0}) PlayFault → List ℕ → ℕ → P → Type 0
-  AnswersLine line (Ok done) written most_calls new = IsAnswered line written new × (most_calls ≤ length written)
+  AnswersLine line (Ok done) written most_calls new = YieldsText line written new × (most_calls ≤ length written)
   AnswersLine line (Err (Line here)) written most_calls new =
       IsAtFault line (Line here) new × (written ≡ []) × (most_calls ≡ 0)
   AnswersLine line (Err Write) written most_calls new = IsWrittenInPart line written most_calls new
@@ -61,7 +61,7 @@ module _ {P : Type 0} (performs : Conduct P) (old : P) (number : ℕ) where
     pub line : List ℕ
     pub parts : script ≡ line ++ 10 ∷ left
     pub one_line : has_feed line ≡ false
-    pub answer : IsAnswered line written new
+    pub answer : YieldsText line written new
     pub in_calls : most_calls ≤ length written
 
   -- The next line was played and there may be more, or the script was played to its end.

@@ -1,9 +1,9 @@
 -- What holds of every script, whatever its performer.
 use Rattle.std.specs.Prelude.{ℕ, ◌≡◌, List, ◌++◌, Option, None}
 use Rattle.std.specs.Io.{StartsWith}
-use Rattle.radio_deliveries.specs.declared.delivery.Delivery.{Delivery}
-use Rattle.radio_deliveries.specs.declared.faults.PlayFault.{PlayFault}
-use Rattle.radio_script.specs.Script.{lines_of}
+use Rattle.radio_script.specs.declared.delivery.Delivery.{Delivery}
+use Rattle.radio_script.specs.declared.faults.PlayFault.{PlayFault}
+use Rattle.radio_script.specs.Script.{script_lines}
 use Rattle.radio_script.specs.Runs.{Conduct}
 use Rattle.radio_script.specs.Transcripts.{IsTranscript}
 use Rattle.radio_script.specs.Plays.{IsLines}
@@ -28,6 +28,6 @@ abbrev pub GoesOnAsItBegan : {P : Type 0} → Conduct P → Type 0
 GoesOnAsItBegan {P} performs =
     (old : P) (number : ℕ) (lines rest text whole : List ℕ)
     → (fault : Option PlayFault) (between new : P) → IsLines lines
-    → IsTranscript performs old number (lines_of lines) text None between
-    → IsTranscript performs old number (lines_of (lines ++ rest)) whole fault new
+    → IsTranscript performs old number (script_lines lines) text None between
+    → IsTranscript performs old number (script_lines (lines ++ rest)) whole fault new
     → StartsWith whole text

@@ -1,3 +1,15 @@
+pub mod Steps
+pub mod Escapes
+pub mod Spelling
+pub mod Delivery
+pub mod TranscriptLines
+pub mod Feeds
+pub mod Given
+pub mod Words
+pub mod Limits
+pub mod Devices
+pub mod Tally
+pub mod Reading
 pub mod Script
 pub mod Runs
 pub mod Transcripts

@@ -3,10 +3,10 @@ use Rattle.std.specs.Prelude.{ℕ, ◌+◌, ◌≡◌, ◌≤◌, ◌==◌, fals
 use Rattle.std.specs.Bool.{OnTrue}
 use Rattle.std.specs.Io.{StartsWith}
 use Rattle.std.specs.Io.KnownBytes.{Appends}
-use Rattle.radio_deliveries.specs.declared.faults.PlayFault.{PlayFault}
-use Rattle.radio_deliveries.specs.declared.faults.PlayFault.TheVariants.{Read, Write, Line, TooMuch, OutOfMemory}
-use Rattle.radio_deliveries.specs.Feeds.{has_feed}
-use Rattle.radio_script.specs.Script.{lines_of}
+use Rattle.radio_script.specs.declared.faults.PlayFault.{PlayFault}
+use Rattle.radio_script.specs.declared.faults.PlayFault.TheVariants.{Read, Write, Line, TooMuch, OutOfMemory}
+use Rattle.radio_script.specs.Feeds.{has_feed}
+use Rattle.radio_script.specs.Script.{script_lines}
 use Rattle.radio_script.specs.Runs.{Conduct}
 use Rattle.radio_script.specs.Transcripts.{IsTranscript}
 
@@ -41,7 +41,7 @@ module _ {P : Type 0} (performs : Conduct P) (old : P) (number : ℕ) where
   -- What was written is the transcript of the script, up to its first fault, in at most one call
   -- for each byte.
   pub record IsPlayed (script : List ℕ) (fault : Option PlayFault) (written : List ℕ) (most_calls : ℕ) (new : P) : Type 0 where
-    pub transcript : IsTranscript performs old number (lines_of script) written fault new
+    pub transcript : IsTranscript performs old number (script_lines script) written fault new
     pub in_calls : most_calls ≤ length written
 
   -- What was written is the transcript of the whole lines before the rest of the script.
@@ -63,8 +63,8 @@ module _ {P : Type 0} (performs : Conduct P) (old : P) (number : ℕ) where
     pub before : List ℕ
     pub text : List ℕ
     pub front : List ℕ
-    pub answered : IsTranscript performs old number (lines_of lines) before None between
-    pub transcript : IsTranscript performs old number (lines_of (lines ++ line)) (before ++ text) None new
+    pub answered : IsTranscript performs old number (script_lines lines) before None between
+    pub transcript : IsTranscript performs old number (script_lines (lines ++ line)) (before ++ text) None new
     pub cut : StartsWith text front
     pub is_written : written ≡ before ++ front
     pub in_calls : most_calls ≤ length (before ++ text)

@@ -1,6 +1,6 @@
 -- Runs of deliveries.
 use Rattle.std.specs.Prelude.{ℕ, ◌+◌, ◌≡◌, ◌⊎◌, List, [], ◌∷◌, ◌++◌, Option, None, Some}
-use Rattle.radio_deliveries.specs.declared.delivery.Delivery.{Delivery}
+use Rattle.radio_script.specs.declared.delivery.Delivery.{Delivery}
 
 -- What performers do: from one performer, a delivery yields a text, or None if its label is at
 -- fault, and the next performer.
@@ -16,7 +16,7 @@ module _ {P : Type 0} (performs : Conduct P) (old : P) where
     pub here : stop ≡ Some number
 
   -- It yields the first of the text, and the others the rest of it.
-  pub record GoesOn (delivery : Delivery) (text : List ℕ) (Others : P → List ℕ → Type 0) : Type 0 where
+  pub record YieldsFirst (delivery : Delivery) (text : List ℕ) (Others : P → List ℕ → Type 0) : Type 0 where
     pub first : List ℕ
     pub rest : List ℕ
     pub between : P
@@ -30,5 +30,5 @@ abbrev pub Runs : {P : Type 0} → Conduct P → P → ℕ → List Delivery →
 Runs performs old number [] text stop new = (text ≡ []) × (stop ≡ None) × (new ≡ old)
 Runs performs old number (delivery ∷ deliveries) text stop new =
     Stops performs old number delivery text stop new
-    ⊎ GoesOn performs old delivery text
+    ⊎ YieldsFirst performs old delivery text
     (λ between rest. Runs performs between (number + 1) deliveries rest stop new)

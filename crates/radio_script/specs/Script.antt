@@ -1,18 +1,18 @@
 -- Scripts: their lines, and what the lines mean.
 use Rattle.std.specs.Prelude.{ℕ, ◌+◌, ◌==◌, nat_lt, ◌||◌, List, [], ◌∷◌, length, Option, None, Some, Result, Ok, Err, if◌then◌else◌}
 use Rattle.std.specs.Option.{ok_or}
-use Rattle.radio_deliveries.specs.Limits.{max_line, max_lines}
-use Rattle.radio_deliveries.specs.declared.delivery.Delivery.{Delivery}
-use Rattle.radio_deliveries.specs.declared.faults.PlayFault.{PlayFault}
-use Rattle.radio_deliveries.specs.declared.faults.PlayFault.TheVariants.{Line, TooMuch}
-use Rattle.radio_deliveries.specs.Delivery.{delivery_of}
+use Rattle.radio_script.specs.Limits.{max_line, max_lines}
+use Rattle.radio_script.specs.declared.delivery.Delivery.{Delivery}
+use Rattle.radio_script.specs.declared.faults.PlayFault.{PlayFault}
+use Rattle.radio_script.specs.declared.faults.PlayFault.TheVariants.{Line, TooMuch}
+use Rattle.radio_script.specs.Delivery.{delivery_of}
 use Rattle.radio_texts.specs.Cuts.{onto_first}
 
 -- the lines of a script, without their line feeds; the last line may lack its line feed
 -- rule: Line of a script
-abbrev pub lines_of : List ℕ → List (List ℕ)
-lines_of [] = []
-lines_of (b ∷ script) = if b == 10 then [] ∷ lines_of script else onto_first b (lines_of script)
+abbrev pub script_lines : List ℕ → List (List ℕ)
+script_lines [] = []
+script_lines (b ∷ script) = if b == 10 then [] ∷ script_lines script else onto_first b (script_lines script)
 
 -- what the line of that number means: a delivery, or the line's fault
 -- rule: Line of a script

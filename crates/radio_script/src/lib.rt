@@ -1,24 +1,49 @@
-//! Scripts, whoever performs them: from the lines that a script delivers to the lines of its
-//! transcript. It passes on the lines, faults and devices of `radio_deliveries`.
+//! Scripts, whatever performs them: from the lines that a script delivers to the lines of its transcript.
 //!
-//! - Who performs: [`Performer`].
+//! - A line of a script: [`read_delivery`], its bytes read by [`unescape`].
+//! - A line of a transcript: [`push_answer`], its bytes written by [`push_escaped`].
+//! - How large a script may be: [`MAX_LINES`], [`MAX_LINE`].
+//! - Faults: [`PlayFault`] of a script, [`RunFault`] of a list of deliveries, [`PerformFault`] of one.
+//! - Devices, which count their calls and their failures: [`Counted`], [`CountedRead`] and [`CountedWrite`]; a [`Tally`] makes one
+//!   of any reader or writer.
+//! - Reading a line from a device, whatever it says: [`read_line`], and [`next_byte`] for one byte. Writing a text whole to one:
+//!   [`write_whole`].
+//! - What performs deliveries: [`Performer`].
 //! - The loops over deliveries: [`play_with`], from a reader to a writer, and [`run_with`], over a
 //!   list.
-//! - Laws, which run no code: [`scripts_have_one_transcript`] and
-//!   [`transcripts_go_on_as_they_began`].
+//! - Laws, which run no code: [`escapes_read_back`], [`texts_are_spelled`], [`transcripts_are_read_one_way`],
+//!   [`scripts_have_one_transcript`] and [`transcripts_go_on_as_they_began`].
 #![tactic(auto)]
 
+mod delivery;
+mod devices;
+mod escapes;
+mod faults;
 mod laws;
+mod limits;
+mod line_laws;
 mod performer;
 mod playing;
+mod reading;
 mod running;
+mod tally;
+mod transcript_lines;
+mod writing;
 
+pub use delivery::{Delivery, Input, read_delivery};
+pub use devices::{Counted, CountedRead, CountedWrite};
+pub use escapes::{push_escaped, unescape};
+pub use faults::{PerformFault, PlayFault, RunFault};
 pub use laws::{scripts_have_one_transcript, transcripts_go_on_as_they_began};
+pub use limits::{MAX_LINE, MAX_LINES};
+pub use line_laws::{escapes_read_back, texts_are_spelled, transcripts_are_read_one_way};
 pub use performer::Performer;
 pub use playing::play_with;
-pub use radio_deliveries::{
-    Counted, CountedRead, CountedWrite, Delivery, Input, MAX_LINE, MAX_LINES, OutOfMemory,
-    PerformFault, PlayFault, RunFault, Tally, escapes_read_back, push_answer, push_escaped,
-    read_delivery, texts_are_spelled, transcripts_are_read_one_way, unescape,
-};
+pub use reading::{LineRead, next_byte, read_line};
 pub use running::run_with;
+pub use tally::Tally;
+pub use transcript_lines::push_answer;
+pub use writing::write_whole;
+
+/// What a call answers if memory was refused.
+pub type OutOfMemory = std::alloc::AllocError;

@@ -2,7 +2,7 @@
 
 ghost use Rattle.std.specs.Prelude.{◌≡◌, ◌++◌, ℕ, List, Option, None, Some, Err, OnOk};
 
-use radio_deliveries::{Delivery, PerformFault};
+use crate::{Delivery, PerformFault};
 use std::alloc::Global;
 
 /// What performs deliveries, one after another, and gives the result of each.

@@ -1,14 +1,14 @@
 //! Playing a script.
 
 ghost use Rattle.std.specs.Prelude.{◌≡◌, ◌≢◌, ◌+◌, ◌≤◌, ℕ, List, true, Ok, Err, length};
-ghost use Rattle.radio_script.specs.Answers.{AnswersLine, IsPerformed, PlaysLine};
+ghost use Rattle.radio_script.specs.Answers.{AnswersLine, IsLineResult, PlaysLine};
 ghost use Rattle.radio_script.specs.Plays.{EndsThere, IfKnown, Plays, Writes};
-ghost use Rattle.radio_deliveries.specs.Reading.{reader_failures, writer_failures};
-ghost use Rattle.radio_deliveries.specs.Limits.{max_line, max_lines};
+ghost use Rattle.radio_script.specs.Reading.{reader_failures, writer_failures};
+ghost use Rattle.radio_script.specs.Limits.{max_line, max_lines};
 ghost use Rattle.radio_script.specs.Script.{meaning_of};
 
 use crate::performer::Performer;
-use radio_deliveries::{
+use crate::{
     CountedRead, CountedWrite, Delivery, LineRead, MAX_LINES, PerformFault, PlayFault, next_byte,
     read_delivery, read_line, write_whole,
 };
@@ -159,7 +159,7 @@ fn perform_line<P: Performer>(
 ) -> Result<(), PlayFault>
     requires known { number ≤ max_lines }
     requires short { length line.now ≤ max_line }
-    ensures { IsPerformed P.performs performer.old number line.now
+    ensures { IsLineResult P.performs performer.old number line.now
         result text.new.items performer.new }
 {
     match read_delivery(alloc, line) {
@@ -178,7 +178,7 @@ fn perform_delivery<P: Performer>(
     text: &mut Vec<u8>,
 ) -> Result<(), PlayFault>
     ensures { (line : List ℕ) → meaning_of number line ≡ Ok delivery.now
-        → IsPerformed P.performs performer.old number line result text.new.items performer.new }
+        → IsLineResult P.performs performer.old number line result text.new.items performer.new }
 {
     text.clear();
     match performer.perform(alloc, delivery, text) {

@@ -4,7 +4,7 @@ ghost use Rattle.std.specs.Prelude.{◌≡◌, ℕ, List, None, Some, Err, IfOk}
 ghost use Rattle.radio_script.specs.Runs.{Runs};
 
 use crate::performer::Performer;
-use radio_deliveries::{Delivery, PerformFault, RunFault};
+use crate::{Delivery, PerformFault, RunFault};
 use std::alloc::Global;
 
 /// The transcript of the deliveries. It is refused as `Delivery` at the first whose label was not

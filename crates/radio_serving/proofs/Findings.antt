@@ -7,11 +7,11 @@ use Rattle.radio_events.specs.declared.event.Event.TheVariants.{Arrive, Source, 
 use Rattle.radio_events.specs.declared.reply.Reply.{Reply}
 use Rattle.radio_events.specs.declared.reply.Reply.TheVariants.{Arrived, Feeding as SaysFeeding, Seated, Drawn, Noted, Text, Deny, Finished, Stray}
 use Rattle.radio_serving.specs.declared.found.Found.{Found}
-use Rattle.radio_serving.specs.Kinds.{found_after, kind_of}
+use Rattle.radio_serving.specs.Kinds.{found_after, event_kind}
 use Rattle.radio_serving.specs.Laws.{found_after_all, may_be_news}
 
 -- by one of them there is news, or there was before
-once : (event : Event) (reply : Reply) (fed : Bool) (found : Found) → (found_after (kind_of event) reply fed found).has_news ≡ (may_be_news event reply fed || found.has_news)
+once : (event : Event) (reply : Reply) (fed : Bool) (found : Found) → (found_after (event_kind event) reply fed found).has_news ≡ (may_be_news event reply fed || found.has_news)
 once (Arrive peer) reply fed found = refl
 once (Source request) reply fed found = refl
 once (Push id block) reply fed found = refl

@@ -4,7 +4,7 @@ use Rattle.std.specs.List.{position_or_len}
 use Rattle.std.proofs.lemmas.Bool.Decides.{nat_tests}
 use Rattle.std.proofs.lemmas.Grind.{common_steps}
 use Rattle.std.proofs.lemmas.List.Folds.{position_or_len_push}
-use Rattle.radio_serving.specs.Sources.{Feeding, feeds, place_among, with_source, without_place, without_source}
+use Rattle.radio_serving.specs.Sources.{is_source_number, place_among, with_source, without_place, without_source, FeedingClients}
 
 place_last : (id : ℕ) (ns : List ℕ) → is_some (place_among id ns) ≡ false → position_or_len (λ n. n == id) (ns ++ id ∷ []) ≡ length ns
 place_last id [] none = grind (arith, nat_tests, common_steps)
@@ -19,5 +19,5 @@ gone id ns none =
     let place : place_among id (ns ++ id ∷ []) ≡ Some (length ns) = grind (arith, nat_tests, common_steps, place_last id ns none, length-append ns (id ∷ [])) in
     rw place (removed id ns)
 
-pub leavers_gone : (id : ℕ) (before : Feeding) → feeds id before ≡ false → without_source id (with_source id before) ≡ before
+pub leavers_gone : (id : ℕ) (before : FeedingClients) → is_source_number id before ≡ false → without_source id (with_source id before) ≡ before
 leavers_gone id before none = ap (λ (numbers : List ℕ). record before { numbers = numbers }) (gone id before.numbers none)

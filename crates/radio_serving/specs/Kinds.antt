@@ -10,24 +10,24 @@ use Rattle.radio_serving.specs.declared.found.Take.{Take}
 use Rattle.radio_serving.specs.declared.found.Take.TheVariants.{News as TakesNews, All as TakesAll}
 use Rattle.radio_serving.specs.declared.kind.Kind.{Kind}
 use Rattle.radio_serving.specs.declared.kind.Kind.TheVariants.{News, Command, Feeds, Leaves, Own}
-use Rattle.radio_serving.specs.Sources.{Feeding, with_source, blinded, without_source, may_feed}
+use Rattle.radio_serving.specs.Sources.{FeedingClients, with_source, blinded, without_source, may_feed}
 
 -- a block, a title, the end of a source and a relay that goes up or down are news. A command is, if it is done; a source and a leave may
 -- be. All else concerns its client alone
-abbrev pub kind_of : Event → Kind
-kind_of (Push id block) = News
-kind_of (SourceEnd id) = News
-kind_of (Title id text) = News
-kind_of (RelayUp mount shown) = News
-kind_of (RelayDown id) = News
-kind_of (Commands request) = Command
-kind_of (Source request) = Feeds request.id
-kind_of (Leave id) = Leaves id
-kind_of event = Own
+abbrev pub event_kind : Event → Kind
+event_kind (Push id block) = News
+event_kind (SourceEnd id) = News
+event_kind (Title id text) = News
+event_kind (RelayUp mount shown) = News
+event_kind (RelayDown id) = News
+event_kind (Commands request) = Command
+event_kind (Source request) = Feeds request.id
+event_kind (Leave id) = Leaves id
+event_kind event = Own
 
 -- who feeds a mount after an event of this kind had this reply: one more if it began to feed, without it if it has left. If memory
 -- was refused for its number, each may be one
-abbrev pub FeedsAfter : Kind → Reply → Feeding → Feeding → Type 0
+abbrev pub FeedsAfter : Kind → Reply → FeedingClients → FeedingClients → Type 0
 FeedsAfter (Feeds id) SaysFeeding f f' = (f' ≡ with_source id f) ⊎ (f' ≡ blinded f)
 FeedsAfter (Feeds id) reply f f' = f' ≡ f
 FeedsAfter (Leaves id) reply f f' = f' ≡ without_source id f
@@ -56,7 +56,7 @@ found_after (Leaves id) reply fed found = record found { has_news = fed || found
 found_after Own reply fed found = record found { has_more = fills_room reply || found.has_more }
 
 -- whether the client of an event of this kind leaves, and may have fed a mount
-abbrev pub source_leaves : Kind → Feeding → Bool
+abbrev pub source_leaves : Kind → FeedingClients → Bool
 source_leaves (Leaves id) feeding = may_feed id feeding
 source_leaves kind feeding = false
 

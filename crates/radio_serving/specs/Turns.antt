@@ -19,8 +19,8 @@ OpenSessionsHaveNotFailed = (arrival : Arrival) (c : Connection) (entries : List
 -- whether a moment is known to the server: the worker itself gave it one within the last 50 milliseconds, or somebody did, and the worker itself within
 -- the last second
 -- rule: Server time
-abbrev pub is_known : ℕ → ℕ → ℕ → Bool
-is_known ms told own = nat_lt (ms - own) 50 || (nat_lt (ms - told) 50 && nat_lt (ms - own) 1000)
+abbrev pub is_time_known : ℕ → ℕ → ℕ → Bool
+is_time_known ms clock own = nat_lt (ms - own) 50 || (nat_lt (ms - clock) 50 && nat_lt (ms - own) 1000)
 
 module _ {S : Type 0} (steps : Steps S) where
   -- each connection was served, one after another
@@ -39,13 +39,13 @@ module _ {S : Type 0} (steps : Steps S) where
   abbrev pub TicksUnless : Bool → (S → Event → Type 0) → ℕ → WorkerOf S → WorkerOf S → Type 0
   TicksUnless true refuses ms before after = after ≡ before
   TicksUnless false refuses ms before after =
-      ((after.told_ms ≡ ms) × (after.patience_ms ≡ before.patience_ms) × (after.web ≡ before.web) × HasApplied refuses true before.server (Clock ms) after.server)
+      ((after.clock_ms ≡ ms) × (after.patience_ms ≡ before.patience_ms) × (after.web ≡ before.web) × HasApplied refuses true before.server (Clock ms) after.server)
       ⊎ ((after ≡ before) × refuses before.server (Clock ms))
 
   -- the server gets this moment exactly if it is not known, where it was given another
   -- rule: Server time
   abbrev pub Ticks : (S → Event → Type 0) → ℕ → ℕ → WorkerOf S → WorkerOf S → Type 0
-  Ticks refuses ms told before after = TicksUnless (is_known ms told before.told_ms) refuses ms before after
+  Ticks refuses ms clock before after = TicksUnless (is_time_known ms clock before.clock_ms) refuses ms before after
 
   -- A turn: the server gets the time if it is due, each connection is served, and those that are over are closed.
   -- rule: Server time
@@ -53,7 +53,7 @@ module _ {S : Type 0} (steps : Steps S) where
       → Type 0) (turn : Turn) (before : WorkerOf S) (conns : List Connection) (after : WorkerOf S) (conns' : List Connection) : Type 0 where
     pub mid : WorkerOf S
     pub served : List Connection
-    pub ticks : Ticks refuses turn.ms turn.told_ms before mid
-    pub same : (after.told_ms ≡ mid.told_ms) × (after.patience_ms ≡ mid.patience_ms) × (after.web ≡ mid.web)
+    pub ticks : Ticks refuses turn.ms turn.clock_ms before mid
+    pub same : (after.clock_ms ≡ mid.clock_ms) × (after.patience_ms ≡ mid.patience_ms) × (after.web ≡ mid.web)
     pub serves : ServesEach turn.ms mid.patience_ms turn.news mid.server conns after.server served
     pub closes : conns' ≡ filter stays served

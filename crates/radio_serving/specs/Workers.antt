@@ -8,5 +8,5 @@ use Rattle.radio_answers.specs.declared.web_answers.WebAnswers.{WebAnswers}
 pub record WorkerOf (S : Type 0) : Type 0 where
   pub server : S
   pub web : WebAnswers
-  pub told_ms : ℕ
+  pub clock_ms : ℕ
   pub patience_ms : ℕ

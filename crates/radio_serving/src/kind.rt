@@ -1,7 +1,7 @@
 //! What an event may bring to others.
 
 ghost use Rattle.std.specs.Prelude.{◌≡◌};
-ghost use Rattle.radio_serving.specs.Kinds.{kind_of};
+ghost use Rattle.radio_serving.specs.Kinds.{event_kind};
 
 use radio_events::Event;
 
@@ -22,7 +22,7 @@ pub(crate) enum Kind {
 
 /// Returns what an event may bring.
 pub(crate) fn kind_of(event: &Event) -> Kind
-    ensures { result ≡ kind_of event.now }
+    ensures { result ≡ event_kind event.now }
 {
     match event {
         Event::Push { .. } | Event::SourceEnd { .. } | Event::Title { .. } => Kind::News,

@@ -1,6 +1,6 @@
 //! Laws on turns and on what is found in them. Each is a function that does nothing, and its contract is the law.
 
-ghost use Rattle.radio_serving.specs.Laws.{LeaversFeedNoMore, NewsIsFound, TimeIsTold, TimeIsToldByEach};
+ghost use Rattle.radio_serving.specs.Laws.{LeaversFeedNoMore, NewsIsFound, TimeIsGiven, TimeIsGivenByEach};
 ghost use Rattle.radio_serving.specs.Turns.{OpenSessionsHaveNotFailed};
 
 use crate::Server;
@@ -24,9 +24,9 @@ pub fn news_is_found()
 /// A server gets the time each twentieth of a second, as often as workers make turns, and from each of them once a
 /// second.
 // rule: Server time
-pub fn time_is_told<S: Server>()
+pub fn time_is_given<S: Server>()
     // from a worker that knows of no other that gave it in the last twentieth
-    ensures alone { TimeIsTold S.steps S.refuses }
+    ensures alone { TimeIsGiven S.steps S.refuses }
     // and by one that itself did not for a second, whatever it knows of others
-    ensures each { TimeIsToldByEach S.steps S.refuses }
+    ensures each { TimeIsGivenByEach S.steps S.refuses }
 {}

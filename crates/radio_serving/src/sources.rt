@@ -3,14 +3,14 @@
 ghost use Rattle.std.specs.Prelude.{◌≡◌, ◌==◌, length, if◌then◌else◌};
 ghost use Rattle.std.specs.List.{position};
 ghost use Rattle.radio_serving.specs.Kinds.{FeedsAfter, source_leaves};
-ghost use Rattle.radio_serving.specs.Sources.{nobody_feeds, feeds, with_source, blinded, may_feed, without_source};
+ghost use Rattle.radio_serving.specs.Sources.{nobody_feeds, is_source_number, with_source, blinded, may_feed, without_source};
 
 use crate::kind::Kind;
 use radio_events::Reply;
 use std::alloc::Global;
 use std::marker::Model;
 
-/// The clients who feed a mount by what was asked. In contracts they are a `Feeding`.
+/// The clients who feed a mount by what was asked. In contracts they are a `FeedingClients`.
 #[derive(Drop)]
 pub(crate) struct Sources {
     numbers: Vec<u64>,
@@ -19,9 +19,9 @@ pub(crate) struct Sources {
 }
 
 impl Model for Sources {
-    ghost use Rattle.radio_serving.specs.Sources.{Feeding};
+    ghost use Rattle.radio_serving.specs.Sources.{FeedingClients};
 
-    ghost Value = { Feeding };
+    ghost Value = { FeedingClients };
 
     ghost view = { λ s. record { numbers = s.numbers.items; is_blind = s.is_blind } };
 }
@@ -78,7 +78,7 @@ impl Sources {
 
     /// Returns whether the client of this number is one of them, as far as memory was not refused.
     pub(crate) fn has(&self, id: u64) -> bool
-        ensures { result ≡ feeds id self.now }
+        ensures { result ≡ is_source_number id self.now }
     {
         place_of(self.numbers.as_slice(), id).is_some()
     }

@@ -11,5 +11,5 @@ pub struct Turn {
     pub news: bool,
     /// The latest moment that another worker is known to have given the server, in milliseconds; 0 if none
     /// is.
-    pub told_ms: u64,
+    pub clock_ms: u64,
 }

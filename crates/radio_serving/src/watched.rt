@@ -30,7 +30,7 @@ impl<S: Server + Drop> Model for Watched<S> {
 
 impl<S: Server + Drop> Watched<S> {
     ghost use Rattle.std.specs.Prelude.{◌≡◌, length};
-    ghost use Rattle.radio_serving.specs.Sources.{feeds};
+    ghost use Rattle.radio_serving.specs.Sources.{is_source_number};
     ghost use Rattle.radio_serving.specs.Watching.{watched_of};
 
     /// Returns this server, of which nothing was asked yet. It takes no memory.
@@ -54,7 +54,7 @@ impl<S: Server + Drop> Watched<S> {
 
     /// Returns whether the client of this number feeds a mount by what was asked, as far as memory was not refused for its number.
     pub fn feeds(&self, id: u64) -> bool
-        ensures { result ≡ feeds id self.now.feeding }
+        ensures { result ≡ is_source_number id self.now.feeding }
     {
         self.sources.has(id)
     }

@@ -3,7 +3,7 @@
 ghost use Rattle.std.specs.Prelude.{◌≡◌, ◌*◌, IfOk, OnOk, OnErr};
 ghost use Rattle.radio_events.specs.declared.event.Event.TheVariants.{Arrive};
 ghost use Rattle.radio_events.specs.declared.reply.Reply.{Reply};
-ghost use Rattle.radio_serving.specs.Turns.{HasApplied, Ticks, is_known, IsTurn};
+ghost use Rattle.radio_serving.specs.Turns.{HasApplied, Ticks, is_time_known, IsTurn};
 ghost use Rattle.radio_connections.specs.Admission.{IsTakenIn};
 ghost use Rattle.radio_serving.specs.Admission.{IsAdmission, IsTurnedOff};
 
@@ -17,10 +17,10 @@ use std::alloc::Global;
 use std::marker::Model;
 
 /// After how long the server gets the time again, in milliseconds.
-const TELL_AFTER_MS: u64 = 50;
+const TICK_AFTER_MS: u64 = 50;
 
 /// After how long a worker gives the server the time itself, in milliseconds, though others have.
-const TELL_ITSELF_AFTER_MS: u64 = 1000;
+const OWN_TICK_AFTER_MS: u64 = 1000;
 
 /// A worker: the server that it asks, when it last gave that the time, and for how long it keeps a
 /// line that takes nothing. In contracts it is these three.
@@ -29,7 +29,7 @@ pub struct Worker<S: Server + Drop> {
     alloc: Global,
     server: S,
     web: WebAnswers,
-    told_ms: u64,
+    clock_ms: u64,
     patience_ms: u64,
     log: Log,
     workspace: Workspace,
@@ -40,7 +40,7 @@ impl<S: Server + Drop> Model for Worker<S> {
 
     ghost Value = { WorkerOf S };
 
-    ghost view = { λ w. record { server = w.server; web = w.web; told_ms = w.told_ms; patience_ms = w.patience_ms } };
+    ghost view = { λ w. record { server = w.server; web = w.web; clock_ms = w.clock_ms; patience_ms = w.patience_ms } };
 }
 
 impl<S: Server + Drop> Worker<S> {
@@ -49,14 +49,14 @@ impl<S: Server + Drop> Worker<S> {
     pub fn new(alloc: Global, server: S, web: WebAnswers, patience_s: u32) -> Worker<S>
         ensures server { result.server ≡ server }
         ensures web { result.web ≡ web }
-        ensures told { result.told_ms ≡ 0 }
+        ensures clock { result.clock_ms ≡ 0 }
         ensures patience { result.patience_ms ≡ patience_s * 1000 }
     {
         Worker {
             alloc,
             server,
             web,
-            told_ms: 0,
+            clock_ms: 0,
             patience_ms: patience_s as u64 * 1000,
             log: Log::new(alloc),
             workspace: Workspace::new(alloc),
@@ -71,10 +71,10 @@ impl<S: Server + Drop> Worker<S> {
     }
 
     /// Returns when it last gave the server the time, in milliseconds; 0 if it never did.
-    pub fn told_ms(&self) -> u64
-        ensures { result ≡ self.now.told_ms }
+    pub fn clock_ms(&self) -> u64
+        ensures { result ≡ self.now.clock_ms }
     {
-        self.told_ms
+        self.clock_ms
     }
 
     /// Returns the log of what it has served. Its caller takes the lines, and gives it the time.
@@ -105,7 +105,7 @@ impl<S: Server + Drop> Worker<S> {
         ensures ok { OnOk result (IsAdmission S.steps self.old.web peer (L.given line) (L.taken line) self.old.server conns.old.items self.new.server conns.new.items) }
         ensures err { OnErr result (conns.new.items ≡ conns.old.items) }
         ensures nobody { OnErr result (IsTurnedOff S.steps peer self.old.server self.new.server) }
-        ensures told { (self.new.told_ms ≡ self.old.told_ms) × (self.new.patience_ms ≡ self.old.patience_ms) }
+        ensures clock { (self.new.clock_ms ≡ self.old.clock_ms) × (self.new.patience_ms ≡ self.old.patience_ms) }
         ensures web { self.new.web ≡ self.old.web }
     {
         conns.reserve(1)?;
@@ -120,7 +120,7 @@ impl<S: Server + Drop> Worker<S> {
             × IsTakenIn (record { web = self.old.web; peer = peer; reply = reply }) (L.given line) (L.taken line) conn
             × (conn.session.says.web ≡ self.old.web)) }
         ensures nobody { OnErr result (IsTurnedOff S.steps peer self.old.server self.new.server) }
-        ensures told { (self.new.told_ms ≡ self.old.told_ms) × (self.new.patience_ms ≡ self.old.patience_ms) }
+        ensures clock { (self.new.clock_ms ≡ self.old.clock_ms) × (self.new.patience_ms ≡ self.old.patience_ms) }
         ensures web { self.new.web ≡ self.old.web }
     {
         let reply = self.server.apply(Event::Arrive { peer })?;
@@ -135,7 +135,7 @@ impl<S: Server + Drop> Worker<S> {
     pub fn serve_turn<L: Line, G: Gate>(&mut self, conns: &mut Vec<Conn<L>>, gate: &G, turn: Turn)
         ensures { IsTurn S.steps S.refuses turn self.old conns.old.items self.new conns.new.items }
     {
-        self.tick(turn.ms, turn.told_ms);
+        self.tick(turn.ms, turn.clock_ms);
         let now = Now {
             ms: turn.ms,
             patience_ms: self.patience_ms,
@@ -146,28 +146,28 @@ impl<S: Server + Drop> Worker<S> {
         conns.retain(|conn| conn.stays());
     }
 
-    /// Gives the server the time `ms`, unless that is known: another worker is known to have given it `told_ms`.
+    /// Gives the server the time `ms`, unless that is known: another worker is known to have given it `clock_ms`.
     // rule: Server time
-    fn tick(&mut self, ms: u64, told_ms: u64)
-        ensures { Ticks S.steps S.refuses ms told_ms self.old self.new }
+    fn tick(&mut self, ms: u64, clock_ms: u64)
+        ensures { Ticks S.steps S.refuses ms clock_ms self.old self.new }
     {
-        if is_known(ms, told_ms, self.told_ms) {
+        if is_known(ms, clock_ms, self.clock_ms) {
             return;
         }
         if apply_quietly(&mut self.server, Event::Clock { ms }) {
-            self.told_ms = ms;
+            self.clock_ms = ms;
         }
     }
 }
 
 /// Returns whether the server has `ms` by now, or nearly so: from a worker that gave it `own_ms` itself, or from
-/// another that is known to have given it `told_ms`.
-fn is_known(ms: u64, told_ms: u64, own_ms: u64) -> bool
-    ensures { result ≡ is_known ms told_ms own_ms }
+/// another that is known to have given it `clock_ms`.
+fn is_known(ms: u64, clock_ms: u64, own_ms: u64) -> bool
+    ensures { result ≡ is_time_known ms clock_ms own_ms }
 {
     let own_age_ms = ms.saturating_sub(own_ms);
-    own_age_ms < TELL_AFTER_MS
-        || (ms.saturating_sub(told_ms) < TELL_AFTER_MS && own_age_ms < TELL_ITSELF_AFTER_MS)
+    own_age_ms < TICK_AFTER_MS
+        || (ms.saturating_sub(clock_ms) < TICK_AFTER_MS && own_age_ms < OWN_TICK_AFTER_MS)
 }
 
 /// Applies an event whose reply is written to nobody. Returns whether memory was not refused.

@@ -115,25 +115,25 @@ module _ {S : Type 0} (steps : Steps S) (id : ℕ) where
         single : Said
         single = said (free says) e.0
 
-        told : IsAwaited here single (length events + n) word
-        told = told_awaiting says (length events + n) word e.0
+        is_awaited : IsAwaited here single (length events + n) word
+        is_awaited = told_awaiting says (length events + n) word e.0
 
         goes : GoesOn steps id single.state event here e.1 (λ others. Exchanges steps id here.says events e.1 others to) now to
         goes =
             subst (λ (state : State). GoesOn steps id state event here e.1 (λ others. Exchanges steps id here.says events e.1 others to) now to)
-            told.state e.3
+            is_awaited.state e.3
 
         by_state : ((later : Exchange) (end : S) → Exchanges steps id (with_closing single.says (awaiting (length events + n) word)) events e.1 later end
             → Awaited single.says events n word e.1 later end)
             → (state : State) → single.state ≡ state → GoesOn steps id state event here e.1
             (λ others. Exchanges steps id here.says events e.1 others to) now to → Awaited says (event ∷ events) n word from now to
         by_state further Running runs g =
-            let rest = further g.0 to (subst (λ (s : Says). Exchanges steps id s events e.1 g.0 to) (told.says runs) g.1) in
-            let others = subst (λ (s : Says). Exchanges steps id s events e.1 rest.x to) (free_says single.says told.is_free) rest.alone in
+            let rest = further g.0 to (subst (λ (s : Says). Exchanges steps id s events e.1 g.0 to) (is_awaited.says runs) g.1) in
+            let others = subst (λ (s : Says). Exchanges steps id s events e.1 rest.x to) (free_says single.says is_awaited.is_free) rest.alone in
             record {
               x = prefixed single.bytes rest.x;
               alone = one_on steps id (free says) event events from e.1 to e.0 e.2 rest.x runs others;
-              bytes = ap (λ (x : Exchange). x.bytes) g.2 ∙ ap (λ (bytes : List ℕ). bytes ++ g.0.bytes) told.bytes
+              bytes = ap (λ (x : Exchange). x.bytes) g.2 ∙ ap (λ (bytes : List ℕ). bytes ++ g.0.bytes) is_awaited.bytes
                   ∙ ap (λ (bytes : List ℕ). single.bytes ++ bytes) rest.bytes;
               state = ap (λ (x : Exchange). x.state) g.2 ∙ rest.state;
               says_on = λ on. ap (λ (x : Exchange). x.says) g.2 ∙ rest.says_on on;
@@ -141,7 +141,7 @@ module _ {S : Type 0} (steps : Steps S) (id : ℕ) where
         by_state further (Shut ending) ends g = record {
           x = ended_with single ending;
           alone = one_last steps id (free says) event events from e.1 to e.0 e.2 ending ends g.0;
-          bytes = ap (λ (x : Exchange). x.bytes) g.1 ∙ told.bytes;
+          bytes = ap (λ (x : Exchange). x.bytes) g.1 ∙ is_awaited.bytes;
           state = ap (λ (x : Exchange). x.state) g.1;
           says_on = λ on. cc;
         }

@@ -114,7 +114,7 @@ module _ {S : Type 0} (steps : Steps S) (id : ℕ) where
     pub blocks : List (List ℕ)
     pub valid : All IsBlock blocks
     pub joined : concat blocks ≡ bytes
-    pub told : Closes word says (before ++ blocks_as id blocks) from all to
+    pub closes : Closes word says (before ++ blocks_as id blocks) from all to
 
   -- no data
   pub no_rest : (says : Says) (word : Option LastWord) (from to : S) (x : Exchange) → says.closing ≡ None → word ≡ None
@@ -123,7 +123,7 @@ module _ {S : Type 0} (steps : Steps S) (id : ℕ) where
     blocks = [];
     valid = All-nil IsBlock;
     joined = refl;
-    told =
+    closes =
         subst (λ (w : Option LastWord). Closes w says [] from x to) (sym still)
         (subst (λ (s : Says). Exchanges steps id s [] from x to) (sym (free_says says is_free)) e);
   }
@@ -137,9 +137,9 @@ module _ {S : Type 0} (steps : Steps S) (id : ℕ) where
     valid = All-append IsBlock blocks later.blocks valid later.valid;
     joined = concat-append blocks later.blocks ∙ ap (λ (bytes : List ℕ). bytes ++ concat later.blocks) joined
         ∙ ap (λ (bytes : List ℕ). first ++ bytes) later.joined;
-    told =
+    closes =
         subst (λ (es : List Event). Closes word says es from (prefixed x.bytes y) to) (blocks_joined id before blocks later.blocks)
-        (closes_on word says (before ++ blocks_as id blocks) (blocks_as id later.blocks) from mid to x y e runs later.told);
+        (closes_on word says (before ++ blocks_as id blocks) (blocks_as id later.blocks) from mid to x y e runs later.closes);
   }
 
   -- the first of the data, where the rest are not taken
@@ -151,7 +151,7 @@ module _ {S : Type 0} (steps : Steps S) (id : ℕ) where
     blocks = blocks ++ others;
     valid = All-append IsBlock blocks others valid valid';
     joined = concat-append blocks others ∙ ap (λ (bytes : List ℕ). bytes ++ concat others) joined ∙ ap (λ (bytes : List ℕ). first ++ bytes) joined';
-    told =
+    closes =
         subst (λ (es : List Event). Closes word says es from x to) (blocks_joined id before blocks others)
         (closes_shut word says (before ++ blocks_as id blocks) (blocks_as id others) from x to ending e shut);
   }
@@ -216,4 +216,4 @@ module _ {S : Type 0} (steps : Steps S) (id : ℕ) where
     pub blocks_alike : (says : Says) (before : List Event) (bytes : List ℕ) (word : Option LastWord) (from to end : S) (x y : Exchange)
         → InBlocks says before bytes word from x to → InBlocks says before bytes word from y end → AreToldAlike x y
     blocks_alike says before bytes word from to end x y v w =
-        closes_alike says before v.blocks w.blocks v.valid w.valid (v.joined ∙ sym w.joined) from to end word x y v.told w.told
+        closes_alike says before v.blocks w.blocks v.valid w.valid (v.joined ∙ sym w.joined) from to end word x y v.closes w.closes

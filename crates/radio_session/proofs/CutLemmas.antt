@@ -13,7 +13,7 @@ use Rattle.radio_heads.specs.declared.outcome.Progress.TheVariants.{More, Whole}
 use Rattle.radio_heads.specs.declared.outcome.HeadFault.{HeadFault}
 use Rattle.radio_heads.specs.Head.{RequestParts, ShowsRequest}
 use Rattle.radio_heads.specs.Reading.{IsReading}
-use Rattle.radio_heads.specs.Laws.{ReadingsAgree, IsSettled, HeadsLieWithin}
+use Rattle.radio_heads.specs.Laws.{ReadingsAgree, IsStableReading, HeadsLieWithin}
 use Rattle.radio_session.specs.declared.session.Hears.{Hears}
 use Rattle.radio_session.specs.declared.session.Hears.TheVariants.{Head, Body, Nothing}
 use Rattle.radio_session.specs.declared.session.LastWord.{LastWord}
@@ -25,17 +25,17 @@ use Rattle.radio_source.specs.Feeding.{unfed}
 use Rattle.radio_session.specs.Conversation.{Conversation}
 use Rattle.radio_session.specs.Pushes.{pushes}
 use Rattle.radio_session.specs.Asking.{asks_to_feed}
-use Rattle.radio_session.specs.Hearing.{Heard, HearsAs, IsHeard, head_heard, request_heard, source_heard, get_heard, body_heard, delivered}
+use Rattle.radio_session.specs.Hearing.{EventReading, HearsAs, IsHeard, head_heard, request_heard, source_heard, get_heard, body_heard, body_delivered}
 use Rattle.radio_session.specs.Hearing.{closes_with, greeted, refuses, nothing_held, going_on}
 use Rattle.radio_policy.specs.declared.rule.Rule.TheVariants.{BadHead, BadMethod}
 use Rattle.radio_session.proofs.HearingLemmas.{heard-alike, hearing_is_one}
-use Rattle.radio_session.specs.Cuts.{Atom, datum, atoms_of, atoms, answered, AreHeardAlike, IsCutting, IsHeardIn, unheard, heard_then}
+use Rattle.radio_session.specs.Cuts.{Atom, datum, atoms, with_replies_given, AreHeardAlike, IsCutting, IsHeardIn, unheard, heard_then, event_atoms}
 use Rattle.radio_session.specs.Cuts.{CutsDoNotMatter, PiecesAreHeardAsOne}
 
 -- lists of atoms joined
 atoms-append : (xs ys : List Event) → atoms (xs ++ ys) ≡ atoms xs ++ atoms ys
 atoms-append [] ys = refl
-atoms-append (x ∷ xs) ys = ap (λ (zs : List Atom). atoms_of x ++ zs) (atoms-append xs ys) ∙ sym (append_assoc (atoms_of x) (atoms xs) (atoms ys))
+atoms-append (x ∷ xs) ys = ap (λ (zs : List Atom). event_atoms x ++ zs) (atoms-append xs ys) ∙ sym (append_assoc (event_atoms x) (atoms xs) (atoms ys))
 
 -- blocks, taken apart, are their data
 atoms-blocks : (id : ℕ) (blocks : List (List ℕ)) → atoms (map (Push id) blocks) ≡ map (datum id) (concat blocks)
@@ -68,20 +68,20 @@ module _ (joined : AreJoined) where
       ∙ sym (atoms-pushes id (first ++ second))
 
 -- two pieces come to what the whole does
-abbrev Alike : Heard → Heard → Heard → Type 0
-Alike one two whole = (atoms (one.events ++ two.events) ≡ atoms whole.events) × (answered two.conversation ≡ answered whole.conversation)
+abbrev Alike : EventReading → EventReading → EventReading → Type 0
+Alike one two whole = (atoms (one.events ++ two.events) ≡ atoms whole.events) × (with_replies_given two.conversation ≡ with_replies_given whole.conversation)
 
 -- two pieces and the whole, each by what it is heard as
-by_parts : (X Y Z two whole : Heard) → two ≡ Y → whole ≡ Z → atoms (X.events ++ Y.events) ≡ atoms Z.events
-    → answered Y.conversation ≡ answered Z.conversation → Alike X two whole
+by_parts : (X Y Z two whole : EventReading) → two ≡ Y → whole ≡ Z → atoms (X.events ++ Y.events) ≡ atoms Z.events
+    → with_replies_given Y.conversation ≡ with_replies_given Z.conversation → Alike X two whole
 by_parts X Y Z two whole e f g h = (
-  ap (λ (y : Heard). atoms (X.events ++ y.events)) e ∙ g ∙ sym (ap (λ (z : Heard). atoms z.events) f),
-  ap (λ (y : Heard). answered y.conversation) e ∙ h ∙ sym (ap (λ (z : Heard). answered z.conversation) f),
+  ap (λ (y : EventReading). atoms (X.events ++ y.events)) e ∙ g ∙ sym (ap (λ (z : EventReading). atoms z.events) f),
+  ap (λ (y : EventReading). with_replies_given y.conversation) e ∙ h ∙ sym (ap (λ (z : EventReading). with_replies_given z.conversation) f),
 )
 
 -- the same where the conversation is closed by the first piece
-by_closed : (X Z two whole : Heard) → two ≡ record { events = []; conversation = X.conversation } → whole ≡ Z → atoms X.events ≡ atoms Z.events
-    → answered X.conversation ≡ answered Z.conversation → Alike X two whole
+by_closed : (X Z two whole : EventReading) → two ≡ record { events = []; conversation = X.conversation } → whole ≡ Z → atoms X.events ≡ atoms Z.events
+    → with_replies_given X.conversation ≡ with_replies_given Z.conversation → Alike X two whole
 by_closed X Z two whole e f g h =
     by_parts X (record { events = []; conversation = X.conversation }) Z two whole e f (ap atoms (append-nil X.events) ∙ g) h
 
@@ -114,27 +114,27 @@ module _ (joined : AreJoined) (places : PlacesJoin) (found : DataJoin) where
 
   module _ (conversation : Conversation) (before : List Event) (place : Place) (first second : List ℕ) where
     -- the second piece, by how it closes
-    second-cut : (word : Option LastWord) → Alike (delivered conversation (before ++ pushes conversation.id (data_of place first)) (after place first) None)
-        (delivered (going_on conversation (Body (unfed (after place first)))) (pushes conversation.id (data_of (after place first) second))
+    second-cut : (word : Option LastWord) → Alike (body_delivered conversation (before ++ pushes conversation.id (data_of place first)) (after place first) None)
+        (body_delivered (going_on conversation (Body (unfed (after place first)))) (pushes conversation.id (data_of (after place first) second))
         (after (after place first) second) word)
-        (delivered conversation (before ++ pushes conversation.id (data_of place (first ++ second))) (after (after place first) second) word)
+        (body_delivered conversation (before ++ pushes conversation.id (data_of place (first ++ second))) (after (after place first) second) word)
     second-cut None = (delivered-cut conversation.id before place first second, refl)
     second-cut (Some word) = (ended-cut conversation.id before (SourceEnd conversation.id) place first second, refl)
 
     -- the first piece, by how it closes
-    body-cut : (two whole : Heard) (word : Option LastWord) → closes_at (after place first) ≡ word
-        → IsHeard (delivered conversation (before ++ pushes conversation.id (data_of place first)) (after place first) word).conversation second two
+    body-cut : (two whole : EventReading) (word : Option LastWord) → closes_at (after place first) ≡ word
+        → IsHeard (body_delivered conversation (before ++ pushes conversation.id (data_of place first)) (after place first) word).conversation second two
         → whole ≡ body_heard conversation before place (first ++ second)
-        → Alike (delivered conversation (before ++ pushes conversation.id (data_of place first)) (after place first) word) two whole
+        → Alike (body_delivered conversation (before ++ pushes conversation.id (data_of place first)) (after place first) word) two whole
     body-cut two whole None e h w =
         let id = conversation.id in
         let all = before ++ pushes id (data_of place (first ++ second)) in
-        let one = delivered conversation (before ++ pushes id (data_of place first)) (after place first) None in
+        let one = body_delivered conversation (before ++ pushes id (data_of place first)) (after place first) None in
         let last = after (after place first) second in
-        let Z = delivered conversation all last (closes_at last) in
-        let same : whole ≡ Z = w ∙ ap (λ (p : Place). delivered conversation all p (closes_at p)) (places place first second) in
+        let Z = body_delivered conversation all last (closes_at last) in
+        let same : whole ≡ Z = w ∙ ap (λ (p : Place). body_delivered conversation all p (closes_at p)) (places place first second) in
         let cut = second-cut (closes_at last) in
-        by_parts one (delivered (going_on conversation (Body (unfed (after place first)))) (pushes id (data_of (after place first) second)) last
+        by_parts one (body_delivered (going_on conversation (Body (unfed (after place first)))) (pushes id (data_of (after place first) second)) last
         (closes_at last)) Z two whole h same cut.0 cut.1
     body-cut two whole (Some word) e h w =
         let id = conversation.id in
@@ -148,12 +148,12 @@ module _ (joined : AreJoined) (places : PlacesJoin) (found : DataJoin) where
         let Z = closes_with conversation one (SourceEnd id) word in
         let alike : whole ≡ Z =
         w
-        ∙ ap (λ (c : Option LastWord). delivered conversation all (after place (first ++ second)) c) closed
+        ∙ ap (λ (c : Option LastWord). body_delivered conversation all (after place (first ++ second)) c) closed
         ∙ ap (λ (events : List Event). closes_with conversation events (SourceEnd id) word) same in
         by_closed Z Z two whole h alike refl refl
 
 -- what a request is heard as, by the tests of its method
-unfoldable pub request_by : Bool → Bool → Conversation → RequestParts → List ℕ → Heard
+unfoldable pub request_by : Bool → Bool → Conversation → RequestParts → List ℕ → EventReading
 request_by source get conversation request behind =
     if source then source_heard conversation request behind (framing_of request)
     else if get then get_heard conversation request
@@ -168,7 +168,7 @@ held-alike conversation held bytes (Err e) = refl
 
 -- a source's request, and more bytes behind it
 source-cut : (joined : AreJoined) (places : PlacesJoin) (found : DataJoin) (framing : Option Framing) (conversation : Conversation)
-    (request : RequestParts) (behind second : List ℕ) (two whole : Heard)
+    (request : RequestParts) (behind second : List ℕ) (two whole : EventReading)
     → IsHeard (source_heard conversation request behind framing).conversation second two
     → whole ≡ source_heard conversation request (behind ++ second) framing → Alike (source_heard conversation request behind framing) two whole
 source-cut joined places found None conversation request behind second two whole h w =
@@ -179,7 +179,7 @@ source-cut joined places found (Some framing) conversation request behind second
 
 -- a request, and more bytes behind it
 request-cut : (joined : AreJoined) (places : PlacesJoin) (found : DataJoin) (source get : Bool) (conversation : Conversation) (request : RequestParts)
-    (behind second : List ℕ) (two whole : Heard) → IsHeard (request_by source get conversation request behind).conversation second two
+    (behind second : List ℕ) (two whole : EventReading) → IsHeard (request_by source get conversation request behind).conversation second two
     → whole ≡ request_by source get conversation request (behind ++ second) → Alike (request_by source get conversation request behind) two whole
 unfolding request_by
 request-cut joined places found true get conversation request behind second two whole h w =
@@ -189,10 +189,10 @@ request-cut joined places found false true conversation request behind second tw
 request-cut joined places found false false conversation request behind second two whole h w =
     by_closed (refuses conversation BadMethod) (refuses conversation BadMethod) two whole h w refl refl
 
-module _ (joined : AreJoined) (places : PlacesJoin) (found : DataJoin) (agree : ReadingsAgree ShowsRequest) (settled : IsSettled ShowsRequest)
+module _ (joined : AreJoined) (places : PlacesJoin) (found : DataJoin) (agree : ReadingsAgree ShowsRequest) (settled : IsStableReading ShowsRequest)
     (fits : HeadsLieWithin ShowsRequest) where
   -- a head in two pieces, by what the first piece is read as
-  head-cut : (conversation : Conversation) (first second : List ℕ) (two whole : Heard) (r s : Result (Progress RequestParts) HeadFault)
+  head-cut : (conversation : Conversation) (first second : List ℕ) (two whole : EventReading) (r s : Result (Progress RequestParts) HeadFault)
       → conversation.hears ≡ Head → IsReading ShowsRequest (conversation.held ++ first) r
       → IsHeard (head_heard conversation (conversation.held ++ first) r).conversation second two
       → IsReading ShowsRequest (conversation.held ++ (first ++ second)) s → whole ≡ head_heard conversation (conversation.held ++ (first ++ second)) s
@@ -211,7 +211,7 @@ module _ (joined : AreJoined) (places : PlacesJoin) (found : DataJoin) (agree : 
       ∙ ap (λ (xs : List ℕ). head_heard conversation xs as_head.0) same
       ∙ heard-alike agree conversation (conversation.held ++ (first ++ second)) as_head.0 s reading again
       ∙ sym w in
-      (ap (λ (y : Heard). atoms y.events) alike, ap (λ (y : Heard). answered y.conversation) alike)
+      (ap (λ (y : EventReading). atoms y.events) alike, ap (λ (y : EventReading). with_replies_given y.conversation) alike)
   head-cut conversation first second two whole (Ok (Whole request n)) s hears read h again w =
       let bytes = conversation.held ++ first in
       let same : bytes ++ second ≡ conversation.held ++ (first ++ second) = append_assoc conversation.held first second in
@@ -235,32 +235,32 @@ module _ (joined : AreJoined) (places : PlacesJoin) (found : DataJoin) (agree : 
       by_closed (refuses conversation BadHead) (refuses conversation BadHead) two whole h alike refl refl
 
   -- any two pieces, by what the conversation hears
-  cuts : (hears : Hears) (conversation : Conversation) (first second : List ℕ) (one two whole : Heard) → conversation.hears ≡ hears
+  cuts : (hears : Hears) (conversation : Conversation) (first second : List ℕ) (one two whole : EventReading) → conversation.hears ≡ hears
       → HearsAs hears conversation first one → IsHeard one.conversation second two → HearsAs hears conversation (first ++ second) whole → Alike one two whole
   cuts Nothing conversation first second one two whole hears h k w =
-      let X : Heard = record { events = []; conversation = conversation } in
-      let later : two ≡ X = subst (λ (x : Hears). HearsAs x conversation second two) hears (subst (λ (x : Heard). IsHeard x.conversation second two) h k) in
-      subst (λ (x : Heard). Alike x two whole) (sym h) (by_closed X X two whole later w refl refl)
+      let X : EventReading = record { events = []; conversation = conversation } in
+      let later : two ≡ X = subst (λ (x : Hears). HearsAs x conversation second two) hears (subst (λ (x : EventReading). IsHeard x.conversation second two) h k) in
+      subst (λ (x : EventReading). Alike x two whole) (sym h) (by_closed X X two whole later w refl refl)
   cuts (Body body) conversation first second one two whole hears h k w =
       let X = body_heard (nothing_held conversation) [] body.place first in
-      let later : IsHeard X.conversation second two = subst (λ (x : Heard). IsHeard x.conversation second two) h k in
-      subst (λ (x : Heard). Alike x two whole) (sym h)
+      let later : IsHeard X.conversation second two = subst (λ (x : EventReading). IsHeard x.conversation second two) h k in
+      subst (λ (x : EventReading). Alike x two whole) (sym h)
       (body-cut joined places found (nothing_held conversation) [] body.place first second two whole (closes_at (after body.place first)) refl later w)
   cuts Head conversation first second one two whole hears h k w =
       let X = head_heard conversation (conversation.held ++ first) h.0 in
-      let later : IsHeard X.conversation second two = subst (λ (x : Heard). IsHeard x.conversation second two) h.2 k in
-      subst (λ (x : Heard). Alike x two whole) (sym h.2) (head-cut conversation first second two whole h.0 w.0 hears h.1 later w.1 w.2)
+      let later : IsHeard X.conversation second two = subst (λ (x : EventReading). IsHeard x.conversation second two) h.2 k in
+      subst (λ (x : EventReading). Alike x two whole) (sym h.2) (head-cut conversation first second two whole h.0 w.0 hears h.1 later w.1 w.2)
 
   -- what two pieces are heard as, they are heard as in one
-  record Joined (conversation : Conversation) (first second : List ℕ) (one two : Heard) : Type 0 where
-    pub whole : Heard
+  record Joined (conversation : Conversation) (first second : List ℕ) (one two : EventReading) : Type 0 where
+    pub whole : EventReading
     pub is_heard : IsHeard conversation (first ++ second) whole
     pub alike : Alike one two whole
 
   -- a head of two pieces, by what the first piece is read as
-  head-joined : (conversation : Conversation) (first second : List ℕ) (two : Heard) (r : Result (Progress RequestParts) HeadFault) → conversation.hears ≡ Head
+  head-joined : (conversation : Conversation) (first second : List ℕ) (two : EventReading) (r : Result (Progress RequestParts) HeadFault) → conversation.hears ≡ Head
       → IsReading ShowsRequest (conversation.held ++ first) r → IsHeard (head_heard conversation (conversation.held ++ first) r).conversation second two
-      → (whole : Heard) × HearsAs Head conversation (first ++ second) whole
+      → (whole : EventReading) × HearsAs Head conversation (first ++ second) whole
   head-joined conversation first second two (Ok More) hears read h =
       let held = conversation.held ++ first in
       let waiting : Conversation = record conversation { held = held } in
@@ -282,33 +282,33 @@ module _ (joined : AreJoined) (places : PlacesJoin) (found : DataJoin) (agree : 
       subst (λ (xs : List ℕ). IsReading ShowsRequest xs (Err e)) (append_assoc conversation.held first second) longer in
       (head_heard conversation (conversation.held ++ (first ++ second)) (Err e), (Err e, reading, refl))
 
-  any-joined : (hears : Hears) (conversation : Conversation) (first second : List ℕ) (one two : Heard) → conversation.hears ≡ hears
-      → HearsAs hears conversation first one → IsHeard one.conversation second two → (whole : Heard) × HearsAs hears conversation (first ++ second) whole
+  any-joined : (hears : Hears) (conversation : Conversation) (first second : List ℕ) (one two : EventReading) → conversation.hears ≡ hears
+      → HearsAs hears conversation first one → IsHeard one.conversation second two → (whole : EventReading) × HearsAs hears conversation (first ++ second) whole
   any-joined Nothing conversation first second one two hears h k = (unheard conversation, refl)
   any-joined (Body body) conversation first second one two hears h k = (body_heard (nothing_held conversation) [] body.place (first ++ second), refl)
   any-joined Head conversation first second one two hears h k =
-      head-joined conversation first second two h.0 hears h.1 (subst (λ (x : Heard). IsHeard x.conversation second two) h.2 k)
+      head-joined conversation first second two h.0 hears h.1 (subst (λ (x : EventReading). IsHeard x.conversation second two) h.2 k)
 
-  joined_alike : (conversation : Conversation) (first second : List ℕ) (one two : Heard) → IsHeard conversation first one
+  joined_alike : (conversation : Conversation) (first second : List ℕ) (one two : EventReading) → IsHeard conversation first one
       → IsHeard one.conversation second two → Joined conversation first second one two
   joined_alike conversation first second one two h k =
       let w = any-joined conversation.hears conversation first second one two refl h k in
       record { whole = w.0; is_heard = w.1; alike = cuts conversation.hears conversation first second one two w.0 refl h k w.1 }
 
   -- what pieces are heard as, and their bytes in one
-  record AsOne (conversation : Conversation) (bytes : List ℕ) (cut : Heard) : Type 0 where
-    pub whole : Heard
+  record AsOne (conversation : Conversation) (bytes : List ℕ) (cut : EventReading) : Type 0 where
+    pub whole : EventReading
     pub is_heard : IsHeard conversation bytes whole
     pub alike : AreHeardAlike cut whole
 
-  in_pieces : (conversation : Conversation) (first : List ℕ) (pieces : List (List ℕ)) (cut : Heard) → IsHeardIn conversation (first ∷ pieces) cut
+  in_pieces : (conversation : Conversation) (first : List ℕ) (pieces : List (List ℕ)) (cut : EventReading) → IsHeardIn conversation (first ∷ pieces) cut
       → AsOne conversation (concat (first ∷ pieces)) cut
   in_pieces conversation first [] cut (one, h, others, none, e) =
       let same : cut ≡ one = e ∙ ap (heard_then one) none ∙ ap (λ (events : List Event). record one { events = events }) (append-nil one.events) in
       record {
         whole = one;
         is_heard = subst (λ (xs : List ℕ). IsHeard conversation xs one) (sym (append-nil first)) h;
-        alike = record { events = ap (λ (x : Heard). atoms x.events) same; conversation = ap (λ (x : Heard). answered x.conversation) same };
+        alike = record { events = ap (λ (x : EventReading). atoms x.events) same; conversation = ap (λ (x : EventReading). with_replies_given x.conversation) same };
       }
   in_pieces conversation first (piece ∷ pieces) cut (one, h, others, later, e) =
       let rest = in_pieces one.conversation piece pieces others later in
@@ -318,14 +318,14 @@ module _ (joined : AreJoined) (places : PlacesJoin) (found : DataJoin) (agree : 
         is_heard = all.is_heard;
         alike = record {
           events =
-              ap (λ (x : Heard). atoms x.events) e ∙ atoms-append one.events others.events ∙ ap (λ (zs : List Atom). atoms one.events ++ zs) rest.alike.events
+              ap (λ (x : EventReading). atoms x.events) e ∙ atoms-append one.events others.events ∙ ap (λ (zs : List Atom). atoms one.events ++ zs) rest.alike.events
               ∙ sym (atoms-append one.events rest.whole.events)
               ∙ all.alike.0;
-          conversation = ap (λ (x : Heard). answered x.conversation) e ∙ rest.alike.conversation ∙ all.alike.1;
+          conversation = ap (λ (x : EventReading). with_replies_given x.conversation) e ∙ rest.alike.conversation ∙ all.alike.1;
         };
       }
 
-  any_pieces : (conversation : Conversation) (bytes : List ℕ) (pieces : List (List ℕ)) (cut : Heard) → IsCutting bytes pieces
+  any_pieces : (conversation : Conversation) (bytes : List ℕ) (pieces : List (List ℕ)) (cut : EventReading) → IsCutting bytes pieces
       → IsHeardIn conversation pieces cut → AsOne conversation bytes cut
   any_pieces conversation bytes [] cut cutting h = absurd (cutting.some refl)
   any_pieces conversation bytes (first ∷ pieces) cut cutting h =

@@ -7,7 +7,7 @@ use Rattle.radio_heads.specs.declared.outcome.Progress.{Progress}
 use Rattle.radio_heads.specs.declared.outcome.Progress.TheVariants.{More, Whole}
 use Rattle.radio_heads.specs.declared.outcome.HeadFault.{HeadFault}
 use Rattle.radio_heads.specs.Head.{RequestParts, ShowsRequest}
-use Rattle.radio_heads.specs.Laws.{ReadingsAgree, IsSettled, HeadsLieWithin}
+use Rattle.radio_heads.specs.Laws.{ReadingsAgree, IsStableReading, HeadsLieWithin}
 use Rattle.radio_policy.specs.declared.rule.Rule.TheVariants.{BadHead, BadMethod}
 use Rattle.radio_session.specs.declared.session.Hears.{Hears}
 use Rattle.radio_session.specs.declared.session.Hears.TheVariants.{Head, Body, Nothing}
@@ -19,7 +19,7 @@ use Rattle.radio_session.specs.Framing.{is_source, framing_of, start_of}
 use Rattle.radio_source.specs.Place.{after, data_of}
 use Rattle.radio_session.specs.Asking.{asks_to_feed}
 use Rattle.radio_session.specs.Conversation.{Conversation}
-use Rattle.radio_session.specs.Hearing.{Heard, get_heard, greeted, refuses, nothing_held}
+use Rattle.radio_session.specs.Hearing.{EventReading, get_heard, greeted, refuses, nothing_held}
 use Rattle.radio_events.specs.Servers.{Steps}
 use Rattle.radio_session.specs.Exchanges.{Exchange, nothing_exchanged}
 use Rattle.radio_session.specs.DataServers.{GoesByData}
@@ -31,12 +31,12 @@ use Rattle.radio_session.proofs.BlockTellingLemmas.{blocks_alike}
 use Rattle.radio_session.proofs.PieceTellingLemmas.{AreValid, AsHeard, AsSource, AsRequest, AsHead, As, cutting_in}
 
 module _ {S : Type 0} (steps : Steps S) (joined : AreJoined) (valid : AreValid) (places : PlacesJoin) (found : DataJoin)
-    (settled : IsSettled ShowsRequest) (fits : HeadsLieWithin ShowsRequest) (agree : ReadingsAgree ShowsRequest) where
+    (settled : IsStableReading ShowsRequest) (fits : HeadsLieWithin ShowsRequest) (agree : ReadingsAgree ShowsRequest) where
   module _ (id : ℕ) (server : GoesByData steps id) (from to end : S) (x y : Exchange) where
     same_alike : x ≡ y → AreToldAlike x y
     same_alike same = record { bytes = ap (λ (z : Exchange). z.bytes) same; state = ap (λ (z : Exchange). z.state) same }
 
-    heard_alike : (heard : Heard) → AsHeard steps id heard from x to → AsHeard steps id heard from y end → AreToldAlike x y
+    heard_alike : (heard : EventReading) → AsHeard steps id heard from x to → AsHeard steps id heard from y end → AreToldAlike x y
     heard_alike heard e f = same_alike (exchanged_as_one steps id server.is_one heard.events heard.conversation.says from x y to end e f).0
 
   module _ (conversation : Conversation) (server : GoesByData steps conversation.id) (from to end : S) (x y : Exchange) where
@@ -88,16 +88,16 @@ module _ {S : Type 0} (steps : Steps S) (joined : AreJoined) (valid : AreValid) 
   in_one : (conversation after : Conversation) (bytes : List ℕ) (from to : S) (x : Exchange) (state : State) → x.state ≡ state
       → IsTold steps conversation bytes from x after to
       → ThenTold state x to (λ others. IsToldIn steps after [] to others to) x to
-  in_one conversation after bytes from to x Running runs told = (
+  in_one conversation after bytes from to x Running runs of_piece = (
     nothing_exchanged x.says,
-    (ap (λ (s : Says). nothing_exchanged s) (sym (ap (λ (c : Conversation). c.says) told.goes_on)), refl),
+    (ap (λ (s : Says). nothing_exchanged s) (sym (ap (λ (c : Conversation). c.says) of_piece.goes_on)), refl),
     ap (λ (state : State). record x { state = state }) runs ∙ ap (λ (bytes : List ℕ). record (nothing_exchanged x.says) { bytes = bytes })
         (sym (append-nil x.bytes)),
   )
-  in_one conversation after bytes from to x (Shut ending) shut told = (refl, refl)
+  in_one conversation after bytes from to x (Shut ending) shut of_piece = (refl, refl)
 
   pub pieces_are_told_as_one : PiecesAreToldAsOne steps
-  pieces_are_told_as_one conversation after bytes pieces from to end cut whole server is_free cutting e told =
+  pieces_are_told_as_one conversation after bytes pieces from to end cut whole server is_free cutting e of_piece =
       cuts_are_told_alike conversation bytes pieces (bytes ∷ []) from to end cut whole server is_free cutting
       (record { some = λ none. cc; joined = append-nil bytes }) e
-      (whole, after, end, told, in_one conversation after bytes from end whole whole.state refl told)
+      (whole, after, end, of_piece, in_one conversation after bytes from end whole whole.state refl of_piece)

@@ -106,8 +106,8 @@ module _ {S : Type 0} (steps : Steps S) (id : ℕ) (server : GoesByData steps id
         (said (free says) reply) mid Others x to → Fed says (block ∷ blocks) from x to
     rule_on ends Others goes =
         let shut = ends_told (free says) reply ends in
-        let told = said (free says) reply in
-        let g = subst (λ (state : State). GoesOn steps id state (Push id block) told mid Others x to) shut.1 goes in
+        let written = said (free says) reply in
+        let g = subst (λ (state : State). GoesOn steps id state (Push id block) written mid Others x to) shut.1 goes in
         inr (record {
           reply = reply;
           by_rule = ends;
@@ -131,8 +131,8 @@ module _ {S : Type 0} (steps : Steps S) (id : ℕ) (server : GoesByData steps id
       let at = server.at_block from e.1 block e.0 here e.2 in
       elim at.1 [
         | inl q ↦
-            let g = subst (λ (told : Said). GoesOn steps id told.state (Push id block) told e.1
-            (λ others. Exchanges steps id told.says (blocks_as id blocks) e.1 others to) x to) (quiet_told says e.0 q) e.3 in
+            let g = subst (λ (written : Said). GoesOn steps id written.state (Push id block) written e.1
+            (λ others. Exchanges steps id written.says (blocks_as id blocks) e.1 others to) x to) (quiet_told says e.0 q) e.3 in
             quiet_on says block blocks from e.1 to e.0 here e.2 x q at.0
             (subst (λ (y : Exchange). Fed says blocks e.1 y to) (sym g.2) (feeds blocks says e.1 g.0 to (All-tail IsBlock block blocks valid) g.1))
         | inr ends ↦ rule_on says block blocks from e.1 to e.0 here e.2 x ends

@@ -41,19 +41,19 @@ module _ {S : Type 0} (steps : Steps S) (id : ℕ) where
         → GoesOn steps id state event (said says e.0) e.1 (λ others. Exchanges steps id (said says e.0).says (first ++ second) e.1 others to) all to
         → Parts says (event ∷ first) second from all to
     by_state further Running runs g =
-        let told = said says e.0 in
+        let written = said says e.0 in
         let rest = further g.0 to g.1 in
         record {
-          x = prefixed told.bytes rest.x;
+          x = prefixed written.bytes rest.x;
           mid = rest.mid;
           begins = one_on steps id says event first from e.1 rest.mid e.0 e.2 rest.x runs rest.begins;
-          follows = subst (λ (y : Exchange). FollowsBy rest.x.state second (prefixed told.bytes rest.x) rest.mid y to) (sym g.2)
-              (follows_prefixed told.bytes second rest.x rest.mid g.0 to rest.x.state rest.follows);
+          follows = subst (λ (y : Exchange). FollowsBy rest.x.state second (prefixed written.bytes rest.x) rest.mid y to) (sym g.2)
+              (follows_prefixed written.bytes second rest.x rest.mid g.0 to rest.x.state rest.follows);
         }
     by_state further (Shut ending) ends g =
-        let told = said says e.0 in
+        let written = said says e.0 in
         record {
-          x = ended_with told ending;
+          x = ended_with written ending;
           mid = to;
           begins = one_last steps id says event first from e.1 to e.0 e.2 ending ends g.0;
           follows = (g.1, refl);
@@ -74,11 +74,11 @@ module _ {S : Type 0} (steps : Steps S) (id : ℕ) where
             → GoesOn steps id state event (said says e.0) e.1 (λ others. Exchanges steps id (said says e.0).says first e.1 others mid) x mid
             → Exchanges steps id says (event ∷ first ++ second) from (prefixed x.bytes y) to
         by_state further Running goes g =
-            let told = said says e.0 in
+            let written = said says e.0 in
             let later = further g.0 g.1 (sym (ap (λ (z : Exchange). z.state) g.2) ∙ runs)
             (subst (λ (z : Exchange). Exchanges steps id z.says second mid y to) g.2 f) in
             subst (λ (z : Exchange). Exchanges steps id says (event ∷ first ++ second) from z to)
-            (prefix_twice told.bytes g.0.bytes y ∙ ap (λ (z : Exchange). prefixed z.bytes y) (sym g.2))
+            (prefix_twice written.bytes g.0.bytes y ∙ ap (λ (z : Exchange). prefixed z.bytes y) (sym g.2))
             (one_on steps id says event (first ++ second) from e.1 to e.0 e.2 (prefixed g.0.bytes y) goes later)
         by_state further (Shut ending) ends g =
             let none : Shut ending ≡ Running = sym (ap (λ (z : Exchange). z.state) g.1) ∙ runs in
@@ -97,7 +97,7 @@ module _ {S : Type 0} (steps : Steps S) (id : ℕ) where
             → GoesOn steps id state event (said says e.0) e.1 (λ others. Exchanges steps id (said says e.0).says first e.1 others to) x to
             → Exchanges steps id says (event ∷ first ++ second) from x to
         by_state further Running goes g =
-            let told = said says e.0 in
+            let written = said says e.0 in
             let later = further g.0 g.1 (sym (ap (λ (z : Exchange). z.state) g.2) ∙ shut) in
             subst (λ (z : Exchange). Exchanges steps id says (event ∷ first ++ second) from z to) (sym g.2)
             (one_on steps id says event (first ++ second) from e.1 to e.0 e.2 g.0 goes later)

@@ -17,11 +17,11 @@ use Rattle.radio_session.specs.declared.session.framing.Framing.{Framing}
 use Rattle.radio_session.specs.Framing.{is_source, framing_of, start_of}
 use Rattle.radio_session.specs.Asking.{asks_to_feed}
 use Rattle.radio_session.specs.Conversation.{Conversation}
-use Rattle.radio_session.specs.Hearing.{Heard, HearsAs, nothing_held, delivered, body_closes, body_heard, greeted, source_heard, get_heard, refuses}
+use Rattle.radio_session.specs.Hearing.{EventReading, HearsAs, nothing_held, body_closes, body_heard, greeted, source_heard, get_heard, refuses, body_delivered}
 use Rattle.radio_session.specs.Hearing.{head_heard}
 use Rattle.radio_session.specs.Laws.{HearingFailsNothing}
 
-delivering : (c : Conversation) (events : List Event) (place : Place) (word : Option LastWord) → (delivered c events place word).conversation.has_failed ≡ c.has_failed
+delivering : (c : Conversation) (events : List Event) (place : Place) (word : Option LastWord) → (body_delivered c events place word).conversation.has_failed ≡ c.has_failed
 delivering c events place None = refl
 delivering c events place (Some word) = refl
 
@@ -47,11 +47,11 @@ of_head c bytes (Ok (Whole request n)) =
     of_request (nothing_held c) request (drop n bytes) (is_source request) (bytes_eq request.method (codes "GET"))
 of_head c bytes (Err fault) = refl
 
-by_hears : (hears : Hears) (c : Conversation) (bytes : List ℕ) (heard : Heard) → HearsAs hears c bytes heard → heard.conversation.has_failed ≡ c.has_failed
-by_hears Head c bytes heard is = ap (λ (h : Heard). h.conversation.has_failed) is.2 ∙ of_head c (c.held ++ bytes) is.0
+by_hears : (hears : Hears) (c : Conversation) (bytes : List ℕ) (heard : EventReading) → HearsAs hears c bytes heard → heard.conversation.has_failed ≡ c.has_failed
+by_hears Head c bytes heard is = ap (λ (h : EventReading). h.conversation.has_failed) is.2 ∙ of_head c (c.held ++ bytes) is.0
 by_hears (Body body) c bytes heard is =
-    ap (λ (h : Heard). h.conversation.has_failed) is ∙ in_body (nothing_held c) [] body.place bytes
-by_hears Nothing c bytes heard is = ap (λ (h : Heard). h.conversation.has_failed) is
+    ap (λ (h : EventReading). h.conversation.has_failed) is ∙ in_body (nothing_held c) [] body.place bytes
+by_hears Nothing c bytes heard is = ap (λ (h : EventReading). h.conversation.has_failed) is
 
 pub hearing_fails_nothing : HearingFailsNothing
 hearing_fails_nothing c bytes heard is = by_hears c.hears c bytes heard is

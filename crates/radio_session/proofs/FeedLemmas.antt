@@ -17,12 +17,12 @@ brings [] blocks true is_complete (Some fault) e = (cc, cc)
 brings (b ∷ B) blocks ended is_complete (Some fault) e = (cc, cc)
 
 -- an answer with a fault
-refuses : (B : List (List ℕ)) (ended : Bool) (fault : Option BodyFault) (told : BodyFault) → answer_with B ended fault ≡ Refuses told → (B ≡ [])
+refuses : (B : List (List ℕ)) (ended : Bool) (fault : Option BodyFault) (named : BodyFault) → answer_with B ended fault ≡ Refuses named → (B ≡ [])
     × (body_closes ended fault ≡ Some Faulty)
-refuses B ended None told e = cc
-refuses [] false (Some fault) told e = (refl, refl)
-refuses [] true (Some fault) told e = cc
-refuses (b ∷ B) ended (Some fault) told e = cc
+refuses B ended None named e = cc
+refuses [] false (Some fault) named e = (refl, refl)
+refuses [] true (Some fault) named e = cc
+refuses (b ∷ B) ended (Some fault) named e = cc
 
 -- an answer with nothing, where the end has not come
 brings_nothing : (blocks : List (List ℕ)) (is_complete : Bool) (fault : Option BodyFault) → answer_with [] false fault ≡ Brings blocks is_complete
@@ -47,10 +47,10 @@ module _ (place : Place) (bytes : List ℕ) where
   closed_whole blocks e =
       ap (λ (ended : Bool). body_closes ended (fault_at (after place bytes))) (brought blocks true e).1
 
-  pub closed_faulty : (told : BodyFault) → answer_to (unfed place) bytes ≡ Refuses told → ([] ≡ blocks_of (data_of place bytes))
+  pub closed_faulty : (named : BodyFault) → answer_to (unfed place) bytes ≡ Refuses named → ([] ≡ blocks_of (data_of place bytes))
       × (Some Faulty ≡ body_closes (has_ended (after place bytes)) (fault_at (after place bytes)))
-  closed_faulty told e =
-      let r = refuses (blocks_of (data_of place bytes)) (has_ended (after place bytes)) (fault_at (after place bytes)) told (sym answered ∙ e) in
+  closed_faulty named e =
+      let r = refuses (blocks_of (data_of place bytes)) (has_ended (after place bytes)) (fault_at (after place bytes)) named (sym answered ∙ e) in
       (sym r.0, sym r.1)
 
   -- a body whose end has not come goes on
@@ -77,8 +77,8 @@ module _ (place : Place) (unended : has_ended place ≡ false) where
   faultless blocks is_complete e = sym (brings_nothing blocks is_complete (fault_at place) (sym answered_nothing ∙ e))
 
   -- or tells it
-  pub faulty : (told : BodyFault) → answer_to (unfed place) [] ≡ Refuses told → Some Faulty ≡ body_closes false (fault_at place)
-  faulty told e = sym (refuses [] false (fault_at place) told (sym answered_nothing ∙ e)).1
+  pub faulty : (named : BodyFault) → answer_to (unfed place) [] ≡ Refuses named → Some Faulty ≡ body_closes false (fault_at place)
+  faulty named e = sym (refuses [] false (fault_at place) named (sym answered_nothing ∙ e)).1
 
   pub same_after : (blocks : List (List ℕ)) (is_complete : Bool) → answer_to (unfed place) [] ≡ Brings blocks is_complete
       → after_feed (unfed place) [] ≡ unfed place

@@ -10,11 +10,11 @@ use Rattle.radio_session.specs.declared.session.LastWord.{LastWord}
 use Rattle.radio_session.specs.declared.session.framing.Framing.{Framing}
 use Rattle.radio_session.specs.declared.session.Greeting.TheVariants.{Welcome, Continue}
 use Rattle.radio_events.specs.declared.event.Event.{Event}
-use Rattle.radio_session.specs.Bodies.{IsFramed, feeds}
+use Rattle.radio_session.specs.Bodies.{IsFramed, source_events}
 use Rattle.radio_session.specs.Conversation.{Conversation}
 use Rattle.radio_session.specs.Framing.{greeting_of, is_word, start_of}
 use Rattle.radio_session.specs.Greetings.{WaitsToGoOn, told_when_admitted, WhoWaitsIsToldToGoOn, NobodyElseIsToldToGoOn}
-use Rattle.radio_session.specs.Hearing.{Heard, delivered, greeted}
+use Rattle.radio_session.specs.Hearing.{EventReading, greeted, body_delivered}
 use Rattle.radio_session.specs.Saying.{greeting_text}
 use Rattle.radio_answers.specs.WebAnswers.{answered_by}
 use Rattle.radio_answers.specs.declared.web_answers.WebAnswers.{WebAnswers}
@@ -23,7 +23,7 @@ use Rattle.radio_session.proofs.HeardBodyLemmas.{source_as}
 
 -- whatever closes it, it greets as it did
 greets_as : (conversation : Conversation) (events : List Event) (place : Place) (word : Option LastWord)
-    → (let says = (delivered conversation events place word).conversation.says in greeting_text says.web says.greeting)
+    → (let says = (body_delivered conversation events place word).conversation.says in greeting_text says.web says.greeting)
     ≡ greeting_text conversation.says.web conversation.says.greeting
 greets_as conversation events place None = refl
 greets_as conversation events place (Some word) = refl
@@ -32,8 +32,8 @@ greets_as conversation events place (Some word) = refl
 told_by : (conversation : Conversation) (request : RequestParts) (behind : List ℕ) (framing : Framing) → IsFramed request framing
     → told_when_admitted conversation request behind ≡ greeting_text conversation.says.web (greeting_of request)
 told_by conversation request behind framing framed =
-    ap (λ (h : Heard). greeting_text h.conversation.says.web h.conversation.says.greeting) (source_as conversation request behind framing framed)
-    ∙ greets_as (greeted conversation request) (feeds conversation.id request (data_of (start_of framing) behind))
+    ap (λ (h : EventReading). greeting_text h.conversation.says.web h.conversation.says.greeting) (source_as conversation request behind framing framed)
+    ∙ greets_as (greeted conversation request) (source_events conversation.id request (data_of (start_of framing) behind))
     (after (start_of framing) behind) (closes_at (after (start_of framing) behind))
 
 module _ (web : WebAnswers) (request : RequestParts) where

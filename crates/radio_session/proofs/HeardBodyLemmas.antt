@@ -12,8 +12,8 @@ use Rattle.radio_session.specs.declared.session.framing.Framing.{Framing}
 use Rattle.radio_session.specs.declared.session.framing.Framing.TheVariants.{Plain, Sized, Chunked}
 use Rattle.radio_session.specs.Conversation.{Conversation}
 use Rattle.radio_session.specs.Framing.{is_source, framing_of, start_of}
-use Rattle.radio_session.specs.Hearing.{Heard, request_heard, source_heard, body_closes, delivered, greeted}
-use Rattle.radio_session.specs.Bodies.{feeds, IsFramed, EndsBy, PlainBodiesAreHeard, SizedBodiesAreHeard, ChunkedBodiesAreHeard, FaultyBodiesAreHeard}
+use Rattle.radio_session.specs.Hearing.{EventReading, request_heard, source_heard, body_closes, greeted, body_delivered}
+use Rattle.radio_session.specs.Bodies.{source_events, IsFramed, SourceEndsBy, PlainBodiesAreHeard, SizedBodiesAreHeard, ChunkedBodiesAreHeard, FaultyBodiesAreHeard}
 use Rattle.radio_session.proofs.BodyLemmas.{closes_at}
 use Rattle.radio_session.proofs.CutLemmas.{request_by}
 
@@ -34,14 +34,14 @@ source_as conversation request behind framing framed =
 -- the events of a body, by its data and by how it closes the conversation
 events_as : (conversation : Conversation) (request : RequestParts) (framing : Framing) (behind bytes : List ℕ) (word : Option LastWord)
     → IsFramed request framing → data_of (start_of framing) behind ≡ bytes → closes_at (after (start_of framing) behind) ≡ word
-    → (request_heard conversation request behind).events ≡ (delivered (greeted conversation request) (feeds conversation.id request bytes)
+    → (request_heard conversation request behind).events ≡ (body_delivered (greeted conversation request) (source_events conversation.id request bytes)
     (after (start_of framing) behind) word).events
 events_as conversation request framing behind bytes word framed found closes =
     let id = conversation.id in
     let here = after (start_of framing) behind in
-    ap (λ (h : Heard). h.events) (source_as conversation request behind framing framed)
-    ∙ ap (λ (xs : List ℕ). (delivered (greeted conversation request) (feeds id request xs) here (closes_at here)).events) found
-    ∙ ap (λ (w : Option LastWord). (delivered (greeted conversation request) (feeds id request bytes) here w).events) closes
+    ap (λ (h : EventReading). h.events) (source_as conversation request behind framing framed)
+    ∙ ap (λ (xs : List ℕ). (body_delivered (greeted conversation request) (source_events id request xs) here (closes_at here)).events) found
+    ∙ ap (λ (w : Option LastWord). (body_delivered (greeted conversation request) (source_events id request bytes) here w).events) closes
 
 pub plain_bodies_are_heard : ((bytes : List ℕ) → data_of plain_start bytes ≡ bytes) → ((bytes : List ℕ) → after plain_start bytes ≡ plain_start)
     → PlainBodiesAreHeard
@@ -66,10 +66,10 @@ sized_bodies_are_heard found place conversation request bytes framed =
 
 pub faulty_bodies_are_heard : FaultyBodiesAreHeard
 faulty_bodies_are_heard conversation request bytes framed broken =
-    let events = feeds conversation.id request (data_of chunked_start bytes) in
+    let events = source_events conversation.id request (data_of chunked_start bytes) in
     let heard : request_heard conversation request bytes
-    ≡ delivered (greeted conversation request) events (after chunked_start bytes) (closes_at Broken) =
+    ≡ body_delivered (greeted conversation request) events (after chunked_start bytes) (closes_at Broken) =
     source_as conversation request bytes Chunked framed
-    ∙ ap (λ (p : Place). delivered (greeted conversation request) events (after chunked_start bytes) (closes_at p)) broken in
-    subst (λ (h : Heard). EndsBy conversation.id (codes "bad-body") h) (sym heard)
-    (record { before = events; last = Faulty; events = refl; closing = refl; told = refl })
+    ∙ ap (λ (p : Place). body_delivered (greeted conversation request) events (after chunked_start bytes) (closes_at p)) broken in
+    subst (λ (h : EventReading). SourceEndsBy conversation.id (codes "bad-body") h) (sym heard)
+    (record { before = events; last = Faulty; events = refl; closing = refl; is_last_word = refl })

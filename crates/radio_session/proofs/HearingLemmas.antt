@@ -9,7 +9,7 @@ use Rattle.radio_heads.specs.Laws.{ReadingsAgree}
 use Rattle.radio_session.specs.declared.session.Hears.{Hears}
 use Rattle.radio_session.specs.declared.session.Hears.TheVariants.{Head, Body, Nothing}
 use Rattle.radio_session.specs.Conversation.{Conversation}
-use Rattle.radio_session.specs.Hearing.{Heard, HearsAs, head_heard, request_heard, nothing_held}
+use Rattle.radio_session.specs.Hearing.{EventReading, HearsAs, head_heard, request_heard, nothing_held}
 use Rattle.radio_session.specs.Laws.{HearingIsOne}
 
 -- two faults are heard alike
@@ -20,7 +20,7 @@ faults-alike conversation bytes (Err e) (Ok p) h k = cc
 faults-alike conversation bytes (Ok p) s h k = cc
 
 -- a whole head, with bytes behind it, is heard as a request
-pub heard_whole : (conversation start : Conversation) (bytes all behind : List ℕ) (request : RequestParts) (n : ℕ) (heard : Heard)
+pub heard_whole : (conversation start : Conversation) (bytes all behind : List ℕ) (request : RequestParts) (n : ℕ) (heard : EventReading)
     → request_heard start request behind ≡ heard → all ≡ conversation.held ++ bytes → IsReading ShowsRequest all (Ok (Whole request n))
     → start ≡ nothing_held conversation → behind ≡ drop n all → HearsAs Head conversation bytes heard
 heard_whole conversation start bytes all behind request n heard e together reading same rest = (
@@ -40,7 +40,7 @@ module _ (agree : ReadingsAgree ShowsRequest) where
     | inr faults ↦ faults-alike conversation bytes r s faults.0 faults.1
   ]
 
-  heard_as_one : (hears : Hears) (conversation : Conversation) (bytes : List ℕ) (h k : Heard) → HearsAs hears conversation bytes h
+  heard_as_one : (hears : Hears) (conversation : Conversation) (bytes : List ℕ) (h k : EventReading) → HearsAs hears conversation bytes h
       → HearsAs hears conversation bytes k → h ≡ k
   heard_as_one Nothing conversation bytes h k e f = e ∙ sym f
   heard_as_one (Body body) conversation bytes h k e f = e ∙ sym f

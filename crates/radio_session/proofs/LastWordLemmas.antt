@@ -17,7 +17,7 @@ use Rattle.radio_answers.specs.declared.web_answers.WebAnswers.{WebAnswers}
 use Rattle.radio_answers.specs.Answers.{denial, denial_with, text_answer}
 use Rattle.radio_session.specs.Saying.{body_text, noted}
 use Rattle.radio_session.specs.LastWords.{EndsWith, IsAbout, DenialsNameTheirRule, RulesWithoutStatusAreSilent, LateDenialsAreSilent}
-use Rattle.radio_session.specs.LastWords.{FinishesAreSilent, CommandsAreAnswered, RefusalsNameTheirRule, WholeBodiesAreDone, FaultyBodiesAreSilent}
+use Rattle.radio_session.specs.LastWords.{FinishesAreSilent, DoneCommandsAreAnswered, RefusalsNameTheirRule, WholeBodiesAreDone, FaultyBodiesAreSilent}
 
 -- the text of a denial, by the rule's status
 denial_is : (web : WebAnswers) (rule : Rule) (status : Option Status) → status_of rule ≡ status → denial web rule ≡ denial_with web status rule
@@ -26,7 +26,7 @@ denial_is web rule status e = ap (λ (s : Option Status). denial_with web s rule
 pub denials_name_their_rule : DenialsNameTheirRule
 denials_name_their_rule says rule status early e = record {
   ending = By rule;
-  bytes_told = ap (λ (b : Bool). if b then [] else denial says.web rule) early ∙ denial_is says.web rule (Some status) e;
+  bytes_written = ap (λ (b : Bool). if b then [] else denial says.web rule) early ∙ denial_is says.web rule (Some status) e;
   shut = refl;
   last_word = refl;
 }
@@ -37,23 +37,23 @@ silent_by web false rule e = denial_is web rule None e
 
 pub rules_without_status_are_silent : RulesWithoutStatusAreSilent
 rules_without_status_are_silent says rule e =
-    record { ending = By rule; bytes_told = silent_by says.web says.is_admitted rule e; shut = refl; last_word = refl }
+    record { ending = By rule; bytes_written = silent_by says.web says.is_admitted rule e; shut = refl; last_word = refl }
 
 pub late_denials_are_silent : LateDenialsAreSilent
 late_denials_are_silent says rule late = record {
   ending = By rule;
-  bytes_told = ap (λ (b : Bool). if b then [] else denial says.web rule) late;
+  bytes_written = ap (λ (b : Bool). if b then [] else denial says.web rule) late;
   shut = refl;
   last_word = refl;
 }
 
 pub finishes_are_silent : FinishesAreSilent
-finishes_are_silent says rule = record { ending = By rule; bytes_told = refl; shut = refl; last_word = refl }
+finishes_are_silent says rule = record { ending = By rule; bytes_written = refl; shut = refl; last_word = refl }
 
-pub commands_are_answered : CommandsAreAnswered
+pub commands_are_answered : DoneCommandsAreAnswered
 commands_are_answered says text early = record {
   ending = Done;
-  bytes_told = ap (λ (b : Bool). if b then [] else text_answer says.web text) early;
+  bytes_written = ap (λ (b : Bool). if b then [] else text_answer says.web text) early;
   shut = refl;
   last_word = refl;
 }
@@ -67,16 +67,16 @@ module _ (says : Says) (word : LastWord) (about : IsAbout says word) where
 pub refusals_name_their_rule : RefusalsNameTheirRule
 refusals_name_their_rule says rule status about e =
     by_closing says (Refusal rule) about (answered_by says.web (denial_text status (word_of rule))) (word_of rule)
-    (record { ending = By rule; bytes_told = denial_is says.web rule (Some status) e; shut = refl; last_word = refl })
+    (record { ending = By rule; bytes_written = denial_is says.web rule (Some status) e; shut = refl; last_word = refl })
 
 done_with : (says : Says) (greeting : Greeting) → IsAbout says Complete → says.greeting ≡ greeting
     → EndsWith (noted says says.closing) (body_text says.web greeting) (codes "done")
 done_with says greeting about e =
-    by_closing says Complete about (body_text says.web greeting) (codes "done") (record { ending = Done; bytes_told = ap (body_text says.web) e; shut = refl; last_word = refl })
+    by_closing says Complete about (body_text says.web greeting) (codes "done") (record { ending = Done; bytes_written = ap (body_text says.web) e; shut = refl; last_word = refl })
 
 pub whole_bodies_are_done : WholeBodiesAreDone
 whole_bodies_are_done says about = (done_with says Welcome about, done_with says Continue about)
 
 pub faulty_bodies_are_silent : FaultyBodiesAreSilent
 faulty_bodies_are_silent says about =
-    by_closing says Faulty about [] (codes "bad-body") (record { ending = BadBody; bytes_told = refl; shut = refl; last_word = refl })
+    by_closing says Faulty about [] (codes "bad-body") (record { ending = BadBody; bytes_written = refl; shut = refl; last_word = refl })

@@ -14,7 +14,7 @@ use Rattle.radio_heads.specs.declared.outcome.Progress.TheVariants.{More, Whole}
 use Rattle.radio_heads.specs.declared.outcome.HeadFault.{HeadFault}
 use Rattle.radio_heads.specs.Head.{RequestParts, ShowsRequest}
 use Rattle.radio_heads.specs.Reading.{IsReading}
-use Rattle.radio_heads.specs.Laws.{IsSettled, HeadsLieWithin}
+use Rattle.radio_heads.specs.Laws.{IsStableReading, HeadsLieWithin}
 use Rattle.radio_policy.specs.declared.rule.Rule.TheVariants.{BadHead, BadMethod}
 use Rattle.radio_session.specs.declared.session.Hears.{Hears}
 use Rattle.radio_session.specs.declared.session.Hears.TheVariants.{Head, Body, Nothing}
@@ -29,7 +29,7 @@ use Rattle.radio_source.specs.Feeding.{unfed}
 use Rattle.radio_session.specs.Asking.{asks_to_feed}
 use Rattle.radio_session.specs.Conversation.{Conversation, saying_now}
 use Rattle.radio_session.specs.Pushes.{pushes}
-use Rattle.radio_session.specs.Hearing.{Heard, HearsAs, head_heard, source_heard, get_heard, body_heard, delivered, closes_with, greeted}
+use Rattle.radio_session.specs.Hearing.{EventReading, HearsAs, head_heard, source_heard, get_heard, body_heard, closes_with, greeted, body_delivered}
 use Rattle.radio_session.specs.Hearing.{refuses, nothing_held, going_on}
 use Rattle.radio_events.specs.Servers.{Steps}
 use Rattle.radio_session.specs.Exchanges.{Exchange, nothing_exchanged, prefixed, Exchanges}
@@ -48,11 +48,11 @@ module _ {S : Type 0} (steps : Steps S) where
   told_nothing : (pieces : List (List ℕ)) (conversation : Conversation) → conversation.hears ≡ Nothing → (from to : S) (x : Exchange)
       → IsToldIn steps conversation pieces from x to → (x ≡ nothing_exchanged conversation.says) × (to ≡ from)
   told_nothing [] conversation hears from to x t = t
-  told_nothing (piece ∷ pieces) conversation hears from to x (one, between, mid, told, later) =
-      let heard : told.heard ≡ unheard conversation = subst (λ (h : Hears). HearsAs h conversation piece told.heard) hears told.is_heard in
-      let none = subst (λ (h : Heard). Exchanges steps conversation.id h.conversation.says h.events from one mid) heard told.is_exchanged in
+  told_nothing (piece ∷ pieces) conversation hears from to x (one, between, mid, of_piece, later) =
+      let heard : of_piece.heard ≡ unheard conversation = subst (λ (h : Hears). HearsAs h conversation piece of_piece.heard) hears of_piece.is_heard in
+      let none = subst (λ (h : EventReading). Exchanges steps conversation.id h.conversation.says h.events from one mid) heard of_piece.is_exchanged in
       let same : between ≡ conversation =
-      told.goes_on ∙ ap (λ (h : Heard). saying_now h.conversation one.says) heard ∙ ap (λ (z : Exchange). saying_now conversation z.says) none.0 in
+      of_piece.goes_on ∙ ap (λ (h : EventReading). saying_now h.conversation one.says) heard ∙ ap (λ (z : Exchange). saying_now conversation z.says) none.0 in
       let g = subst (λ (state : State). ThenTold state one mid (λ others. IsToldIn steps between pieces mid others to) x to)
       (ap (λ (z : Exchange). z.state) none.0) later in
       let rest = told_nothing pieces conversation hears mid to g.0 (subst (λ (c : Conversation). IsToldIn steps c pieces mid g.0 to) same g.1) in
@@ -71,7 +71,7 @@ module _ {S : Type 0} (steps : Steps S) where
   told_no_more pieces conversation hears (Shut ending) mid to x cut runs g = g
 
   -- what is heard at once, is exchanged so
-  abbrev pub AsHeard : ℕ → Heard → S → Exchange → S → Type 0
+  abbrev pub AsHeard : ℕ → EventReading → S → Exchange → S → Type 0
   AsHeard id heard from x to = Exchanges steps id heard.conversation.says heard.events from x to
 
   -- a source's request: refused, or its data in blocks
@@ -121,9 +121,9 @@ module _ {S : Type 0} (steps : Steps S) where
         → (closes_at (after place first) ≡ None → x.says.closing ≡ None → (y : Exchange)
         → IsToldIn steps (going_on (saying_now conversation x.says) (Body (unfed (after place first)))) pieces mid y to
         → RestIn pieces (saying_now conversation x.says) (after place first) mid y to)
-        → AsHeard conversation.id (delivered conversation (before ++ pushes conversation.id (data_of place first)) (after place first) word) from x mid
+        → AsHeard conversation.id (body_delivered conversation (before ++ pushes conversation.id (data_of place first)) (after place first) word) from x mid
         → ThenTold x.state x mid (λ others. IsToldIn steps (saying_now
-        (delivered conversation (before ++ pushes conversation.id (data_of place first))
+        (body_delivered conversation (before ++ pushes conversation.id (data_of place first))
         (after place first) word).conversation x.says) pieces mid others to) cut to
         → InBlocks steps conversation.id conversation.says before (data_of place (first ++ concat pieces))
         (closes_at (after place (first ++ concat pieces))) from cut to
@@ -138,7 +138,7 @@ module _ {S : Type 0} (steps : Steps S) where
         let over = told_no_more pieces heard.conversation refl x.state mid to x cut refl later in
         let whole = ended steps id conversation.says (before ++ pushes id (data_of place first)) word from x mid e in
         let here : InBlocks steps id conversation.says before (data_of place first) (Some word) from x mid =
-        record { blocks = blocks_of (data_of place first); valid = valid (data_of place first); joined = joined (data_of place first); told = whole } in
+        record { blocks = blocks_of (data_of place first); valid = valid (data_of place first); joined = joined (data_of place first); closes = whole } in
         let there = subst (λ (bytes : List ℕ). InBlocks steps id conversation.says before bytes (Some word) from x mid) same here in
         let named = subst (λ (w : Option LastWord). InBlocks steps id conversation.says before (data_of place (first ++ rest)) w from x mid) close there in
         subst (λ (z : Exchange). InBlocks steps id conversation.says before (data_of place (first ++ rest))
@@ -187,14 +187,14 @@ module _ {S : Type 0} (steps : Steps S) where
         → IsToldIn steps (going_on conversation (Body (unfed place))) pieces from y to → RestIn pieces conversation place from y to
     rest_in [] conversation place from to y is_free still t =
         no_rest steps conversation.id conversation.says (closes_at place) from to y is_free still t
-    rest_in (piece ∷ others) conversation place from to y is_free still (one, between, mid, told, later) =
+    rest_in (piece ∷ others) conversation place from to y is_free still (one, between, mid, of_piece, later) =
         let now = going_on conversation (Body (unfed place)) in
-        let heard : told.heard ≡ body_heard now [] place piece = told.is_heard in
+        let heard : of_piece.heard ≡ body_heard now [] place piece = of_piece.is_heard in
         body_first others now [] place piece (closes_at (after place piece)) from mid to one y is_free refl
         (λ goes free_now z t. rest_in others (saying_now conversation one.says) (after place piece) mid to z free_now goes t)
-        (subst (λ (h : Heard). AsHeard conversation.id h from one mid) heard told.is_exchanged)
+        (subst (λ (h : EventReading). AsHeard conversation.id h from one mid) heard of_piece.is_exchanged)
         (subst (λ (c : Conversation). ThenTold one.state one mid (λ z. IsToldIn steps c others mid z to) y to)
-        (told.goes_on ∙ ap (λ (h : Heard). saying_now h.conversation one.says) heard) later)
+        (of_piece.goes_on ∙ ap (λ (h : EventReading). saying_now h.conversation one.says) heard) later)
 
     -- a body that comes in pieces
     body_in : (pieces : List (List ℕ)) (conversation : Conversation) (before : List Event) (place : Place) (first : List ℕ) (from mid to : S) (x cut : Exchange)
@@ -208,12 +208,12 @@ module _ {S : Type 0} (steps : Steps S) where
         (λ still free_now y t. rest_in pieces (saying_now conversation x.says) (after place first) mid to y free_now still t) e later
 
     -- a heard piece, behind which the others come
-    abbrev Goes : ℕ → Heard → List (List ℕ) → S → Exchange → S → Exchange → S → Type 0
+    abbrev Goes : ℕ → EventReading → List (List ℕ) → S → Exchange → S → Exchange → S → Type 0
     Goes id heard pieces from x mid cut to = AsHeard id heard from x mid
         × ThenTold x.state x mid (λ others. IsToldIn steps (saying_now heard.conversation x.says) pieces mid others to) cut to
 
     -- behind which nothing is heard
-    closed_in : (id : ℕ) (heard : Heard) (pieces : List (List ℕ)) (from mid to : S) (x cut : Exchange) → heard.conversation.hears ≡ Nothing
+    closed_in : (id : ℕ) (heard : EventReading) (pieces : List (List ℕ)) (from mid to : S) (x cut : Exchange) → heard.conversation.hears ≡ Nothing
         → Goes id heard pieces from x mid cut to → AsHeard id heard from cut to
     closed_in id heard pieces from mid to x cut hears (e, later) =
         let over = told_no_more pieces heard.conversation hears x.state mid to x cut refl later in
@@ -240,7 +240,7 @@ module _ {S : Type 0} (steps : Steps S) where
     request_in false false conversation request behind pieces from mid to x cut is_free goes =
         closed_in conversation.id (refuses conversation BadMethod) pieces from mid to x cut refl goes
 
-    module _ (settled : IsSettled ShowsRequest) (fits : HeadsLieWithin ShowsRequest) where
+    module _ (settled : IsStableReading ShowsRequest) (fits : HeadsLieWithin ShowsRequest) where
       -- the first piece of a head, and the others, by what the first is read as
       head_first : (pieces : List (List ℕ)) (conversation : Conversation) (first : List ℕ) (r : Result (Progress RequestParts) HeadFault)
           (from mid to : S) (x cut : Exchange)
@@ -256,8 +256,8 @@ module _ {S : Type 0} (steps : Steps S) where
           let same : held ++ concat pieces ≡ conversation.held ++ (first ++ concat pieces) = append_assoc conversation.held first (concat pieces) in
           let g = subst (λ (z : Exchange). ThenTold z.state z mid (λ others. IsToldIn steps
           (saying_now waiting z.says) pieces mid others to) cut to) e.0 later in
-          let told = subst (λ (z : Exchange). IsToldIn steps waiting pieces mid z to) (sym g.2) g.1 in
-          let rest = further refl (subst (λ (s : S). IsToldIn steps waiting pieces s cut to) e.1 told) in (
+          let waits = subst (λ (z : Exchange). IsToldIn steps waiting pieces mid z to) (sym g.2) g.1 in
+          let rest = further refl (subst (λ (s : S). IsToldIn steps waiting pieces s cut to) e.1 waits) in (
             rest.0,
             subst (λ (xs : List ℕ). IsReading ShowsRequest xs rest.0) same rest.1,
             subst (λ (xs : List ℕ). AsHead conversation xs rest.0 from cut to) same
@@ -272,10 +272,10 @@ module _ {S : Type 0} (steps : Steps S) where
           sym (drop-append-le n bytes rest (fits bytes request n read)) ∙ ap (drop n) same in
           let source = is_source request in
           let get = bytes_eq request.method (codes "GET") in
-          let told = request_in source get (nothing_held conversation) request (drop n bytes) pieces from mid to x cut is_free goes in (
+          let asked = request_in source get (nothing_held conversation) request (drop n bytes) pieces from mid to x cut is_free goes in (
             Ok (Whole request n),
             subst (λ (xs : List ℕ). IsReading ShowsRequest xs (Ok (Whole request n))) same longer,
-            subst (λ (xs : List ℕ). AsRequest source get (nothing_held conversation) request xs from cut to) behind told,
+            subst (λ (xs : List ℕ). AsRequest source get (nothing_held conversation) request xs from cut to) behind asked,
           )
       head_first pieces conversation first (Err fault) from mid to x cut hears is_free read further goes =
           let bytes = conversation.held ++ first in
@@ -287,21 +287,21 @@ module _ {S : Type 0} (steps : Steps S) where
           )
 
       -- a piece of a head, as the law has it
-      as_goes : (conversation between : Conversation) (heard : Heard) (piece : List ℕ) (pieces : List (List ℕ)) (from mid to : S) (x cut : Exchange)
-          (told : IsTold steps conversation piece from x between mid)
-          → told.heard ≡ heard → ThenTold x.state x mid (λ others. IsToldIn steps between pieces mid others to) cut to
+      as_goes : (conversation between : Conversation) (heard : EventReading) (piece : List ℕ) (pieces : List (List ℕ)) (from mid to : S) (x cut : Exchange)
+          (of_piece : IsTold steps conversation piece from x between mid)
+          → of_piece.heard ≡ heard → ThenTold x.state x mid (λ others. IsToldIn steps between pieces mid others to) cut to
           → Goes conversation.id heard pieces from x mid cut to
-      as_goes conversation between heard piece pieces from mid to x cut told same later = (
-        subst (λ (h : Heard). AsHeard conversation.id h from x mid) same told.is_exchanged,
+      as_goes conversation between heard piece pieces from mid to x cut of_piece same later = (
+        subst (λ (h : EventReading). AsHeard conversation.id h from x mid) same of_piece.is_exchanged,
         subst (λ (c : Conversation). ThenTold x.state x mid (λ others. IsToldIn steps c pieces mid others to) cut to)
-            (told.goes_on ∙ ap (λ (h : Heard). saying_now h.conversation x.says) same) later,
+            (of_piece.goes_on ∙ ap (λ (h : EventReading). saying_now h.conversation x.says) same) later,
       )
 
       head_in : (pieces : List (List ℕ)) (conversation : Conversation) (first : List ℕ) (from to : S) (cut : Exchange) → conversation.hears ≡ Head
           → conversation.says.closing ≡ None
           → IsToldIn steps conversation (first ∷ pieces) from cut to → As Head conversation (concat (first ∷ pieces)) from cut to
-      head_in [] conversation first from to cut hears is_free (x, between, mid, told, later) =
-          let h : HearsAs Head conversation first told.heard = subst (λ (z : Hears). HearsAs z conversation first told.heard) hears told.is_heard in
+      head_in [] conversation first from to cut hears is_free (x, between, mid, of_piece, later) =
+          let h : HearsAs Head conversation first of_piece.heard = subst (λ (z : Hears). HearsAs z conversation first of_piece.heard) hears of_piece.is_heard in
           head_first [] conversation first h.0 from mid to x cut hears is_free h.1
           (λ more t. (
             Ok More,
@@ -309,12 +309,12 @@ module _ {S : Type 0} (steps : Steps S) where
                 (subst (λ (xs : List ℕ). IsReading ShowsRequest xs h.0) (sym (append-nil (conversation.held ++ first))) h.1),
             t,
           ))
-          (as_goes conversation between (head_heard conversation (conversation.held ++ first) h.0) first [] from mid to x cut told h.2 later)
-      head_in (piece ∷ pieces) conversation first from to cut hears is_free (x, between, mid, told, later) =
-          let h : HearsAs Head conversation first told.heard = subst (λ (z : Hears). HearsAs z conversation first told.heard) hears told.is_heard in
+          (as_goes conversation between (head_heard conversation (conversation.held ++ first) h.0) first [] from mid to x cut of_piece h.2 later)
+      head_in (piece ∷ pieces) conversation first from to cut hears is_free (x, between, mid, of_piece, later) =
+          let h : HearsAs Head conversation first of_piece.heard = subst (λ (z : Hears). HearsAs z conversation first of_piece.heard) hears of_piece.is_heard in
           head_first (piece ∷ pieces) conversation first h.0 from mid to x cut hears is_free h.1
           (λ more t. head_in pieces (record conversation { held = conversation.held ++ first }) piece from to cut hears is_free t)
-          (as_goes conversation between (head_heard conversation (conversation.held ++ first) h.0) first (piece ∷ pieces) from mid to x cut told h.2 later)
+          (as_goes conversation between (head_heard conversation (conversation.held ++ first) h.0) first (piece ∷ pieces) from mid to x cut of_piece h.2 later)
 
       -- any pieces, by what the conversation hears
       pieces_in : (hears : Hears) (conversation : Conversation) (first : List ℕ) (pieces : List (List ℕ)) (from to : S) (cut : Exchange)
@@ -322,11 +322,11 @@ module _ {S : Type 0} (steps : Steps S) where
           → IsToldIn steps conversation (first ∷ pieces) from cut to → As hears conversation (concat (first ∷ pieces)) from cut to
       pieces_in Nothing conversation first pieces from to cut hears is_free t = told_nothing (first ∷ pieces) conversation hears from to cut t
       pieces_in Head conversation first pieces from to cut hears is_free t = head_in pieces conversation first from to cut hears is_free t
-      pieces_in (Body body) conversation first pieces from to cut hears is_free (x, between, mid, told, later) =
-          let heard : told.heard ≡ body_heard (nothing_held conversation) [] body.place first =
-          subst (λ (z : Hears). HearsAs z conversation first told.heard) hears told.is_heard in
+      pieces_in (Body body) conversation first pieces from to cut hears is_free (x, between, mid, of_piece, later) =
+          let heard : of_piece.heard ≡ body_heard (nothing_held conversation) [] body.place first =
+          subst (λ (z : Hears). HearsAs z conversation first of_piece.heard) hears of_piece.is_heard in
           let goes = as_goes conversation between
-          (body_heard (nothing_held conversation) [] body.place first) first pieces from mid to x cut told heard later in
+          (body_heard (nothing_held conversation) [] body.place first) first pieces from mid to x cut of_piece heard later in
           body_in pieces (nothing_held conversation) [] body.place first from mid to x cut is_free goes.0 goes.1
 
       pub cutting_in : (conversation : Conversation) (bytes : List ℕ) (pieces : List (List ℕ)) (from to : S) (cut : Exchange)

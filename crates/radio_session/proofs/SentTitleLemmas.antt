@@ -6,14 +6,14 @@ use Rattle.std.proofs.lemmas.Slice.Eq.{bytes_eq-Decides}
 use Rattle.radio_icy.specs.Block.{news_of, sent_with}
 use Rattle.radio_icy.specs.Weaving.{Call}
 use Rattle.radio_icy.specs.Stream.{title_at, sent_before, news_at, titles_sent}
-use Rattle.radio_session.specs.SentTitles.{last_title, AreChanges, TitlesAreSentInTime, NoTitleIsRepeated}
+use Rattle.radio_session.specs.SentTitles.{last_of_titles, AreChanges, TitlesAreSentInTime, NoTitleIsRepeated}
 
-last_of_more : (titles : List (List ℕ)) (title : List ℕ) → last_title (titles ++ title ∷ []) ≡ Some title
+last_of_more : (titles : List (List ℕ)) (title : List ℕ) → last_of_titles (titles ++ title ∷ []) ≡ Some title
 last_of_more [] title = refl
 last_of_more (t ∷ []) title = refl
 last_of_more (t ∷ u ∷ titles) title = last_of_more (u ∷ titles) title
 
-changes_more : (titles : List (List ℕ)) (title : List ℕ) → AreChanges titles → (last_title titles ≡ Some title → ⊥) → AreChanges (titles ++ title ∷ [])
+changes_more : (titles : List (List ℕ)) (title : List ℕ) → AreChanges titles → (last_of_titles titles ≡ Some title → ⊥) → AreChanges (titles ++ title ∷ [])
 changes_more [] title changes other = tt
 changes_more (t ∷ []) title changes other = (λ same. other (ap (λ (x : List ℕ). Some x) same), tt)
 changes_more (t ∷ u ∷ titles) title changes other = (changes.0, changes_more (u ∷ titles) title changes.1 other)
@@ -41,17 +41,17 @@ sent_now title (Some sent) = by_test (bytes_eq title sent) refl where
   by_test true t = rw t (ap (λ (x : List ℕ). Some x) (sym ((bytes_eq-Decides title sent).0 t)))
   by_test false t = rw t refl
 
-last_with : (titles : List (List ℕ)) (news sent : Option (List ℕ)) → last_title titles ≡ sent → last_title (titles ++ option_to_list news) ≡ sent_with news sent
-last_with titles None sent e = ap last_title (append-nil titles) ∙ e
+last_with : (titles : List (List ℕ)) (news sent : Option (List ℕ)) → last_of_titles titles ≡ sent → last_of_titles (titles ++ option_to_list news) ≡ sent_with news sent
+last_with titles None sent e = ap last_of_titles (append-nil titles) ∙ e
 last_with titles (Some title) sent e = last_of_more titles title
 
-changes_with : (titles : List (List ℕ)) (news sent : Option (List ℕ)) → AreChanges titles → last_title titles ≡ sent
+changes_with : (titles : List (List ℕ)) (news sent : Option (List ℕ)) → AreChanges titles → last_of_titles titles ≡ sent
     → ((title : List ℕ) → news ≡ Some title → sent ≡ Some title → ⊥) → AreChanges (titles ++ option_to_list news)
 changes_with titles None sent changes e other = rw (append-nil titles) changes
 changes_with titles (Some title) sent changes e other = changes_more titles title changes (λ same. other title refl (sym e ∙ same))
 
 -- the last of the titles sent is the one that is said to be sent last
-sent_last : (n : ℕ) (draws : List Call) (k : ℕ) → last_title (titles_sent n draws k) ≡ sent_before n draws k
+sent_last : (n : ℕ) (draws : List Call) (k : ℕ) → last_of_titles (titles_sent n draws k) ≡ sent_before n draws k
 sent_last n draws zero = refl
 sent_last n draws (suc k) = last_with (titles_sent n draws k) (news_at n draws k) (sent_before n draws k) (sent_last n draws k)
 

@@ -2,9 +2,9 @@
 use Rattle.std.proofs.Common.{◌≡◌, ℕ, zero, suc, ◌<◌, true, List, [], ◌∷◌, ◌++◌, Option, None, Some, refl, ap, sym, subst, ◌∙◌, arith, map}
 use Rattle.std.specs.Option.{option_map}
 use Rattle.radio_icy.specs.Weaving.{Call, Weaving, new_weaving, woven_by_calls}
-use Rattle.radio_icy.specs.Stream.{IsWoven, sound_of_calls, titles_sent, parts_of}
+use Rattle.radio_icy.specs.Stream.{IsWoven, sound_of_calls, titles_sent, interval_count}
 use Rattle.radio_icy.specs.Block.{title_text}
-use Rattle.radio_icy.specs.Unweaving.{new_unweaving, heard}
+use Rattle.radio_icy.specs.Unweaving.{new_unweaving, atoms_of_piece}
 use Rattle.radio_icy.specs.Bare.{bare, block_texts, sound_in, texts_in}
 use Rattle.radio_events.specs.declared.reply.Reply.{Reply}
 use Rattle.radio_events.specs.declared.reply.Reply.TheVariants.{Arrived, Feeding, Seated, Drawn, Noted, Text, Deny, Finished, Stray}
@@ -12,10 +12,10 @@ use Rattle.radio_events.specs.declared.text.ReplyText.{ReplyText as CommandText}
 use Rattle.radio_policy.specs.declared.rule.Rule.{Rule}
 use Rattle.radio_session.specs.declared.session.Says.{Says}
 use Rattle.radio_session.specs.declared.session.Closing.{Closing}
-use Rattle.radio_answers.specs.Answers.{interval_told}
+use Rattle.radio_answers.specs.Answers.{sent_interval}
 use Rattle.radio_session.specs.Draws.{draw, drawn, after_draw, drawn_by, joined_draws}
 use Rattle.radio_answers.specs.Answers.{head_text}
-use Rattle.radio_session.specs.Saying.{Said, said, denied, noted, one_less, seated, texted}
+use Rattle.radio_session.specs.Saying.{Said, said, denied, noted, one_less, listener_admitted, texted}
 use Rattle.radio_session.specs.Told.{told, while_open, draws_of, AdmitNobody, DrawsFollowTheHead, PlainDrawsAreTheirData, JoinedDrawsAreWoven}
 use Rattle.radio_session.specs.Told.{DrawsAreTakenOutAgain}
 
@@ -59,21 +59,21 @@ draws_follow says (Stray ∷ replies) a c n = draws_follow (said says Stray).say
 pub draws_follow_the_head : DrawsFollowTheHead
 draws_follow_the_head says interval head replies c n =
     ap (λ (later : List ℕ). head_text says.web interval head ++ later)
-    (draws_follow (seated says interval) replies refl (none_less says.closing c) n)
+    (draws_follow (listener_admitted says interval) replies refl (none_less says.closing c) n)
 
 pub plain_draws : PlainDrawsAreTheirData
-plain_draws interval draws e = ap (λ (told : Option ℕ). drawn_by (option_map new_weaving told) draws) e
+plain_draws interval draws e = ap (λ (chosen : Option ℕ). drawn_by (option_map new_weaving chosen) draws) e
 
 -- an interval that is told is one at least
-some_told : (interval : Option ℕ) (n : ℕ) → interval_told interval ≡ Some n → 0 < n
+some_told : (interval : Option ℕ) (n : ℕ) → sent_interval interval ≡ Some n → 0 < n
 some_told None n e = cc
 some_told (Some zero) n e = cc
 some_told (Some (suc m)) zero e = cc
 some_told (Some (suc m)) (suc n) e = omega arith
 
-at_interval : (interval : Option ℕ) (n : ℕ) (draws : List Call) → interval_told interval ≡ Some n
+at_interval : (interval : Option ℕ) (n : ℕ) (draws : List Call) → sent_interval interval ≡ Some n
     → joined_draws interval draws ≡ woven_by_calls (new_weaving n) draws
-at_interval interval n draws e = ap (λ (told : Option ℕ). drawn_by (option_map new_weaving told) draws) e
+at_interval interval n draws e = ap (λ (chosen : Option ℕ). drawn_by (option_map new_weaving chosen) draws) e
 
 module _ (streams : (n : ℕ) (calls : List Call) → 0 < n → IsWoven n calls (woven_by_calls (new_weaving n) calls)) where
   pub draws_are_woven : JoinedDrawsAreWoven
@@ -83,9 +83,9 @@ module _ (streams : (n : ℕ) (calls : List Call) → 0 < n → IsWoven n calls 
   module _
       (sounds : (n : ℕ) (calls : List Call) (out : List ℕ) → 0 < n → IsWoven n calls out → bare n out ≡ sound_of_calls calls)
       (texts : (n : ℕ) (calls : List Call) (out : List ℕ) → 0 < n → IsWoven n calls out
-      → block_texts n out ≡ map title_text (titles_sent n calls (parts_of n calls)))
-      (sounds_heard : (n : ℕ) (out : List ℕ) → sound_in (heard (new_unweaving n) out) ≡ bare n out)
-      (texts_heard : (n : ℕ) (out : List ℕ) → texts_in (heard (new_unweaving n) out) ≡ block_texts n out) where
+      → block_texts n out ≡ map title_text (titles_sent n calls (interval_count n calls)))
+      (sounds_heard : (n : ℕ) (out : List ℕ) → sound_in (atoms_of_piece (new_unweaving n) out) ≡ bare n out)
+      (texts_heard : (n : ℕ) (out : List ℕ) → texts_in (atoms_of_piece (new_unweaving n) out) ≡ block_texts n out) where
     pub draws_are_taken_out : DrawsAreTakenOutAgain
     draws_are_taken_out interval n draws e =
         let out = joined_draws interval draws in

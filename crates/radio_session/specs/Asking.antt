@@ -15,7 +15,7 @@ use Rattle.radio_heads.specs.Headers.{default_content_type, value_of}
 use Rattle.radio_answers.specs.declared.web_answers.WebAnswers.{WebAnswers}
 use Rattle.radio_session.specs.Browsers.{is_refused_pair}
 use Rattle.radio_session.specs.Framing.{is_word}
-use Rattle.radio_admin.specs.Kinds.{path_of}
+use Rattle.radio_admin.specs.Kinds.{command_path}
 use Rattle.radio_admin.specs.declared.kind.CommandKind.TheVariants.{Status}
 use Rattle.radio_session.specs.Commands.{asked_in}
 use Rattle.radio_events.specs.declared.command.Asked.{Asked}
@@ -70,7 +70,7 @@ query_in request = unwrap_or request.query []
 -- a path of commands, or of what everybody may see of the station
 -- rule: Commands by GET
 abbrev pub is_for_commands : List ℕ → Bool
-is_for_commands path = starts_with nat_eq path (codes "/admin/") || bytes_eq path (path_of Status)
+is_for_commands path = starts_with nat_eq path (codes "/admin/") || bytes_eq path (command_path Status)
 
 -- a client asks to feed the mount of its path
 -- rule: Source request

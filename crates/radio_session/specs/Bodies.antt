@@ -13,12 +13,12 @@ use Rattle.radio_session.specs.declared.session.LastWord.{LastWord}
 use Rattle.radio_events.specs.Endings.{ending_word}
 use Rattle.radio_session.specs.Conversation.{Conversation}
 use Rattle.radio_session.specs.Framing.{is_source, framing_of}
-use Rattle.radio_session.specs.Hearing.{Heard, request_heard}
+use Rattle.radio_session.specs.Hearing.{EventReading, request_heard}
 use Rattle.radio_session.specs.Saying.{last_ending}
 
 -- a source asks to feed, and its data are these, in blocks
-abbrev pub feeds : ℕ → RequestParts → List ℕ → List Event
-feeds id request bytes = asks_to_feed id request ∷ map (Push id) (blocks_of bytes)
+abbrev pub source_events : ℕ → RequestParts → List ℕ → List Event
+source_events id request bytes = asks_to_feed id request ∷ map (Push id) (blocks_of bytes)
 
 -- the request of a source whose data come so
 pub record IsFramed (request : RequestParts) (framing : Framing) : Type 0 where
@@ -29,29 +29,29 @@ pub record IsFramed (request : RequestParts) (framing : Framing) : Type 0 where
 -- rule: Framing
 abbrev pub PlainBodiesAreHeard : Type 0
 PlainBodiesAreHeard = (conversation : Conversation) (request : RequestParts) (bytes : List ℕ) → IsFramed request Plain →
-    (request_heard conversation request bytes).events ≡ feeds conversation.id request bytes
+    (request_heard conversation request bytes).events ≡ source_events conversation.id request bytes
 
 -- A whole sized body is all data, and their end.
 -- rule: End of a body
 abbrev pub SizedBodiesAreHeard : Type 0
 SizedBodiesAreHeard = (conversation : Conversation) (request : RequestParts) (bytes : List ℕ) → IsFramed request (Sized (length bytes)) →
-    (request_heard conversation request bytes).events ≡ feeds conversation.id request bytes ++ SourceEnd conversation.id ∷ []
+    (request_heard conversation request bytes).events ≡ source_events conversation.id request bytes ++ SourceEnd conversation.id ∷ []
 
 -- A whole body of the chunk grammar is the data of its chunks, and their end.
 -- rule: End of a body
 abbrev pub ChunkedBodiesAreHeard : Type 0
 ChunkedBodiesAreHeard = (conversation : Conversation) (request : RequestParts) (body : ChunkedBody) → IsFramed request Chunked → IsBody body →
-    (request_heard conversation request (print_body body)).events ≡ feeds conversation.id request (content_of body.chunks) ++ SourceEnd conversation.id ∷ []
+    (request_heard conversation request (print_body body)).events ≡ source_events conversation.id request (content_of body.chunks) ++ SourceEnd conversation.id ∷ []
 
 -- the last event is the end of the source of this number, and the reply to it shuts the connection with this word
-pub record EndsBy (id : ℕ) (word : List ℕ) (heard : Heard) : Type 0 where
+pub record SourceEndsBy (id : ℕ) (word : List ℕ) (heard : EventReading) : Type 0 where
   pub before : List Event
   pub last : LastWord
   pub events : heard.events ≡ before ++ SourceEnd id ∷ []
   pub closing : heard.conversation.says.closing ≡ Some (record { awaits = length before; word = last })
-  pub told : ending_word (last_ending last) ≡ word
+  pub is_last_word : ending_word (last_ending last) ≡ word
 
 -- A chunked body with a byte that no such body has there ends by that fault, and not as if it were whole.
 abbrev pub FaultyBodiesAreHeard : Type 0
 FaultyBodiesAreHeard = (conversation : Conversation) (request : RequestParts) (bytes : List ℕ) → IsFramed request Chunked → after chunked_start bytes ≡ Broken →
-    EndsBy conversation.id (codes "bad-body") (request_heard conversation request bytes)
+    SourceEndsBy conversation.id (codes "bad-body") (request_heard conversation request bytes)

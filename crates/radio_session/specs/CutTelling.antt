@@ -3,7 +3,7 @@ use Rattle.std.specs.Prelude.{◌≡◌, ℕ, List, [], ◌∷◌, None}
 use Rattle.radio_events.specs.declared.state.State.{State}
 use Rattle.radio_events.specs.declared.state.State.TheVariants.{Running, Shut}
 use Rattle.radio_session.specs.Conversation.{Conversation, saying_now}
-use Rattle.radio_session.specs.Hearing.{Heard, IsHeard}
+use Rattle.radio_session.specs.Hearing.{EventReading, IsHeard}
 use Rattle.radio_events.specs.Servers.{Steps}
 use Rattle.radio_session.specs.Exchanges.{Exchange, Exchanges, nothing_exchanged, prefixed}
 use Rattle.radio_session.specs.Cuts.{IsCutting}
@@ -12,7 +12,7 @@ use Rattle.radio_session.specs.DataServers.{GoesByData}
 -- bytes come on a connection, and their events are exchanged
 pub record IsTold {S : Type 0} (steps : Steps S) (conversation : Conversation) (bytes : List ℕ) (from : S)
     (x : Exchange) (after : Conversation) (to : S) : Type 0 where
-  pub heard : Heard
+  pub heard : EventReading
   pub is_heard : IsHeard conversation bytes heard
   pub is_exchanged : Exchanges steps conversation.id heard.conversation.says heard.events from x to
   pub goes_on : after ≡ saying_now heard.conversation x.says

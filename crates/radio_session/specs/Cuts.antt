@@ -5,7 +5,7 @@ use Rattle.radio_events.specs.declared.event.Event.{Event}
 use Rattle.radio_events.specs.declared.event.Event.TheVariants.{Push}
 use Rattle.radio_session.specs.declared.session.Closing.{Closing}
 use Rattle.radio_session.specs.Conversation.{Conversation}
-use Rattle.radio_session.specs.Hearing.{Heard, IsHeard}
+use Rattle.radio_session.specs.Hearing.{EventReading, IsHeard}
 
 -- a byte of a source's data, or another event
 pub data Atom : Type 0 where
@@ -13,25 +13,25 @@ pub data Atom : Type 0 where
   other : Event → Atom
 
 -- an event taken apart: a block into its bytes
-abbrev pub atoms_of : Event → List Atom
-atoms_of (Push id block) = map (datum id) block
-atoms_of event = other event ∷ []
+abbrev pub event_atoms : Event → List Atom
+event_atoms (Push id block) = map (datum id) block
+event_atoms event = other event ∷ []
 
 abbrev pub atoms : List Event → List Atom
-atoms events = flat_map atoms_of events
+atoms events = flat_map event_atoms events
 
 -- no other reply comes before that with which the last word is written
 abbrev pub awaiting_none : Closing → Closing
 awaiting_none closing = record closing { awaits = 0 }
 
 -- the conversation once all replies but the last were given
-abbrev pub answered : Conversation → Conversation
-answered conversation = record conversation { says = record conversation.says { closing = option_map awaiting_none conversation.says.closing } }
+abbrev pub with_replies_given : Conversation → Conversation
+with_replies_given conversation = record conversation { says = record conversation.says { closing = option_map awaiting_none conversation.says.closing } }
 
 -- the same events, but for where blocks are cut, and the same conversation after them, once all replies but the last were given
-pub record AreHeardAlike (one other : Heard) : Type 0 where
+pub record AreHeardAlike (one other : EventReading) : Type 0 where
   pub events : atoms one.events ≡ atoms other.events
-  pub conversation : answered one.conversation ≡ answered other.conversation
+  pub conversation : with_replies_given one.conversation ≡ with_replies_given other.conversation
 
 -- one piece or more, which are these bytes when they are joined
 -- rule: Cuts do not matter
@@ -40,29 +40,29 @@ pub record IsCutting (bytes : List ℕ) (pieces : List (List ℕ)) : Type 0 wher
   pub joined : concat pieces ≡ bytes
 
 -- nothing was read yet
-abbrev pub unheard : Conversation → Heard
+abbrev pub unheard : Conversation → EventReading
 unheard conversation = record { events = []; conversation = conversation }
 
 -- what is read of one piece, and then of the others
-abbrev pub heard_then : Heard → Heard → Heard
+abbrev pub heard_then : EventReading → EventReading → EventReading
 heard_then one others = record { events = one.events ++ others.events; conversation = others.conversation }
 
 -- the pieces come on the connection one after another, and this is read
 -- rule: Cuts do not matter
-abbrev pub IsHeardIn : Conversation → List (List ℕ) → Heard → Type 0
+abbrev pub IsHeardIn : Conversation → List (List ℕ) → EventReading → Type 0
 IsHeardIn conversation [] heard = heard ≡ unheard conversation
 IsHeardIn conversation (piece ∷ pieces) heard =
-    (one : Heard) × IsHeard conversation piece one × (others : Heard) × IsHeardIn one.conversation pieces others × (heard ≡ heard_then one others)
+    (one : EventReading) × IsHeard conversation piece one × (others : EventReading) × IsHeardIn one.conversation pieces others × (heard ≡ heard_then one others)
 
 -- However bytes are cut, they are read alike.
 -- rule: Cuts do not matter
 abbrev pub CutsDoNotMatter : Type 0
-CutsDoNotMatter = (conversation : Conversation) (bytes : List ℕ) (pieces others : List (List ℕ)) (one other : Heard) →
+CutsDoNotMatter = (conversation : Conversation) (bytes : List ℕ) (pieces others : List (List ℕ)) (one other : EventReading) →
     IsCutting bytes pieces → IsCutting bytes others →
     IsHeardIn conversation pieces one → IsHeardIn conversation others other → AreHeardAlike one other
 
 -- Bytes that come in pieces are read as if they had come in one.
 -- rule: Cuts do not matter
 abbrev pub PiecesAreHeardAsOne : Type 0
-PiecesAreHeardAsOne = (conversation : Conversation) (bytes : List ℕ) (pieces : List (List ℕ)) (cut whole : Heard) →
+PiecesAreHeardAsOne = (conversation : Conversation) (bytes : List ℕ) (pieces : List (List ℕ)) (cut whole : EventReading) →
     IsCutting bytes pieces → IsHeardIn conversation pieces cut → IsHeard conversation bytes whole → AreHeardAlike cut whole

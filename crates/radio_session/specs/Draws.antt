@@ -1,6 +1,6 @@
 -- What a listener draws, as it goes out: with metadata blocks between the data, where it asked for them (ICY convention).
 use Rattle.std.specs.Prelude.{ℕ, List, Option, None, Some, option_map}
-use Rattle.radio_answers.specs.Answers.{interval_told}
+use Rattle.radio_answers.specs.Answers.{sent_interval}
 use Rattle.radio_icy.specs.Weaving.{Call, Weaving, new_weaving, woven, after_weaving, woven_by_calls}
 use Rattle.radio_icy.specs.Stream.{sound_of_calls}
 
@@ -10,7 +10,7 @@ draw bytes title = record { sound = bytes; title = title }
 
 -- how its data are woven, before the first of them
 abbrev pub weaver_at : Option ℕ → Option Weaving
-weaver_at interval = option_map new_weaving (interval_told interval)
+weaver_at interval = option_map new_weaving (sent_interval interval)
 
 -- one draw, as it goes out
 abbrev pub drawn : Option Weaving → Call → List ℕ

@@ -27,7 +27,7 @@ prefixed bytes x = record x { bytes = bytes ++ x.bytes }
 
 -- it ends with this
 abbrev pub ended_with : Said → Ending → Exchange
-ended_with told ending = record { bytes = told.bytes; says = told.says; state = Shut ending }
+ended_with written ending = record { bytes = written.bytes; says = written.says; state = Shut ending }
 
 abbrev pub is_leave : Event → Bool
 is_leave (Leave id) = true
@@ -41,8 +41,8 @@ module _ {S : Type 0} (steps : Steps S) (id : ℕ) where
   LeavesAfter false from to = (reply : Reply) × steps from (Leave id) reply to
 
   abbrev pub GoesOn : State → Event → Said → S → (Exchange → Type 0) → Exchange → S → Type 0
-  GoesOn Running event told from Others x to = (others : Exchange) × Others others × (x ≡ prefixed told.bytes others)
-  GoesOn (Shut ending) event told from Others x to = LeavesAfter (is_leave event) from to × (x ≡ ended_with told ending)
+  GoesOn Running event written from Others x to = (others : Exchange) × Others others × (x ≡ prefixed written.bytes others)
+  GoesOn (Shut ending) event written from Others x to = LeavesAfter (is_leave event) from to × (x ≡ ended_with written ending)
 
   -- rule: Line of a script
   abbrev pub Exchanges : Says → List Event → S → Exchange → S → Type 0

@@ -18,10 +18,10 @@ use Rattle.radio_session.specs.Saying.{Said, said}
 use Rattle.radio_answers.specs.WebAnswers.{answered_by}
 
 -- these bytes are written, and the connection is shut with this word
-pub record EndsWith (told : Said) (bytes word : List ℕ) : Type 0 where
+pub record EndsWith (written : Said) (bytes word : List ℕ) : Type 0 where
   pub ending : Ending
-  pub bytes_told : told.bytes ≡ bytes
-  pub shut : told.state ≡ Shut ending
+  pub bytes_written : written.bytes ≡ bytes
+  pub shut : written.state ≡ Shut ending
   pub last_word : ending_word ending ≡ word
 
 -- nothing was admitted yet
@@ -52,8 +52,8 @@ FinishesAreSilent = (says : Says) (rule : Rule) → EndsWith (said says (Finishe
 
 -- A command that was done gets an answer of its text, and then the connection is done.
 -- rule: Commands by GET
-abbrev pub CommandsAreAnswered : Type 0
-CommandsAreAnswered = (says : Says) (text : CommandText) → IsAsking says → EndsWith (said says (Text text)) (text_answer says.web text) (codes "done")
+abbrev pub DoneCommandsAreAnswered : Type 0
+DoneCommandsAreAnswered = (says : Says) (text : CommandText) → IsAsking says → EndsWith (said says (Text text)) (text_answer says.web text) (codes "done")
 
 -- no other reply is awaited before the connection's own last word
 abbrev pub IsAbout : Says → LastWord → Type 0

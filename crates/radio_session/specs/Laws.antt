@@ -2,17 +2,17 @@
 use Rattle.std.specs.Prelude.{◌≡◌, ℕ, List}
 use Rattle.radio_events.specs.declared.reply.Reply.{Reply}
 use Rattle.radio_session.specs.Conversation.{Conversation, saying_now}
-use Rattle.radio_session.specs.Hearing.{Heard, IsHeard}
+use Rattle.radio_session.specs.Hearing.{EventReading, IsHeard}
 use Rattle.radio_session.specs.Saying.{said}
 
 -- bytes that come on a connection have one meaning
 abbrev pub HearingIsOne : Type 0
-HearingIsOne = (conversation : Conversation) (bytes : List ℕ) (one other : Heard) → IsHeard conversation bytes one → IsHeard conversation bytes other
+HearingIsOne = (conversation : Conversation) (bytes : List ℕ) (one other : EventReading) → IsHeard conversation bytes one → IsHeard conversation bytes other
     → one ≡ other
 
 -- What is read fails no session.
 abbrev pub HearingFailsNothing : Type 0
-HearingFailsNothing = (conversation : Conversation) (bytes : List ℕ) (heard : Heard) → IsHeard conversation bytes heard
+HearingFailsNothing = (conversation : Conversation) (bytes : List ℕ) (heard : EventReading) → IsHeard conversation bytes heard
     → heard.conversation.has_failed ≡ conversation.has_failed
 
 -- Nor does what is written.

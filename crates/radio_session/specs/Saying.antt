@@ -39,20 +39,20 @@ ends bytes says ending = record { bytes = bytes; says = says; state = Shut endin
 abbrev pub one_less : Closing → Closing
 one_less closing = record closing { awaits = closing.awaits - 1 }
 
-abbrev pub counted : Says → Says
-counted says = record says { closing = option_map one_less says.closing }
+abbrev pub counted_down : Says → Says
+counted_down says = record says { closing = option_map one_less says.closing }
 
 -- a source or a listener is admitted
 abbrev pub admitted : Says → Says
-admitted says = counted (record says { is_admitted = true })
+admitted says = counted_down (record says { is_admitted = true })
 
 -- a listener is admitted, with metadata blocks at this interval
-abbrev pub seated : Says → Option ℕ → Says
-seated says interval = admitted (record says { weaver = weaver_at interval })
+abbrev pub listener_admitted : Says → Option ℕ → Says
+listener_admitted says interval = admitted (record says { weaver = weaver_at interval })
 
 -- it has drawn
 abbrev pub drew : Says → Call → Says
-drew says draw = counted (record says { weaver = after_draw says.weaver draw })
+drew says draw = counted_down (record says { weaver = after_draw says.weaver draw })
 
 -- what an admitted source reads first
 -- rule: Greeting of a source
@@ -92,17 +92,17 @@ last_ending Faulty = BadBody
 abbrev pub noted : Says → Option Closing → Said
 noted says None = tells [] says
 noted says (Some closing) =
-    if closing.awaits == 0 then ends (last_text says.web says.greeting closing.word) says (last_ending closing.word) else tells [] (counted says)
+    if closing.awaits == 0 then ends (last_text says.web says.greeting closing.word) says (last_ending closing.word) else tells [] (counted_down says)
 
 -- what is written of a reply
 -- rule: Answer to a denial
 abbrev pub said : Says → Reply → Said
-said says (Arrived id) = tells [] (counted says)
+said says (Arrived id) = tells [] (counted_down says)
 said says Feeding = tells (greeting_text says.web says.greeting) (admitted says)
-said says (Seated interval head) = tells (head_text says.web interval head) (seated says interval)
+said says (Seated interval head) = tells (head_text says.web interval head) (listener_admitted says interval)
 said says (Drawn bytes title) = tells (drawn says.weaver (draw bytes title)) (drew says (draw bytes title))
 said says Noted = noted says says.closing
 said says (Text text) = texted says text
 said says (Deny rule) = denied says rule
 said says (Finished rule) = ends [] says (By rule)
-said says Stray = tells [] (counted says)
+said says Stray = tells [] (counted_down says)

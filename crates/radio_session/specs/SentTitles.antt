@@ -4,10 +4,10 @@ use Rattle.radio_icy.specs.Weaving.{Call}
 use Rattle.radio_icy.specs.Stream.{title_at, titles_sent}
 
 -- the last of some titles
-abbrev pub last_title : List (List ℕ) → Option (List ℕ)
-last_title [] = None
-last_title (title ∷ []) = Some title
-last_title (title ∷ next ∷ titles) = last_title (next ∷ titles)
+abbrev pub last_of_titles : List (List ℕ) → Option (List ℕ)
+last_of_titles [] = None
+last_of_titles (title ∷ []) = Some title
+last_of_titles (title ∷ next ∷ titles) = last_of_titles (next ∷ titles)
 
 -- each is another than the one before it
 abbrev pub AreChanges : List (List ℕ) → Type 0
@@ -18,7 +18,7 @@ AreChanges (title ∷ next ∷ titles) = (title ≡ next → ⊥) × AreChanges 
 -- With the block of each interval, the title of the draw that ended the interval, if it has one, is the last that was sent.
 abbrev pub TitlesAreSentInTime : Type 0
 TitlesAreSentInTime = (n : ℕ) (draws : List Call) (k : ℕ) (title : List ℕ) →
-    title_at n draws k ≡ Some title → last_title (titles_sent n draws (suc k)) ≡ Some title
+    title_at n draws k ≡ Some title → last_of_titles (titles_sent n draws (suc k)) ≡ Some title
 
 -- No title is sent twice in a row.
 abbrev pub NoTitleIsRepeated : Type 0

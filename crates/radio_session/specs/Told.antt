@@ -2,8 +2,8 @@
 use Rattle.std.specs.Prelude.{◌≡◌, ℕ, List, [], ◌∷◌, ◌++◌, map, Option, None, Some}
 use Rattle.radio_icy.specs.Block.{title_text}
 use Rattle.radio_icy.specs.Weaving.{Call}
-use Rattle.radio_icy.specs.Stream.{IsWoven, sound_of_calls, titles_sent, parts_of}
-use Rattle.radio_icy.specs.Unweaving.{Atom, new_unweaving, heard}
+use Rattle.radio_icy.specs.Stream.{IsWoven, sound_of_calls, titles_sent, interval_count}
+use Rattle.radio_icy.specs.Unweaving.{StreamItem, new_unweaving, atoms_of_piece}
 use Rattle.radio_icy.specs.Bare.{sound_in, texts_in}
 use Rattle.radio_events.specs.declared.reply.StreamHead.{StreamHead}
 use Rattle.radio_events.specs.declared.reply.Reply.{Reply}
@@ -11,7 +11,7 @@ use Rattle.radio_events.specs.declared.reply.Reply.TheVariants.{Feeding, Seated,
 use Rattle.radio_session.specs.declared.session.Says.{Says}
 use Rattle.radio_events.specs.declared.state.State.{State}
 use Rattle.radio_events.specs.declared.state.State.TheVariants.{Running, Shut}
-use Rattle.radio_answers.specs.Answers.{interval_told}
+use Rattle.radio_answers.specs.Answers.{sent_interval}
 use Rattle.radio_session.specs.Draws.{draw, joined_draws}
 use Rattle.radio_answers.specs.Answers.{head_text}
 use Rattle.radio_session.specs.Saying.{said}
@@ -52,20 +52,20 @@ DrawsFollowTheHead = (says : Says) (interval : Option ℕ) (head : StreamHead) (
 -- if it names none, they are the data alone
 abbrev pub PlainDrawsAreTheirData : Type 0
 PlainDrawsAreTheirData = (interval : Option ℕ) (draws : List Call) →
-    interval_told interval ≡ None → joined_draws interval draws ≡ sound_of_calls draws
+    sent_interval interval ≡ None → joined_draws interval draws ≡ sound_of_calls draws
 
 -- If it names one, a block follows each interval of the data. It has the title of the draw that brought the interval's last byte,
 -- if another was sent last, or none; else it is a zero byte.
 abbrev pub JoinedDrawsAreWoven : Type 0
 JoinedDrawsAreWoven = (interval : Option ℕ) (n : ℕ) (draws : List Call) →
-    interval_told interval ≡ Some n → IsWoven n draws (joined_draws interval draws)
+    sent_interval interval ≡ Some n → IsWoven n draws (joined_draws interval draws)
 
 -- what is taken out of these bytes
-abbrev pub taken_out : ℕ → List ℕ → List Atom
-taken_out n bytes = heard (new_unweaving n) bytes
+abbrev pub taken_out : ℕ → List ℕ → List StreamItem
+taken_out n bytes = atoms_of_piece (new_unweaving n) bytes
 
 -- Taken out again, they are the data of the draws and the texts of the titles that were sent.
 abbrev pub DrawsAreTakenOutAgain : Type 0
-DrawsAreTakenOutAgain = (interval : Option ℕ) (n : ℕ) (draws : List Call) → interval_told interval ≡ Some n →
+DrawsAreTakenOutAgain = (interval : Option ℕ) (n : ℕ) (draws : List Call) → sent_interval interval ≡ Some n →
     (sound_in (taken_out n (joined_draws interval draws)) ≡ sound_of_calls draws)
-    × (texts_in (taken_out n (joined_draws interval draws)) ≡ map title_text (titles_sent n draws (parts_of n draws)))
+    × (texts_in (taken_out n (joined_draws interval draws)) ≡ map title_text (titles_sent n draws (interval_count n draws)))

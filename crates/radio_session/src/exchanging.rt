@@ -43,8 +43,8 @@ fn answer<S: Server>(
     out: &mut Vec<u8>,
 ) -> Result<State, OutOfMemory>
     ensures { IfOk result (λ state. (reply : ReplyOf) × S.steps server.old event reply server.new
-        × (let told = said session.old.says reply in
-        (out.new.items ≡ out.old.items ++ told.bytes) × (state ≡ told.state) × (session.new ≡ saying_now session.old told.says))) }
+        × (let written = said session.old.says reply in
+        (out.new.items ≡ out.old.items ++ written.bytes) × (state ≡ written.state) × (session.new ≡ saying_now session.old written.says))) }
 {
     let reply = server.apply(event)?;
     session.give(reply, out)

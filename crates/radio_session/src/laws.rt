@@ -3,7 +3,7 @@
 ghost use Rattle.std.specs.Prelude.{◌≡◌, codes};
 ghost use Rattle.radio_events.specs.Endings.{ending_word};
 ghost use Rattle.radio_events.specs.declared.state.Ending.TheVariants.{Done};
-ghost use Rattle.radio_session.specs.LastWords.{DenialsNameTheirRule, RulesWithoutStatusAreSilent, LateDenialsAreSilent, FinishesAreSilent, CommandsAreAnswered};
+ghost use Rattle.radio_session.specs.LastWords.{DenialsNameTheirRule, RulesWithoutStatusAreSilent, LateDenialsAreSilent, FinishesAreSilent, DoneCommandsAreAnswered};
 ghost use Rattle.radio_session.specs.LastWords.{RefusalsNameTheirRule, WholeBodiesAreDone, FaultyBodiesAreSilent};
 ghost use Rattle.radio_session.specs.Bodies.{PlainBodiesAreHeard, SizedBodiesAreHeard, ChunkedBodiesAreHeard, FaultyBodiesAreHeard};
 ghost use Rattle.radio_session.specs.Greetings.{WhoWaitsIsToldToGoOn, NobodyElseIsToldToGoOn};
@@ -87,8 +87,8 @@ pub fn hearing_is_one()
 
 /// A session fails only by a call that is refused memory.
 pub fn only_refused_calls_fail()
-    ensures heard { HearingFailsNothing }
-    ensures told { TellingFailsNothing }
+    ensures read { HearingFailsNothing }
+    ensures written { TellingFailsNothing }
 {}
 
 /// The word that shuts a connection is that of the rule that ended it, or `done` if none did; the answer before it, if
@@ -105,7 +105,7 @@ pub fn last_words_name_the_rule()
     // a finished client reads nothing
     ensures finished { FinishesAreSilent }
     // a done command: an answer of its text, and the word is `done`
-    ensures command { CommandsAreAnswered }
+    ensures command { DoneCommandsAreAnswered }
     // the connection's own refusal: an answer that names the rule
     ensures refused { RefusalsNameTheirRule }
     // the body is whole, or there is a fault in it

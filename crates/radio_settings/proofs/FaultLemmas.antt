@@ -5,7 +5,7 @@ use Rattle.std.specs.List.{flat_map}
 use Rattle.std.specs.Option.{option_or}
 use Rattle.toml.specs.Data.{Members}
 use Rattle.radio_keys.specs.declared.fault.SettingsFault.{SettingsFault}
-use Rattle.radio_keys.specs.Rows.{Row, faults_in, first_fault}
+use Rattle.radio_keys.specs.Rows.{KeyRow, faults_in, first_fault}
 
 or_assoc : {A : Type 0} (x y z : Option A) → option_or x (option_or y z) ≡ option_or (option_or x y) z
 or_assoc None y z = refl
@@ -53,30 +53,30 @@ in_nested_groups a b c d =
     ∙ or_none _)
 
 -- the first fault of the same rows in some tables
-abbrev pub first_of : List Row → List Members → Option SettingsFault
+abbrev pub first_of : List KeyRow → List Members → Option SettingsFault
 first_of rows tables = first_fault (flat_map (faults_in rows) tables)
 
 -- the first i tables are well
-abbrev pub AreWell : List Row → List Members → ℕ → Type 0
+abbrev pub AreWell : List KeyRow → List Members → ℕ → Type 0
 AreWell rows tables i = first_of rows tables ≡ first_of rows (drop i tables)
 
-at_table : (rows : List Row) (tables : List Members) (i : ℕ) (t : Members) → i < length tables → t ≡ get_or tables i t
+at_table : (rows : List KeyRow) (tables : List Members) (i : ℕ) (t : Members) → i < length tables → t ≡ get_or tables i t
     → first_of rows (drop i tables) ≡ option_or (first_fault (faults_in rows t)) (first_of rows (drop (i + 1) tables))
 at_table rows tables i t low is =
     ap (first_of rows) (drop_more tables i t low ∙ ap (λ u. u ∷ drop (i + 1) tables) (sym is))
     ∙ first_fault-append (faults_in rows t) (flat_map (faults_in rows) (drop (i + 1) tables))
 
-pub well_more : (rows : List Row) (tables : List Members) (i : ℕ) (t : Members) → i < length tables → t ≡ get_or tables i t
+pub well_more : (rows : List KeyRow) (tables : List Members) (i : ℕ) (t : Members) → i < length tables → t ≡ get_or tables i t
     → first_fault (faults_in rows t) ≡ None → AreWell rows tables i → AreWell rows tables (i + 1)
 well_more rows tables i t low is well so_far =
     so_far ∙ at_table rows tables i t low is ∙ ap (λ f. option_or f (first_of rows (drop (i + 1) tables))) well
 
-pub fault_here : (rows : List Row) (tables : List Members) (i : ℕ) (t : Members) (fault : SettingsFault) → i < length tables → t ≡ get_or tables i t
+pub fault_here : (rows : List KeyRow) (tables : List Members) (i : ℕ) (t : Members) (fault : SettingsFault) → i < length tables → t ≡ get_or tables i t
     → first_fault (faults_in rows t) ≡ Some fault → AreWell rows tables i → first_of rows tables ≡ Some fault
 fault_here rows tables i t fault low is found so_far =
     so_far ∙ at_table rows tables i t low is ∙ ap (λ f. option_or f (first_of rows (drop (i + 1) tables))) found
 
-pub all_well : (rows : List Row) (tables : List Members) (i : ℕ) → length tables ≤ i → AreWell rows tables i → first_of rows tables ≡ None
+pub all_well : (rows : List KeyRow) (tables : List Members) (i : ℕ) → length tables ≤ i → AreWell rows tables i → first_of rows tables ≡ None
 all_well rows tables i past so_far = so_far ∙ ap (first_of rows) (drop_all i tables past)
 
 -- a table behind a reference at a place

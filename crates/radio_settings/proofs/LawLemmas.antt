@@ -11,7 +11,7 @@ use Rattle.radio_keys.specs.Rows.{first_fault}
 use Rattle.radio_settings_values.specs.declared.settings.Settings.{Settings}
 use Rattle.radio_settings_values.specs.Repeats.{first_repeat, first_repeat_after, is_among}
 use Rattle.radio_settings.specs.Document.{document_faults, document_reading, settings_or_fault, settings_of, reading_of}
-use Rattle.radio_settings.specs.Laws.{AreAllWell, AreApart, IsFirstFault, IsFaultOfText, AreSettingsOf, IsFirstRepeat}
+use Rattle.radio_settings.specs.Laws.{AreAllWell, AreDistinct, IsFirstFault, IsFaultOfText, AreSettingsOf, IsFirstRepeat}
 
 abbrev pub Faults : Type 0
 Faults = List (Option SettingsFault)
@@ -162,10 +162,10 @@ none_after passed (n ∷ names) apart =
     ∙ none_after (passed ++ n ∷ []) names (λ before after name are.
     ap (λ ms. is_among ms name) (append_assoc passed (n ∷ []) before) ∙ apart (n ∷ before) after name (ap (λ ms. n ∷ ms) are))
 
-pub apart_from_none : (names : List (List ℕ)) → first_repeat names ≡ None → AreApart names
+pub apart_from_none : (names : List (List ℕ)) → first_repeat names ≡ None → AreDistinct names
 unfolding first_repeat
 apart_from_none names none before after name are = apart_after [] before after name (ap (first_repeat_after []) (sym are) ∙ none)
 
-pub none_from_apart : (names : List (List ℕ)) → AreApart names → first_repeat names ≡ None
+pub none_from_apart : (names : List (List ℕ)) → AreDistinct names → first_repeat names ≡ None
 unfolding first_repeat
 none_from_apart names apart = none_after [] names apart

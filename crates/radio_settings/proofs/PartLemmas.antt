@@ -5,7 +5,7 @@ use Rattle.toml.specs.Data.{Members}
 use Rattle.radio_keys.specs.declared.fault.SettingsFault.{SettingsFault}
 use Rattle.radio_keys.specs.declared.key.Key.TheVariants.{SourcePassword, AdminUser, AdminPassword, MountName, Server, Port, OnDemand}
 use Rattle.radio_keys.specs.declared.key.Key.TheVariants.{MasterServer, MasterPort, MasterUsername, MasterPassword, MasterUpdateInterval}
-use Rattle.radio_keys.specs.Rows.{fault_at, faults_in, first_fault, flag, mount_name, number, optional, required, row, text}
+use Rattle.radio_keys.specs.Rows.{faults_in, first_fault, flag, key_row, mount_name, number, optional, required, row_fault, text}
 use Rattle.radio_settings.specs.Access.{access_fault, address_keys, addresses_fault, relay_access_fault, relay_access_keys}
 use Rattle.radio_settings.specs.Logins.{login_fault, login_keys}
 use Rattle.radio_settings.specs.Masters.{master_fault, master_keys}
@@ -21,11 +21,11 @@ in_two_and_one : (a b : List (Option SettingsFault)) (f : Option SettingsFault)
 in_two_and_one a b f = first_fault-append a (b ++ f ∷ []) ∙ ap (option_or (first_fault a)) (first_fault-append b (f ∷ []))
 
 pub access_parts : (t : Members) → access_fault t ≡ first_fault (
-    fault_at (row SourcePassword text required) t ∷ login_fault AdminUser AdminPassword t
+    row_fault (key_row SourcePassword text required) t ∷ login_fault AdminUser AdminPassword t
     ∷ first_fault (relay_access_fault t ∷ addresses_fault t ∷ []) ∷ [])
 unfolding access_fault login_fault relay_access_fault addresses_fault
 access_parts t =
-    ap (option_or (fault_at (row SourcePassword text required) t))
+    ap (option_or (row_fault (key_row SourcePassword text required) t))
     (in_groups (faults_in (login_keys AdminUser AdminPassword) t) (faults_in relay_access_keys t) (faults_in address_keys t))
 
 pub options_parts : (t : Members) → options_fault t ≡ first_fault (
@@ -35,24 +35,24 @@ options_parts t =
     first_fault-append (faults_in source_keys t) (faults_in listener_keys t ++ (faults_in stream_keys t ++ faults_in user_keys t))
     ∙ ap (option_or (source_fault t)) (in_groups (faults_in listener_keys t) (faults_in stream_keys t) (faults_in user_keys t))
 
-pub mount_parts : (t : Members) → mount_fault t ≡ option_or (fault_at (row MountName mount_name required) t) (options_fault t)
+pub mount_parts : (t : Members) → mount_fault t ≡ option_or (row_fault (key_row MountName mount_name required) t) (options_fault t)
 unfolding mount_fault options_fault
 mount_parts t = refl
 
 pub relay_parts : (t : Members) → relay_fault t ≡ first_fault (
-    master_fault Server Port t ∷ relay_mounts_fault t ∷ pair_fault t ∷ fault_at (row OnDemand flag optional) t ∷ [])
+    master_fault Server Port t ∷ relay_mounts_fault t ∷ pair_fault t ∷ row_fault (key_row OnDemand flag optional) t ∷ [])
 unfolding relay_fault master_fault relay_mounts_fault pair_fault
 relay_parts t =
     let mounts = faults_in relay_mount_keys t in
     let pair = faults_in pair_keys t in
-    let on_demand = fault_at (row OnDemand flag optional) t in
+    let on_demand = row_fault (key_row OnDemand flag optional) t in
     first_fault-append (faults_in (master_keys Server Port) t) (mounts ++ (pair ++ on_demand ∷ []))
     ∙ ap (option_or (master_fault Server Port t)) (in_two_and_one mounts pair on_demand)
 
 pub slave_parts : (t : Members) → slave_fault t ≡ first_fault (
     master_fault MasterServer MasterPort t ∷ login_fault MasterUsername MasterPassword t
-    ∷ fault_at (row MasterUpdateInterval (number 1 86400) optional) t ∷ [])
+    ∷ row_fault (key_row MasterUpdateInterval (number 1 86400) optional) t ∷ [])
 unfolding slave_fault master_fault login_fault
 slave_parts t =
     in_two_and_one (faults_in (master_keys MasterServer MasterPort) t) (faults_in (login_keys MasterUsername MasterPassword) t)
-    (fault_at (row MasterUpdateInterval (number 1 86400) optional) t)
+    (row_fault (key_row MasterUpdateInterval (number 1 86400) optional) t)

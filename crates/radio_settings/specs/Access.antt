@@ -4,20 +4,20 @@ use Rattle.toml.specs.Data.{Members}
 use Rattle.radio_keys.specs.declared.fault.SettingsFault.{SettingsFault}
 use Rattle.radio_keys.specs.declared.key.Key.TheVariants.{SourcePassword, AdminUser, AdminPassword, RelayUser, RelayPassword, DenyIp, AllowIp}
 use Rattle.radio_keys.specs.Lookup.{text_at, text_or}
-use Rattle.radio_keys.specs.Rows.{Row, row, faults_in, first_fault, text, required, optional}
+use Rattle.radio_keys.specs.Rows.{KeyRow, key_row, faults_in, first_fault, text, required, optional}
 use Rattle.radio_settings_values.specs.declared.settings.AccessSettings.{AccessSettings}
 use Rattle.radio_settings_values.specs.declared.settings.AddressLists.{AddressLists}
 use Rattle.radio_settings_values.specs.declared.settings.RelayAccess.{RelayAccess}
 use Rattle.radio_settings.specs.Logins.{login_keys, login_of}
 
-abbrev pub relay_access_keys : List Row
-relay_access_keys = row RelayUser text optional ∷ row RelayPassword text optional ∷ []
+abbrev pub relay_access_keys : List KeyRow
+relay_access_keys = key_row RelayUser text optional ∷ key_row RelayPassword text optional ∷ []
 
-abbrev pub address_keys : List Row
-address_keys = row DenyIp text optional ∷ row AllowIp text optional ∷ []
+abbrev pub address_keys : List KeyRow
+address_keys = key_row DenyIp text optional ∷ key_row AllowIp text optional ∷ []
 
-abbrev pub access_keys : List Row
-access_keys = row SourcePassword text required ∷ (login_keys AdminUser AdminPassword ++ (relay_access_keys ++ address_keys))
+abbrev pub access_keys : List KeyRow
+access_keys = key_row SourcePassword text required ∷ (login_keys AdminUser AdminPassword ++ (relay_access_keys ++ address_keys))
 
 -- the first fault of these keys, and of some of them
 unfoldable pub access_fault : Members → Option SettingsFault

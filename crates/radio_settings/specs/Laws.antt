@@ -49,5 +49,5 @@ pub record IsFirstRepeat (names : List (List ℕ)) (name : List ℕ) : Type 0 wh
   pub none_before : first_repeat before ≡ None
 
 -- no name is among those before it
-abbrev pub AreApart : List (List ℕ) → Type 0
-AreApart names = (before after : List (List ℕ)) (name : List ℕ) → names ≡ before ++ name ∷ after → is_among before name ≡ false
+abbrev pub AreDistinct : List (List ℕ) → Type 0
+AreDistinct names = (before after : List (List ℕ)) (name : List ℕ) → names ≡ before ++ name ∷ after → is_among before name ≡ false

@@ -4,17 +4,17 @@ use Rattle.toml.specs.Data.{Members}
 use Rattle.radio_keys.specs.declared.fault.SettingsFault.{SettingsFault}
 use Rattle.radio_keys.specs.declared.key.Key.TheVariants.{Clients, Sources, QueueSize, BurstSize, SourceTimeout, HeaderTimeout}
 use Rattle.radio_keys.specs.Lookup.{number_or}
-use Rattle.radio_keys.specs.Rows.{Row, row, faults_in, first_fault, number, optional}
+use Rattle.radio_keys.specs.Rows.{KeyRow, key_row, faults_in, first_fault, number, optional}
 use Rattle.radio_settings_values.specs.declared.settings.LimitSettings.{LimitSettings}
 
-abbrev pub limit_keys : List Row
+abbrev pub limit_keys : List KeyRow
 limit_keys =
-    row Clients (number 1 1000000) optional
-    ∷ row Sources (number 1 100000) optional
-    ∷ row QueueSize (number 1 1073741824) optional
-    ∷ row BurstSize (number 0 1073741824) optional
-    ∷ row SourceTimeout (number 1 86400) optional
-    ∷ row HeaderTimeout (number 1 86400) optional
+    key_row Clients (number 1 1000000) optional
+    ∷ key_row Sources (number 1 100000) optional
+    ∷ key_row QueueSize (number 1 1073741824) optional
+    ∷ key_row BurstSize (number 0 1073741824) optional
+    ∷ key_row SourceTimeout (number 1 86400) optional
+    ∷ key_row HeaderTimeout (number 1 86400) optional
     ∷ []
 
 -- the first fault of its keys

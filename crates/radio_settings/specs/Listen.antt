@@ -6,18 +6,18 @@ use Rattle.toml.specs.Parse.{parse_document}
 use Rattle.radio_keys.specs.declared.fault.SettingsFault.{SettingsFault}
 use Rattle.radio_keys.specs.declared.key.Key.TheVariants.{Address, Port, Workers, ProxyFrom, Listen}
 use Rattle.radio_keys.specs.Lookup.{table_at, text_at, text_or, number_or}
-use Rattle.radio_keys.specs.Rows.{Row, row, faults_in, first_fault, text, number, optional}
+use Rattle.radio_keys.specs.Rows.{KeyRow, key_row, faults_in, first_fault, text, number, optional}
 use Rattle.radio_settings_values.specs.declared.settings.ListenSettings.{ListenSettings}
 
 -- where it listens, and by how many threads it serves
-abbrev pub socket_keys : List Row
-socket_keys = row Address text optional ∷ row Port (number 0 65535) optional ∷ row Workers (number 1 64) optional ∷ []
+abbrev pub socket_keys : List KeyRow
+socket_keys = key_row Address text optional ∷ key_row Port (number 0 65535) optional ∷ key_row Workers (number 1 64) optional ∷ []
 
 -- whose connections name their clients
-abbrev pub proxy_keys : List Row
-proxy_keys = row ProxyFrom text optional ∷ []
+abbrev pub proxy_keys : List KeyRow
+proxy_keys = key_row ProxyFrom text optional ∷ []
 
-abbrev pub listen_keys : List Row
+abbrev pub listen_keys : List KeyRow
 listen_keys = socket_keys ++ proxy_keys
 
 -- the first fault of its keys
@@ -33,8 +33,8 @@ abbrev pub proxies_in : Members → Option (List ℕ)
 proxies_in document = option_and_then proxies_of (table_at Listen document)
 
 -- the path of a text in TOML says so
-abbrev pub ProxiesTold : List ℕ → Option (List ℕ) → Type 0
-ProxiesTold bytes path = (document : Members) × (parse_document bytes ≡ Some document) × (path ≡ proxies_in document)
+abbrev pub IsPathOfProxies : List ℕ → Option (List ℕ) → Type 0
+IsPathOfProxies bytes path = (document : Members) × (parse_document bytes ≡ Some document) × (path ≡ proxies_in document)
 
 unfoldable pub listen_of : Members → ListenSettings
 listen_of table = record {

@@ -4,11 +4,11 @@ use Rattle.toml.specs.Data.{Members}
 use Rattle.radio_keys.specs.declared.fault.SettingsFault.{SettingsFault}
 use Rattle.radio_keys.specs.declared.key.Key.{Key}
 use Rattle.radio_keys.specs.Lookup.{field_or_empty, number_or}
-use Rattle.radio_keys.specs.Rows.{Row, row, faults_in, first_fault, text, number, required, optional}
+use Rattle.radio_keys.specs.Rows.{KeyRow, key_row, faults_in, first_fault, text, number, required, optional}
 use Rattle.radio_settings_values.specs.declared.settings.Master.{Master}
 
-abbrev pub master_keys : Key → Key → List Row
-master_keys server port = row server text required ∷ row port (number 1 65535) optional ∷ []
+abbrev pub master_keys : Key → Key → List KeyRow
+master_keys server port = key_row server text required ∷ key_row port (number 1 65535) optional ∷ []
 
 -- the first fault of the two keys
 unfoldable pub master_fault : Key → Key → Members → Option SettingsFault

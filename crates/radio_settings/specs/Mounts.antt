@@ -6,7 +6,7 @@ use Rattle.radio_keys.specs.declared.key.Key.TheVariants.{Mount, MountName, User
 use Rattle.radio_keys.specs.declared.key.Key.TheVariants.{FallbackOverride, FallbackWhenFull, Hidden, BurstSize, Mp3MetadataInterval, StreamName, Genre, StreamDescription, StreamUrl, Bitrate}
 use Rattle.radio_keys.specs.declared.key.Key.TheVariants.{Htpasswd, AllowDuplicateUsers}
 use Rattle.radio_keys.specs.Lookup.{text_at, text_or, field_at, number_at, number_or, flag_or, tables_at}
-use Rattle.radio_keys.specs.Rows.{Row, row, faults_in, first_fault, text, number, flag, mount_name, required, optional}
+use Rattle.radio_keys.specs.Rows.{KeyRow, key_row, faults_in, first_fault, text, number, flag, mount_name, required, optional}
 use Rattle.radio_settings_values.specs.declared.settings.AboutOptions.{AboutOptions}
 use Rattle.radio_settings_values.specs.declared.settings.AccessSettings.{AccessSettings}
 use Rattle.radio_settings_values.specs.declared.settings.LimitSettings.{LimitSettings}
@@ -17,43 +17,43 @@ use Rattle.radio_settings_values.specs.declared.settings.MountSetting.{MountSett
 use Rattle.radio_settings_values.specs.declared.settings.StreamOptions.{StreamOptions}
 use Rattle.radio_settings_values.specs.declared.settings.UserOptions.{UserOptions}
 
-abbrev pub source_keys : List Row
-source_keys = row Username text optional ∷ row Password text optional ∷ []
+abbrev pub source_keys : List KeyRow
+source_keys = key_row Username text optional ∷ key_row Password text optional ∷ []
 
-abbrev pub listener_keys : List Row
+abbrev pub listener_keys : List KeyRow
 listener_keys =
-    row MaxListeners (number 0 1000000) optional
-    ∷ row MaxListenerDuration (number 1 31536000) optional
-    ∷ row FallbackMount mount_name optional
-    ∷ row FallbackOverride flag optional
-    ∷ row FallbackWhenFull flag optional
+    key_row MaxListeners (number 0 1000000) optional
+    ∷ key_row MaxListenerDuration (number 1 31536000) optional
+    ∷ key_row FallbackMount mount_name optional
+    ∷ key_row FallbackOverride flag optional
+    ∷ key_row FallbackWhenFull flag optional
     ∷ []
 
 -- what the settings say of a stream beyond its name and genre
-abbrev pub about_keys : List Row
+abbrev pub about_keys : List KeyRow
 about_keys =
-    row StreamDescription text optional
-    ∷ row StreamUrl text optional
-    ∷ row Bitrate text optional
+    key_row StreamDescription text optional
+    ∷ key_row StreamUrl text optional
+    ∷ key_row Bitrate text optional
     ∷ []
 
-abbrev pub stream_keys : List Row
+abbrev pub stream_keys : List KeyRow
 stream_keys =
-    row Hidden flag optional
-    ∷ row BurstSize (number 0 1073741824) optional
-    ∷ row Mp3MetadataInterval (number 1 1000000) optional
-    ∷ row StreamName text optional
-    ∷ row Genre text optional
+    key_row Hidden flag optional
+    ∷ key_row BurstSize (number 0 1073741824) optional
+    ∷ key_row Mp3MetadataInterval (number 1 1000000) optional
+    ∷ key_row StreamName text optional
+    ∷ key_row Genre text optional
     ∷ about_keys
 
-abbrev pub user_keys : List Row
-user_keys = row Htpasswd text optional ∷ row AllowDuplicateUsers flag optional ∷ []
+abbrev pub user_keys : List KeyRow
+user_keys = key_row Htpasswd text optional ∷ key_row AllowDuplicateUsers flag optional ∷ []
 
-abbrev pub option_keys : List Row
+abbrev pub option_keys : List KeyRow
 option_keys = source_keys ++ (listener_keys ++ (stream_keys ++ user_keys))
 
-abbrev pub mount_keys : List Row
-mount_keys = row MountName mount_name required ∷ option_keys
+abbrev pub mount_keys : List KeyRow
+mount_keys = key_row MountName mount_name required ∷ option_keys
 
 -- the first fault of all its keys but its name, and of some of them
 unfoldable pub options_fault : Members → Option SettingsFault
@@ -88,41 +88,41 @@ listeners_of table = record {
   fallback_when_full = flag_or FallbackWhenFull table false;
 }
 
-unfoldable pub about_of : Members → AboutOptions
-about_of table = record {
+unfoldable pub about_options : Members → AboutOptions
+about_options table = record {
   description = field_at StreamDescription table;
   url = field_at StreamUrl table;
   bitrate = field_at Bitrate table;
 }
 
 -- its burst is by default that of `[limits]`
-unfoldable pub stream_of : LimitSettings → Members → StreamOptions
-stream_of limits table = record {
+unfoldable pub stream_options : LimitSettings → Members → StreamOptions
+stream_options limits table = record {
   hidden = flag_or Hidden table false;
   burst_size = number_or BurstSize table limits.burst_size;
   mp3_metadata_interval = number_or Mp3MetadataInterval table 16000;
   stream_name = field_at StreamName table;
   genre = field_at Genre table;
-  about = about_of table;
+  about = about_options table;
 }
 
-unfoldable pub users_of : Members → UserOptions
-users_of table = record { htpasswd = text_at Htpasswd table; allow_duplicate_users = flag_or AllowDuplicateUsers table true }
+unfoldable pub user_options : Members → UserOptions
+user_options table = record { htpasswd = text_at Htpasswd table; allow_duplicate_users = flag_or AllowDuplicateUsers table true }
 
 -- what a table sets for a mount
 unfoldable pub options_of : AccessSettings → LimitSettings → Members → MountOptions
 options_of access limits table =
-    record { source = source_of access table; listeners = listeners_of table; stream = stream_of limits table; users = users_of table }
+    record { source = source_of access table; listeners = listeners_of table; stream = stream_options limits table; users = user_options table }
 
 -- the first fault of the keys of one
 unfoldable pub mount_fault : Members → Option SettingsFault
 mount_fault table = first_fault (faults_in mount_keys table)
 
-unfoldable pub mount_of : AccessSettings → LimitSettings → Members → MountSetting
-mount_of access limits table = record {
+unfoldable pub mount_setting_of : AccessSettings → LimitSettings → Members → MountSetting
+mount_setting_of access limits table = record {
   name = text_or MountName table [];
   options = options_of access limits table;
 }
 
 abbrev pub mounts_of : AccessSettings → LimitSettings → Members → List MountSetting
-mounts_of access limits document = map (mount_of access limits) (tables_at Mount document)
+mounts_of access limits document = map (mount_setting_of access limits) (tables_at Mount document)

@@ -69,12 +69,12 @@ unfoldable pub lists_fault : Members → Option SettingsFault
 lists_fault document = first_fault (mounts_fault document ∷ relays_fault document ∷ optional_slave_fault document ∷ [])
 
 -- what they set, in the order of the text
-abbrev pub listed : List MountSetting → List RelaySetting → Option SlaveSetting → NamedStreams
-listed mounts relays slave = record { mounts = mounts; relays = relays; slave = slave }
+abbrev pub listed_streams : List MountSetting → List RelaySetting → Option SlaveSetting → NamedStreams
+listed_streams mounts relays slave = record { mounts = mounts; relays = relays; slave = slave }
 
 abbrev pub listed_in : AccessSettings → LimitSettings → Members → NamedStreams
 listed_in access limits document =
-    listed (mounts_of access limits document) (relays_of document) (option_map slave_of (table_at Slave document))
+    listed_streams (mounts_of access limits document) (relays_of document) (option_map slave_of (table_at Slave document))
 
 -- a repeated name among them
 unfoldable pub apart_fault : List MountSetting → List RelaySetting → Option SettingsFault

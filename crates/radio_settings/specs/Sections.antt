@@ -5,7 +5,7 @@ use Rattle.std.specs.Str.{bytes_eq}
 use Rattle.radio_keys.specs.declared.key.Key.{Key}
 use Rattle.radio_keys.specs.declared.key.Key.TheVariants as keys
 use Rattle.radio_keys.specs.Keys.{word}
-use Rattle.radio_keys.specs.Rows.{Kind, Row, text, number, flag, mount_name, origin}
+use Rattle.radio_keys.specs.Rows.{Kind, KeyRow, text, number, flag, mount_name, origin}
 use Rattle.radio_settings.specs.declared.section.Section.{Section}
 use Rattle.radio_settings.specs.declared.section.Section.TheVariants.{Top, Listen, Limits, Web, Mount, Relay, Slave}
 use Rattle.radio_settings.specs.declared.section.ValueKind.{ValueKind}
@@ -34,31 +34,31 @@ pub data Content : Type 0 where
   table : Content
   tables : Content
 
-abbrev pub content_of : ValueKind → Content
-content_of Text = value text
-content_of (Number low high) = value (number low high)
-content_of Flag = value flag
-content_of MountName = value mount_name
-content_of Origin = value origin
-content_of Table = table
-content_of Tables = tables
+abbrev pub content_of_kind : ValueKind → Content
+content_of_kind Text = value text
+content_of_kind (Number low high) = value (number low high)
+content_of_kind Flag = value flag
+content_of_kind MountName = value mount_name
+content_of_kind Origin = value origin
+content_of_kind Table = table
+content_of_kind Tables = tables
 
 -- a key, and what it holds
 abbrev pub NamedContent : Type 0
 NamedContent = Key × Content
 
 abbrev pub as_named : Key × ValueKind → NamedContent
-as_named known = (known.0, content_of known.1)
+as_named known = (known.0, content_of_kind known.1)
 
 -- the rows by which a table is read
-abbrev pub rows_of : Section → List Row
-rows_of Top = access_keys
-rows_of Listen = listen_keys
-rows_of Limits = limit_keys
-rows_of Web = web_keys
-rows_of Mount = mount_keys
-rows_of Relay = relay_keys
-rows_of Slave = slave_keys
+abbrev pub section_rows : Section → List KeyRow
+section_rows Top = access_keys
+section_rows Listen = listen_keys
+section_rows Limits = limit_keys
+section_rows Web = web_keys
+section_rows Mount = mount_keys
+section_rows Relay = relay_keys
+section_rows Slave = slave_keys
 
 -- the tables of a document are keys of it
 abbrev pub tables_in : Section → List NamedContent
@@ -67,11 +67,11 @@ tables_in Top =
 tables_in section = []
 
 abbrev pub keys_of : Section → List NamedContent
-keys_of section = map (λ (r : Row). (r.key, value r.kind)) (rows_of section) ++ tables_in section
+keys_of section = map (λ (r : KeyRow). (r.key, value r.kind)) (section_rows section) ++ tables_in section
 
 -- it is the key of this name
-abbrev pub is_named : List ℕ → Key × ValueKind → Bool
-is_named name known = bytes_eq (word known.0) name
+abbrev pub is_key_named : List ℕ → Key × ValueKind → Bool
+is_key_named name known = bytes_eq (word known.0) name
 
 -- one of the keys has the name
 abbrev pub has_key : List NamedContent → List ℕ → Bool

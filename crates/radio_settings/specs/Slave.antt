@@ -4,16 +4,16 @@ use Rattle.toml.specs.Data.{Members}
 use Rattle.radio_keys.specs.declared.fault.SettingsFault.{SettingsFault}
 use Rattle.radio_keys.specs.declared.key.Key.TheVariants.{MasterServer, MasterPort, MasterUsername, MasterPassword, MasterUpdateInterval}
 use Rattle.radio_keys.specs.Lookup.{number_or}
-use Rattle.radio_keys.specs.Rows.{Row, row, faults_in, first_fault, number, optional}
+use Rattle.radio_keys.specs.Rows.{KeyRow, key_row, faults_in, first_fault, number, optional}
 use Rattle.radio_settings_values.specs.declared.settings.SlaveSetting.{SlaveSetting}
 use Rattle.radio_settings.specs.Logins.{login_keys, login_of}
 use Rattle.radio_settings.specs.Masters.{master_keys, master_of}
 
-abbrev pub slave_keys : List Row
+abbrev pub slave_keys : List KeyRow
 slave_keys =
     master_keys MasterServer MasterPort
     ++ (login_keys MasterUsername MasterPassword
-    ++ row MasterUpdateInterval (number 1 86400) optional
+    ++ key_row MasterUpdateInterval (number 1 86400) optional
     ∷ [])
 
 -- the first fault of its keys

@@ -6,25 +6,25 @@ use Rattle.toml.specs.Data.{Members}
 use Rattle.radio_keys.specs.declared.fault.SettingsFault.{SettingsFault}
 use Rattle.radio_keys.specs.declared.key.Key.TheVariants.{Web, AllowOrigin, IcecastStatus, Page, PublicUrl, CacheControl, BrowserCommands, LogPolls, IcecastHeads}
 use Rattle.radio_keys.specs.Lookup.{text_at, flag_or, table_at}
-use Rattle.radio_keys.specs.Rows.{Row, row, faults_in, first_fault, flag, optional, origin, text}
+use Rattle.radio_keys.specs.Rows.{KeyRow, key_row, faults_in, first_fault, flag, optional, origin, text}
 use Rattle.radio_settings_values.specs.declared.web.WebSettings.{WebSettings}
 use Rattle.radio_settings.specs.declared.web.AnswerSettings.{AnswerSettings}
 
 -- what the web site has
-abbrev pub site_keys : List Row
-site_keys = row AllowOrigin origin optional ∷ row IcecastStatus flag optional ∷ row Page flag optional ∷ row PublicUrl text optional ∷ []
+abbrev pub site_keys : List KeyRow
+site_keys = key_row AllowOrigin origin optional ∷ key_row IcecastStatus flag optional ∷ key_row Page flag optional ∷ key_row PublicUrl text optional ∷ []
 
 -- how requests and answers are dealt with
-abbrev pub answer_keys : List Row
+abbrev pub answer_keys : List KeyRow
 answer_keys =
-    row CacheControl flag optional
-    ∷ row BrowserCommands flag optional
-    ∷ row LogPolls flag optional
-    ∷ row IcecastHeads flag optional
+    key_row CacheControl flag optional
+    ∷ key_row BrowserCommands flag optional
+    ∷ key_row LogPolls flag optional
+    ∷ key_row IcecastHeads flag optional
     ∷ []
 
 -- rule: Web table
-abbrev pub web_keys : List Row
+abbrev pub web_keys : List KeyRow
 web_keys = site_keys ++ answer_keys
 
 -- the first fault of its keys
@@ -62,5 +62,5 @@ abbrev pub answers_in : Members → AnswerSettings
 answers_in document = option_map_or answers_of (table_at Web document) no_answers
 
 -- what a text says of them, if it is TOML
-abbrev pub answers_told : List ℕ → Option AnswerSettings
-answers_told bytes = option_map answers_in (parse_document bytes)
+abbrev pub answers_of_text : List ℕ → Option AnswerSettings
+answers_of_text bytes = option_map answers_in (parse_document bytes)

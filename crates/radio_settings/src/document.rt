@@ -7,11 +7,11 @@ ghost use Rattle.radio_keys.specs.declared.key.Key.TheVariants.{Slave};
 ghost use Rattle.radio_keys.specs.Reading.{Reads, ReadsAs};
 ghost use Rattle.radio_keys.specs.declared.fault.SettingsFault.TheVariants.{NotToml, OutOfMemory};
 ghost use Rattle.radio_settings.specs.Document.{reading_of, settings_of};
-ghost use Rattle.radio_settings.specs.Listen.{ProxiesTold};
-ghost use Rattle.radio_settings.specs.Parts.{apart_fault, basics_fault, basics_of, fault_by_parts, listed, listed_in, lists_fault, named_fault};
+ghost use Rattle.radio_settings.specs.Listen.{IsPathOfProxies};
+ghost use Rattle.radio_settings.specs.Parts.{apart_fault, basics_fault, basics_of, fault_by_parts, listed_in, listed_streams, lists_fault, named_fault};
 ghost use Rattle.radio_settings.specs.Parts.{optional_slave_fault, settings_with, station_fault, station_of, streams_fault, streams_of};
 ghost use Rattle.radio_settings.specs.Slave.{slave_of};
-ghost use Rattle.radio_settings.specs.Web.{answers_told};
+ghost use Rattle.radio_settings.specs.Web.{answers_of_text};
 
 use crate::access::access;
 use crate::limits::limits;
@@ -58,7 +58,7 @@ pub fn read_settings(alloc: Global, text: &str) -> Result<Settings, SettingsFaul
 /// Returns what a text in TOML says of requests and answers, in its table `[web]`. A text that sets something has no
 /// fault here but `OutOfMemory`: [`read_settings`] returns its faults.
 pub fn read_answers(alloc: Global, text: &str) -> Result<AnswerSettings, SettingsFault>
-    ensures { IfOk result (λ answers. answers_told text.now ≡ Some answers) }
+    ensures { IfOk result (λ answers. answers_of_text text.now ≡ Some answers) }
 {
     let document = document(alloc, text)?;
     answers(&document)
@@ -67,7 +67,7 @@ pub fn read_answers(alloc: Global, text: &str) -> Result<AnswerSettings, Setting
 /// Returns the path of the list of proxies that a text in TOML names, `proxy-from` in its table `[listen]`. A text that
 /// sets something has no fault here but `OutOfMemory`: [`read_settings`] returns its faults.
 pub fn read_proxies(alloc: Global, text: &str) -> Result<Option<Text>, SettingsFault>
-    ensures { IfOk result (ProxiesTold text.now) }
+    ensures { IfOk result (IsPathOfProxies text.now) }
 {
     let document = document(alloc, text)?;
     proxies(alloc, &document)
@@ -253,7 +253,7 @@ fn read_lists(
     limits: &LimitSettings,
 ) -> Result<StreamTables, SettingsFault>
     ensures { let d = table_view document.now in
-        ReadsAs (λ l. listed l.mounts.items l.relays.items l.slave) (lists_fault d) (listed_in access.now limits.now d) result }
+        ReadsAs (λ l. listed_streams l.mounts.items l.relays.items l.slave) (lists_fault d) (listed_in access.now limits.now d) result }
 {
     Ok(StreamTables {
         mounts: mounts(alloc, document, access, limits)?,
@@ -269,7 +269,7 @@ fn apart(
     mounts: Vec<MountSetting>,
     relays: Vec<RelaySetting>,
 ) -> Result<(MountSettings, RelaySettings), SettingsFault>
-    ensures { ReadsAs (λ p. listed p.0 p.1 None) (apart_fault mounts.items relays.items) (listed mounts.items relays.items None) result }
+    ensures { ReadsAs (λ p. listed_streams p.0 p.1 None) (apart_fault mounts.items relays.items) (listed_streams mounts.items relays.items None) result }
 {
     let mounts = named(alloc, mounts)?;
     let relays = named(alloc, relays)?;

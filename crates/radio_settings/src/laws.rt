@@ -9,7 +9,7 @@ ghost use Rattle.radio_keys.specs.declared.key.Key.TheVariants.{SourcePassword, 
 ghost use Rattle.radio_settings_values.specs.declared.settings.Settings.{Settings};
 ghost use Rattle.radio_settings.specs.Document.{reading_of};
 ghost use Rattle.radio_settings_values.specs.Repeats.{first_repeat};
-ghost use Rattle.radio_settings.specs.Laws.{AreApart, AreSettingsOf, IsFaultOfText, IsFirstRepeat};
+ghost use Rattle.radio_settings.specs.Laws.{AreDistinct, AreSettingsOf, IsFaultOfText, IsFirstRepeat};
 
 /// A text has a fault exactly if it is not TOML, or if some row of its document has that fault and every row
 /// before it is well. It has settings exactly if it is TOML and every row is well.
@@ -24,7 +24,7 @@ pub fn first_faults()
 // rule: Repeated names
 pub fn first_repeats()
     ensures found { (names : List (List ℕ)) (name : List ℕ) → (first_repeat names ≡ Some name) ↔ IsFirstRepeat names name }
-    ensures apart { (names : List (List ℕ)) → (first_repeat names ≡ None) ↔ AreApart names }
+    ensures apart { (names : List (List ℕ)) → (first_repeat names ≡ None) ↔ AreDistinct names }
 {}
 
 /// Some texts, with their settings or faults.

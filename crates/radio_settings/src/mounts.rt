@@ -6,8 +6,8 @@ ghost use Rattle.toml.specs.View.{table_view};
 ghost use Rattle.radio_keys.specs.Rows.{faults_in, first_fault};
 ghost use Rattle.radio_keys.specs.Reading.{Reads, ReadsAs};
 ghost use Rattle.radio_settings.specs.Parts.{mounts_fault};
-ghost use Rattle.radio_settings.specs.Mounts.{about_fault, about_of, listeners_fault, listeners_of, mount_fault, mount_of, mount_keys, mounts_of};
-ghost use Rattle.radio_settings.specs.Mounts.{options_fault, options_of, source_fault, source_of, stream_fault, stream_of, users_fault, users_of};
+ghost use Rattle.radio_settings.specs.Mounts.{about_fault, about_options, listeners_fault, listeners_of, mount_fault, mount_keys, mounts_of, mount_setting_of};
+ghost use Rattle.radio_settings.specs.Mounts.{options_fault, options_of, source_fault, source_of, stream_fault, stream_options, user_options, users_fault};
 
 use crate::{Key, OutOfMemory, SettingsFault};
 use radio_keys::{
@@ -42,7 +42,7 @@ fn mounts_in(
     limits: &LimitSettings,
 ) -> Result<Vec<MountSetting>, SettingsFault>
     ensures { let ts = map (λ t. table_view t.now) tables.now in
-        ReadsAs (λ v. v.items) (first_fault (flat_map (faults_in mount_keys) ts)) (map (mount_of access.now limits.now) ts) result }
+        ReadsAs (λ v. v.items) (first_fault (flat_map (faults_in mount_keys) ts)) (map (mount_setting_of access.now limits.now) ts) result }
 {
     let mut mounts = Vec::new(alloc);
     for table in tables {
@@ -51,7 +51,7 @@ fn mounts_in(
     Ok(mounts)
 }
 
-#[tactic(auto, using(crate::proofs::PartLemmas::mount_parts), unfolding(crate::specs::Mounts::mount_of))]
+#[tactic(auto, using(crate::proofs::PartLemmas::mount_parts), unfolding(crate::specs::Mounts::mount_setting_of))]
 pub(crate) fn mount(
     alloc: Global,
     table: &Table,
@@ -59,7 +59,7 @@ pub(crate) fn mount(
     limits: &LimitSettings,
 ) -> Result<MountSetting, SettingsFault>
     ensures { let t = table_view table.now in
-        Reads (mount_fault t) (mount_of access.now limits.now t) result }
+        Reads (mount_fault t) (mount_setting_of access.now limits.now t) result }
 {
     Ok(MountSetting {
         name: required_name(table, Key::MountName)?,
@@ -95,7 +95,7 @@ fn stream_and_users(
     limits: &LimitSettings,
 ) -> Result<(StreamOptions, UserOptions), SettingsFault>
     ensures { let t = table_view table.now in
-        Reads (first_fault (stream_fault t ∷ users_fault t ∷ [])) (stream_of limits.now t, users_of t) result }
+        Reads (first_fault (stream_fault t ∷ users_fault t ∷ [])) (stream_options limits.now t, user_options t) result }
 {
     let stream = stream(alloc, table, limits)?;
     let users = users(alloc, table)?;
@@ -127,14 +127,14 @@ fn listeners(table: &Table) -> Result<ListenerOptions, SettingsFault>
     })
 }
 
-#[tactic(auto, unfolding(crate::specs::Mounts::stream_fault, crate::specs::Mounts::stream_of, crate::specs::Mounts::about_fault))]
+#[tactic(auto, unfolding(crate::specs::Mounts::stream_fault, crate::specs::Mounts::stream_options, crate::specs::Mounts::about_fault))]
 fn stream(
     alloc: Global,
     table: &Table,
     limits: &LimitSettings,
 ) -> Result<StreamOptions, SettingsFault>
     ensures { let t = table_view table.now in
-        Reads (stream_fault t) (stream_of limits.now t) result }
+        Reads (stream_fault t) (stream_options limits.now t) result }
 {
     Ok(StreamOptions {
         hidden: flag_or(table, Key::Hidden, false)?,
@@ -146,10 +146,10 @@ fn stream(
     })
 }
 
-#[tactic(auto, unfolding(crate::specs::Mounts::about_fault, crate::specs::Mounts::about_of))]
+#[tactic(auto, unfolding(crate::specs::Mounts::about_fault, crate::specs::Mounts::about_options))]
 fn about(alloc: Global, table: &Table) -> Result<AboutOptions, SettingsFault>
     ensures { let t = table_view table.now in
-        Reads (about_fault t) (about_of t) result }
+        Reads (about_fault t) (about_options t) result }
 {
     Ok(AboutOptions {
         description: field(alloc, table, Key::StreamDescription)?,
@@ -158,10 +158,10 @@ fn about(alloc: Global, table: &Table) -> Result<AboutOptions, SettingsFault>
     })
 }
 
-#[tactic(auto, unfolding(crate::specs::Mounts::users_fault, crate::specs::Mounts::users_of))]
+#[tactic(auto, unfolding(crate::specs::Mounts::users_fault, crate::specs::Mounts::user_options))]
 fn users(alloc: Global, table: &Table) -> Result<UserOptions, SettingsFault>
     ensures { let t = table_view table.now in
-        Reads (users_fault t) (users_of t) result }
+        Reads (users_fault t) (user_options t) result }
 {
     Ok(UserOptions {
         htpasswd: text(alloc, table, Key::Htpasswd)?,

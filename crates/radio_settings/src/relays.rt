@@ -6,7 +6,7 @@ ghost use Rattle.radio_keys.specs.Rows.{faults_in, first_fault};
 ghost use Rattle.radio_keys.specs.Reading.{Reads, ReadsAs};
 ghost use Rattle.radio_settings.specs.Parts.{relays_fault};
 ghost use Rattle.radio_settings.specs.Relays.{local_mount_of, login_from, pulled_mount_of, relay_mounts_fault, pair_fault};
-ghost use Rattle.radio_settings.specs.Relays.{pair_of, relay_fault, relay_keys, relay_of, relays_of};
+ghost use Rattle.radio_settings.specs.Relays.{relay_fault, relay_keys, relay_login, relays_of, relay_setting_of};
 
 use crate::masters::master;
 use crate::{Key, SettingsFault};
@@ -28,7 +28,7 @@ pub fn relays(alloc: Global, document: &Table) -> Result<Vec<RelaySetting>, Sett
 
 fn relays_in(alloc: Global, tables: &[&Table]) -> Result<Vec<RelaySetting>, SettingsFault>
     ensures { let ts = map (λ t. table_view t.now) tables.now in
-        ReadsAs (λ v. v.items) (first_fault (flat_map (faults_in relay_keys) ts)) (map relay_of ts) result }
+        ReadsAs (λ v. v.items) (first_fault (flat_map (faults_in relay_keys) ts)) (map relay_setting_of ts) result }
 {
     let mut relays = Vec::new(alloc);
     for table in tables {
@@ -37,10 +37,10 @@ fn relays_in(alloc: Global, tables: &[&Table]) -> Result<Vec<RelaySetting>, Sett
     Ok(relays)
 }
 
-#[tactic(auto, using(crate::proofs::PartLemmas::relay_parts), unfolding(crate::specs::Relays::relay_of))]
+#[tactic(auto, using(crate::proofs::PartLemmas::relay_parts), unfolding(crate::specs::Relays::relay_setting_of))]
 pub(crate) fn relay(alloc: Global, table: &Table) -> Result<RelaySetting, SettingsFault>
     ensures { let t = table_view table.now in
-        Reads (relay_fault t) (relay_of t) result }
+        Reads (relay_fault t) (relay_setting_of t) result }
 {
     let master = master(alloc, table, Key::Server, Key::Port)?;
     let (mount, local_mount) = mounts(table)?;
@@ -65,10 +65,10 @@ fn mounts(table: &Table) -> Result<(MountName, MountName), SettingsFault>
 }
 
 /// A user and a password: both, or neither.
-#[tactic(auto, unfolding(crate::specs::Relays::pair_fault, crate::specs::Relays::pair_of))]
+#[tactic(auto, unfolding(crate::specs::Relays::pair_fault, crate::specs::Relays::relay_login))]
 fn pair(alloc: Global, table: &Table) -> Result<Option<Login>, SettingsFault>
     ensures { let t = table_view table.now in
-        Reads (pair_fault t) (pair_of t) result }
+        Reads (pair_fault t) (relay_login t) result }
 {
     let username = text_with(alloc, table, Key::Username, Key::Password)?;
     let password = text_with(alloc, table, Key::Password, Key::Username)?;

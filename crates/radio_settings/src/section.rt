@@ -2,7 +2,7 @@
 ghost use Rattle.std.specs.Prelude.{◌≡◌, find, map};
 ghost use Rattle.std.specs.List.{list_any};
 ghost use Rattle.std.specs.Option.{option_copied};
-ghost use Rattle.radio_settings.specs.Sections.{as_named, home_of, is_named, keys_of, knows, section_word, sections};
+ghost use Rattle.radio_settings.specs.Sections.{as_named, home_of, is_key_named, keys_of, knows, section_word, sections};
 
 use crate::Key;
 use crate::section::ValueKind::Number;
@@ -185,7 +185,7 @@ impl Section {
 }
 
 fn has_key(keys: &[KnownKey], name: &str) -> bool
-    ensures { result ≡ list_any (is_named name.now) keys.now }
+    ensures { result ≡ list_any (is_key_named name.now) keys.now }
 {
     keys.iter().any(|known| known.0.word() == name)
 }

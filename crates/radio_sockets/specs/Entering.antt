@@ -1,7 +1,7 @@
 -- The results of a try to accept a connection at the bound socket.
 use Rattle.std.specs.Prelude.{◌≡◌, Bool, true, false}
-use Rattle.radio_intake.specs.declared.entrance.AcceptResult.{AcceptResult}
-use Rattle.radio_intake.specs.declared.entrance.AcceptResult.TheVariants.{One, Nothing, Failed, NoDescriptor}
+use Rattle.radio_workers.specs.declared.entrance.AcceptResult.{AcceptResult}
+use Rattle.radio_workers.specs.declared.entrance.AcceptResult.TheVariants.{One, Nothing, Failed, NoDescriptor}
 use Rattle.radio_sockets.specs.declared.listening_socket.AcceptedSocket.{AcceptedSocket}
 use Rattle.radio_sockets.specs.declared.listening_socket.ListeningSocket.{ListeningSocket}
 

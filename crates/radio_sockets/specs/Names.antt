@@ -4,8 +4,8 @@ use Rattle.mio.specs.declared.token.Token.{Token}
 use Rattle.radio_sockets.specs.Steps.{lacks_descriptors}
 
 -- the name of the bound socket
-abbrev pub is_listener : Token → Bool
-is_listener token = token.0 == 2 ^ 64 - 1
+abbrev pub is_bound_socket : Token → Bool
+is_bound_socket token = token.0 == 2 ^ 64 - 1
 
 -- whether a fault of this number, or of none, is that there is no descriptor left
 abbrev pub is_out_of_descriptors : Option ℤ → Bool

@@ -21,8 +21,8 @@ abbrev pub weight_of : ℕ → ℕ → ℕ
 weight_of connections sources = min (2 ^ 64 - 1) (connections + min (2 ^ 64 - 1) (sources * 4))
 
 -- whether the log gets the moment by the clock, which it last got at another moment, or never
-abbrev pub is_time_to_tell : ℕ → ℕ → Bool
-is_time_to_tell told clock = (told == 0) || nat_le 100 (clock - told)
+abbrev pub is_log_due : ℕ → ℕ → Bool
+is_log_due log_set clock = (log_set == 0) || nat_le 100 (clock - log_set)
 
 -- whether a turn is due at a moment, if the last one was at another
 abbrev pub is_turn_due : ℕ → ℕ → Bool
@@ -30,7 +30,7 @@ is_turn_due now last = nat_le 500 (now - last)
 
 -- whose listeners have news if the sources of the worker of this number have brought something
 abbrev pub news_for : ℕ → Bool → NewsFor
-news_for number may_tell = if may_tell then AllBut number else All
+news_for number may_draw = if may_draw then AllBut number else All
 
 -- for how long the acceptor waits: not at all if it is called, shorter if a connection may be accepted soon, or newcomers wait
 abbrev pub acceptor_wait : Bool → Bool → ℕ → ℕ
@@ -41,8 +41,8 @@ abbrev pub header_wait : ℕ → ℕ → ℕ
 header_wait wait header = min wait (max header 50)
 
 -- the number of the next connection that waits for a header: any other name of the system is higher
-abbrev pub next_number : ℕ → ℕ
-next_number number = if nat_lt number (2 ^ 32 - 1) then number + 1 else 0
+abbrev pub next_pending_number : ℕ → ℕ
+next_pending_number number = if nat_lt number (2 ^ 32 - 1) then number + 1 else 0
 
 -- whether a worker that has served for so long ends the server, since the acceptor has not begun
 abbrev pub is_alone : ℕ → Bool → Bool
@@ -53,8 +53,8 @@ abbrev pub has_to_do : Bool → ℕ → ℕ → Bool → Bool
 has_to_do news left newcomers over = (news && (left == 0)) || nat_lt 0 newcomers || over
 
 -- whether the worker's log gets the moment at this one, and when it last got it then
-abbrev pub told_at : ℕ → ℕ → ℕ
-told_at told clock = if is_time_to_tell told clock then clock else told
+abbrev pub log_set_at : ℕ → ℕ → ℕ
+log_set_at log_set clock = if is_log_due log_set clock then clock else log_set
 
 -- whether the system's fault of this number is that there is no descriptor left, for the process or at all
 abbrev pub lacks_descriptors : ℤ → Bool

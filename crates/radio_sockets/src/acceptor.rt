@@ -1,7 +1,7 @@
 //! The thread that accepts connections.
 
 ghost use Rattle.std.specs.Prelude.{◌≡◌, ◌⊎◌, ◌+◌, ◌-◌, ◌^◌, All, false, true, min};
-ghost use Rattle.radio_intake.specs.Accepting.{closed_in};
+ghost use Rattle.radio_workers.specs.Accepting.{closed_in};
 ghost use Rattle.radio_proxy.specs.Pending.{is_proxy};
 ghost use Rattle.radio_sockets.specs.Entitled.{IsEntitled};
 
@@ -13,17 +13,17 @@ use mio::Waker;
 use mio::net::TcpStream;
 use radio_addr::Peer;
 use radio_board::{Mark, Shared};
-use radio_intake::{Accepts, Intake, IntakePass, ROOM, accept_next};
 use radio_lines::moment;
 use radio_log::Fact;
 use radio_notes::Log;
 use radio_proxy::{HeaderOutcome, NamedClient, Pending, Settled};
+use radio_workers::{Accepts, Intake, IntakePass, ROOM, accept_next};
 use std::alloc::Global;
 use std::io;
 use std::sync::Wait;
 use std::time::Clock;
 
-/// Accepts connections, and hands them to the workers. The connection of a proxy waits here for its header.
+/// Accepts connections, and assigns each to a worker. The connection of a proxy waits here for its header.
 #[derive(Drop)]
 pub struct Acceptor {
     listening_socket: ListeningSocket,
@@ -108,7 +108,7 @@ impl Acceptor {
         ensures proxies { self.new.pending.proxies ≡ self.old.pending.proxies }
         ensures entitled { All (IsEntitled self.old.pending.proxies) pass.old.put → All (IsEntitled self.old.pending.proxies) pass.new.put }
     {
-        self.hear(rt, shared)?;
+        self.poll(rt, shared)?;
         if shared.is_over() {
             return Err(ServeFault::Accept);
         }
@@ -119,7 +119,7 @@ impl Acceptor {
     }
 
     /// Asks the system what is ready, and waits for that if there is nothing to do.
-    fn hear<R: Clock + Wait>(&mut self, rt: &R, shared: &Shared) -> Result<(), ServeFault>
+    fn poll<R: Clock + Wait>(&mut self, rt: &R, shared: &Shared) -> Result<(), ServeFault>
         ensures accepts { (self.new.accepts ≡ self.old.accepts) ⊎ (self.new.accepts ≡ closed_in self.old.accepts) }
         ensures next { self.new.next ≡ self.old.next }
         ensures proxies { self.new.pending.proxies ≡ self.old.pending.proxies }
@@ -131,14 +131,14 @@ impl Acceptor {
             shared.newcomers(),
         );
         let header_ms = self.pending.left_ms(self.clock_ms, wait_ms);
-        let heard = self.listening_socket.hear(header_wait(wait_ms, header_ms));
+        let polled = self.listening_socket.poll(header_wait(wait_ms, header_ms));
         let _ = shared.mark(Mark::AcceptorSleeps, false);
         self.clock_ms = moment(rt);
         if shared.mark(Mark::Closed, false) {
             self.accepts.note_closed();
         }
         note_events(&self.listening_socket, &mut self.pending);
-        heard
+        polled
     }
 
     /// Accepts all connections that wait, as far as the intake has room. None is accepted before a worker has begun.
@@ -174,7 +174,7 @@ impl Acceptor {
         Ok(())
     }
 
-    /// Hands a connection that was accepted on to this worker. That of a proxy waits for its header first.
+    /// Assigns a connection that was accepted to this worker. That of a proxy waits for its header first.
     fn take_in<R: Clock + Wait>(
         &mut self,
         rt: &R,
@@ -199,7 +199,7 @@ impl Acceptor {
             socket_peer: peer,
             named: NamedClient::Nobody,
         };
-        self.hand_on(rt, shared, intake, pass, newcomer, number);
+        self.assign(rt, shared, intake, pass, newcomer, number);
     }
 
     /// Keeps the connection of a proxy until its header has come. It is closed if as many as may be wait already.
@@ -226,7 +226,7 @@ impl Acceptor {
         let added = self.pending.add(stream, proxy, self.number, self.clock_ms);
         if let Err(stream) = added {
             drop(stream);
-            self.tell_gone(rt, shared, proxy, "too-many-clients", 0);
+            self.log_gone(rt, shared, proxy, "too-many-clients", 0);
         }
     }
 
@@ -255,7 +255,7 @@ impl Acceptor {
         }
     }
 
-    /// Hands a connection on to this worker, if its header has come; else it is closed, and the log has a line of it.
+    /// Assigns a connection to this worker, if its header has come; else it is closed, and the log has a line of it.
     fn settle<R: Clock + Wait>(
         &mut self,
         rt: &R,
@@ -289,19 +289,19 @@ impl Acceptor {
                     drop(newcomer);
                     return;
                 }
-                self.hand_on(rt, shared, intake, pass, newcomer, number);
+                self.assign(rt, shared, intake, pass, newcomer, number);
             }
             HeaderOutcome::Bad | HeaderOutcome::Left => {
                 drop(stream);
                 self.accepts.note_closed();
                 let seconds = self.clock_ms.saturating_sub(since_ms) / 1000;
-                self.tell_gone(rt, shared, proxy, gone_word(outcome), seconds);
+                self.log_gone(rt, shared, proxy, gone_word(outcome), seconds);
             }
         }
     }
 
     /// Logs a connection of this proxy that has ended so before a client has arrived.
-    fn tell_gone<R: Clock + Wait>(
+    fn log_gone<R: Clock + Wait>(
         &self,
         rt: &R,
         shared: &Shared,
@@ -319,8 +319,8 @@ impl Acceptor {
         shared.add_lines(rt, lines.as_slice(), now);
     }
 
-    /// Hands a connection on to this worker. It is closed where too many wait.
-    fn hand_on<R: Wait>(
+    /// Assigns a connection to this worker. It is closed where too many wait.
+    fn assign<R: Wait>(
         &mut self,
         rt: &R,
         shared: &Shared,

@@ -6,7 +6,7 @@ ghost use Rattle.std.specs.IoError.{raw_os_error};
 ghost use Rattle.mio.specs.Event.{event_token};
 ghost use Rattle.mio.specs.Events.{items};
 ghost use Rattle.radio_sockets.specs.declared.fault.BindFault.TheVariants.{NoAddress};
-ghost use Rattle.radio_sockets.specs.Names.{is_listener, is_out_of_descriptors};
+ghost use Rattle.radio_sockets.specs.Names.{is_bound_socket, is_out_of_descriptors};
 ghost use Rattle.radio_sockets.specs.Peers.{IsNoIp};
 
 use crate::address::{address_of, peer_at};
@@ -15,8 +15,8 @@ use crate::{BindFault, OutOfMemory, ServeFault};
 use mio::net::{TcpListener, TcpStream};
 use mio::{Events, Interest, Poll, Token, Waker};
 use radio_addr::Peer;
-use radio_intake::{AcceptResult, Entrance};
 use radio_proxy::NamedClient;
+use radio_workers::{AcceptResult, Entrance};
 use std::alloc::Global;
 use std::io;
 use std::io::ErrorKind;
@@ -134,14 +134,14 @@ impl ListeningSocket {
     }
 
     /// Asks the system what is ready, within so many milliseconds.
-    pub(crate) fn hear(&mut self, wait_ms: u64) -> Result<(), ServeFault>
-        ensures { OnOk result (self.new.is_asked ≡ (self.old.is_asked || list_any (λ e. is_listener (event_token e)) (items self.new.events))) }
+    pub(crate) fn poll(&mut self, wait_ms: u64) -> Result<(), ServeFault>
+        ensures { OnOk result (self.new.is_asked ≡ (self.old.is_asked || list_any (λ e. is_bound_socket (event_token e)) (items self.new.events))) }
     {
         let wait = Duration::from_millis(wait_ms);
         if self.poll.poll(&mut self.events, Some(wait)).is_err() {
             return Err(ServeFault::Accept);
         }
-        self.is_asked = self.is_asked || self.is_told();
+        self.is_asked = self.is_asked || self.is_reported();
         Ok(())
     }
 
@@ -169,8 +169,8 @@ impl ListeningSocket {
     }
 
     /// Returns whether the system has reported last that a connection may wait.
-    fn is_told(&self) -> bool
-        ensures { result ≡ list_any (λ e. is_listener (event_token e)) (items self.now.events) }
+    fn is_reported(&self) -> bool
+        ensures { result ≡ list_any (λ e. is_bound_socket (event_token e)) (items self.now.events) }
     {
         self.events.iter().any(|event| is_listener(event.token()))
     }
@@ -178,7 +178,7 @@ impl ListeningSocket {
 
 /// Returns whether this is the name of the bound socket.
 fn is_listener(token: Token) -> bool
-    ensures { result ≡ is_listener token }
+    ensures { result ≡ is_bound_socket token }
 {
     token.0 == LISTENER.0
 }

@@ -1,16 +1,15 @@
 //! The workers' slots, before they begin.
 
 ghost use Rattle.std.specs.Prelude.{◌≡◌, ◌+◌, ◌-◌, ◌≤◌, ◌<◌, All, IfOk, IfSome, OnOk, take, vec_len};
-ghost use Rattle.radio_intake.specs.Passes.{all_parts};
+ghost use Rattle.radio_workers.specs.Passes.{all_parts};
 
 use crate::listening_socket::Accepted;
 use crate::socket_turns::SocketTurns;
 use crate::{OutOfMemory, ServeFault};
 use radio_board::{Shared, WorkerDesk};
 use radio_events::SharedServer;
-use radio_intake::{Intake, IntakePass};
 use radio_lines::{Network, Sockets};
-use radio_workers::{WorkerSlot, add_slot};
+use radio_workers::{Intake, IntakePass, WorkerSlot, add_slot};
 use std::alloc::Global;
 use std::sync::Wait;
 use std::time::Clock;
@@ -71,7 +70,7 @@ pub fn slots_of<'a, R: Clock + Wait, S: SharedServer>(
     requires own { pass.old.intake ≡ intake.now }
     requires parts { all_parts ≤ pass.old.parts + 1 }
     ensures own { pass.new.intake ≡ intake.now }
-    ensures slots { IfOk result (λ slots. All (λ slot. slot.hand.intake ≡ intake.now) slots.items) }
+    ensures slots { IfOk result (λ slots. All (λ slot. slot.intake_pass.intake ≡ intake.now) slots.items) }
 {
     let mut slots = Vec::new(shared.alloc());
     fill_slots(rt, server, shared, intake, pass, sockets, &mut slots)?;
@@ -90,9 +89,9 @@ fn fill_slots<'a, R: Clock + Wait, S: SharedServer>(
 ) -> Result<(), OutOfMemory>
     requires own { pass.old.intake ≡ intake.now }
     requires parts { all_parts ≤ pass.old.parts + 1 }
-    requires slots { All (λ slot. slot.hand.intake ≡ intake.now) slots.old.items }
+    requires slots { All (λ slot. slot.intake_pass.intake ≡ intake.now) slots.old.items }
     ensures own { pass.new.intake ≡ intake.now }
-    ensures slots { OnOk result (All (λ slot. slot.hand.intake ≡ intake.now) slots.new.items) }
+    ensures slots { OnOk result (All (λ slot. slot.intake_pass.intake ≡ intake.now) slots.new.items) }
 {
     'slots: for taken in 0..MOST_WORKERS {
         let Some(turn_source) = next_turn_source(rt, shared, sockets) else {

@@ -25,7 +25,7 @@ use radio_workers::{Seen, TurnSource, TurnStart};
 use std::sync::Wait;
 use std::time::Clock;
 
-mod telling;
+mod reporting;
 
 /// After how many such waits a turn is made, even if the moment has not changed.
 const MOST_WAITS: usize = 8;
@@ -43,7 +43,7 @@ pub struct SocketTurns<'a, R: Clock + Wait> {
     /// When its listeners get news, by the clock.
     pause: NewsPause,
     /// Whether they may get news in this turn.
-    may_tell: bool,
+    may_draw: bool,
     /// Whether a round of draws has begun in this turn.
     is_drawing: bool,
     /// The clock's last moment, in microseconds.
@@ -55,14 +55,14 @@ pub struct SocketTurns<'a, R: Clock + Wait> {
     /// How many of those that it was called to take it has not taken.
     called: usize,
     /// When the log last got the moment, by the clock.
-    told_ms: u64,
+    log_set_ms: u64,
     has_begun: bool,
     /// Whether somebody has drawn all that it had room for.
     has_more: bool,
     /// How many bytes had come from sources when the last round of draws began.
     received: u64,
     /// How often workers had got news then.
-    told: u64,
+    raised: u64,
     /// The moment that the log got, in seconds since 1970.
     seconds: u64,
 }
@@ -89,17 +89,17 @@ impl<'a, R: Clock + Wait> SocketTurns<'a, R> {
             sockets,
             time: ServedTime::new(0, 0),
             pause: NewsPause::new(shared.worker_count()),
-            may_tell: false,
+            may_draw: false,
             is_drawing: false,
             clock_us: 0,
             turn_ms: 0,
             puts_off: false,
             called: 0,
-            told_ms: 0,
+            log_set_ms: 0,
             has_begun: false,
             has_more: false,
             received: 0,
-            told: 0,
+            raised: 0,
             seconds: 0,
         }
     }
@@ -119,24 +119,24 @@ impl<'a, R: Clock + Wait> SocketTurns<'a, R> {
     /// Waits until there is something to do, or a turn is due. Returns what the system reported then; `None` if it is
     /// to stop.
     fn wait(&mut self) -> Option<Polled>
-        ensures clock { IfSome result (λ heard. self.new.clock_us ≡ heard.us) }
+        ensures clock { IfSome result (λ polled. self.new.clock_us ≡ polled.us) }
     {
-        let mut heard = self.hear()?;
+        let mut polled = self.poll()?;
         for _ in 1..MOST_WAITS {
-            if self.ends_wait(heard) {
-                return Some(heard);
+            if self.ends_wait(polled) {
+                return Some(polled);
             }
-            heard = self.hear()?;
+            polled = self.poll()?;
         }
-        Some(heard)
+        Some(polled)
     }
 
     /// Returns whether a wait ends in which the system reported this last.
-    fn ends_wait(&self, heard: Polled) -> bool
-        ensures { heard.is_ready ≡ true → result ≡ true }
+    fn ends_wait(&self, polled: Polled) -> bool
+        ensures { polled.is_ready ≡ true → result ≡ true }
     {
         ends_wait(Waited {
-            is_ready: heard.is_ready,
+            is_ready: polled.is_ready,
             is_due: is_turn_due(self.moment(), self.turn_ms),
             is_over: self.shared.is_over(),
         })
@@ -144,26 +144,26 @@ impl<'a, R: Clock + Wait> SocketTurns<'a, R> {
 
     /// Asks the system what is ready, and waits for that if there is nothing to do. `None` if the system reports
     /// nothing any more.
-    fn hear(&mut self) -> Option<Polled>
-        ensures clock { IfSome result (λ heard. self.new.clock_us ≡ heard.us) }
+    fn poll(&mut self) -> Option<Polled>
+        ensures clock { IfSome result (λ polled. self.new.clock_us ≡ polled.us) }
     {
         // What was reported before was read since.
         self.desk.stamp(NotedMoment::Read, self.time.served_ms());
         let rest = self.rest();
         let is_called = self.lies_down(rest);
         let wait_ms = if is_called { 0 } else { rest.most_ms() };
-        let told = self.sockets.hear(self.rt, wait_ms);
+        let outcome = self.sockets.poll(self.rt, wait_ms);
         if let Some(step) = rest.step_behind() {
             let _ = self.desk.take(step);
         }
-        let Ok(heard) = told else {
+        let Ok(polled) = outcome else {
             self.shared.stop();
             return None;
         };
-        self.advance(heard);
+        self.advance(polled);
         Some(Polled {
-            is_ready: heard.is_ready || rest.is_turn() || self.has_to_do(),
-            ..heard
+            is_ready: polled.is_ready || rest.is_turn() || self.has_to_do(),
+            ..polled
         })
     }
 
@@ -217,13 +217,13 @@ impl<'a, R: Clock + Wait> SocketTurns<'a, R> {
     /// A round of draws begins: its listeners get all news that there is.
     fn begin_round(&mut self)
         ensures drawing { self.new.is_drawing ≡ true }
-        ensures may { self.new.may_tell ≡ self.old.may_tell }
+        ensures may { self.new.may_draw ≡ self.old.may_draw }
     {
         let came_us = self.came_us();
         let _ = self.desk.take(Step::BeginRound);
         let counts = self.shared.counts();
         self.received = counts.received;
-        self.told = counts.told;
+        self.raised = counts.raised;
         self.clock_us = moment_us(self.rt);
         self.pause.begin(self.clock_us, came_us);
         self.is_drawing = true;
@@ -241,19 +241,19 @@ impl<'a, R: Clock + Wait> SocketTurns<'a, R> {
             self.pause.end(self.clock_us);
         }
         if !has_more {
-            self.desk.end_round(self.told);
+            self.desk.end_round(self.raised);
         }
     }
 
     /// Sets the moment at which this was reported. Its own time goes on from it.
-    fn advance(&mut self, heard: Polled)
-        ensures clock { self.new.clock_us ≡ heard.us }
-        ensures time { (told : ℕ) × (self.new.time ≡ served_by heard.ms told self.old.time) }
+    fn advance(&mut self, polled: Polled)
+        ensures clock { self.new.clock_us ≡ polled.us }
+        ensures time { (all_read : ℕ) × (self.new.time ≡ served_by polled.ms all_read self.old.time) }
     {
-        self.clock_us = heard.us;
-        self.desk.stamp(NotedMoment::Turn, heard.ms);
-        let told_ms = self.moment();
-        self.time.advance(heard.ms, told_ms);
+        self.clock_us = polled.us;
+        self.desk.stamp(NotedMoment::Turn, polled.ms);
+        let all_read_ms = self.moment();
+        self.time.advance(polled.ms, all_read_ms);
         self.sockets.activity().begin_turn(
             self.time.served_ms(),
             self.shared.pace(),
@@ -293,29 +293,29 @@ impl<'a, R: Clock + Wait> TurnSource<Accepted, SocketLine<TcpStream>> for Socket
     fn next(&mut self, log: &Log) -> Option<TurnStart>
         ensures turn { IfSome result (λ call. self.new.turn_ms ≡ call.turn.ms) }
         ensures called { IfSome result (λ call. self.new.called ≡ call.newcomers) }
-        ensures news { IfSome result (λ call. call.turn.news ≡ true → self.new.may_tell ≡ true) }
+        ensures news { IfSome result (λ call. call.turn.news ≡ true → self.new.may_draw ≡ true) }
     {
         if !self.has_begun {
             self.begin();
         }
-        let heard = self.wait()?;
+        let polled = self.wait()?;
         if is_alone(self.time.served_ms(), self.shared.marks().has_acceptor) {
             self.shared.stop();
         }
         if self.shared.is_over() {
             return None;
         }
-        self.tell_moment(log, heard.ms);
+        self.set_log_moment(log, polled.ms);
         let ms = self.moment();
         let newcomers = self.newcomers(ms);
         self.turn_ms = ms;
-        self.may_tell = self.left_us() == 0;
-        let news = self.may_tell && self.desk.report().state.has_news();
+        self.may_draw = self.left_us() == 0;
+        let news = self.may_draw && self.desk.report().state.has_news();
         Some(TurnStart {
             turn: Turn {
                 ms,
                 news,
-                told_ms: self.shared.server_time(),
+                clock_ms: self.shared.server_time(),
             },
             newcomers,
         })
@@ -344,18 +344,18 @@ impl<'a, R: Clock + Wait> TurnSource<Accepted, SocketLine<TcpStream>> for Socket
         self.shared.most_lingering(self.desk, lingering)
     }
 
-    fn begins_round(&mut self, is_told: bool, brings: bool) -> bool
-        ensures told { is_told ≡ true → result ≡ true }
-        ensures begins { result ≡ (is_told || (brings && self.old.may_tell)) }
+    fn begins_round(&mut self, has_news: bool, brings: bool) -> bool
+        ensures news { has_news ≡ true → result ≡ true }
+        ensures begins { result ≡ (has_news || (brings && self.old.may_draw)) }
         ensures drawing { result ≡ true → self.new.is_drawing ≡ true }
     {
         if brings {
-            self.tell(news_for(self.number, self.may_tell));
+            self.report_received(news_for(self.number, self.may_draw));
         }
         let begins = begins_round(RoundCause {
-            is_told,
+            has_news,
             brings,
-            may_tell: self.may_tell,
+            may_draw: self.may_draw,
         });
         if begins {
             self.begin_round();
@@ -370,14 +370,14 @@ impl<'a, R: Clock + Wait> TurnSource<Accepted, SocketLine<TcpStream>> for Socket
     {
         // Where the intake was empty before, others have taken them.
         self.note_taken(self.called);
-        self.shared.note_server_time(seen.told_ms);
+        self.shared.note_server_time(seen.clock_ms);
         self.has_more = seen.more;
         self.end_round(seen.more);
         self.note_listeners(seen);
-        self.tell(NewsFor::from(seen.news));
+        self.report_received(NewsFor::from(seen.news));
         if seen.has_closed {
             self.shared.note_closed();
         }
-        self.hand_lines(log);
+        self.flush_log(log);
     }
 }

@@ -1,7 +1,7 @@
 //! What a worker's turn source decides, as plain values. Moments are in milliseconds.
 
 ghost use Rattle.std.specs.Prelude.{◌≡◌, ◌&&◌, ◌||◌};
-ghost use Rattle.radio_sockets.specs.Steps.{acceptor_wait, called_of, has_to_do, header_wait, lacks_descriptors, is_alone, weight_of, is_time_to_tell, is_turn_due, news_for, next_number};
+ghost use Rattle.radio_sockets.specs.Steps.{acceptor_wait, called_of, has_to_do, header_wait, lacks_descriptors, is_alone, weight_of, is_log_due, is_turn_due, news_for, next_pending_number};
 
 use radio_board::NewsFor;
 
@@ -16,7 +16,7 @@ const MOST_AT_ONCE: usize = 64;
 const TURN_AFTER_MS: u64 = 500;
 
 /// After how long the log gets the moment again.
-const TELL_AFTER_MS: u64 = 100;
+const LOG_AFTER_MS: u64 = 100;
 
 /// How many extra connections a source counts for, when the worker that has the fewest is chosen. The others wait
 /// for what it has pushed, so its worker is to have less to do.
@@ -68,12 +68,12 @@ pub(crate) fn weight_of(connections: usize, sources: usize) -> usize
     connections.saturating_add(sources.saturating_mul(SOURCE_WEIGHT))
 }
 
-/// Returns whether the log gets the moment, when the clock is at `clock_ms`, and it last got it at `told_ms`; 0 is
+/// Returns whether the log gets the moment, when the clock is at `clock_ms`, and it last got it at `log_set_ms`; 0 is
 /// never.
-pub(crate) fn is_time_to_tell(told_ms: u64, clock_ms: u64) -> bool
-    ensures { result ≡ is_time_to_tell told_ms clock_ms }
+pub(crate) fn is_log_due(log_set_ms: u64, clock_ms: u64) -> bool
+    ensures { result ≡ is_log_due log_set_ms clock_ms }
 {
-    told_ms == 0 || clock_ms.saturating_sub(told_ms) >= TELL_AFTER_MS
+    log_set_ms == 0 || clock_ms.saturating_sub(log_set_ms) >= LOG_AFTER_MS
 }
 
 /// Returns whether a turn is due at this moment, whatever there is to do, if the last one was at `turn_ms`.
@@ -85,10 +85,10 @@ pub(crate) fn is_turn_due(ms: u64, turn_ms: u64) -> bool
 
 /// Returns for whose listeners it is news that the sources of the worker of this number have brought something: its own
 /// draw in the same turn, if they may get news in it.
-pub(crate) fn news_for(number: usize, may_tell: bool) -> NewsFor
-    ensures { result ≡ news_for number may_tell }
+pub(crate) fn news_for(number: usize, may_draw: bool) -> NewsFor
+    ensures { result ≡ news_for number may_draw }
 {
-    if may_tell {
+    if may_draw {
         NewsFor::AllBut(number)
     } else {
         NewsFor::All
@@ -122,7 +122,7 @@ pub(crate) fn header_wait(wait_ms: u64, header_ms: u64) -> u64
 /// Returns the number by which the system names the next connection that waits for a header. It is none of the names of the bound
 /// socket and the waker.
 pub(crate) fn next_number(number: usize) -> usize
-    ensures { result ≡ next_number number }
+    ensures { result ≡ next_pending_number number }
 {
     if number < MOST_NUMBER { number + 1 } else { 0 }
 }
@@ -164,19 +164,19 @@ pub(crate) fn has_to_do(has_news: bool, left_us: u64, newcomers: usize, is_over:
 #[derive(Clone, Copy, Debug, PartialEq, Eq)]
 pub(crate) struct RoundCause {
     /// Whether the turn got news.
-    pub(crate) is_told: bool,
+    pub(crate) has_news: bool,
     /// Whether the worker's sources have brought something.
     pub(crate) brings: bool,
     /// Whether its listeners may get that in this turn.
-    pub(crate) may_tell: bool,
+    pub(crate) may_draw: bool,
 }
 
 /// Returns whether a round of draws begins: the turn got news, or its sources have brought something and its listeners
 /// may get that.
 pub(crate) fn begins_round(cause: RoundCause) -> bool
-    ensures { result ≡ (cause.is_told || (cause.brings && cause.may_tell)) }
+    ensures { result ≡ (cause.has_news || (cause.brings && cause.may_draw)) }
 {
-    cause.is_told || (cause.brings && cause.may_tell)
+    cause.has_news || (cause.brings && cause.may_draw)
 }
 
 /// Returns whether the system's fault of this number says that there is no descriptor left, for the process (24, `EMFILE`) or

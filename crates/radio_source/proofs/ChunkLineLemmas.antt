@@ -11,7 +11,7 @@ use Rattle.httparse.specs.Grammar.{is_ows, is_extension_byte, AllPass, IsExtensi
 use Rattle.httparse.specs.Grammar.{HasNoChunkLine, NeverHasChunkLine, MayBecomeChunkLine}
 use Rattle.radio_source.specs.declared.chunk_line.LineReading.{LineReading}
 use Rattle.radio_source.specs.declared.chunk_line.LineReading.TheVariants.{Unfinished, Whole, Refused}
-use Rattle.radio_source.specs.ChunkLine.{end_in, extension_in, padding_in, digits_in, chunk_line_in}
+use Rattle.radio_source.specs.ChunkLine.{chunk_line_end, extension_in, padding_in, digits_in, chunk_line_in}
 
 -- ---- what is printed is read
 
@@ -114,7 +114,7 @@ not_zero n h = grind (arith, nat_tests)
 is_equal : (b n : ℕ) → eqb b n ≡ true → b ≡ n
 is_equal b n h = grind (arith, nat_tests)
 
-shows_end : (size : ℕ) (bytes : List ℕ) → Shows (HasEnd size bytes) (end_in size bytes)
+shows_end : (size : ℕ) (bytes : List ℕ) → Shows (HasEnd size bytes) (chunk_line_end size bytes)
 shows_end size [] = (size, crlf_bytes, ((refl, omega arith), refl))
 shows_end size (b ∷ []) =
     by_test (eqb b carriage_return) (Shows (HasEnd size (b ∷ []))) Unfinished Refused
@@ -135,7 +135,7 @@ HasText size bytes v more rest = IsNear size v more × ((text : List ℕ) × All
 shows_extension : (size : ℕ) (bytes : List ℕ) → Shows (HasText size bytes) (extension_in size bytes)
 shows_extension size [] = (size, crlf_bytes, ((refl, omega arith), ([], (λ k d h. absurd (omega arith)), refl)))
 shows_extension size (b ∷ bytes) =
-    by_test (is_extension_byte b) (Shows (HasText size (b ∷ bytes))) (extension_in size bytes) (end_in size (b ∷ bytes))
+    by_test (is_extension_byte b) (Shows (HasText size (b ∷ bytes))) (extension_in size bytes) (chunk_line_end size (b ∷ bytes))
     (λ (h : is_extension_byte b ≡ true).
     Shows-map (HasText size bytes) (HasText size (b ∷ bytes))
     (λ v more rest (x : HasText size bytes v more rest).
@@ -143,7 +143,7 @@ shows_extension size (b ∷ bytes) =
     (extension_in size bytes) (shows_extension size bytes))
     (λ _. Shows-map (HasEnd size (b ∷ bytes)) (HasText size (b ∷ bytes))
     (λ v more rest (x : HasEnd size (b ∷ bytes) v more rest). (x.0, ([], (λ k d h. absurd (omega arith)), x.1)))
-    (end_in size (b ∷ bytes)) (shows_end size (b ∷ bytes)))
+    (chunk_line_end size (b ∷ bytes)) (shows_end size (b ∷ bytes)))
 
 -- the rest of the padding, and what follows
 abbrev HasTail : ℕ → List ℕ → ℕ → List ℕ → List ℕ → Type 0
@@ -155,13 +155,13 @@ shows_padding : (size : ℕ) (bytes : List ℕ) → Shows (HasTail size bytes) (
 shows_padding size [] = (size, crlf_bytes, ((refl, omega arith), ([], None, (λ k d h. absurd (omega arith)), tt, refl)))
 shows_padding size (b ∷ bytes) =
     by_test (is_ows b) (Shows (HasTail size (b ∷ bytes))) (padding_in size bytes)
-    (if eqb b semicolon then extension_in size bytes else end_in size (b ∷ bytes))
+    (if eqb b semicolon then extension_in size bytes else chunk_line_end size (b ∷ bytes))
     (λ (h : is_ows b ≡ true).
     Shows-map (HasTail size bytes) (HasTail size (b ∷ bytes))
     (λ v more rest (x : HasTail size bytes v more rest).
     (x.0, (b ∷ x.1.0, x.1.1, All-cons (λ v. is_ows v ≡ true) b x.1.0 h x.1.2, x.1.3, ap (λ t. b ∷ t) x.1.4)))
     (padding_in size bytes) (shows_padding size bytes))
-    (λ _. by_test (eqb b semicolon) (Shows (HasTail size (b ∷ bytes))) (extension_in size bytes) (end_in size (b ∷ bytes))
+    (λ _. by_test (eqb b semicolon) (Shows (HasTail size (b ∷ bytes))) (extension_in size bytes) (chunk_line_end size (b ∷ bytes))
     (λ (h : eqb b semicolon ≡ true).
     Shows-map (HasText size bytes) (HasTail size (b ∷ bytes))
     (λ v more rest (x : HasText size bytes v more rest). (
@@ -177,7 +177,7 @@ shows_padding size (b ∷ bytes) =
     (extension_in size bytes) (shows_extension size bytes))
     (λ _. Shows-map (HasEnd size (b ∷ bytes)) (HasTail size (b ∷ bytes))
     (λ v more rest (x : HasEnd size (b ∷ bytes) v more rest). (x.0, ([], None, (λ k d h. absurd (omega arith)), tt, x.1)))
-    (end_in size (b ∷ bytes)) (shows_end size (b ∷ bytes))))
+    (chunk_line_end size (b ∷ bytes)) (shows_end size (b ∷ bytes))))
 
 -- the rest of the digits, and what follows
 record HasDigits (count size : ℕ) (bytes : List ℕ) (v : ℕ) (more rest : List ℕ) : Type 0 where
@@ -299,11 +299,11 @@ unlike e = cc
 refused_unlike : {size : ℕ} → Refused ≡ Whole size → ⊥
 refused_unlike e = cc
 
-refused_end : (size : ℕ) (bytes more : List ℕ) → end_in size bytes ≡ Refused → end_in size (bytes ++ more) ≡ Refused
+refused_end : (size : ℕ) (bytes more : List ℕ) → chunk_line_end size bytes ≡ Refused → chunk_line_end size (bytes ++ more) ≡ Refused
 refused_end size [] more h = absurd (cc)
 refused_end size (b ∷ []) [] h = h
 refused_end size (b ∷ []) (c ∷ more) h =
-    by_test (eqb b carriage_return) (λ r. r ≡ Refused → end_in size (b ∷ c ∷ more) ≡ Refused) Unfinished Refused
+    by_test (eqb b carriage_return) (λ r. r ≡ Refused → chunk_line_end size (b ∷ c ∷ more) ≡ Refused) Unfinished Refused
     (λ _ (e : Unfinished ≡ Refused). absurd (cc))
     (λ (t : eqb b carriage_return ≡ false) _. rw t refl) h
 refused_end size (b ∷ c ∷ rest) more h = h
@@ -311,20 +311,20 @@ refused_end size (b ∷ c ∷ rest) more h = h
 refused_extension : (size : ℕ) (bytes more : List ℕ) → extension_in size bytes ≡ Refused → extension_in size (bytes ++ more) ≡ Refused
 refused_extension size [] more h = absurd (cc)
 refused_extension size (b ∷ bytes) more h =
-    by_test (is_extension_byte b) (λ r. r ≡ Refused → extension_in size (b ∷ (bytes ++ more)) ≡ Refused) (extension_in size bytes) (end_in size (b ∷ bytes))
+    by_test (is_extension_byte b) (λ r. r ≡ Refused → extension_in size (b ∷ (bytes ++ more)) ≡ Refused) (extension_in size bytes) (chunk_line_end size (b ∷ bytes))
     (λ (t : is_extension_byte b ≡ true) (e : extension_in size bytes ≡ Refused). rw t (refused_extension size bytes more e))
-    (λ (t : is_extension_byte b ≡ false) (e : end_in size (b ∷ bytes) ≡ Refused). rw t (refused_end size (b ∷ bytes) more e)) h
+    (λ (t : is_extension_byte b ≡ false) (e : chunk_line_end size (b ∷ bytes) ≡ Refused). rw t (refused_end size (b ∷ bytes) more e)) h
 
 refused_padding : (size : ℕ) (bytes more : List ℕ) → padding_in size bytes ≡ Refused → padding_in size (bytes ++ more) ≡ Refused
 refused_padding size [] more h = absurd (cc)
 refused_padding size (b ∷ bytes) more h =
     by_test (is_ows b) (λ r. r ≡ Refused → padding_in size (b ∷ (bytes ++ more)) ≡ Refused) (padding_in size bytes)
-    (if eqb b semicolon then extension_in size bytes else end_in size (b ∷ bytes))
+    (if eqb b semicolon then extension_in size bytes else chunk_line_end size (b ∷ bytes))
     (λ (t : is_ows b ≡ true) (e : padding_in size bytes ≡ Refused). rw t (refused_padding size bytes more e))
     (λ (t : is_ows b ≡ false).
-    by_test (eqb b semicolon) (λ r. r ≡ Refused → padding_in size (b ∷ (bytes ++ more)) ≡ Refused) (extension_in size bytes) (end_in size (b ∷ bytes))
+    by_test (eqb b semicolon) (λ r. r ≡ Refused → padding_in size (b ∷ (bytes ++ more)) ≡ Refused) (extension_in size bytes) (chunk_line_end size (b ∷ bytes))
     (λ (s : eqb b semicolon ≡ true) (e : extension_in size bytes ≡ Refused). rw (t, s) (refused_extension size bytes more e))
-    (λ (s : eqb b semicolon ≡ false) (e : end_in size (b ∷ bytes) ≡ Refused). rw (t, s) (refused_end size (b ∷ bytes) more e))) h
+    (λ (s : eqb b semicolon ≡ false) (e : chunk_line_end size (b ∷ bytes) ≡ Refused). rw (t, s) (refused_end size (b ∷ bytes) more e))) h
 
 refused_digits : (count size : ℕ) (bytes more : List ℕ) → digits_in count size bytes ≡ Refused → digits_in count size (bytes ++ more) ≡ Refused
 refused_digits count size [] more h = absurd (cc)

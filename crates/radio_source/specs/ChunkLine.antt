@@ -8,21 +8,21 @@ use Rattle.radio_source.specs.declared.chunk_line.LineReading.{LineReading}
 use Rattle.radio_source.specs.declared.chunk_line.LineReading.TheVariants.{Unfinished, Whole, Refused}
 
 -- the line's end
-abbrev pub end_in : ℕ → List ℕ → LineReading
-end_in size [] = Unfinished
-end_in size (b ∷ []) = if b == carriage_return then Unfinished else Refused
-end_in size (b ∷ c ∷ rest) = if b == carriage_return && c == line_feed then Whole size else Refused
+abbrev pub chunk_line_end : ℕ → List ℕ → LineReading
+chunk_line_end size [] = Unfinished
+chunk_line_end size (b ∷ []) = if b == carriage_return then Unfinished else Refused
+chunk_line_end size (b ∷ c ∷ rest) = if b == carriage_return && c == line_feed then Whole size else Refused
 
 -- the rest of an extension, and the line's end
 abbrev pub extension_in : ℕ → List ℕ → LineReading
 extension_in size [] = Unfinished
-extension_in size (b ∷ rest) = if is_extension_byte b then extension_in size rest else end_in size (b ∷ rest)
+extension_in size (b ∷ rest) = if is_extension_byte b then extension_in size rest else chunk_line_end size (b ∷ rest)
 
 -- spaces and tabs, and then an extension or the line's end
 abbrev pub padding_in : ℕ → List ℕ → LineReading
 padding_in size [] = Unfinished
 padding_in size (b ∷ rest) =
-    if is_ows b then padding_in size rest else if b == semicolon then extension_in size rest else end_in size (b ∷ rest)
+    if is_ows b then padding_in size rest else if b == semicolon then extension_in size rest else chunk_line_end size (b ∷ rest)
 
 -- more digits, after so many of this size, and what follows them
 abbrev pub digits_in : ℕ → ℕ → List ℕ → LineReading

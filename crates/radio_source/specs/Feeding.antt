@@ -31,15 +31,15 @@ answer_with [] true (Some fault) = Brings [] true
 answer_with (block ∷ blocks) is_complete (Some fault) = Brings (block ∷ blocks) is_complete
 
 -- the body's end came, and did not come before
-abbrev pub ends_in : Feeding → List ℕ → Bool
-ends_in body piece = has_ended (after body.place piece) && not body.is_end_told
+abbrev pub body_ends_in : Feeding → List ℕ → Bool
+body_ends_in body piece = has_ended (after body.place piece) && not body.is_end_told
 
 -- what a feed answers
 -- rule: Feed
 unfoldable pub answer_to : Feeding → List ℕ → Answer
 answer_to body piece =
     if body.has_failed then Refuses Failed
-    else answer_with (blocks_of (data_of body.place piece)) (ends_in body piece) (fault_at (after body.place piece))
+    else answer_with (blocks_of (data_of body.place piece)) (body_ends_in body piece) (fault_at (after body.place piece))
 
 abbrev pub is_refusal : Answer → Bool
 is_refusal (Brings blocks is_complete) = false

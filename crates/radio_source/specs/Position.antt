@@ -6,18 +6,18 @@ use Rattle.radio_source.specs.declared.position.Stage.TheVariants.{BehindTheEnd,
 use Rattle.radio_source.specs.Place.{Place, InPlain, InSized, InLine, InChunk, AfterReturn, AtTrailer, AfterTrailerReturn, InTrailer, AtEnd, PastTheEnd, Broken}
 
 -- the place where this comes next, with so much of a chunk line
-abbrev pub place_of : Stage → List ℕ → Place
-place_of Plain line = InPlain
-place_of (Sized left) line = InSized left
-place_of Line line = InLine line
-place_of (Chunk left) line = InChunk left
-place_of LineFeed line = AfterReturn
-place_of (Trailer left) line = AtTrailer left
-place_of (TrailerAfterReturn left) line = AfterTrailerReturn left
-place_of (TrailerRest left) line = InTrailer left
-place_of End line = AtEnd
-place_of BehindTheEnd line = PastTheEnd
-place_of BadByte line = Broken
+abbrev pub place_at_stage : Stage → List ℕ → Place
+place_at_stage Plain line = InPlain
+place_at_stage (Sized left) line = InSized left
+place_at_stage Line line = InLine line
+place_at_stage (Chunk left) line = InChunk left
+place_at_stage LineFeed line = AfterReturn
+place_at_stage (Trailer left) line = AtTrailer left
+place_at_stage (TrailerAfterReturn left) line = AfterTrailerReturn left
+place_at_stage (TrailerRest left) line = InTrailer left
+place_at_stage End line = AtEnd
+place_at_stage BehindTheEnd line = PastTheEnd
+place_at_stage BadByte line = Broken
 
 -- how many of the next n bytes are data, without a break
 abbrev pub data_ahead : Place → ℕ → ℕ

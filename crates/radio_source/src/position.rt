@@ -4,7 +4,7 @@ ghost use Rattle.arrayvec.specs.ArrayVec.{array_vec_len};
 ghost use Rattle.radio_source.specs.Place.{after_byte, after_line, in_trailer, after, data_of, has_ended, fault_at, plain_start, sized_start, chunked_start};
 ghost use Rattle.radio_source.specs.declared.position.TheConstants.{MAX_CHUNK_LINE};
 ghost use Rattle.radio_source.specs.declared.position.Stage.TheVariants.{Line};
-ghost use Rattle.radio_source.specs.Position.{place_of, data_ahead, past_data};
+ghost use Rattle.radio_source.specs.Position.{place_at_stage, data_ahead, past_data};
 
 use crate::chunk_line::{LineReading, read_chunk_line};
 use crate::{BodyFault, OutOfMemory};
@@ -56,12 +56,12 @@ impl Model for Position {
     ghost use Rattle.std.specs.Prelude.{◌<◌};
     ghost use Rattle.arrayvec.specs.ArrayVec.{array_vec_len};
     ghost use Rattle.radio_source.specs.Place.{Place};
-    ghost use Rattle.radio_source.specs.Position.{place_of};
+    ghost use Rattle.radio_source.specs.Position.{place_at_stage};
     ghost use Rattle.radio_source.specs.declared.position.TheConstants.{MAX_CHUNK_LINE};
 
     ghost Value = { Place };
 
-    ghost view = { λ p. place_of p.stage p.line.items };
+    ghost view = { λ p. place_at_stage p.stage p.line.items };
 
     ghost invariant = { λ p. array_vec_len p.line < MAX_CHUNK_LINE };
 }
@@ -239,7 +239,7 @@ impl Position {
 // Goes past a byte of a chunk line, of which `line` has come, and returns what comes next.
 fn pass_line_byte(line: &mut ArrayVec<u8, MAX_CHUNK_LINE>, byte: u8) -> Stage
     requires { array_vec_len line.old < MAX_CHUNK_LINE }
-    ensures place { place_of result line.new.items ≡ after_line (line.old.items ++ byte ∷ []) }
+    ensures place { place_at_stage result line.new.items ≡ after_line (line.old.items ++ byte ∷ []) }
     ensures room { array_vec_len line.new < MAX_CHUNK_LINE }
 {
     line.push(byte);
@@ -258,8 +258,8 @@ fn pass_line_byte(line: &mut ArrayVec<u8, MAX_CHUNK_LINE>, byte: u8) -> Stage
 // rule: Chunk
 fn after_framing(stage: Stage, byte: u8) -> Stage
     requires framing { stage ≢ Line }
-    requires no_data { data_ahead (place_of stage []) 1 ≡ 0 }
-    ensures { (line : List ℕ) → place_of result [] ≡ after_byte (place_of stage line) byte }
+    requires no_data { data_ahead (place_at_stage stage []) 1 ≡ 0 }
+    ensures { (line : List ℕ) → place_at_stage result [] ≡ after_byte (place_at_stage stage line) byte }
 {
     match (stage, byte) {
         (Stage::Chunk(_), b'\r') => Stage::LineFeed,
@@ -278,7 +278,7 @@ fn after_framing(stage: Stage, byte: u8) -> Stage
 
 // What comes after so many bytes of a trailer line that lack its LF.
 fn after_trailer_bytes(left: usize, size: usize) -> Stage
-    ensures { place_of result [] ≡ in_trailer left size }
+    ensures { place_at_stage result [] ≡ in_trailer left size }
 {
     if size < left {
         Stage::TrailerRest(left - size)

@@ -23,14 +23,14 @@ asked_of verb path =
     else None
 
 -- a word, the path of the settings and a flag
-abbrev pub asked_with : List ℕ → String Global → List ℕ → Option CommandLine
-asked_with verb path flag =
+abbrev pub asked_with_flag : List ℕ → String Global → List ℕ → Option CommandLine
+asked_with_flag verb path flag =
     if bytes_eq verb (codes "check") && bytes_eq flag (codes "--strict") then Some (Check path true) else None
 
 -- up to four words behind the program's name; a missing one has none behind it
 -- rule: Fault of a call
-abbrev pub asked_by : Option (String Global) → Option (String Global) → Option (String Global) → Option (String Global) → Option CommandLine
-asked_by (Some verb) None None None = asked_alone (string_bytes verb)
-asked_by (Some verb) (Some path) None None = asked_of (string_bytes verb) path
-asked_by (Some verb) (Some path) (Some flag) None = asked_with (string_bytes verb) path (string_bytes flag)
-asked_by verb path flag more = None
+abbrev pub command_line_of : Option (String Global) → Option (String Global) → Option (String Global) → Option (String Global) → Option CommandLine
+command_line_of (Some verb) None None None = asked_alone (string_bytes verb)
+command_line_of (Some verb) (Some path) None None = asked_of (string_bytes verb) path
+command_line_of (Some verb) (Some path) (Some flag) None = asked_with_flag (string_bytes verb) path (string_bytes flag)
+command_line_of verb path flag more = None

@@ -15,8 +15,8 @@ is_loopback (Some (V6 n)) = n == 1
 
 -- a mount has a table, a relay feeds it, or there is a slave, which feeds what its master has
 -- rule: Doubtful settings
-abbrev pub is_named : Settings → List ℕ → Bool
-is_named settings name =
+abbrev pub is_set_mount : Settings → List ℕ → Bool
+is_set_mount settings name =
     is_some (find (λ mount. bytes_eq mount.name name) settings.mounts)
     || is_some (find (λ relay. bytes_eq relay.local_mount name) settings.relays)
     || is_some settings.slave

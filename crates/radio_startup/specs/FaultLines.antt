@@ -5,7 +5,7 @@ use Rattle.std.specs.Fmt.{decimal}
 use Rattle.std.specs.String.{string_bytes}
 use Rattle.radio_keys.specs.declared.fault.SettingsFault.{SettingsFault}
 use Rattle.radio_keys.specs.declared.fault.SettingsFault.TheVariants.{OutOfMemory as NoMemoryForSettings}
-use Rattle.radio_keys.specs.Words.{fault_text}
+use Rattle.radio_keys.specs.Words.{settings_fault_text}
 use Rattle.radio_settings.specs.Sections.{section_word}
 use Rattle.radio_log.specs.declared.facts.FaultyKey.{FaultyKey}
 use Rattle.radio_startup.specs.declared.fault.FileFault.{FileFault}
@@ -16,7 +16,7 @@ abbrev pub file_fault_text : FileFault → List ℕ
 file_fault_text (CannotRead path error) = codes "cannot read " ++ string_bytes path
 file_fault_text (Line path line) = string_bytes path ++ (codes " line " ++ decimal line)
 file_fault_text (NotToml misreading) = codes "not toml"
-file_fault_text (Settings fault at) = fault_text fault
+file_fault_text (Settings fault at) = settings_fault_text fault
 file_fault_text OutOfMemory = codes "out of memory"
 
 -- want of memory is no fault of the settings

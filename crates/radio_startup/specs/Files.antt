@@ -6,8 +6,8 @@ use Rattle.radio_addr.specs.declared.lines.AddressRange.{AddressRange}
 use Rattle.radio_addr.specs.Lists.{list_of}
 use Rattle.radio_creds.specs.UserList.{users_of}
 use Rattle.radio_settings.specs.Document.{reading_of}
-use Rattle.radio_settings.specs.Listen.{ProxiesTold}
-use Rattle.radio_settings.specs.Web.{answers_told}
+use Rattle.radio_settings.specs.Listen.{IsPathOfProxies}
+use Rattle.radio_settings.specs.Web.{answers_of_text}
 use Rattle.radio_settings_values.specs.declared.settings.AddressLists.{AddressLists}
 use Rattle.radio_settings_values.specs.declared.settings.MountSetting.{MountSetting}
 use Rattle.radio_settings_values.specs.declared.settings.Settings.{Settings}
@@ -56,12 +56,12 @@ AreProxiesAt holds (Some path) proxies = (file : List ℕ) × (ranges : List Add
 
 -- rule: Files of the settings
 abbrev pub AreProxiesOf : Holding → List ℕ → Option (List AddressRange) → Type 0
-AreProxiesOf holds bytes proxies = (path : Option (List ℕ)) × ProxiesTold bytes path × AreProxiesAt holds path proxies
+AreProxiesOf holds bytes proxies = (path : Option (List ℕ)) × IsPathOfProxies bytes path × AreProxiesAt holds path proxies
 
 -- the station has the settings that these bytes say, what they say of answers, and the lists of the files that they name
 -- rule: Settings check
 pub record IsStationOf (holds : Holding) (bytes : List ℕ) (station : Station) : Type 0 where
   pub settings : reading_of bytes ≡ Ok station.settings
-  pub answers : answers_told bytes ≡ Some station.answers
+  pub answers : answers_of_text bytes ≡ Some station.answers
   pub lists : AreListsOf holds station.settings station.lists
   pub proxies : AreProxiesOf holds bytes station.proxies

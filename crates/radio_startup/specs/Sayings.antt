@@ -6,7 +6,7 @@ use Rattle.radio_keys.specs.Keys.{word}
 use Rattle.radio_log.specs.declared.facts.Fact.{Fact}
 use Rattle.radio_log.specs.declared.facts.Fact.TheVariants.{Started}
 use Rattle.radio_log.specs.declared.moment.Moment.{Moment}
-use Rattle.radio_log.specs.Lines.{line}
+use Rattle.radio_log.specs.Lines.{note_line}
 use Rattle.radio_log.specs.Moments.{IsSecond}
 use Rattle.radio_review.specs.declared.meant.Meant.{Meant}
 use Rattle.radio_review.specs.declared.meant.Meant.TheVariants.{At, Key, Nothing}
@@ -30,13 +30,13 @@ hint_of (Key key) = (codes ": did you mean ", word key, codes "?")
 hint_of Nothing = ([], [], [])
 
 -- a line of the log has the fact, at the second that it names; of a moment beyond the year 9999 its last second
-abbrev pub TellsFact : Fact → Dated → Type 0
-TellsFact fact dated =
-    (moment : Moment) × IsSecond (min dated.seconds 253402300799) moment × (dated.line.items ≡ line (record { moment = moment; fact = fact }))
+abbrev pub HasFact : Fact → Dated → Type 0
+HasFact fact dated =
+    (moment : Moment) × IsSecond (min dated.seconds 253402300799) moment × (dated.line.items ≡ note_line (record { moment = moment; fact = fact }))
 
 -- the program of this version listens at this address
-abbrev pub started : List ℕ → List ℕ → Fact
-started version address = Started version address
+abbrev pub start_fact : List ℕ → List ℕ → Fact
+start_fact version address = Started version address
 
 -- a space before the name of a mount, if there is one
 abbrev pub space_before : List ℕ → List ℕ

@@ -14,7 +14,7 @@ use Rattle.radio_review.specs.declared.unknown.UnknownKey.{UnknownKey}
 use Rattle.radio_settings_values.specs.declared.settings.AccessSettings.{AccessSettings}
 use Rattle.radio_settings_values.specs.declared.settings.MountSetting.{MountSetting}
 use Rattle.radio_settings_values.specs.declared.settings.Settings.{Settings}
-use Rattle.radio_startup.specs.Doubts.{is_loopback, is_named, is_example, limited_listeners}
+use Rattle.radio_startup.specs.Doubts.{is_loopback, is_set_mount, is_example, limited_listeners}
 
 -- a warning of a key that the settings have
 abbrev pub warning : List ℕ → List ℕ → List ℕ → ℕ → Warning
@@ -84,7 +84,7 @@ weak_mount_password source mount =
 abbrev pub unnamed_fallback : Settings → List ℕ → Option (List ℕ) → Option Warning
 unnamed_fallback settings mount None = None
 unnamed_fallback settings mount (Some fallback) =
-    if is_named settings fallback then None else Some (warning (codes "unknown-fallback") (codes "fallback-mount") mount 0)
+    if is_set_mount settings fallback then None else Some (warning (codes "unknown-fallback") (codes "fallback-mount") mount 0)
 
 -- the fallback of a mount is named nowhere
 abbrev pub unknown_fallback : Settings → MountSetting → Option Warning

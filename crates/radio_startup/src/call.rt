@@ -1,7 +1,7 @@
 //! What the words of a command line ask for.
 
 ghost use Rattle.std.specs.Prelude.{◌≡◌, Some};
-ghost use Rattle.radio_startup.specs.Calls.{asked_alone, asked_by, asked_of, asked_with};
+ghost use Rattle.radio_startup.specs.Calls.{asked_alone, asked_of, asked_with_flag, command_line_of};
 
 /// What the program is to do.
 #[derive(Drop)]
@@ -29,7 +29,7 @@ pub fn call_by(
     flag: Option<String>,
     more: Option<String>,
 ) -> Option<CommandLine>
-    ensures { result ≡ asked_by verb path flag more }
+    ensures { result ≡ command_line_of verb path flag more }
 {
     match (verb, path, flag, more) {
         (Some(verb), None, None, None) => call_alone(verb.as_str()),
@@ -69,7 +69,7 @@ fn call_of(verb: &str, path: String) -> Option<CommandLine>
 
 /// What a word, a path and a flag ask for.
 fn call_with(verb: &str, path: String, flag: &str) -> Option<CommandLine>
-    ensures { result ≡ asked_with verb.now path flag.now }
+    ensures { result ≡ asked_with_flag verb.now path flag.now }
 {
     if verb == "check" && flag == "--strict" {
         return Some(CommandLine::Check {

@@ -1,7 +1,7 @@
 //! What of the settings is doubtful.
 ghost use Rattle.std.specs.Prelude.{◌≡◌, Some};
 ghost use Rattle.radio_addr.specs.Addresses.{peer_of};
-ghost use Rattle.radio_startup.specs.Doubts.{is_example, is_loopback, is_named, limit_of, limited_listeners};
+ghost use Rattle.radio_startup.specs.Doubts.{is_example, is_loopback, is_set_mount, limit_of, limited_listeners};
 
 use radio_addr::{Address, read_peer};
 use radio_settings_values::{MountSetting, Settings};
@@ -36,7 +36,7 @@ fn is_of_this_machine(address: Address) -> bool
 /// Whether the settings name a mount: in a table of its own, as what a relay feeds, or by a slave, which feeds whatever its
 /// master has.
 pub fn is_named(settings: &Settings, name: &MountName) -> bool
-    ensures { result ≡ is_named settings.now name.now }
+    ensures { result ≡ is_set_mount settings.now name.now }
 {
     settings.mounts.get(name).is_some()
         || settings.relays.get(name).is_some()

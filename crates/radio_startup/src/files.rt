@@ -3,8 +3,8 @@
 ghost use Rattle.std.specs.Prelude.{◌≡◌, ℕ, List, Ok, Some, IfOk, IfErr, codes};
 ghost use Rattle.std.specs.Str.{valid_up_to};
 ghost use Rattle.radio_settings.specs.Document.{reading_of};
-ghost use Rattle.radio_settings.specs.Listen.{ProxiesTold};
-ghost use Rattle.radio_settings.specs.Web.{answers_told};
+ghost use Rattle.radio_settings.specs.Listen.{IsPathOfProxies};
+ghost use Rattle.radio_settings.specs.Web.{answers_of_text};
 ghost use Rattle.radio_startup.specs.declared.fault.FileFault.TheVariants.{OutOfMemory as NoMemory};
 ghost use Rattle.radio_startup.specs.Files.{AreListsOf, AreProxiesOf, IsStationOf};
 ghost use Rattle.radio_startup.specs.Misreadings.{IsMisreadAt};
@@ -197,7 +197,7 @@ fn proxies_of<F: ReadsFiles>(files: &F, bytes: &[u8]) -> Result<Option<AddressLi
 
 /// The path of the list of proxies that these bytes name, where they are settings.
 fn proxies_path(alloc: Global, bytes: &[u8]) -> Result<Option<Text>, FileFault>
-    ensures { IfOk result (ProxiesTold bytes.now) }
+    ensures { IfOk result (IsPathOfProxies bytes.now) }
 {
     let Ok(text) = str::from_utf8(bytes) else {
         return Err(misread(alloc, bytes, 0, "not UTF-8"));
@@ -227,7 +227,7 @@ fn not_utf8(alloc: Global, bytes: &[u8], error: Utf8Error) -> FileFault
 
 /// What these bytes say of requests and answers, where they are settings.
 fn answers_of(alloc: Global, bytes: &[u8]) -> Result<AnswerSettings, FileFault>
-    ensures { IfOk result (λ answers. answers_told bytes.now ≡ Some answers) }
+    ensures { IfOk result (λ answers. answers_of_text bytes.now ≡ Some answers) }
 {
     let Ok(text) = str::from_utf8(bytes) else {
         return Err(misread(alloc, bytes, 0, "not UTF-8"));

@@ -5,7 +5,7 @@
 //! - [`call_by`]: what the words of a command line ask for.
 //! - [`FileFault`]: why such a file is not taken; its text is a line on standard error.
 //! - [`warnings_of`]: what an operator should know of the settings; `doubts` has what is warned of.
-//! - [`tell_start`], [`warn`]: lines of the log, for [`Notices`].
+//! - [`log_start`], [`warn`]: lines of the log, for [`Notices`].
 //! - [`VERSION`]: the version of the program. [`moment_now`]: the moment by its clock.
 //!
 //! All of it is generic over the runtime, so that no crate needs more of it than files, a clock or an allocator.
@@ -28,7 +28,7 @@ pub use fault::FileFault;
 pub use files::{SettingsText, Station, read_station, read_text};
 pub use limits::limit_named;
 pub use misreading::Misreading;
-pub use notices::{Dated, Notices, VERSION, line_now, moment_now, tell_start, warn, words_of};
+pub use notices::{Dated, Notices, VERSION, line_now, log_start, moment_now, warn, words_of};
 pub use reading::{ReadsFiles, SystemFiles};
 pub use unknown::words_of_unknown;
 pub use warnings::warnings_of;

@@ -2,7 +2,7 @@
 
 ghost use Rattle.std.specs.Prelude.{◌≡◌, ℕ, IfOk, IfSome, List, Option, Some, length};
 ghost use Rattle.std.specs.String.{string_bytes};
-ghost use Rattle.radio_startup.specs.Sayings.{TellsFact, started};
+ghost use Rattle.radio_startup.specs.Sayings.{HasFact, start_fact};
 ghost use Rattle.radio_startup.specs.Warnings.{warnings_of};
 
 use crate::OutOfMemory;
@@ -26,7 +26,7 @@ const LINE_OF_DESCRIPTORS: &str = "Max open files";
 /// Where the lines of the log go that the program itself writes.
 pub trait Notices {
     /// Adds the line of a fact to the log. If memory is refused, there is none.
-    fn tell(&self, fact: Fact<'_>);
+    fn add(&self, fact: Fact<'_>);
 }
 
 /// A line of the log and its moment.
@@ -40,7 +40,7 @@ pub struct Dated {
 
 /// Returns the line of a fact, of this moment; `None` if memory is refused.
 pub fn line_now<R: Clock + AllocGlobal>(rt: &R, fact: Fact<'_>) -> Option<Dated>
-    ensures { IfSome result (λ dated. TellsFact fact.entry dated) }
+    ensures { IfSome result (λ dated. HasFact fact.entry dated) }
 {
     let seconds = seconds_now(rt);
     let note = Note {
@@ -70,13 +70,13 @@ fn seconds_now<R: Clock>(rt: &R) -> u64 {
 }
 
 /// Logs that the program listens at this address.
-pub fn tell_start<N: Notices>(notices: &N, address: &str) {
-    notices.tell(started(VERSION, address));
+pub fn log_start<N: Notices>(notices: &N, address: &str) {
+    notices.add(started(VERSION, address));
 }
 
 /// The program of this version listens at this address.
 fn started<'a>(version: &'a str, address: &'a str) -> Fact<'a>
-    ensures { result ≡ started version.now address.now }
+    ensures { result ≡ start_fact version.now address.now }
 {
     Fact::Started {
         version: QuotedText::of(version.as_bytes()),
@@ -96,10 +96,10 @@ pub fn warn<R: Files + AllocGlobal, N: Notices>(
     ensures { IfOk result (λ count. (descriptors : Option ℕ) × (count ≡ length (warnings_of settings.now unknown.now descriptors))) }
 {
     let descriptors = limit_named(rt, LINE_OF_DESCRIPTORS);
-    let told = warnings_of(rt.alloc(), settings, unknown, descriptors)?;
-    let count = told.len();
-    for warning in told {
-        notices.tell(Fact::Warning(warning));
+    let warnings = warnings_of(rt.alloc(), settings, unknown, descriptors)?;
+    let count = warnings.len();
+    for warning in warnings {
+        notices.add(Fact::Warning(warning));
     }
     Ok(count)
 }

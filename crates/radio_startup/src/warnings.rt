@@ -28,21 +28,21 @@ pub fn warnings_of<'a>(
     unknown: &'a [UnknownKey],
     descriptors: Option<u64>,
 ) -> Result<Vec<Warning<'a>>, OutOfMemory>
-    ensures { IfOk result (λ told. told.items ≡ warnings_of settings.now unknown.now descriptors) }
+    ensures { IfOk result (λ warnings. warnings.items ≡ warnings_of settings.now unknown.now descriptors) }
 {
-    let mut told = Vec::new(alloc);
-    add_unknown(&mut told, unknown)?;
+    let mut warnings = Vec::new(alloc);
+    add_unknown(&mut warnings, unknown)?;
     add(
-        &mut told,
+        &mut warnings,
         few_descriptors(settings.limits.clients.get(), descriptors),
     )?;
     add(
-        &mut told,
+        &mut warnings,
         only_this_machine(settings.listen.address.as_str()),
     )?;
-    add_passwords(&mut told, settings)?;
-    add_streams(&mut told, settings)?;
-    Ok(told)
+    add_passwords(&mut warnings, settings)?;
+    add_streams(&mut warnings, settings)?;
+    Ok(warnings)
 }
 
 fn add<'a>(to: &mut Vec<Warning<'a>>, warning: Option<Warning<'a>>) -> Result<(), OutOfMemory>

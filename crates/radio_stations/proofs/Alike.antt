@@ -19,7 +19,7 @@ use Rattle.radio_session.specs.declared.session.LastWord.{LastWord}
 use Rattle.radio_session.specs.Asking.{asks_to_feed, asks_by_get}
 use Rattle.radio_session.specs.Conversation.{Conversation}
 use Rattle.radio_session.specs.Framing.{is_source, framing_of, start_of}
-use Rattle.radio_session.specs.Hearing.{Heard, HearsAs, IsHeard, body_closes, body_heard, delivered, get_heard, greeted, head_heard, nothing_held, refuses, source_heard}
+use Rattle.radio_session.specs.Hearing.{EventReading, HearsAs, IsHeard, body_closes, body_heard, get_heard, greeted, head_heard, nothing_held, refuses, source_heard, body_delivered}
 use Rattle.radio_session.specs.Pushes.{pushes}
 
 -- they have the same number, hold the same bytes, read on alike and have the same settings of answers
@@ -36,7 +36,7 @@ pub alike_then : (c d e : Conversation) → IsAlike c d → IsAlike d e → IsAl
 alike_then c d e a b = record { id = a.id ∙ b.id; held = a.held ∙ b.held; hears = a.hears ∙ b.hears; web = a.web ∙ b.web }
 
 -- the same events were heard, and the conversations go on alike
-pub record AreSo (k h : Heard) : Type 0 where
+pub record AreSo (k h : EventReading) : Type 0 where
   pub events : k.events ≡ h.events
   pub conversation : IsAlike k.conversation h.conversation
 
@@ -47,7 +47,7 @@ refuses_so c d a rule = record {
 }
 
 delivered_so : (c d : Conversation) → IsAlike c d → (one other : List Event) → one ≡ other → (place : Place) (word : Option LastWord)
-    → AreSo (delivered c one place word) (delivered d other place word)
+    → AreSo (body_delivered c one place word) (body_delivered d other place word)
 delivered_so c d a one other same place None = record {
   events = same;
   conversation = record { id = a.id; held = refl; hears = refl; web = a.web };
@@ -64,12 +64,12 @@ body_so c d a one other same place bytes =
     (ap (λ (n : ℕ). one ++ pushes n (data_of place bytes)) a.id ∙ ap (λ (xs : List Event). xs ++ pushes d.id (data_of place bytes)) same)
     (after place bytes) (body_closes (has_ended (after place bytes)) (fault_at (after place bytes)))
 
-so_as : (k l h i : Heard) → l ≡ k → i ≡ h → AreSo k h → AreSo l i
+so_as : (k l h i : EventReading) → l ≡ k → i ≡ h → AreSo k h → AreSo l i
 so_as k l h i same other so =
-    subst (λ (x : Heard). AreSo x i) (sym same) (subst (λ (x : Heard). AreSo k x) (sym other) so)
+    subst (λ (x : EventReading). AreSo x i) (sym same) (subst (λ (x : EventReading). AreSo k x) (sym other) so)
 
 -- a source's head, whose data come so
-framed_so : (c d : Conversation) → IsAlike c d → (request : RequestParts) (behind : List ℕ) {F : Type 0} (start_at : F → Place) (one other : Option F → Heard)
+framed_so : (c d : Conversation) → IsAlike c d → (request : RequestParts) (behind : List ℕ) {F : Type 0} (start_at : F → Place) (one other : Option F → EventReading)
     → one None ≡ refuses c BadHead → other None ≡ refuses d BadHead
     → ((f : F) → one (Some f) ≡ body_heard (greeted c request) (asks_to_feed c.id request ∷ []) (start_at f) behind)
     → ((f : F) → other (Some f) ≡ body_heard (greeted d request) (asks_to_feed d.id request ∷ []) (start_at f) behind)
@@ -109,12 +109,12 @@ reading_so c d a bytes (Ok (Whole request length)) =
 reading_so c d a bytes (Err fault) = refuses_so c d a BadHead
 
 -- what is heard in the one is heard in the other
-module _ (c d : Conversation) (a : IsAlike c d) (bytes : List ℕ) (h : Heard) where
+module _ (c d : Conversation) (a : IsAlike c d) (bytes : List ℕ) (h : EventReading) where
   abbrev HearsSo : Hears → Type 0
-  HearsSo v = (k : Heard) × HearsAs v c bytes k × AreSo k h
+  HearsSo v = (k : EventReading) × HearsAs v c bytes k × AreSo k h
 
-  as_heard : (k x : Heard) → AreSo k x → h ≡ x → AreSo k h
-  as_heard k x so e = subst (λ (y : Heard). AreSo k y) (sym e) so
+  as_heard : (k x : EventReading) → AreSo k x → h ≡ x → AreSo k h
+  as_heard k x so e = subst (λ (y : EventReading). AreSo k y) (sym e) so
 
   by_kind : (v : Hears) → HearsAs v d bytes h → HearsSo v
   by_kind Head (reading, r, e) = (
@@ -138,5 +138,5 @@ module _ (c d : Conversation) (a : IsAlike c d) (bytes : List ℕ) (h : Heard) w
     as_heard (record { events = []; conversation = c }) (record { events = []; conversation = d }) (record { events = refl; conversation = a }) e,
   )
 
-  pub hears_so : IsHeard d bytes h → (k : Heard) × IsHeard c bytes k × AreSo k h
+  pub hears_so : IsHeard d bytes h → (k : EventReading) × IsHeard c bytes k × AreSo k h
   hears_so is = by_kind c.hears (subst (λ (v : Hears). HearsAs v d bytes h) (sym a.hears) is)

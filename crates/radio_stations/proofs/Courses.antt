@@ -11,14 +11,14 @@ use Rattle.radio_events.specs.declared.state.State.{State}
 use Rattle.radio_events.specs.declared.state.State.TheVariants.{Running, Shut}
 use Rattle.radio_events.specs.Events.{entry}
 use Rattle.radio_heads.specs.Head.{ShowsRequest}
-use Rattle.radio_heads.specs.Laws.{IsSettled}
+use Rattle.radio_heads.specs.Laws.{IsStableReading}
 use Rattle.radio_session.specs.Conversation.{fresh}
-use Rattle.radio_session.specs.Cuts.{Atom, PiecesAreHeardAsOne, atoms, atoms_of, unheard}
-use Rattle.radio_session.specs.Hearing.{Heard, IsHeard}
+use Rattle.radio_session.specs.Cuts.{Atom, PiecesAreHeardAsOne, atoms, event_atoms, unheard}
+use Rattle.radio_session.specs.Hearing.{EventReading, IsHeard}
 use Rattle.radio_session.specs.Saying.{said}
 use Rattle.radio_connections.specs.declared.conn.Fate.{Fate}
 use Rattle.radio_connections.specs.declared.conn.Fate.TheVariants.{Open, Ended, Closed, Cut}
-use Rattle.radio_connections.specs.Course.{Arrival, LetsNobodyIn, Standing, Course, IsOver, IsQuiet, answered, fate_by, pending_by, newcomer}
+use Rattle.radio_connections.specs.Course.{Arrival, LetsNobodyIn, Standing, Course, IsOver, HasAllApplied, standing_after_reply, fate_by, pending_by, newcomer}
 use Rattle.radio_connections.specs.Course.{arrives, turned_away, hears, has_room, applies, closes, is_cut, passes_over, leaves}
 use Rattle.radio_connections.specs.Duties.{IsAtMostLeaving, IsWritten, events_of}
 use Rattle.radio_headline.proofs.AppliedLemmas.{said_web}
@@ -32,7 +32,7 @@ abbrev pub Waits : ℕ → List Event → List Atom → Type 0
 Waits id pending unapplied = (unapplied ≡ atoms pending) ⊎ ((unapplied ≡ []) × (room : ℕ) × (pending ≡ Draw id room ∷ []))
 
 -- how it stands as long as it goes on
-pub record Goes (id : ℕ) (s : Standing) (unread : List ℕ) (unapplied : List Atom) (left : List Entry) (heard : Heard) : Type 0 where
+pub record Goes (id : ℕ) (s : Standing) (unread : List ℕ) (unapplied : List Atom) (left : List Entry) (heard : EventReading) : Type 0 where
   pub all_read : unread ≡ []
   pub here : left ≡ []
   pub alike : IsAlike heard.conversation s.session
@@ -45,7 +45,7 @@ pub record Meant (arrival : Arrival) (id : ℕ) (s : Standing) : Type 0 where
   pub read : List ℕ
   pub unread : List ℕ
   pub gives : s.given ≡ read ++ unread
-  pub heard : Heard
+  pub heard : EventReading
   pub is_heard : IsHeardInOne (fresh arrival.web id arrival.peer) read heard
   pub made : List Entry
   pub left : List Entry
@@ -92,8 +92,8 @@ still_open : {fate : Fate} → fate ≡ Open → fate ≡ Closed → ⊥
 still_open goes over = let both : Open ≡ Closed = sym goes ∙ over in cc
 
 -- its line gives bytes
-module _ (settled : IsSettled ShowsRequest) (pieces : PiecesAreHeardAsOne) (arrival : Arrival) (id : ℕ) (s : Standing) (m : Meant arrival id s) (quiet : IsQuiet s) (bytes : List ℕ)
-    (heard : Heard) (is : IsHeard s.session bytes heard) where
+module _ (settled : IsStableReading ShowsRequest) (pieces : PiecesAreHeardAsOne) (arrival : Arrival) (id : ℕ) (s : Standing) (m : Meant arrival id s) (quiet : HasAllApplied s) (bytes : List ℕ)
+    (heard : EventReading) (is : IsHeard s.session bytes heard) where
   now : Goes id s m.unread m.unapplied m.left m.heard
   now = m.going quiet.0
 
@@ -126,7 +126,7 @@ module _ (settled : IsSettled ShowsRequest) (pieces : PiecesAreHeardAsOne) (arri
   }
 
 -- it has room
-has_room_on : (arrival : Arrival) (id : ℕ) (s : Standing) → Meant arrival id s → IsQuiet s → (room : ℕ) → Meant arrival id (record s { pending = Draw id room ∷ [] })
+has_room_on : (arrival : Arrival) (id : ℕ) (s : Standing) → Meant arrival id s → HasAllApplied s → (room : ℕ) → Meant arrival id (record s { pending = Draw id room ∷ [] })
 has_room_on arrival id s m quiet room =
     let now = m.going quiet.0 in
     record {
@@ -186,9 +186,9 @@ module _ (arrival : Arrival) (id : ℕ) (s : Standing) (m : Meant arrival id s) 
         (asked_then id event (events_of m.made) m.asked m.draws_among);
     is_front =
         m.is_front
-        ∙ ap (λ (xs : List Atom). atoms m.asked ++ xs) (e ∙ ap atoms some ∙ flat_map-append atoms_of (event ∷ []) later)
+        ∙ ap (λ (xs : List Atom). atoms m.asked ++ xs) (e ∙ ap atoms some ∙ flat_map-append event_atoms (event ∷ []) later)
         ∙ sym (append_assoc (atoms m.asked) (atoms (event ∷ [])) (atoms later))
-        ∙ ap (λ (xs : List Atom). xs ++ atoms later) (sym (flat_map-append atoms_of m.asked (event ∷ [])));
+        ∙ ap (λ (xs : List Atom). xs ++ atoms later) (sym (flat_map-append event_atoms m.asked (event ∷ [])));
     waits = refl;
   }
 
@@ -224,7 +224,7 @@ module _ (arrival : Arrival) (id : ℕ) (s : Standing) (m : Meant arrival id s) 
   shuts Running e over = absurd (cc)
   shuts (Shut ending) e over = record { before = m.made; last = one; in_order = refl; says = s.session.says; ending = ending; shut = e }
 
-  applies_on : Meant arrival id (answered s event later reply)
+  applies_on : Meant arrival id (standing_after_reply s event later reply)
   applies_on = record {
     others = m.others ++ one ∷ [];
     arrived = ap (λ (xs : List Entry). xs ++ one ∷ []) m.arrived;
@@ -329,7 +329,7 @@ closes_on arrival id s m Ended e w none = inr (m.ended e)
 closes_on arrival id s m Closed e w none = absurd w
 closes_on arrival id s m Cut e w none = absurd w
 
-module _ (settled : IsSettled ShowsRequest) (pieces : PiecesAreHeardAsOne) (arrival : Arrival) (id : ℕ) (let_in : arrival.reply ≡ Arrived id) where
+module _ (settled : IsStableReading ShowsRequest) (pieces : PiecesAreHeardAsOne) (arrival : Arrival) (id : ℕ) (let_in : arrival.reply ≡ Arrived id) where
   pub meant_so : (s : Standing) → Course arrival id s → Meant arrival id s
   meant_so s (arrives came) = comes arrival id
   meant_so s (turned_away nobody) = absurd (subst LetsNobodyIn let_in nobody)

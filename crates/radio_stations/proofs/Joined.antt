@@ -7,20 +7,20 @@ use Rattle.radio_heads.specs.declared.outcome.Progress.{Progress}
 use Rattle.radio_heads.specs.declared.outcome.Progress.TheVariants.{More, Whole}
 use Rattle.radio_heads.specs.declared.outcome.HeadFault.{HeadFault}
 use Rattle.radio_heads.specs.Head.{RequestParts, ShowsRequest}
-use Rattle.radio_heads.specs.Laws.{IsSettled}
+use Rattle.radio_heads.specs.Laws.{IsStableReading}
 use Rattle.radio_heads.specs.Reading.{IsReading}
 use Rattle.radio_session.specs.declared.session.Hears.{Hears}
 use Rattle.radio_session.specs.declared.session.Hears.TheVariants.{Head, Body, Nothing}
 use Rattle.radio_session.specs.Conversation.{Conversation}
-use Rattle.radio_session.specs.Cuts.{IsHeardIn, PiecesAreHeardAsOne, atoms, atoms_of, heard_then, unheard}
-use Rattle.radio_session.specs.Hearing.{Heard, HearsAs, IsHeard, body_heard, head_heard, nothing_held}
+use Rattle.radio_session.specs.Cuts.{IsHeardIn, PiecesAreHeardAsOne, atoms, event_atoms, heard_then, unheard}
+use Rattle.radio_session.specs.Hearing.{EventReading, HearsAs, IsHeard, body_heard, head_heard, nothing_held}
 use Rattle.radio_stations.specs.Meaning.{IsHeardInOne}
 use Rattle.radio_stations.proofs.Alike.{IsAlike, AreSo, alike_then, hears_so}
 
 -- both together are heard somehow
-module _ (settled : IsSettled ShowsRequest) (c : Conversation) (first more : List ℕ) (one : Heard) where
+module _ (settled : IsStableReading ShowsRequest) (c : Conversation) (first more : List ℕ) (one : EventReading) where
   abbrev WholeAs : Hears → Type 0
-  WholeAs v = (whole : Heard) × HearsAs v c (first ++ more) whole
+  WholeAs v = (whole : EventReading) × HearsAs v c (first ++ more) whole
 
   of_reading : (reading : Result (Progress RequestParts) HeadFault) → IsReading ShowsRequest ((c.held ++ first) ++ more) reading → WholeAs Head
   of_reading reading r = (
@@ -29,33 +29,33 @@ module _ (settled : IsSettled ShowsRequest) (c : Conversation) (first more : Lis
   )
 
   -- the head goes on
-  goes_on : (next : Heard) → c.hears ≡ Head → HearsAs c.hears (record c { held = c.held ++ first }) more next → WholeAs Head
+  goes_on : (next : EventReading) → c.hears ≡ Head → HearsAs c.hears (record c { held = c.held ++ first }) more next → WholeAs Head
   goes_on next head is = let r = subst (λ (v : Hears). HearsAs v (record c { held = c.held ++ first }) more next) head is in of_reading r.0 r.1
 
-  by_reading : (next : Heard) → c.hears ≡ Head → IsHeard one.conversation more next → (reading : Result (Progress RequestParts) HeadFault)
+  by_reading : (next : EventReading) → c.hears ≡ Head → IsHeard one.conversation more next → (reading : Result (Progress RequestParts) HeadFault)
       → IsReading ShowsRequest (c.held ++ first) reading → one ≡ head_heard c (c.held ++ first) reading → WholeAs Head
   by_reading next head is (Ok More) r e =
-      goes_on next head (subst (λ (x : Heard). IsHeard x.conversation more next) e is)
+      goes_on next head (subst (λ (x : EventReading). IsHeard x.conversation more next) e is)
   by_reading next head is (Ok (Whole request length)) r e = of_reading (Ok (Whole request length)) (settled (c.held ++ first) more (Ok (Whole request length)) r (λ same. cc))
   by_reading next head is (Err fault) r e = of_reading (Err fault) (settled (c.held ++ first) more (Err fault) r (λ same. cc))
 
-  by_kind : (next : Heard) → IsHeard one.conversation more next → (v : Hears) → c.hears ≡ v → HearsAs v c first one → WholeAs v
+  by_kind : (next : EventReading) → IsHeard one.conversation more next → (v : Hears) → c.hears ≡ v → HearsAs v c first one → WholeAs v
   by_kind next is Head head (reading, r, e) = by_reading next head is reading r e
   by_kind next is (Body body) head e = (body_heard (nothing_held c) [] body.place (first ++ more), refl)
   by_kind next is Nothing head e = (record { events = []; conversation = c }, refl)
 
-  whole_of : (next : Heard) → IsHeard c first one → IsHeard one.conversation more next → WholeAs c.hears
+  whole_of : (next : EventReading) → IsHeard c first one → IsHeard one.conversation more next → WholeAs c.hears
   whole_of next was is = by_kind next is c.hears refl was
 
 -- and it is what is heard of the one, and then of the other in a conversation that hears as the first goes on
-pub record IsTogether (c : Conversation) (bytes : List ℕ) (one next : Heard) : Type 0 where
-  pub whole : Heard
+pub record IsTogether (c : Conversation) (bytes : List ℕ) (one next : EventReading) : Type 0 where
+  pub whole : EventReading
   pub is_heard : IsHeardInOne c bytes whole
   pub events : atoms whole.events ≡ atoms one.events ++ atoms next.events
   pub conversation : IsAlike whole.conversation next.conversation
 
-module _ (settled : IsSettled ShowsRequest) (pieces : PiecesAreHeardAsOne) (c : Conversation) (first more : List ℕ) (one : Heard) (next : Heard) where
-  behind : IsHeard c first one → (then_heard : Heard) → IsHeard one.conversation more then_heard → AreSo then_heard next → IsTogether c (first ++ more) one next
+module _ (settled : IsStableReading ShowsRequest) (pieces : PiecesAreHeardAsOne) (c : Conversation) (first more : List ℕ) (one : EventReading) (next : EventReading) where
+  behind : IsHeard c first one → (then_heard : EventReading) → IsHeard one.conversation more then_heard → AreSo then_heard next → IsTogether c (first ++ more) one next
   behind was then_heard is same =
       let whole = whole_of settled c first more one then_heard was is in
       let cut = heard_then one (heard_then then_heard (unheard then_heard.conversation)) in
@@ -68,7 +68,7 @@ module _ (settled : IsSettled ShowsRequest) (pieces : PiecesAreHeardAsOne) (c : 
         is_heard = inr whole.1;
         events =
             sym agree.events
-            ∙ flat_map-append atoms_of one.events (then_heard.events ++ [])
+            ∙ flat_map-append event_atoms one.events (then_heard.events ++ [])
             ∙ ap (λ (es : List Event). atoms one.events ++ atoms es) (append-nil then_heard.events ∙ same.events);
         conversation =
             alike_then whole.0.conversation then_heard.conversation next.conversation
@@ -81,13 +81,13 @@ module _ (settled : IsSettled ShowsRequest) (pieces : PiecesAreHeardAsOne) (c : 
       }
 
   -- nothing was heard before
-  begins : (then_heard : Heard) → IsHeard one.conversation more then_heard → AreSo then_heard next → (first ≡ []) × (one ≡ unheard c)
+  begins : (then_heard : EventReading) → IsHeard one.conversation more then_heard → AreSo then_heard next → (first ≡ []) × (one ≡ unheard c)
       → IsTogether c (first ++ more) one next
   begins then_heard is same none = record {
     whole = then_heard;
     is_heard = inr (subst (λ (bytes : List ℕ). IsHeard c bytes then_heard) (ap (λ (xs : List ℕ). xs ++ more) (sym none.0))
-        (subst (λ (x : Heard). IsHeard x.conversation more then_heard) none.1 is));
-    events = ap atoms same.events ∙ ap (λ (x : Heard). atoms x.events ++ atoms next.events) (sym none.1);
+        (subst (λ (x : EventReading). IsHeard x.conversation more then_heard) none.1 is));
+    events = ap atoms same.events ∙ ap (λ (x : EventReading). atoms x.events ++ atoms next.events) (sym none.1);
     conversation = same.conversation;
   }
 

@@ -11,10 +11,10 @@ use Rattle.radio_events.specs.Servers.{Chain, Steps}
 use Rattle.radio_connections.proofs.DeedChains.{chain_one, chain_then}
 use Rattle.radio_masters.specs.declared.mount_pull.PullTurn.{PullTurn}
 use Rattle.radio_masters.specs.declared.mount_pull.PullTurn.TheVariants.{Running as GoesOn, Shut as IsShut, Closed, Failed, OutOfMemory}
-use Rattle.radio_masters.specs.Pulls.{Comes, Hears, IsTurn, PullOver}
-use Rattle.radio_pull.specs.Applied.{AreAtMostOfTurn, AreOfTurn, IsGoingDown, PullCourse, PullSoFar, begins, goes_down, has_turn, is_refused, is_shut, number_after}
-use Rattle.radio_pull.specs.Course.{GoesDown}
-use Rattle.radio_pull.specs.Pulling.{Pulling, begun}
+use Rattle.radio_masters.specs.Pulls.{Comes, AppliesAll, IsPullTurn, PullOver}
+use Rattle.radio_relay.specs.Applied.{AreAtMostOfTurn, AreOfTurn, IsGoingDown, PullCourse, PullSoFar, begins, goes_down, has_turn, is_refused, number_after}
+use Rattle.radio_relay.specs.Course.{GoesDown}
+use Rattle.radio_relay.specs.Pulling.{Pulling, is_shut, pulling_begun}
 use Rattle.radio_pullers.specs.Threads.{HasGoneOn, IsLetDown, IsNewPull, no_turn, one_turn}
 use Rattle.radio_settings_values.specs.declared.settings.RelaySetting.{RelaySetting}
 use Rattle.radio_stations.specs.Relays.{HasItsCourse, PullsMeanTheirBytes}
@@ -51,15 +51,15 @@ module _ {S : Type 0} (steps : Steps S) (mount : List ℕ) (from : S) where
 
   -- a turn that brought these bytes
   turn_then : (state : State) (bytes : List ℕ) (mid over : PullOver) (between to : S) → IsSoFar false mid between
-      → Hears steps mid.relay bytes between over.relay state to → over.given ≡ mid.given ++ bytes → IsSoFar (is_shut state) over to
-  turn_then state bytes mid over between to p hears given = record {
-    pull = record { given = p.pull.given ++ bytes; entries = p.pull.entries ++ hears.entries; pulling = over.relay; is_over = is_shut state };
-    course = has_turn p.pull p.course p.ends bytes hears.entries over.relay state
-        (subst (λ (pulling : Pulling). AreOfTurn pulling bytes hears.entries over.relay state) (sym p.same) hears.are);
+      → AppliesAll steps mid.relay bytes between over.relay state to → over.given ≡ mid.given ++ bytes → IsSoFar (is_shut state) over to
+  turn_then state bytes mid over between to p applies given = record {
+    pull = record { given = p.pull.given ++ bytes; entries = p.pull.entries ++ applies.entries; pulling = over.relay; is_over = is_shut state };
+    course = has_turn p.pull p.course p.ends bytes applies.entries over.relay state
+        (subst (λ (pulling : Pulling). AreOfTurn pulling bytes applies.entries over.relay state) (sym p.same) applies.are);
     same_given = ap (λ (xs : List ℕ). xs ++ bytes) p.same_given ∙ sym given;
     same = refl;
     ends = refl;
-    chain = chain_then steps from between to p.pull.entries hears.entries p.chain hears.chain;
+    chain = chain_then steps from between to p.pull.entries applies.entries p.chain applies.chain;
   }
 
   -- the line was over, and nothing came
@@ -94,7 +94,7 @@ module _ {S : Type 0} (steps : Steps S) (mount : List ℕ) (from : S) where
   }
 
   turns_end : (mid last : PullOver) (between to : S) → IsSoFar false mid between
-      → ((last ≡ mid) × (to ≡ between)) ⊎ ((turn : PullTurn) × IsTurn steps mid between turn last to) → HasEnded last to
+      → ((last ≡ mid) × (to ≡ between)) ⊎ ((turn : PullTurn) × IsPullTurn steps mid between turn last to) → HasEnded last to
   turns_end mid last between to p (inl (same, stays)) =
       subst (λ (over : PullOver). HasEnded over to) (sym same) (subst (λ (s : S). HasEnded mid s) (sym stays) (ended_by false mid between p))
   turns_end mid last between to p (inr (turn, is)) = last_turn turn is.bytes mid last between to p is.comes is.given
@@ -133,7 +133,7 @@ module _ {S : Type 0} (steps : Steps S) (mount : List ℕ) (from : S) where
 module _ {S : Type 0} (steps : Steps S) (relay : RelaySetting) (from : S) where
   new_pull : (first : PullOver) → IsNewPull relay first → IsSoFar steps relay.local_mount from false first from
   new_pull first new = record {
-    pull = record { given = []; entries = []; pulling = begun relay.local_mount; is_over = false };
+    pull = record { given = []; entries = []; pulling = pulling_begun relay.local_mount; is_over = false };
     course = begins;
     same_given = sym new.given;
     same = sym new.is_begun;

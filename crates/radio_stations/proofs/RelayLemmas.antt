@@ -8,8 +8,8 @@ use Rattle.radio_events.specs.declared.reply.Reply.{Reply}
 use Rattle.radio_events.specs.declared.reply.Reply.TheVariants.{Arrived, Feeding as SaysFeeding, Seated, Drawn, Noted, Text, Deny, Finished, Stray}
 use Rattle.radio_events.specs.Servers.{Chain, Steps}
 use Rattle.radio_pullers.specs.Threads.{HasPulled, no_pull, one_pull}
-use Rattle.radio_serving.specs.Kinds.{FeedsAfter, kind_of}
-use Rattle.radio_serving.specs.Sources.{Feeding, with_source, without_source}
+use Rattle.radio_serving.specs.Kinds.{FeedsAfter, event_kind}
+use Rattle.radio_serving.specs.Sources.{FeedingClients, with_source, without_source}
 use Rattle.radio_serving.specs.Watching.{WatchedOf, WatchedSteps, watched_of}
 use Rattle.radio_settings_values.specs.declared.settings.RelaySetting.{RelaySetting}
 use Rattle.radio_stations.specs.Work.{enrolled, made_on, nobody_came, nothing_yet, pulled, pulled_in}
@@ -17,7 +17,7 @@ use Rattle.radio_stations.proofs.PullLemmas.{pulls_mean}
 use Rattle.radio_stations.proofs.ShiftLemmas.{SlotMade, labels_then, no_labels}
 
 -- who feeds a mount then, whatever the event and its reply
-feeds_then : (event : Event) (reply : Reply) (feeding : Feeding) → (after : Feeding) × FeedsAfter (kind_of event) reply feeding after
+feeds_then : (event : Event) (reply : Reply) (feeding : FeedingClients) → (after : FeedingClients) × FeedsAfter (event_kind event) reply feeding after
 feeds_then (Arrive peer) reply feeding = (feeding, refl)
 feeds_then (Source request) (Arrived client) feeding = (feeding, refl)
 feeds_then (Source request) SaysFeeding feeding = (with_source request.id feeding, inl refl)

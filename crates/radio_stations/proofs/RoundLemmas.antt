@@ -9,7 +9,7 @@ use Rattle.radio_events.specs.Events.{entry}
 use Rattle.radio_events.specs.Servers.{Steps}
 use Rattle.radio_connections.specs.Connections.{Connection, stays}
 use Rattle.radio_serving.specs.declared.turn.Turn.{Turn}
-use Rattle.radio_serving.specs.Turns.{IsTurn, ServesEach, TicksUnless, is_known}
+use Rattle.radio_serving.specs.Turns.{IsTurn, ServesEach, TicksUnless, is_time_known}
 use Rattle.radio_serving.specs.Workers.{WorkerOf}
 use Rattle.radio_stations.specs.Work.{HasWorked, Made, Roll, here, made_on, moment, enrolled, served, told, took_in}
 use Rattle.radio_stations.specs.Rounds.{AdmissionsAreWork, AreHeld, Held, IsOther, TurnsAreWork, connections, held_at}
@@ -82,7 +82,7 @@ module _ {S : Type 0} (steps : Steps S) (web : WebAnswers) (refuses : S → Even
       → HasWorked steps web first made w.server roll → AreHeld held roll → IsTurn steps refuses at w (connections held) after conns
       → HasServed made after.server roll held conns
   serves_turn w after made roll held at conns was are turn =
-      let clock = tells_unless (is_known at.ms at.told_ms w.told_ms) at.ms w turn.mid made roll was turn.ticks in
+      let clock = tells_unless (is_time_known at.ms at.clock_ms w.clock_ms) at.ms w turn.mid made roll was turn.ticks in
       let done = serves at.ms turn.mid.patience_ms at.news held (made ++ clock.more) turn.mid.server after.server roll turn.served clock.worked are turn.serves in
       record {
         more = clock.more ++ done.more;

@@ -6,11 +6,11 @@ use Rattle.radio_answers.specs.declared.web_answers.WebAnswers.{WebAnswers}
 use Rattle.radio_parts_station.specs.World.{World}
 use Rattle.radio_book.specs.Receipts.{ReceiptOf}
 use Rattle.radio_locks.specs.Callers.{IsCalled, MayBeRefused}
-use Rattle.radio_settling.specs.Settling.{IsSettled}
+use Rattle.radio_hall.specs.Settling.{IsSettled}
 use Rattle.radio_workers.specs.Working.{IsWorkOf}
 use Rattle.radio_stations.specs.Running.{RelayAtHall, RunningStationsHearSlices, relay_passes, slot_passes}
 use Rattle.radio_stations.specs.Settled.{HaveOwnLabels, SettledStationsHearSlices, WorkAtHall, joint_roll, passes_of}
-use Rattle.radio_stations.specs.Stations.{AreApart, either_has}
+use Rattle.radio_stations.specs.Stations.{AreDisjoint, either_has}
 use Rattle.radio_stations.specs.Work.{Roll, UnderLabel, unknown}
 use Rattle.radio_stations.proofs.RelayLemmas.{relay_made}
 use Rattle.radio_stations.proofs.SettledLemmas.{both_then}
@@ -20,7 +20,7 @@ neither_has : (one other : UnderLabel) → one ≡ unknown → other ≡ unknown
 neither_has one other first second = ap (λ (place : UnderLabel). either_has place other) first ∙ second
 
 -- labels below a number, and from it on
-apart_at : (next : ℕ) (one other : Roll) → ((label : ℕ) → next ≤ label → one label ≡ unknown) → ((label : ℕ) → label < next → other label ≡ unknown) → AreApart one other
+apart_at : (next : ℕ) (one other : Roll) → ((label : ℕ) → next ≤ label → one label ≡ unknown) → ((label : ℕ) → label < next → other label ≡ unknown) → AreDisjoint one other
 apart_at next one other above below label = by_test (nat_lt label next) refl where
   by_test : (b : Bool) → nat_lt label next ≡ b → (one label ≡ unknown) ⊎ (other label ≡ unknown)
   by_test true e = let low : label < next = grind (arith, nat_tests, e) in inr (below label low)

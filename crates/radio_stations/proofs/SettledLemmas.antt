@@ -5,16 +5,16 @@ use Rattle.radio_events.specs.declared.entry.Entry.{Entry}
 use Rattle.radio_parts_station.specs.World.{World, opening}
 use Rattle.radio_book.specs.Receipts.{ReceiptOf}
 use Rattle.radio_chronicle.specs.History.{IsRun}
-use Rattle.radio_settling.specs.Woven.{AreWoven, IsWoven, SettledHistoriesAreWoven, entries_of, nothing_left, takes_one, takes_other}
+use Rattle.radio_hall.specs.Woven.{AreWoven, IsInterleaved, SettledHistoriesAreWoven, entries_of, nothing_left, takes_one, takes_other}
 use Rattle.radio_stations.specs.Settled.{HaveOwnLabels, SettledStationsHearSlices, WorkAtHall, all_made, joint_roll, passes_of}
 use Rattle.radio_stations.specs.Stations.{StationsAddUp, StationsHearSlices}
-use Rattle.radio_stations.specs.Work.{IsOfConnections, Made, PassesAreOfTheirWork, entries_in, nobody_came}
+use Rattle.radio_stations.specs.Work.{IsOfConnections, Made, PassesAreOfTheirWork, made_entries, nobody_came}
 
 -- entries that are woven of those of lists, as a list that is woven of these
 record IsWovenOf (one other : List Made) (history : List Entry) : Type 0 where
   pub made : List Made
-  pub woven : IsWoven one other made
-  pub same : entries_in made ≡ history
+  pub woven : IsInterleaved one other made
+  pub same : made_entries made ≡ history
 
 same_first : (x y : Entry) (xs ys : List Entry) → x ∷ xs ≡ y ∷ ys → x ≡ y
 same_first x y xs ys e = cc
@@ -25,30 +25,30 @@ same_others x y xs ys e = cc
 pub both_then : {A : Type 0} (x y : A) (xs ys : List A) → x ≡ y → xs ≡ ys → x ∷ xs ≡ y ∷ ys
 both_then {A} x y xs ys first others = ap (λ (z : A). z ∷ xs) first ∙ ap (λ (zs : List A). y ∷ zs) others
 
-lifted : (es fs history : List Entry) → IsWoven es fs history → (one other : List Made) → entries_in one ≡ es → entries_in other ≡ fs → IsWovenOf one other history
+lifted : (es fs history : List Entry) → IsInterleaved es fs history → (one other : List Made) → made_entries one ≡ es → made_entries other ≡ fs → IsWovenOf one other history
 lifted es fs history nothing_left [] [] first second = record { made = []; woven = nothing_left; same = refl }
 lifted es fs history nothing_left (m ∷ one) other first second = absurd (cc)
 lifted es fs history nothing_left [] (m ∷ other) first second = absurd (cc)
 lifted es fs history (takes_one before behind all item w) [] other first second = absurd (cc)
 lifted es fs history (takes_one before behind all item w) (m ∷ one) other first second =
-    let rest = lifted before behind all w one other (same_others m.done item (entries_in one) before first) second in
+    let rest = lifted before behind all w one other (same_others m.done item (made_entries one) before first) second in
     record {
       made = m ∷ rest.made;
       woven = takes_one one other rest.made m rest.woven;
-      same = both_then m.done item (entries_in rest.made) all (same_first m.done item (entries_in one) before first) rest.same;
+      same = both_then m.done item (made_entries rest.made) all (same_first m.done item (made_entries one) before first) rest.same;
     }
 lifted es fs history (takes_other before behind all item w) one [] first second = absurd (cc)
 lifted es fs history (takes_other before behind all item w) one (m ∷ other) first second =
-    let rest = lifted before behind all w one other first (same_others m.done item (entries_in other) behind second) in
+    let rest = lifted before behind all w one other first (same_others m.done item (made_entries other) behind second) in
     record {
       made = m ∷ rest.made;
       woven = takes_other one other rest.made m rest.woven;
-      same = both_then m.done item (entries_in rest.made) all (same_first m.done item (entries_in other) behind second) rest.same;
+      same = both_then m.done item (made_entries rest.made) all (same_first m.done item (made_entries other) behind second) rest.same;
     }
 
 module _ {start : World} {web : WebAnswers} (passes : PassesAreOfTheirWork) where
   -- a worker's pass has the receipts of what it made
-  made_of : (worker : WorkAtHall start web) → entries_in worker.made ≡ entries_of worker.last.server
+  made_of : (worker : WorkAtHall start web) → made_entries worker.made ≡ entries_of worker.last.server
   made_of worker =
       let gained = passes start web worker.first worker.last worker.made worker.roll worker.worked in
       sym (ap entries_of (gained.1 ∙ ap (λ (rs : List ReceiptOf). rs ++ gained.0) worker.empty) ∙ gained.2)
@@ -56,7 +56,7 @@ module _ {start : World} {web : WebAnswers} (passes : PassesAreOfTheirWork) wher
   -- what the workers made, woven as their entries are
   record AllMade (workers : List (WorkAtHall start web)) (history : List Entry) : Type 0 where
     pub made : List Made
-    pub same : entries_in made ≡ history
+    pub same : made_entries made ≡ history
     pub woven : AreWoven (all_made workers) made
 
   all_lifted : (workers : List (WorkAtHall start web)) (history : List Entry) → AreWoven (map entries_of (passes_of workers)) history → AllMade workers history

@@ -10,7 +10,7 @@ use Rattle.radio_events.specs.Servers.{Steps}
 use Rattle.radio_connections.specs.Connections.{Connection, lingers, without_first}
 use Rattle.radio_serving.specs.declared.turn.Turn.{Turn}
 use Rattle.radio_serving.specs.Admission.{IsAdmission, IsTurnedOff}
-use Rattle.radio_serving.specs.Turns.{IsTurn, TicksUnless, is_known}
+use Rattle.radio_serving.specs.Turns.{IsTurn, TicksUnless, is_time_known}
 use Rattle.radio_serving.specs.Watching.{WatchedOf, WatchedSteps}
 use Rattle.radio_serving.specs.Workers.{WorkerOf}
 use Rattle.radio_workers.specs.Leaving.{LeavesAll, LeavesUnless}
@@ -172,7 +172,7 @@ module _ {S : Type 0} (steps : Steps S) (refuses : S → Event → Type 0) (web 
 
   turn_keeps : (at : Turn) (w after : WorkerOf (WatchedOf S)) (conns conns' : List Connection)
       → IsTurn (WatchedSteps steps) (MayRefuse steps refuses) at w conns after conns' → after.web ≡ w.web
-  turn_keeps at w after conns conns' turn = turn.same.2 ∙ ticks_keep (is_known at.ms at.told_ms w.told_ms) at.ms w turn.mid turn.ticks
+  turn_keeps at w after conns conns' turn = turn.same.2 ∙ ticks_keep (is_time_known at.ms at.clock_ms w.clock_ms) at.ms w turn.mid turn.ticks
 
   made_turn : (at later : Turn) (worker between after : WorkerOf (WatchedOf S)) (sources conns sources' conns' : List Connection)
       → ShiftMade (shift_of worker sources conns) → IsTurn (WatchedSteps steps) (MayRefuse steps refuses) at worker sources between sources'

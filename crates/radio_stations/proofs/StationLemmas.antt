@@ -9,7 +9,7 @@ use Rattle.radio_events.specs.declared.event.Event.TheVariants.{Arrive, Leave}
 use Rattle.radio_events.specs.declared.reply.Reply.{Reply}
 use Rattle.radio_events.specs.declared.reply.Reply.TheVariants.{Arrived, Feeding, Seated, Drawn, Noted, Text, Deny, Finished, Stray}
 use Rattle.radio_events.specs.Events.{entry}
-use Rattle.radio_core.specs.Handing.{is_number}
+use Rattle.radio_core.specs.Handing.{is_same_number}
 use Rattle.radio_parts.specs.Step.{reply_to, world_after}
 use Rattle.radio_parts_station.specs.World.{World, opening}
 use Rattle.radio_chronicle.specs.History.{IsRun}
@@ -20,21 +20,21 @@ use Rattle.radio_connections.specs.Course.{LetsNobodyIn}
 use Rattle.radio_connections.specs.Serving.{IsHanded}
 use Rattle.radio_headline.specs.Course.{log_on}
 use Rattle.radio_headline.specs.Served.{HasCourse, HasHappened, HasLabelOrMoment, NothingWas, ServedCoursesHearSlices, WasLetGo, WasPulled, WasServed, WasTurnedAway}
-use Rattle.radio_settling.specs.Woven.{IsWoven, nothing_left, takes_one, takes_other}
+use Rattle.radio_hall.specs.Woven.{IsInterleaved, nothing_left, takes_one, takes_other}
 use Rattle.radio_stations.specs.Stations.{IsHandedTo, StationsAddUp, StationsHearSlices, both_rolls, course_of, either_has, given_by}
-use Rattle.radio_stations.specs.Turns.{IsServedThrough, IsOnlyAnswered}
+use Rattle.radio_stations.specs.Turns.{IsServedThrough, IsNotLetIn}
 use Rattle.radio_stations.specs.Work.{IsOfItsConnection, IsServedBy, IsUnder, Made, UnderLabel}
-use Rattle.radio_stations.specs.Work.{closed, entries_in, entries_on, entry_on, gone, happening, here, pulled, unknown}
+use Rattle.radio_stations.specs.Work.{closed, made_entries, entries_on, made_entry_on, gone, happening, here, pulled, unknown}
 
 -- the replies of a run are those that its entries note
 same_entry : (w : World) (e : Entry) → e.reply ≡ reply_to w e.event → entry e.event (reply_to w e.event) ≡ e
 same_entry w e same = ap (λ (r : Reply). entry e.event r) (sym same)
 
-logged_so : (w : World) (made : List Made) (label : ℕ) → IsRun w (entries_in made) → log_on w (course_of made) label ≡ entries_on label made
+logged_so : (w : World) (made : List Made) (label : ℕ) → IsRun w (made_entries made) → log_on w (course_of made) label ≡ entries_on label made
 logged_so w [] label run = refl
 logged_so w (m ∷ made) label run =
-    ap (λ (e : Entry). (if is_number label m.label then e ∷ [] else []) ++ log_on (world_after w m.done.event) (course_of made) label) (same_entry w m.done run.0)
-    ∙ ap (λ (xs : List Entry). entry_on label m ++ xs) (logged_so (world_after w m.done.event) made label run.1)
+    ap (λ (e : Entry). (if is_same_number label m.label then e ∷ [] else []) ++ log_on (world_after w m.done.event) (course_of made) label) (same_entry w m.done run.0)
+    ∙ ap (λ (xs : List Entry). made_entry_on label m ++ xs) (logged_so (world_after w m.done.event) made label run.1)
 
 moments_so : (made : List Made) → AllByRecursion (λ m. HasLabelOrMoment (happening m)) made → AllByRecursion HasLabelOrMoment (course_of made)
 moments_so [] told = tt
@@ -68,7 +68,7 @@ module _ (web : WebAnswers) (peer : Peer) (c : Connection) (applied : List Entry
         let_go = λ here reply. WasLetGo c.id (entry (Arrive peer) (Arrived id) ∷ applied) reply course refl;
       }
 
-  of_stranger : (reply : Reply) → LetsNobodyIn reply → IsOnlyAnswered web reply c applied → IsKnownOf web c (entry (Arrive peer) reply ∷ applied)
+  of_stranger : (reply : Reply) → LetsNobodyIn reply → IsNotLetIn web reply c applied → IsKnownOf web c (entry (Arrive peer) reply ∷ applied)
   of_stranger reply nobody t = record {
     text = (said (asking web) reply).bytes;
     handed = t.handed;
@@ -129,21 +129,21 @@ both_none : (xs ys : List Entry) → xs ++ ys ≡ [] → (xs ≡ []) × (ys ≡ 
 both_none [] ys e = (refl, e)
 both_none (x ∷ xs) ys e = absurd (cc)
 
-woven_other : (one other made : List Made) → IsWoven one other made → IsWoven other one made
+woven_other : (one other made : List Made) → IsInterleaved one other made → IsInterleaved other one made
 woven_other one other made nothing_left = nothing_left
 woven_other one other made (takes_one before behind rest m w) = takes_other behind before rest m (woven_other before behind rest w)
 woven_other one other made (takes_other before behind rest m w) = takes_one behind before rest m (woven_other before behind rest w)
 
 -- where the other made nothing under the label
-on_woven : (label : ℕ) (one other made : List Made) → IsWoven one other made → entries_on label other ≡ [] → entries_on label made ≡ entries_on label one
+on_woven : (label : ℕ) (one other made : List Made) → IsInterleaved one other made → entries_on label other ≡ [] → entries_on label made ≡ entries_on label one
 on_woven label one other made nothing_left none = refl
 on_woven label one other made (takes_one before behind rest m w) none =
-    ap (λ (es : List Entry). entry_on label m ++ es) (on_woven label before behind rest w none)
+    ap (λ (es : List Entry). made_entry_on label m ++ es) (on_woven label before behind rest w none)
 on_woven label one other made (takes_other before behind rest m w) none =
-    let both = both_none (entry_on label m) (entries_on label behind) none in
+    let both = both_none (made_entry_on label m) (entries_on label behind) none in
     ap (λ (es : List Entry). es ++ entries_on label rest) both.0 ∙ on_woven label before behind rest w both.1
 
-moments_woven : (one other made : List Made) → IsWoven one other made → AllByRecursion (λ m. HasLabelOrMoment (happening m)) one
+moments_woven : (one other made : List Made) → IsInterleaved one other made → AllByRecursion (λ m. HasLabelOrMoment (happening m)) one
     → AllByRecursion (λ m. HasLabelOrMoment (happening m)) other → AllByRecursion (λ m. HasLabelOrMoment (happening m)) made
 moments_woven one other made nothing_left h k = tt
 moments_woven one other made (takes_one before behind rest m w) h k = (h.0, moments_woven before behind rest w h.1 k)

@@ -10,7 +10,7 @@ use Rattle.radio_events.specs.declared.reply.Reply.TheVariants.{Arrived}
 use Rattle.radio_events.specs.Events.{entry}
 use Rattle.radio_events.specs.Servers.{Steps}
 use Rattle.radio_heads.specs.Head.{ShowsRequest}
-use Rattle.radio_heads.specs.Laws.{IsSettled}
+use Rattle.radio_heads.specs.Laws.{IsStableReading}
 use Rattle.radio_session.specs.Cuts.{PiecesAreHeardAsOne}
 use Rattle.radio_connections.specs.declared.conn.Fate.{Fate}
 use Rattle.radio_connections.specs.Connections.{Connection}
@@ -18,7 +18,7 @@ use Rattle.radio_connections.specs.Course.{Arrival, LetsNobodyIn}
 use Rattle.radio_connections.specs.Admission.{first_entries}
 use Rattle.radio_connections.specs.Serving.{IsHanded, Stands}
 use Rattle.radio_stations.specs.Meaning.{MeansItsBytes}
-use Rattle.radio_stations.specs.Turns.{AreTurnsOf, ConnectionTurn, ConnectionsMeanTheirBytes, IsServedThrough, IsOnlyAnswered, StrangersAreOnlyAnswered, applied_in}
+use Rattle.radio_stations.specs.Turns.{AreTurnsOf, ConnectionTurn, ConnectionsMeanTheirBytes, IsServedThrough, IsNotLetIn, StrangersAreOnlyAnswered, applied_in}
 use Rattle.radio_stations.proofs.Courses.{meant_all, meant_so}
 use Rattle.radio_stations.proofs.Strangers.{let_in_so, nobodys_so}
 
@@ -40,7 +40,7 @@ abbrev came_so : WebAnswers → Peer → Reply → Arrival
 came_so web peer reply = record { web = web; peer = peer; reply = reply }
 
 -- how it stands says what its bytes mean
-served_so : IsSettled ShowsRequest → PiecesAreHeardAsOne → (web : WebAnswers) (peer : Peer) (id : ℕ) (c : Connection) (applied : List Entry)
+served_so : IsStableReading ShowsRequest → PiecesAreHeardAsOne → (web : WebAnswers) (peer : Peer) (id : ℕ) (c : Connection) (applied : List Entry)
     → Stands (came_so web peer (Arrived id)) c (entry (Arrive peer) (Arrived id) ∷ applied) → IsServedThrough web peer id c applied
 served_so settled pieces web peer id c applied st =
     let arrival = came_so web peer (Arrived id) in
@@ -60,7 +60,7 @@ served_so settled pieces web peer id c applied st =
     }
 
 told_so : (web : WebAnswers) (peer : Peer) (reply : Reply) (c : Connection) (applied : List Entry) → LetsNobodyIn reply
-    → Stands (came_so web peer reply) c (first_entries peer reply ++ applied) → IsOnlyAnswered web reply c applied
+    → Stands (came_so web peer reply) c (first_entries peer reply ++ applied) → IsNotLetIn web reply c applied
 told_so web peer reply c applied nobody st =
     let n = nobodys_so (came_so web peer reply) c.id nobody st.standing st.course in
     record {
@@ -79,7 +79,7 @@ module _ {S : Type 0} (steps : Steps S) where
       (stands_on arrival turn.after last turns (past ++ turn.serves.entries) others
       (turn.serves.served.stands arrival past (subst (λ (c : Connection). Stands arrival c past) (sym begins) st)))
 
-  pub mean_their_bytes : IsSettled ShowsRequest → PiecesAreHeardAsOne → ConnectionsMeanTheirBytes steps
+  pub mean_their_bytes : IsStableReading ShowsRequest → PiecesAreHeardAsOne → ConnectionsMeanTheirBytes steps
   mean_their_bytes settled pieces web peer id first last turns taken are =
       served_so settled pieces web peer id last (applied_in steps turns)
       (stands_on (came_so web peer (Arrived id)) first last turns (entry (Arrive peer) (Arrived id) ∷ []) are (taken refl refl))

@@ -13,7 +13,7 @@ use Rattle.radio_events.specs.declared.reply.Reply.TheVariants.{Arrived, Feeding
 use Rattle.radio_events.specs.Events.{entry}
 use Rattle.radio_events.specs.Servers.{Steps, Chain}
 use Rattle.radio_locks.specs.Callers.{IsCalled, PassesGainWhatWasApplied}
-use Rattle.radio_pull.specs.Applied.{PullCourse, PullSoFar}
+use Rattle.radio_relay.specs.Applied.{PullCourse, PullSoFar}
 use Rattle.radio_connections.specs.Admission.{IsTakenIn}
 use Rattle.radio_connections.specs.Connections.{Connection}
 use Rattle.radio_connections.specs.Course.{LetsNobodyIn}
@@ -24,24 +24,24 @@ use Rattle.radio_headline.proofs.Logs.{itself}
 use Rattle.radio_tables.proofs.KeyLaws.{by_number}
 use Rattle.radio_stations.specs.Turns.{AreTurnsOf, ConnectionTurn, ConnectionsMeanTheirBytes, StrangersAreOnlyAnswered, applied_in}
 use Rattle.radio_stations.specs.Work.{HasWorked, IsOfItsConnection, IsOfItsPull, IsServedBy, IsUnder, Made, PassesAreOfTheirWork, Roll, UnderLabel}
-use Rattle.radio_stations.specs.Work.{closed, enrolled, entries_in, entries_on, entry_on, gone, happening, here, let_go, made_on, moment, nothing_yet, pulled, pulled_in}
+use Rattle.radio_stations.specs.Work.{closed, enrolled, made_entries, entries_on, made_entry_on, gone, happening, here, let_go, made_on, moment, nothing_yet, pulled, pulled_in}
 use Rattle.radio_stations.specs.Work.{WorkIsOfItsConnections, served, told, took_in, turned_off, unknown}
 
-entries_joined : (made more : List Made) → entries_in (made ++ more) ≡ entries_in made ++ entries_in more
+entries_joined : (made more : List Made) → made_entries (made ++ more) ≡ made_entries made ++ made_entries more
 entries_joined made more = map-append (λ (m : Made). m.done) made more
 
-entries_of : (label : ℕ) (entries : List Entry) → entries_in (map (made_on label) entries) ≡ entries
+entries_of : (label : ℕ) (entries : List Entry) → made_entries (map (made_on label) entries) ≡ entries
 entries_of label [] = refl
 entries_of label (e ∷ entries) = ap (λ (xs : List Entry). e ∷ xs) (entries_of label entries)
 
 module _ {S : Type 0} (steps : Steps S) (web : WebAnswers) where
   abbrev Leads : S → List Made → S → Type 0
-  Leads from made to = Chain steps from (entries_in made) to
+  Leads from made to = Chain steps from (made_entries made) to
 
   leads_then : (from mid to : S) (made more : List Made) → Leads from made mid → Leads mid more to → Leads from (made ++ more) to
   leads_then from mid to made more a b =
       subst (λ (es : List Entry). Chain steps from es to) (sym (entries_joined made more))
-      (chain_then steps from mid to (entries_in made) (entries_in more) a b)
+      (chain_then steps from mid to (made_entries made) (made_entries more) a b)
 
   leads_one : (first from to : S) (made : List Made) (m : Made) → Leads first made from → steps from m.done.event m.done.reply to
       → Leads first (made ++ m ∷ []) to
@@ -72,8 +72,8 @@ module _ {S : Type 0} (steps : Steps S) where
 
 pub passes_of_work : PassesGainWhatWasApplied → PassesAreOfTheirWork
 passes_of_work gain opening web first last made roll done =
-    gain opening first.server last.server (entries_in made)
-    (unwatched (IsCalled true opening) first last (entries_in made)
+    gain opening first.server last.server (made_entries made)
+    (unwatched (IsCalled true opening) first last (made_entries made)
     (worked (WatchedSteps (IsCalled true opening)) web first last made roll done))
 
 abbrev IsPlaced : Made → Type 0
@@ -105,13 +105,13 @@ module _ {S : Type 0} (steps : Steps S) (web : WebAnswers) where
 
 -- what is under one label
 on_joined : (label : ℕ) (made more : List Made) → entries_on label (made ++ more) ≡ entries_on label made ++ entries_on label more
-on_joined label made more = flat_map-append (entry_on label) made more
+on_joined label made more = flat_map-append (made_entry_on label) made more
 
 on_here : (label : ℕ) (e : Entry) → entries_on label (made_on label e ∷ []) ≡ e ∷ []
-on_here label e = append-nil (entry_on label (made_on label e)) ∙ ap (λ (b : Bool). if b then e ∷ [] else []) (itself label)
+on_here label e = append-nil (made_entry_on label (made_on label e)) ∙ ap (λ (b : Bool). if b then e ∷ [] else []) (itself label)
 
 on_elsewhere : (label other : ℕ) (e : Entry) → (label == other) ≡ false → entries_on other (made_on label e ∷ []) ≡ []
-on_elsewhere label other e apart = append-nil (entry_on other (made_on label e)) ∙ ap (λ (b : Bool). if b then e ∷ [] else []) apart
+on_elsewhere label other e apart = append-nil (made_entry_on other (made_on label e)) ∙ ap (λ (b : Bool). if b then e ∷ [] else []) apart
 
 all_here : (label : ℕ) (entries : List Entry) → entries_on label (map (made_on label) entries) ≡ entries
 all_here label [] = refl

@@ -10,7 +10,7 @@ use Rattle.radio_events.specs.declared.state.State.TheVariants.{Shut}
 use Rattle.radio_session.specs.declared.session.Says.{Says}
 use Rattle.radio_session.specs.Conversation.{Conversation, fresh}
 use Rattle.radio_session.specs.Cuts.{Atom, atoms, unheard}
-use Rattle.radio_session.specs.Hearing.{Heard, IsHeard}
+use Rattle.radio_session.specs.Hearing.{EventReading, IsHeard}
 use Rattle.radio_session.specs.Saying.{said}
 use Rattle.radio_connections.specs.declared.conn.Fate.{Fate}
 use Rattle.radio_connections.specs.declared.conn.Fate.TheVariants.{Open, Ended, Closed}
@@ -23,7 +23,7 @@ pub data HasDrawsAmong (id : ℕ) : List Event → List Event → Type 0 where
   draws : (room : ℕ) (applied asked : List Event) → HasDrawsAmong id applied asked → HasDrawsAmong id (Draw id room ∷ applied) asked
 
 -- this is heard of the bytes as they come in one piece; where none came, nothing was heard
-abbrev pub IsHeardInOne : Conversation → List ℕ → Heard → Type 0
+abbrev pub IsHeardInOne : Conversation → List ℕ → EventReading → Type 0
 IsHeardInOne conversation bytes heard = ((bytes ≡ []) × (heard ≡ unheard conversation)) ⊎ IsHeard conversation bytes heard
 
 -- the reply to the last of these entries shuts a conversation
@@ -42,7 +42,7 @@ pub record MeansItsBytes (web : WebAnswers) (peer : Peer) (id : ℕ) (given : Li
   pub read : List ℕ
   pub unread : List ℕ
   pub gives : given ≡ read ++ unread
-  pub heard : Heard
+  pub heard : EventReading
   pub is_heard : IsHeardInOne (fresh web id peer) read heard
   -- what was applied while it went on, and its leaving
   pub made : List Entry

@@ -2,7 +2,7 @@
 use Rattle.std.specs.Prelude.{◌≡◌, ℕ, List}
 use Rattle.radio_events.specs.declared.event.Event.{Event}
 use Rattle.radio_events.specs.Servers.{Chain, Steps}
-use Rattle.radio_pull.specs.Applied.{PullCourse, PullSoFar}
+use Rattle.radio_relay.specs.Applied.{PullCourse, PullSoFar}
 use Rattle.radio_pullers.specs.Threads.{IsPullOf}
 use Rattle.radio_settings_values.specs.declared.settings.RelaySetting.{RelaySetting}
 

@@ -13,7 +13,7 @@ use Rattle.radio_chronicle.specs.History.{IsRun}
 use Rattle.radio_book.specs.Receipts.{ReceiptOf}
 use Rattle.radio_locks.specs.Callers.{IsCalled, MayBeRefused}
 use Rattle.radio_pullers.specs.Threads.{HasPulled}
-use Rattle.radio_settling.specs.Settling.{IsSettled}
+use Rattle.radio_hall.specs.Settling.{IsSettled}
 use Rattle.radio_workers.specs.Working.{IsWorkOf}
 use Rattle.radio_stations.specs.Settled.{HaveOwnLabels, IsOfWorkers, WorkAtHall, passes_of}
 

@@ -10,11 +10,11 @@ use Rattle.radio_chronicle.specs.declared.line.ControlLine.{ControlLine}
 use Rattle.radio_chronicle.specs.History.{IsRun}
 use Rattle.radio_book.specs.Receipts.{ReceiptOf}
 use Rattle.radio_locks.specs.Callers.{IsCalled}
-use Rattle.radio_settling.specs.Settling.{IsSettled}
-use Rattle.radio_settling.specs.Woven.{AreWoven}
+use Rattle.radio_hall.specs.Settling.{IsSettled}
+use Rattle.radio_hall.specs.Woven.{AreWoven}
 use Rattle.radio_serving.specs.Watching.{WatchedOf, WatchedSteps}
-use Rattle.radio_stations.specs.Stations.{AreApart, StationHearsSlices, both_rolls}
-use Rattle.radio_stations.specs.Work.{HasWorked, IsOfConnections, Made, Roll, entries_in, nobody_came}
+use Rattle.radio_stations.specs.Stations.{AreDisjoint, StationHearsSlices, both_rolls}
+use Rattle.radio_stations.specs.Work.{HasWorked, IsOfConnections, Made, Roll, made_entries, nobody_came}
 
 -- What a worker or a relay's thread did from this state of a hall that stores its entries, with these settings of answers. Its pass had no receipt as it began.
 pub record WorkAtHall (start : World) (web : WebAnswers) : Type 0 where
@@ -42,13 +42,13 @@ module _ {start : World} {web : WebAnswers} where
   -- no label is known to two of them
   abbrev pub HaveOwnLabels : List (WorkAtHall start web) → Type 0
   HaveOwnLabels [] = Unit {0}
-  HaveOwnLabels (worker ∷ workers) = AreApart worker.roll (joint_roll workers) × HaveOwnLabels workers
+  HaveOwnLabels (worker ∷ workers) = AreDisjoint worker.roll (joint_roll workers) × HaveOwnLabels workers
 
 -- The history is woven of what each of these made. So it is of the connections and pulls of all of them, and its listeners are given slices of what their sources
 -- brought.
 pub record IsOfWorkers {start : World} {web : WebAnswers} (settings : Settings) (lists : Lists) (workers : List (WorkAtHall start web)) (history : List Entry) : Type 0 where
   pub made : List Made
-  pub same : entries_in made ≡ history
+  pub same : made_entries made ≡ history
   pub woven : AreWoven (all_made workers) made
   pub of_connections : IsOfConnections web made (joint_roll workers)
   pub hears : StationHearsSlices web settings lists made (joint_roll workers)

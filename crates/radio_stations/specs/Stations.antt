@@ -5,11 +5,11 @@ use Rattle.radio_access.specs.Lists.{Lists}
 use Rattle.radio_answers.specs.declared.web_answers.WebAnswers.{WebAnswers}
 use Rattle.radio_parts_station.specs.World.{opening}
 use Rattle.radio_chronicle.specs.History.{IsRun}
-use Rattle.radio_settling.specs.Woven.{IsWoven}
+use Rattle.radio_hall.specs.Woven.{IsInterleaved}
 use Rattle.radio_connections.specs.Serving.{IsHanded}
 use Rattle.radio_headline.specs.Course.{Happening}
 use Rattle.radio_headline.specs.Listeners.{CourseHearsSlices}
-use Rattle.radio_stations.specs.Work.{IsOfConnections, Made, Roll, UnderLabel, closed, entries_in, gone, happening, here, pulled, unknown}
+use Rattle.radio_stations.specs.Work.{IsOfConnections, Made, Roll, UnderLabel, closed, made_entries, gone, happening, here, pulled, unknown}
 
 -- the events of a history, each with the label of the connection or pull for which it was applied
 abbrev pub course_of : List Made → List Happening
@@ -42,7 +42,7 @@ pub record StationHearsSlices (web : WebAnswers) (settings : Settings) (lists : 
 -- In a history that is a run from the opening state, and is of connections and pulls, the listeners are given slices of what its sources brought.
 abbrev pub StationsHearSlices : Type 0
 StationsHearSlices = (web : WebAnswers) (settings : Settings) (lists : Lists) (made : List Made) (roll : Roll)
-    → IsRun (opening settings lists) (entries_in made) → IsOfConnections web made roll → StationHearsSlices web settings lists made roll
+    → IsRun (opening settings lists) (made_entries made) → IsOfConnections web made roll → StationHearsSlices web settings lists made roll
 
 -- what the one has under a label, or else the other
 abbrev pub either_has : UnderLabel → UnderLabel → UnderLabel
@@ -56,10 +56,10 @@ abbrev pub both_rolls : Roll → Roll → Roll
 both_rolls one other = λ label. either_has (one label) (other label)
 
 -- no label is known to both
-abbrev pub AreApart : Roll → Roll → Type 0
-AreApart one other = (label : ℕ) → (one label ≡ unknown) ⊎ (other label ≡ unknown)
+abbrev pub AreDisjoint : Roll → Roll → Type 0
+AreDisjoint one other = (label : ℕ) → (one label ≡ unknown) ⊎ (other label ≡ unknown)
 
 -- What two workers made is of the connections and pulls of both, however it was woven, if each has labels of its own.
 abbrev pub StationsAddUp : Type 0
 StationsAddUp = (web : WebAnswers) (one other made : List Made) (roll more : Roll) → IsOfConnections web one roll → IsOfConnections web other more
-    → AreApart roll more → IsWoven one other made → IsOfConnections web made (both_rolls roll more)
+    → AreDisjoint roll more → IsInterleaved one other made → IsOfConnections web made (both_rolls roll more)

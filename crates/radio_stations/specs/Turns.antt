@@ -27,7 +27,7 @@ pub record IsServedThrough (web : WebAnswers) (peer : Peer) (id : ℕ) (c : Conn
 
 -- A connection whose client was not let in, by this reply, is nobody's, and nothing is applied for it. The bytes that its line took, and those that still wait, are those of
 -- that reply; if it was cut off, its line took a front of them.
-pub record IsOnlyAnswered (web : WebAnswers) (reply : Reply) (c : Connection) (applied : List Entry) : Type 0 where
+pub record IsNotLetIn (web : WebAnswers) (reply : Reply) (c : Connection) (applied : List Entry) : Type 0 where
   pub none : applied ≡ []
   pub nobodys : c.status.has_left ≡ true
   pub handed : IsHanded c.status.fate (said (asking web) reply).bytes c.taken c.outgoing
@@ -63,4 +63,4 @@ module _ {S : Type 0} (steps : Steps S) where
   abbrev pub StrangersAreOnlyAnswered : Type 0
   StrangersAreOnlyAnswered = (web : WebAnswers) (peer : Peer) (reply : Reply) (first last : Connection) (turns : List ConnectionTurn) → LetsNobodyIn reply
       → IsTakenIn (record { web = web; peer = peer; reply = reply }) [] [] first → AreTurnsOf first turns last
-      → IsOnlyAnswered web reply last (applied_in turns)
+      → IsNotLetIn web reply last (applied_in turns)

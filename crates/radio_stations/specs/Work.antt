@@ -3,7 +3,7 @@ use Rattle.std.specs.Prelude.{◌≡◌, ◌==◌, if◌then◌else◌, ℕ, Boo
 use Rattle.std.specs.List.{AllByRecursion}
 use Rattle.radio_addr.specs.declared.peer.Peer.{Peer}
 use Rattle.radio_answers.specs.declared.web_answers.WebAnswers.{WebAnswers}
-use Rattle.radio_core.specs.Handing.{is_number}
+use Rattle.radio_core.specs.Handing.{is_same_number}
 use Rattle.radio_events.specs.declared.entry.Entry.{Entry}
 use Rattle.radio_events.specs.declared.event.Event.TheVariants.{Arrive, Clock, Leave}
 use Rattle.radio_events.specs.declared.reply.Reply.{Reply}
@@ -11,9 +11,9 @@ use Rattle.radio_events.specs.declared.reply.Reply.TheVariants.{Arrived}
 use Rattle.radio_events.specs.Events.{entry}
 use Rattle.radio_events.specs.Servers.{Chain, Steps}
 use Rattle.radio_parts_station.specs.World.{World}
-use Rattle.radio_book.specs.Receipts.{ReceiptOf, entry_of}
+use Rattle.radio_book.specs.Receipts.{ReceiptOf, receipt_entry}
 use Rattle.radio_locks.specs.Callers.{IsCalled}
-use Rattle.radio_pull.specs.Applied.{PullCourse, PullSoFar}
+use Rattle.radio_relay.specs.Applied.{PullCourse, PullSoFar}
 use Rattle.radio_connections.specs.Admission.{IsTakenIn}
 use Rattle.radio_connections.specs.Connections.{Connection}
 use Rattle.radio_connections.specs.Course.{LetsNobodyIn}
@@ -21,7 +21,7 @@ use Rattle.radio_connections.specs.Serving.{ServesInTurn}
 use Rattle.radio_serving.specs.Watching.{WatchedOf, WatchedSteps}
 use Rattle.radio_headline.specs.Course.{Happening}
 use Rattle.radio_headline.specs.Served.{HasLabelOrMoment}
-use Rattle.radio_stations.specs.Turns.{IsServedThrough, IsOnlyAnswered}
+use Rattle.radio_stations.specs.Turns.{IsServedThrough, IsNotLetIn}
 
 -- what a worker has under a label: nothing yet, a connection, one that it has let go, none, since that was closed as it came, or the bytes of a master's answer
 -- in one pull of a relay
@@ -54,20 +54,20 @@ abbrev pub moment : ℕ → Reply → Made
 moment ms reply = record { label = None; done = entry (Clock ms) reply }
 
 -- all of it, in its order
-abbrev pub entries_in : List Made → List Entry
-entries_in made = map (λ (m : Made). m.done) made
+abbrev pub made_entries : List Made → List Entry
+made_entries made = map (λ (m : Made). m.done) made
 
-abbrev pub entry_on : ℕ → Made → List Entry
-entry_on label m = if is_number label m.label then m.done ∷ [] else []
+abbrev pub made_entry_on : ℕ → Made → List Entry
+made_entry_on label m = if is_same_number label m.label then m.done ∷ [] else []
 
 -- what was made under the label
 abbrev pub entries_on : ℕ → List Made → List Entry
-entries_on label made = flat_map (entry_on label) made
+entries_on label made = flat_map (made_entry_on label) made
 
 -- a connection that came so is served through these entries, if its client was let in, and is only answered if not
 abbrev pub IsServedBy : WebAnswers → Peer → Reply → Connection → List Entry → Type 0
 IsServedBy web peer (Arrived id) c applied = IsServedThrough web peer id c applied
-IsServedBy web peer reply c applied = IsOnlyAnswered web reply c applied
+IsServedBy web peer reply c applied = IsNotLetIn web reply c applied
 
 -- by these settings of answers, these entries are the arrival of a connection, and then what was applied in its turns
 pub record IsOfItsConnection (web : WebAnswers) (entries : List Entry) (c : Connection) : Type 0 where
@@ -137,4 +137,4 @@ module _ {S : Type 0} (steps : Steps S) (web : WebAnswers) where
 abbrev pub PassesAreOfTheirWork : Type 0
 PassesAreOfTheirWork = (opening : World) (web : WebAnswers) (first last : WatchedOf (List ReceiptOf)) (made : List Made) (roll : Roll)
     → HasWorked (WatchedSteps (IsCalled true opening)) web first made last roll
-    → (receipts : List ReceiptOf) × (last.server ≡ first.server ++ receipts) × (map entry_of receipts ≡ entries_in made)
+    → (receipts : List ReceiptOf) × (last.server ≡ first.server ++ receipts) × (map receipt_entry receipts ≡ made_entries made)

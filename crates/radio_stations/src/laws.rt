@@ -10,11 +10,11 @@ ghost use Rattle.radio_stations.specs.Turns.{ConnectionsMeanTheirBytes, Stranger
 ghost use Rattle.radio_stations.specs.Work.{PassesAreOfTheirWork, WorkIsOfItsConnections};
 
 use radio_events::Server;
+use radio_hall::settled_histories_are_woven;
 use radio_headline::listeners_hear_slices;
 use radio_heads::settled;
 use radio_locks::passes_gain_what_was_applied;
 use radio_session::cuts_do_not_matter;
-use radio_settling::settled_histories_are_woven;
 
 /// After each turn since a client was let in, the events applied for its connection are those that the bytes of its line mean, in their
 /// order, as if the bytes had come in one piece. The client's draws lie among them, and its leaving comes last. The bytes that the line

@@ -5,7 +5,7 @@ use Rattle.radio_relay.specs.declared.orders.RelayOrder.{RelayOrder}
 use Rattle.radio_relay.specs.declared.orders.RelayOrder.TheVariants.{Start, Stop}
 use Rattle.radio_settings_values.specs.declared.settings.RelaySetting.{RelaySetting}
 use Rattle.radio_settings_values.specs.declared.settings.Settings.{Settings}
-use Rattle.radio_tries.specs.Wishes.{started_by, stopped_by, is_own, own_of, others_of}
+use Rattle.radio_tries.specs.Wishes.{started_by, stopped_by, own_of, other_started_relays, is_settings_relay}
 
 pub stopped-append : (xs ys : List RelayOrder) → stopped_by (xs ++ ys) ≡ stopped_by xs ++ stopped_by ys
 stopped-append [] ys = refl
@@ -19,9 +19,9 @@ started-append (Start relay ∷ xs) ys = ap (λ (rest : List RelaySetting). rela
 
 pub own-append : (settings : Settings) (xs ys : List RelayOrder) → own_of settings (xs ++ ys) ≡ own_of settings xs ++ own_of settings ys
 own-append settings xs ys =
-    ap (filter (is_own settings)) (started-append xs ys) ∙ filter-append (is_own settings) (started_by xs) (started_by ys)
+    ap (filter (is_settings_relay settings)) (started-append xs ys) ∙ filter-append (is_settings_relay settings) (started_by xs) (started_by ys)
 
-pub others-append : (settings : Settings) (xs ys : List RelayOrder) → others_of settings (xs ++ ys) ≡ others_of settings xs ++ others_of settings ys
+pub others-append : (settings : Settings) (xs ys : List RelayOrder) → other_started_relays settings (xs ++ ys) ≡ other_started_relays settings xs ++ other_started_relays settings ys
 others-append settings xs ys =
-    let other : RelaySetting → Bool = λ relay. not (is_own settings relay) in
+    let other : RelaySetting → Bool = λ relay. not (is_settings_relay settings relay) in
     ap (filter other) (started-append xs ys) ∙ filter-append other (started_by xs) (started_by ys)

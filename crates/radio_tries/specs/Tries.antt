@@ -11,7 +11,7 @@ use Rattle.radio_masters.specs.declared.turns.WaitingRelay.{WaitingRelay}
 use Rattle.radio_masters.specs.Ends.{keeps_place}
 use Rattle.radio_settings_values.specs.declared.settings.RelaySetting.{RelaySetting}
 use Rattle.radio_settings_values.specs.declared.settings.Settings.{Settings}
-use Rattle.radio_relay.specs.Orders.{is_listed, relay_at}
+use Rattle.radio_relay.specs.Orders.{is_among_names, relay_at}
 use Rattle.radio_relay.specs.StreamList.{name_order}
 use Rattle.radio_tries.specs.declared.outcome.RelayOutcome.{RelayOutcome}
 use Rattle.radio_tries.specs.declared.tries.RelayTry.{RelayTry}
@@ -64,8 +64,8 @@ started failing = record { due_ms = never; failing = failing }
 
 -- a relay whose thread has ended
 -- rule: Keeping a place
-abbrev pub ended : RelayOutcome → RelayTry
-ended outcome = record { due_ms = due_after outcome; failing = outcome.failing }
+abbrev pub thread_ended : RelayOutcome → RelayTry
+thread_ended outcome = record { due_ms = due_after outcome; failing = outcome.failing }
 
 -- a relay that could not be started
 abbrev pub not_started : ℕ → Option RelayTry → RelayTry
@@ -82,8 +82,8 @@ abbrev pub kept_at : ℕ → List ℕ → List ℕ
 kept_at ms kept = filter (λ until. nat_lt ms until) kept
 
 -- a relay is of the settings, or of this list
-abbrev pub is_known : Settings → List (List ℕ) → List ℕ → Bool
-is_known settings names mount = is_listed names mount || is_some (relay_at settings mount)
+abbrev pub is_wanted_relay : Settings → List (List ℕ) → List ℕ → Bool
+is_wanted_relay settings names mount = is_among_names names mount || is_some (relay_at settings mount)
 
 -- a relay that waits for a place, by its number in the queue
 abbrev pub waiting_of : Trials → ℕ × RelaySetting → WaitingRelay

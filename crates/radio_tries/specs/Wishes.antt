@@ -21,22 +21,22 @@ started_by (Stop mount ∷ orders) = started_by orders
 started_by (Start relay ∷ orders) = relay ∷ started_by orders
 
 -- a relay of a mount that the settings have a relay for; else it is of the slave's list
-abbrev pub is_own : Settings → RelaySetting → Bool
-is_own settings relay = is_some (relay_at settings relay.local_mount)
+abbrev pub is_settings_relay : Settings → RelaySetting → Bool
+is_settings_relay settings relay = is_some (relay_at settings relay.local_mount)
 
 abbrev pub own_of : Settings → List RelayOrder → List RelaySetting
-own_of settings orders = filter (is_own settings) (started_by orders)
+own_of settings orders = filter (is_settings_relay settings) (started_by orders)
 
-abbrev pub others_of : Settings → List RelayOrder → List RelaySetting
-others_of settings orders = filter (λ relay. not (is_own settings relay)) (started_by orders)
+abbrev pub other_started_relays : Settings → List RelayOrder → List RelaySetting
+other_started_relays settings orders = filter (λ relay. not (is_settings_relay settings relay)) (started_by orders)
 
 -- the relays of the settings come first, and then those of the list
 -- rule: Relay places
 abbrev pub in_order : Settings → List RelaySetting → List RelaySetting
-in_order settings relays = filter (is_own settings) relays ++ filter (λ relay. not (is_own settings relay)) relays
+in_order settings relays = filter (is_settings_relay settings) relays ++ filter (λ relay. not (is_settings_relay settings relay)) relays
 
 -- what orders say, by its kind
 pub record Sorts (settings : Settings) (orders : List RelayOrder) (sorted : Sorted) : Type 0 where
   pub stops : sorted.stops.items ≡ stopped_by orders
   pub own : map arc_value sorted.own.items ≡ own_of settings orders
-  pub listed : map arc_value sorted.listed.items ≡ others_of settings orders
+  pub listed : map arc_value sorted.listed.items ≡ other_started_relays settings orders

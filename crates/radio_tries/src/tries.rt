@@ -6,7 +6,7 @@ ghost use Rattle.std.specs.BTreeMap.{is_at};
 ghost use Rattle.std.specs.Map.{set_value};
 ghost use Rattle.radio_masters.specs.Turns.{HaveTheirTurn};
 ghost use Rattle.radio_relay.specs.StreamList.{name_order};
-ghost use Rattle.radio_tries.specs.Tries.{IsStarted, due_of, ended, failing_of, free_places, is_known, kept_after, kept_at, no_trials, not_started, queue, tried_at};
+ghost use Rattle.radio_tries.specs.Tries.{IsStarted, due_of, thread_ended, failing_of, free_places, is_wanted_relay, kept_after, kept_at, no_trials, not_started, queue, tried_at};
 
 use crate::OutOfMemory;
 use crate::outcome::RelayOutcome;
@@ -97,7 +97,7 @@ impl Tries {
     /// `OutOfMemory` if memory was refused for the place: it is free then.
     // rule: Ten seconds; Keeping a place
     pub fn note_end(&mut self, mount: &MountName, outcome: RelayOutcome) -> Result<(), OutOfMemory>
-        ensures tried { self.new.tried ≡ set_value (is_at (name_order mount.now)) self.old.tried (ended outcome) }
+        ensures tried { self.new.tried ≡ set_value (is_at (name_order mount.now)) self.old.tried (thread_ended outcome) }
         ensures kept { OnOk result (self.new.kept ≡ kept_after outcome self.old.kept) }
         ensures free { OnErr result (self.new.kept ≡ self.old.kept) }
     {
@@ -136,7 +136,7 @@ impl Tries {
 
     /// Forgets relays that are neither of the settings nor of this list.
     pub fn forget_others(&mut self, settings: &Settings, names: &BTreeSet<MountName>)
-        ensures { self.new ≡ record self.old { tried = filter (λ e. is_known settings.now names.now.keys e.0) self.old.tried } }
+        ensures { self.new ≡ record self.old { tried = filter (λ e. is_wanted_relay settings.now names.now.keys e.0) self.old.tried } }
     {
         self.tried.retain(|mount, _| names.contains(mount) || settings.relays.get(mount).is_some());
     }

@@ -2,7 +2,7 @@
 
 ghost use Rattle.std.specs.Prelude.{◌≡◌, ◌++◌, filter, map, not, IfOk, OnOk};
 ghost use Rattle.std.specs.Arc.{arc_value};
-ghost use Rattle.radio_tries.specs.Wishes.{Sorts, in_order, is_own, own_of, others_of, started_by, stopped_by};
+ghost use Rattle.radio_tries.specs.Wishes.{Sorts, in_order, own_of, other_started_relays, started_by, stopped_by, is_settings_relay};
 
 use crate::OutOfMemory;
 use radio_relay::RelayOrder;
@@ -83,7 +83,7 @@ impl Sorted {
     ) -> Result<(), OutOfMemory>
         ensures stops { OnOk result (self.new.stops.items ≡ self.old.stops.items ++ stopped_by (order ∷ [])) }
         ensures own { OnOk result (map arc_value self.new.own.items ≡ map arc_value self.old.own.items ++ own_of settings.now (order ∷ [])) }
-        ensures listed { OnOk result (map arc_value self.new.listed.items ≡ map arc_value self.old.listed.items ++ others_of settings.now (order ∷ [])) }
+        ensures listed { OnOk result (map arc_value self.new.listed.items ≡ map arc_value self.old.listed.items ++ other_started_relays settings.now (order ∷ [])) }
     {
         match order {
             RelayOrder::Stop(mount) => self.stops.push(mount)?,
@@ -101,7 +101,7 @@ impl Sorted {
     ) -> Result<(), OutOfMemory>
         ensures stops { OnOk result (self.new.stops.items ≡ self.old.stops.items) }
         ensures own { OnOk result (map arc_value self.new.own.items ≡ map arc_value self.old.own.items ++ own_of settings.now (Start relay ∷ [])) }
-        ensures listed { OnOk result (map arc_value self.new.listed.items ≡ map arc_value self.old.listed.items ++ others_of settings.now (Start relay ∷ [])) }
+        ensures listed { OnOk result (map arc_value self.new.listed.items ≡ map arc_value self.old.listed.items ++ other_started_relays settings.now (Start relay ∷ [])) }
     {
         let is_own = settings.relays.get(&relay.local_mount).is_some();
         let relay = Arc::new(alloc, relay)?;

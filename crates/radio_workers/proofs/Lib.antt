@@ -1,3 +1,6 @@
+mod Sums
+mod Balances
+mod AcceptingLemmas
 mod Cuts
 pub mod Doings
 mod Lingering

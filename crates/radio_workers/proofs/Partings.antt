@@ -2,11 +2,11 @@
 use Rattle.std.proofs.Common.{◌≡◌, ◌+◌, ◌<◌, Bool, true, false, List, [], ◌∷◌, length, take, drop, ap, arith, length-append, length-drop, length-take-le}
 use Rattle.std.proofs.lemmas.Option.{slice_get_within}
 use Rattle.radio_connections.specs.Connections.{Connection}
-use Rattle.radio_serving.specs.Sources.{Feeding}
+use Rattle.radio_serving.specs.Sources.{FeedingClients}
 use Rattle.radio_workers.specs.Shifts.{HasParted}
 
 -- none is lost by it
-pub parted_count : (is_moved : Bool) (feeding : Feeding) (sources conns sources' conns' : List Connection)
+pub parted_count : (is_moved : Bool) (feeding : FeedingClients) (sources conns sources' conns' : List Connection)
     → HasParted is_moved feeding sources conns sources' conns'
     → length sources' + length conns' ≡ length sources + length conns
 parted_count true feeding sources conns sources' conns' (at, conn, first, is, added, rest) =

@@ -1,4 +1,9 @@
-pub mod Hands
+pub mod Passes
+pub mod Balance
+pub mod Accepting
+pub mod Entrances
+pub mod IntakeLaws
+pub mod TakenConnections
 pub mod Laws
 pub mod Leaving
 pub mod Shifts

@@ -2,18 +2,18 @@
 use Rattle.std.specs.Prelude.{◌≡◌, ◌+◌, ℕ, Bool, true, false, List, [], ◌∷◌, ◌++◌, length, take, drop, filter, Option, Some, slice_get, if◌then◌else◌, nat_lt}
 use Rattle.std.specs.List.{list_any, position}
 use Rattle.radio_connections.specs.Connections.{Connection, lingers, without_first}
-use Rattle.radio_serving.specs.Sources.{Feeding, feeds}
+use Rattle.radio_serving.specs.Sources.{is_source_number, FeedingClients}
 
 -- where the first connection stands whose client feeds a mount
-abbrev pub first_source : Feeding → List Connection → Option ℕ
-first_source feeding conns = position (λ conn. feeds conn.id feeding) conns
+abbrev pub first_source : FeedingClients → List Connection → Option ℕ
+first_source feeding conns = position (λ conn. is_source_number conn.id feeding) conns
 
 -- whether one of the clients has a seat
 abbrev pub has_listeners : List Connection → Bool
 has_listeners conns = list_any (λ conn. conn.status.sits) conns
 
 -- the first connection of a client who feeds went from the others behind those of sources; or none did
-abbrev pub HasParted : Bool → Feeding → List Connection → List Connection → List Connection → List Connection → Type 0
+abbrev pub HasParted : Bool → FeedingClients → List Connection → List Connection → List Connection → List Connection → Type 0
 HasParted true feeding sources conns sources' conns' =
     (at : ℕ) × (conn : Connection) × (first_source feeding conns ≡ Some at) × (slice_get conns at ≡ Some conn)
     × (sources' ≡ sources ++ conn ∷ []) × (conns' ≡ take at conns ++ drop (at + 1) conns)

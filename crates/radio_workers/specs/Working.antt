@@ -25,7 +25,7 @@ shift_of worker sources conns = record { worker = worker; sources = sources; con
 -- of a worker only the state of its server has changed
 pub record HasOnlyAsked {S : Type 0} (before after : WorkerOf S) : Type 0 where
   pub web : after.web ≡ before.web
-  pub told : after.told_ms ≡ before.told_ms
+  pub clock : after.clock_ms ≡ before.clock_ms
   pub patience : after.patience_ms ≡ before.patience_ms
 
 module _ {S : Type 0} (steps : Steps S) (refuses : S → Event → Type 0) where

@@ -1,7 +1,7 @@
 //! All workers, each in a thread.
 
 ghost use Rattle.std.specs.Prelude.{◌≡◌, ◌<◌, ℕ, length, All, slice_index_or};
-ghost use Rattle.radio_workers.specs.Hands.{HasTakenMore};
+ghost use Rattle.radio_workers.specs.TakenConnections.{HasTakenMore};
 ghost use Rattle.radio_workers.specs.Working.{IsWorkOf};
 
 use crate::shift::work;
@@ -32,9 +32,9 @@ where
     L: Line + Send,
     P: TurnSource<T, L> + Send,
     G: Gate + Sync,
-    requires own { All (λ slot. slot.hand.intake ≡ place.now.intake.now) slots.old }
-    // each pass of the intake has its parts, and tells behind what it told what was taken at its slot
-    ensures hands { (i : ℕ) (d : _) → i < length slots.old → HasTakenMore (slice_index_or slots.old i d).hand (slice_index_or slots.new i d).hand }
+    requires own { All (λ slot. slot.intake_pass.intake ≡ place.now.intake.now) slots.old }
+    // each pass of the intake has its parts, and says behind what it said what was taken at its slot
+    ensures intake_passes { (i : ℕ) (d : _) → i < length slots.old → HasTakenMore (slice_index_or slots.old i d).intake_pass (slice_index_or slots.new i d).intake_pass }
     // each pass of the server is back, and what was done through it is a worker's work
     ensures work { (i : ℕ) (d : _) → i < length slots.old
         → IsWorkOf S.steps S.refuses place.now.web (slice_index_or slots.old i d).pass (slice_index_or slots.new i d).pass }
@@ -48,8 +48,8 @@ where
         slots,
         count,
         &|_, slot|
-            requires { slot.now.hand.intake ≡ place.now.intake.now }
-            ensures { HasTakenMore slot.entry.now.hand slot.exit.now.hand
+            requires { slot.now.intake_pass.intake ≡ place.now.intake.now }
+            ensures { HasTakenMore slot.entry.now.intake_pass slot.exit.now.intake_pass
                 × IsWorkOf S.steps S.refuses place.entry.now.web slot.entry.now.pass slot.exit.now.pass }
         { work::<R, S, T, L, P, G>(rt, alloc, place, slot) },
     );

@@ -6,15 +6,14 @@ ghost use Rattle.radio_serving.specs.Sources.{nobody_feeds};
 ghost use Rattle.radio_serving.specs.Turns.{IsTurn};
 ghost use Rattle.radio_serving.specs.Watching.{WatchedOf, WatchedSteps, watched_of};
 ghost use Rattle.radio_serving.specs.Workers.{WorkerOf};
-ghost use Rattle.radio_workers.specs.Hands.{HasTakenMore};
+ghost use Rattle.radio_workers.specs.TakenConnections.{HasTakenMore};
 ghost use Rattle.radio_workers.specs.Leaving.{LeavesAll};
 ghost use Rattle.radio_workers.specs.Shifts.{HasParted, first_source, has_listeners, without_oldest};
 ghost use Rattle.radio_workers.specs.Working.{WorkerHasDone, HasWorkedAtSlot, IsWorkOf, shift_of};
 
 use crate::leaving::leave_all;
-use crate::{Seen, TurnSource, TurnStart, WorkerSlot, Workplace};
+use crate::{Intake, IntakePass, Seen, TurnSource, TurnStart, WorkerSlot, Workplace};
 use radio_events::{Caller, SharedServer};
-use radio_intake::{Intake, IntakePass};
 use radio_serving::{
     Conn, Found, Gate, Line, Server, Take, Turn, Watched, WebAnswers, Worker,
     close_first_lingering, count_lingering,
@@ -32,7 +31,7 @@ struct Shift<S: Server + Drop, L: Line> {
     conns: Vec<Conn<L>>,
 }
 
-/// Works at this slot, turn after turn, until its turn source tells it to stop, or it has made all turns. Then all of its
+/// Works at this slot, turn after turn, until its turn source stops it, or it has made all turns. Then all of its
 /// clients leave, and their connections are closed.
 pub(crate) fn work<R: Wait, S: SharedServer, T: Drop, L: Line, P: TurnSource<T, L>, G: Gate>(
     rt: &R,
@@ -40,8 +39,8 @@ pub(crate) fn work<R: Wait, S: SharedServer, T: Drop, L: Line, P: TurnSource<T, 
     place: &Workplace<'_, S, T, G>,
     slot: &mut WorkerSlot<S::Pass, T, P>,
 )
-    requires own { slot.old.hand.intake ≡ place.now.intake.now }
-    ensures taken { HasTakenMore slot.old.hand slot.new.hand }
+    requires own { slot.old.intake_pass.intake ≡ place.now.intake.now }
+    ensures taken { HasTakenMore slot.old.intake_pass slot.new.intake_pass }
     ensures worked { IsWorkOf S.steps S.refuses place.now.web slot.old.pass slot.new.pass }
 {
     if let Some(pass) = slot.pass.take() {
@@ -50,7 +49,7 @@ pub(crate) fn work<R: Wait, S: SharedServer, T: Drop, L: Line, P: TurnSource<T, 
             alloc,
             place,
             &mut slot.turn_source,
-            &mut slot.hand,
+            &mut slot.intake_pass,
             pass,
         );
         put_back(&mut slot.pass, pass);
@@ -70,15 +69,15 @@ fn work_with<R: Wait, S: SharedServer, T: Drop, L: Line, P: TurnSource<T, L>, G:
     alloc: Global,
     place: &Workplace<'_, S, T, G>,
     turn_source: &mut P,
-    hand: &mut IntakePass<T>,
+    intake_pass: &mut IntakePass<T>,
     pass: S::Pass,
 ) -> S::Pass
-    requires own { hand.old.intake ≡ place.now.intake.now }
-    ensures taken { HasTakenMore hand.old hand.new }
+    requires own { intake_pass.old.intake ≡ place.now.intake.now }
+    ensures taken { HasTakenMore intake_pass.old intake_pass.new }
     ensures worked { HasWorkedAtSlot S.steps S.refuses place.now.web pass result }
 {
     let caller = Caller::new(rt, place.server, pass);
-    serve(rt, alloc, place, turn_source, hand, caller).into_pass()
+    serve(rt, alloc, place, turn_source, intake_pass, caller).into_pass()
 }
 
 /// Serves connections over this server, turn after turn, until all have been made or the turn source says stop; gives the server
@@ -88,7 +87,7 @@ fn serve<R, A, S, T, L, P, G>(
     alloc: Global,
     place: &Workplace<'_, A, T, G>,
     turn_source: &mut P,
-    hand: &mut IntakePass<T>,
+    intake_pass: &mut IntakePass<T>,
     server: S,
 ) -> S
 where
@@ -98,15 +97,15 @@ where
     L: Line,
     P: TurnSource<T, L>,
     G: Gate,
-    requires own { hand.old.intake ≡ place.now.intake.now }
-    ensures taken { HasTakenMore hand.old hand.new }
+    requires own { intake_pass.old.intake ≡ place.now.intake.now }
+    ensures taken { HasTakenMore intake_pass.old intake_pass.new }
     ensures worked { HasWorkedAtSlot S.steps S.refuses place.now.web server result }
 {
     let mut shift: Shift<S, L> = Shift::new(alloc, server, place.web, place.patience_s);
     if !place.log_polls {
         shift.worker.log().leave_out_polls();
     }
-    shift.make_turns(rt, place, turn_source, hand);
+    shift.make_turns(rt, place, turn_source, intake_pass);
     shift.end()
 }
 
@@ -133,37 +132,37 @@ impl<S: Server + Drop, L: Line> Shift<S, L> {
         rt: &R,
         place: &Workplace<'_, A, T, G>,
         turn_source: &mut P,
-        hand: &mut IntakePass<T>,
+        intake_pass: &mut IntakePass<T>,
     )
-        requires own { hand.old.intake ≡ place.now.intake.now }
-        ensures taken { HasTakenMore hand.old hand.new }
+        requires own { intake_pass.old.intake ≡ place.now.intake.now }
+        ensures taken { HasTakenMore intake_pass.old intake_pass.new }
         ensures does { WorkerHasDone S.steps S.refuses (shift_of self.old.worker self.old.sources.items self.old.conns.items)
             (shift_of self.new.worker self.new.sources.items self.new.conns.items) }
     {
         'turns: for _ in 0..place.turns {
-            if !self.goes_on(rt, place, turn_source, hand) {
+            if !self.goes_on(rt, place, turn_source, intake_pass) {
                 return;
             }
         }
     }
 
-    /// The next turn, unless the turn source tells it to stop. Whether it does not.
+    /// The next turn, unless the turn source stops it. Whether it does not.
     #[tactic(auto, using(crate::proofs::Takings::taken_none, crate::proofs::Doings::done_none))]
     fn goes_on<R: Wait, A, T: Drop, P: TurnSource<T, L>, G: Gate>(
         &mut self,
         rt: &R,
         place: &Workplace<'_, A, T, G>,
         turn_source: &mut P,
-        hand: &mut IntakePass<T>,
+        intake_pass: &mut IntakePass<T>,
     ) -> bool
-        requires own { hand.old.intake ≡ place.now.intake.now }
-        ensures taken { HasTakenMore hand.old hand.new }
+        requires own { intake_pass.old.intake ≡ place.now.intake.now }
+        ensures taken { HasTakenMore intake_pass.old intake_pass.new }
         ensures does { WorkerHasDone S.steps S.refuses (shift_of self.old.worker self.old.sources.items self.old.conns.items)
             (shift_of self.new.worker self.new.sources.items self.new.conns.items) }
     {
         match turn_source.next(self.worker.log()) {
             Some(call) => {
-                self.follow(rt, place, turn_source, hand, call);
+                self.follow(rt, place, turn_source, intake_pass, call);
                 true
             }
             None => false,
@@ -176,15 +175,15 @@ impl<S: Server + Drop, L: Line> Shift<S, L> {
         rt: &R,
         place: &Workplace<'_, A, T, G>,
         turn_source: &mut P,
-        hand: &mut IntakePass<T>,
+        intake_pass: &mut IntakePass<T>,
         call: TurnStart,
     )
-        requires own { hand.old.intake ≡ place.now.intake.now }
-        ensures taken { HasTakenMore hand.old hand.new }
+        requires own { intake_pass.old.intake ≡ place.now.intake.now }
+        ensures taken { HasTakenMore intake_pass.old intake_pass.new }
         ensures does { WorkerHasDone S.steps S.refuses (shift_of self.old.worker self.old.sources.items self.old.conns.items)
             (shift_of self.new.worker self.new.sources.items self.new.conns.items) }
     {
-        self.take_in(rt, place.intake, turn_source, hand, call);
+        self.take_in(rt, place.intake, turn_source, intake_pass, call);
         self.make_turn(place.gate, turn_source, call);
     }
 
@@ -195,16 +194,16 @@ impl<S: Server + Drop, L: Line> Shift<S, L> {
         rt: &R,
         intake: &Intake<T>,
         turn_source: &mut P,
-        hand: &mut IntakePass<T>,
+        intake_pass: &mut IntakePass<T>,
         call: TurnStart,
     )
-        requires own { hand.old.intake ≡ intake.now }
-        ensures taken { HasTakenMore hand.old hand.new }
+        requires own { intake_pass.old.intake ≡ intake.now }
+        ensures taken { HasTakenMore intake_pass.old intake_pass.new }
         ensures does { WorkerHasDone S.steps S.refuses (shift_of self.old.worker self.old.sources.items self.old.conns.items)
             (shift_of self.new.worker self.new.sources.items self.new.conns.items) }
     {
         'newcomers: for _ in 0..call.newcomers {
-            let Some(newcomer) = intake.take(rt, hand) else {
+            let Some(newcomer) = intake.take(rt, intake_pass) else {
                 return;
             };
             self.admit(turn_source, newcomer, call.turn.ms);
@@ -223,7 +222,7 @@ impl<S: Server + Drop, L: Line> Shift<S, L> {
         }
     }
 
-    /// Serves each connection once, closes those that are too many to linger, and tells the turn source what was seen.
+    /// Serves each connection once, closes those that are too many to linger, and reports to the turn source what was seen.
     fn make_turn<T, P: TurnSource<T, L>, G: Gate>(
         &mut self,
         gate: &G,
@@ -249,7 +248,7 @@ impl<S: Server + Drop, L: Line> Shift<S, L> {
         turn_source: &mut P,
         turn: Turn,
     )
-        // the others are told of news if the turn was, or the turn source says so
+        // the others get news if the turn was, or the turn source says so
         ensures turns { (news : Bool) × (between : WorkerOf (WatchedOf _))
             × IsTurn (WatchedSteps S.steps) (λ watched event. S.refuses watched.server event) turn
             self.old.worker self.old.sources.items between self.new.sources.items
@@ -281,7 +280,7 @@ impl<S: Server + Drop, L: Line> Shift<S, L> {
         ensures sources { result.sources ≡ length self.now.worker.server.feeding.numbers }
         ensures listeners { result.has_listeners ≡ has_listeners self.now.conns.items }
         ensures closed { result.has_closed ≡ nat_lt result.connections before }
-        ensures told { result.told_ms ≡ self.now.worker.told_ms }
+        ensures clock { result.clock_ms ≡ self.now.worker.clock_ms }
     {
         let connections = self.count();
         Seen {
@@ -291,7 +290,7 @@ impl<S: Server + Drop, L: Line> Shift<S, L> {
             sources: self.worker.server().sources(),
             has_listeners: has_listeners(self.conns.as_slice()),
             has_closed: connections < before,
-            told_ms: self.worker.told_ms(),
+            clock_ms: self.worker.clock_ms(),
         }
     }
 

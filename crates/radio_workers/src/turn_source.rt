@@ -6,16 +6,16 @@ use radio_addr::Peer;
 use radio_notes::Log;
 use radio_serving::{Line, Turn};
 
-/// What a worker is told before a turn.
+/// What a worker gets before a turn.
 #[derive(Clone, Copy)]
 pub struct TurnStart {
-    /// What the turn is told of.
+    /// What the turn begins with.
     pub turn: Turn,
     /// How many of the connections that wait it takes before it, at most.
     pub newcomers: usize,
 }
 
-/// What a worker tells after a turn.
+/// What a worker reports after a turn.
 #[derive(Clone, Copy)]
 pub struct Seen {
     /// Whether listeners may have news by what was done in this turn, whichever worker serves them, beside what sources have
@@ -31,13 +31,13 @@ pub struct Seen {
     pub has_listeners: bool,
     /// Whether fewer are left than there were before the turn.
     pub has_closed: bool,
-    /// The moment that the worker told the server last, in milliseconds; 0 if it never did.
-    pub told_ms: u64,
+    /// The moment that the worker gave the server last, in milliseconds; 0 if it never did.
+    pub clock_ms: u64,
 }
 
 /// Where a worker's turns and lines come from: of connections, that wait as `T`, each becomes an `L`.
 pub trait TurnSource<T, L: Line>: Drop {
-    /// Waits until there is something to do. Returns what the next turn is told; `None` if the worker is to stop. It tells the log
+    /// Waits until there is something to do. Returns what the next turn begins with; `None` if the worker is to stop. It gives the log
     /// the moment.
     fn next(&mut self, log: &Log) -> Option<TurnStart>;
 
@@ -52,9 +52,9 @@ pub trait TurnSource<T, L: Line>: Drop {
 
     /// Notes that the connections of sources were served in this turn. If it `brings` news, that is news to listeners, whichever
     /// worker serves them. Returns whether a round of draws begins, in which its own draw what there is: it does if the turn
-    /// `is_told` of news.
-    fn begins_round(&mut self, is_told: bool, brings: bool) -> bool
-        ensures { is_told ≡ true → result ≡ true };
+    /// `has_news`.
+    fn begins_round(&mut self, has_news: bool, brings: bool) -> bool
+        ensures { has_news ≡ true → result ≡ true };
 
     /// Notes that a turn is over, and what was seen. It takes the lines of the log that wait.
     fn note(&mut self, seen: Seen, log: &Log);

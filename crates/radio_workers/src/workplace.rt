@@ -1,10 +1,9 @@
 //! What workers share, and what each has.
 
 ghost use Rattle.std.specs.Prelude.{◌≡◌, ◌-◌, ◌<◌, ◌++◌, ◌∷◌, [], All, OnOk, OnErr};
-ghost use Rattle.radio_intake.specs.Passes.{unused};
+ghost use Rattle.radio_workers.specs.Passes.{unused};
 
-use crate::OutOfMemory;
-use radio_intake::{Intake, IntakePass};
+use crate::{Intake, IntakePass, OutOfMemory};
 use radio_serving::{Gate, WebAnswers};
 
 /// What all workers share.
@@ -14,7 +13,7 @@ pub struct Workplace<'a, S, T, G: Gate> {
     pub server: &'a S,
     /// Where they take connections from.
     pub intake: &'a Intake<T>,
-    /// Whom each tells of its writes.
+    /// What marks the beginning and the end of each write.
     pub gate: &'a G,
     /// What the settings say of answers.
     pub web: WebAnswers,
@@ -32,33 +31,33 @@ pub struct WorkerSlot<A: Drop, T: Drop, P: Drop> {
     /// A pass of the server, by which the worker calls it. It is back here once the worker has ended.
     pub pass: Option<A>,
     /// A pass of the intake.
-    pub hand: IntakePass<T>,
+    pub intake_pass: IntakePass<T>,
     /// Where its turns come from.
     pub turn_source: P,
 }
 
-/// Adds a slot with this pass of the server, this turn source, and one part of the intake from those of `hand`. `OutOfMemory` where
+/// Adds a slot with this pass of the server, this turn source, and one part of the intake from those of `intake_pass`. `OutOfMemory` where
 /// memory was refused: no part was taken then, and the slots are as they were.
 pub fn add_slot<A: Drop, T: Drop, P: Drop>(
     slots: &mut Vec<WorkerSlot<A, T, P>>,
     intake: &Intake<T>,
-    hand: &mut IntakePass<T>,
+    intake_pass: &mut IntakePass<T>,
     pass: Option<A>,
     turn_source: P,
 ) -> Result<(), OutOfMemory>
-    requires own { hand.old.intake ≡ intake.now }
-    requires parts { 1 < hand.old.parts }
-    ensures part { OnOk result (hand.new ≡ record hand.old { parts = hand.old.parts - 1 }) }
-    ensures added { OnOk result (slots.new.items ≡ slots.old.items ++ record { pass = pass; hand = unused intake.now 1; turn_source = turn_source } ∷ []) }
-    ensures slots { All (λ slot. slot.hand.intake ≡ intake.now) slots.old.items → OnOk result (All (λ slot. slot.hand.intake ≡ intake.now) slots.new.items) }
-    ensures whole { OnErr result (hand.new ≡ hand.old) }
+    requires own { intake_pass.old.intake ≡ intake.now }
+    requires parts { 1 < intake_pass.old.parts }
+    ensures part { OnOk result (intake_pass.new ≡ record intake_pass.old { parts = intake_pass.old.parts - 1 }) }
+    ensures added { OnOk result (slots.new.items ≡ slots.old.items ++ record { pass = pass; intake_pass = unused intake.now 1; turn_source = turn_source } ∷ []) }
+    ensures slots { All (λ slot. slot.intake_pass.intake ≡ intake.now) slots.old.items → OnOk result (All (λ slot. slot.intake_pass.intake ≡ intake.now) slots.new.items) }
+    ensures whole { OnErr result (intake_pass.new ≡ intake_pass.old) }
     ensures same { OnErr result (slots.new.items ≡ slots.old.items) }
 {
     slots.reserve(1)?;
-    let own = intake.split(hand);
+    let own = intake.split(intake_pass);
     slots.push_reserved(WorkerSlot {
         pass,
-        hand: own,
+        intake_pass: own,
         turn_source,
     });
     Ok(())

@@ -1,6 +1,6 @@
 -- By which faults the parts of the program end.
 use Rattle.std.specs.Prelude.{◌≡◌, ◌⊎◌, Bool, true}
-use Rattle.radio_deliveries.specs.declared.faults.PlayFault.TheVariants.{Write}
+use Rattle.radio_script.specs.declared.faults.PlayFault.TheVariants.{Write}
 use Rattle.radio_startup.specs.declared.call.CommandLine.{CommandLine}
 use Rattle.radio_startup.specs.declared.call.CommandLine.TheVariants.{Play as CallsPlay, Serve as CallsServe, Check as CallsCheck, Version as CallsVersion, Help as CallsHelp}
 use Rattle.radiod.specs.declared.fault.Fault.{Fault}

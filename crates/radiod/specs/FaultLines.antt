@@ -2,11 +2,11 @@
 use Rattle.std.specs.Prelude.{◌≡◌, ℕ, List, [], codes}
 use Rattle.std.specs.String.{string_bytes}
 use Rattle.radio_log.specs.declared.facts.Fact.{Fact}
-use Rattle.radio_log.specs.declared.facts.Fact.TheVariants.{Fault as TellsFault}
+use Rattle.radio_log.specs.declared.facts.Fact.TheVariants.{Fault as FaultFact}
 use Rattle.radio_log.specs.declared.facts.FaultyKey.{FaultyKey}
 use Rattle.radio_startup.specs.FaultLines.{file_fault_text, file_status, file_in, place_in_file, key_in, no_key}
 use Rattle.radio_startup.specs.Sayings.{IsReasonOfFile}
-use Rattle.radio_deliveries.specs.Words.{play_fault_text}
+use Rattle.radio_script.specs.Words.{play_fault_text}
 use Rattle.radio_sockets.specs.Faults.{serve_fault_text}
 use Rattle.radiod.specs.declared.fault.Fault.{Fault}
 use Rattle.radiod.specs.declared.fault.NotBound.{NotBound}
@@ -39,18 +39,18 @@ abbrev pub file_of : Fault → List ℕ → List ℕ
 file_of (File fault) settings = file_in fault settings
 file_of fault settings = []
 
-abbrev pub place_of : Fault → ℕ × ℕ
-place_of (File fault) = place_in_file fault
-place_of fault = (0, 0)
+abbrev pub fault_place : Fault → ℕ × ℕ
+fault_place (File fault) = place_in_file fault
+fault_place fault = (0, 0)
 
-abbrev pub key_of : Fault → FaultyKey
-key_of (File fault) = key_in fault
-key_of fault = no_key
+abbrev pub faulty_key : Fault → FaultyKey
+faulty_key (File fault) = key_in fault
+faulty_key fault = no_key
 
 -- the address that was to be bound
-abbrev pub address_of : Fault → List ℕ
-address_of (CannotBind address reason) = string_bytes address
-address_of fault = []
+abbrev pub bind_address : Fault → List ℕ
+bind_address (CannotBind address reason) = string_bytes address
+bind_address fault = []
 
 -- why an address cannot be bound, in words: the system's own if it refuses it
 abbrev pub IsBindReason : NotBound → List ℕ → Type 0
@@ -65,12 +65,12 @@ IsReasonOf fault reason = reason ≡ []
 
 -- what the log says of a fault by which the program does not serve, by its words and its reason
 abbrev pub fault_fact : List ℕ → Fault → List ℕ → List ℕ → Fact
-fault_fact settings fault why reason = TellsFault (record {
+fault_fact settings fault why reason = FaultFact (record {
   why = why;
   file = file_of fault settings;
-  line = (place_of fault).0;
-  column = (place_of fault).1;
-  address = address_of fault;
+  line = (fault_place fault).0;
+  column = (fault_place fault).1;
+  address = bind_address fault;
   reason = reason;
-  at = key_of fault;
+  at = faulty_key fault;
 })

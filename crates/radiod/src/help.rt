@@ -1,7 +1,7 @@
 //! What `--version` and `--help` write on standard output.
 
 ghost use Rattle.std.specs.Prelude.{◌≡◌, IfErr, MatchResult};
-ghost use Rattle.radio_deliveries.specs.declared.faults.PlayFault.TheVariants.{Write};
+ghost use Rattle.radio_script.specs.declared.faults.PlayFault.TheVariants.{Write};
 ghost use Rattle.radiod.specs.declared.fault.Fault.TheVariants.{Play};
 
 use crate::fault::Fault;

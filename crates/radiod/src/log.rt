@@ -4,7 +4,7 @@ ghost use Rattle.std.specs.Prelude.{◌≡◌, IfErr, IfSome};
 ghost use Rattle.std.specs.String.{string_bytes};
 ghost use Rattle.radiod.specs.declared.fault.Fault.TheVariants.{OutOfMemory as NoMemory};
 ghost use Rattle.radiod.specs.Checks.{verdict_line};
-ghost use Rattle.radiod.specs.FaultLines.{IsBindReason, IsReasonOf, address_of, fault_fact, file_of, key_of, place_of};
+ghost use Rattle.radiod.specs.FaultLines.{IsBindReason, IsReasonOf, bind_address, fault_fact, fault_place, faulty_key, file_of};
 
 use crate::fault::{Fault, NotBound};
 use crate::output::LimitedFile;
@@ -12,7 +12,7 @@ use radio_listening::Listening;
 use radio_log::{Fact, FaultyKey, QuotedText};
 use radio_outlet::{LogQueue, start_log};
 use radio_review::UnknownKey;
-use radio_startup::{Dated, Notices, line_now, tell_start, words_of, words_of_unknown};
+use radio_startup::{Dated, Notices, line_now, log_start, words_of, words_of_unknown};
 use std::sync::{Arc, Wait};
 use std::thread::Threads;
 use std::time::Clock;
@@ -55,7 +55,7 @@ impl<'a, W: Clock + Threads + Wait + Copy + Drop + Send + 'static> ProgramLog<'a
     }
 
     /// Adds the line that names the address at which this socket listens, and the log's first line. Returns the socket.
-    pub fn tell_address(&self, listening: Listening) -> Listening
+    pub fn report_address(&self, listening: Listening) -> Listening
         ensures { result ≡ listening }
     {
         let alloc = self.rt.alloc();
@@ -64,7 +64,7 @@ impl<'a, W: Clock + Threads + Wait + Copy + Drop + Send + 'static> ProgramLog<'a
                 self.queue.add(self.waits, line.as_bytes(), 0);
             }
             if let Ok(address) = format!(in alloc; "{address}") {
-                tell_start(self, address.as_str());
+                log_start(self, address.as_str());
             }
         }
         listening
@@ -72,7 +72,7 @@ impl<'a, W: Clock + Threads + Wait + Copy + Drop + Send + 'static> ProgramLog<'a
 
     /// Adds the last line of a check with this result, and returns that. It waits for a second at most until all is
     /// written.
-    pub fn tell_verdict(&self, verdict: Result<(), Fault>) -> Result<(), Fault>
+    pub fn report_verdict(&self, verdict: Result<(), Fault>) -> Result<(), Fault>
         ensures { result ≡ verdict }
     {
         self.queue.add(self.waits, verdict_line(&verdict), 0);
@@ -82,12 +82,12 @@ impl<'a, W: Clock + Threads + Wait + Copy + Drop + Send + 'static> ProgramLog<'a
 
     /// Says the fault by which the program that served ends, adds its line, and returns the fault. It waits for a second at most
     /// until all is written: neither who reads the log nor who reads standard error keeps the program from its end.
-    pub fn tell_end(&self, fault: Fault) -> Fault
+    pub fn report_end(&self, fault: Fault) -> Fault
         ensures { result ≡ fault }
     {
         let fault = self.say_soon(fault);
         if let Some(why) = words_of(self.rt.alloc(), &fault) {
-            self.tell(Fact::Ended {
+            self.add(Fact::Ended {
                 why: QuotedText::of(why.as_bytes()),
             });
         }
@@ -113,14 +113,14 @@ impl<'a, W: Clock + Threads + Wait + Copy + Drop + Send + 'static> ProgramLog<'a
 
     /// Says a fault by which the program does not serve, and adds a line that has what is known of it in addition to its words.
     /// Returns the fault. `path` is that of the settings.
-    pub fn tell_fault(&self, path: &str, fault: Fault) -> Fault
+    pub fn report_fault(&self, path: &str, fault: Fault) -> Fault
         ensures { result ≡ fault }
     {
         let fault = say(self.rt, fault);
         let why = words_of(self.rt.alloc(), &fault);
         let reason = reason_of(self.rt, &fault);
         if let (Some(why), Some(reason)) = (why, reason) {
-            self.tell(fault_fact(path, &fault, why.as_str(), reason.as_str()));
+            self.add(fault_fact(path, &fault, why.as_str(), reason.as_str()));
             self.queue.wait_written(self.waits, LAST_WAIT_MS);
         }
         fault
@@ -128,7 +128,7 @@ impl<'a, W: Clock + Threads + Wait + Copy + Drop + Send + 'static> ProgramLog<'a
 }
 
 impl<'a, W: Wait> Notices for ProgramLog<'a, W> {
-    fn tell(&self, fact: Fact<'_>) {
+    fn add(&self, fact: Fact<'_>) {
         if let Some(Dated { line, seconds }) = line_now(self.rt, fact) {
             self.queue.add(self.waits, line.as_slice(), seconds);
         }
@@ -180,7 +180,7 @@ fn file_of<'a>(settings: &'a str, fault: &'a Fault) -> &'a str
 
 /// The line and the column of a fault, 0 where none is known.
 fn place_of(fault: &Fault) -> (u64, u64)
-    ensures { result ≡ place_of fault.now }
+    ensures { result ≡ fault_place fault.now }
 {
     match fault {
         Fault::File(fault) => fault.place(),
@@ -195,7 +195,7 @@ fn place_of(fault: &Fault) -> (u64, u64)
 
 /// The key of the settings that a fault is of; all is empty if it is of none.
 fn key_of(fault: &Fault) -> FaultyKey<'_>
-    ensures { result ≡ key_of fault.now }
+    ensures { result ≡ faulty_key fault.now }
 {
     match fault {
         Fault::File(fault) => fault.key(),
@@ -215,7 +215,7 @@ fn key_of(fault: &Fault) -> FaultyKey<'_>
 
 /// The address that was to be bound.
 fn address_of(fault: &Fault) -> &str
-    ensures { result.now ≡ address_of fault.now }
+    ensures { result.now ≡ bind_address fault.now }
 {
     match fault {
         Fault::CannotBind { address, .. } => address.as_str(),

@@ -110,7 +110,7 @@ fn serve_logged<W: Clock + Threads + Wait + Sync + Copy + Drop + Send + 'static>
 {
     match read_text(&SystemFiles::new(rt), path) {
         Ok(text) => Err(serve_text(rt, waits, log, path, &text)),
-        Err(fault) => Err(told(log, path, fault)),
+        Err(fault) => Err(reported(log, path, fault)),
     }
 }
 
@@ -126,7 +126,7 @@ fn serve_text<W: Clock + Threads + Wait + Sync + Copy + Drop + Send + 'static>(
 {
     let unknown = match text.unknown_keys(rt.alloc()) {
         Ok(unknown) => unknown,
-        Err(fault) => return told(log, path, fault),
+        Err(fault) => return reported(log, path, fault),
     };
     match text.station_twice(&SystemFiles::new(rt)) {
         Ok((station, again)) => {
@@ -134,19 +134,19 @@ fn serve_text<W: Clock + Threads + Wait + Sync + Copy + Drop + Send + 'static>(
             drop(again);
             fault
         }
-        Err(fault) => told(log, path, fault),
+        Err(fault) => reported(log, path, fault),
     }
 }
 
 /// Returns the fault of a file, which the log and standard error get.
-fn told<W: Clock + Threads + Wait + Copy + Drop + Send + 'static>(
+fn reported<W: Clock + Threads + Wait + Copy + Drop + Send + 'static>(
     log: &ProgramLog<'_, W>,
     path: &str,
     fault: FileFault,
 ) -> Fault
     ensures { result ≡ File fault }
 {
-    log.tell_fault(path, Fault::File(fault))
+    log.report_fault(path, Fault::File(fault))
 }
 
 /// Reads what `serve` reads. Logs what is doubtful as `serve` does, and then `ok`; warnings are a fault if the check is
@@ -177,9 +177,9 @@ fn check_logged<W: Clock + Threads + Wait + Copy + Drop + Send + 'static>(
     match warnings_of(rt, log, path) {
         Ok(warnings) => {
             let verdict = verdict(is_strict, warnings);
-            said(rt, log.tell_verdict(verdict))
+            said(rt, log.report_verdict(verdict))
         }
-        Err(fault) => Err(told(log, path, fault)),
+        Err(fault) => Err(reported(log, path, fault)),
     }
 }
 

@@ -46,7 +46,7 @@ pub fn serve_station<W: Clock + Threads + Wait + Sync + Copy + Drop + Send + 'st
     match bind(rt, log, &station.settings, unknown) {
         Ok((listening, queue)) => {
             let _warnings = warn(rt, log, &station.settings, unknown);
-            log.tell_end(Fault::Serve(serve_in::<W, Brand>(
+            log.report_end(Fault::Serve(serve_in::<W, Brand>(
                 rt,
                 waits,
                 station,
@@ -58,7 +58,7 @@ pub fn serve_station<W: Clock + Threads + Wait + Sync + Copy + Drop + Send + 'st
         }
         Err(fault) => {
             drop(station);
-            log.tell_fault(path, fault)
+            log.report_fault(path, fault)
         }
     }
 }
@@ -74,7 +74,7 @@ fn bind<W: Clock + Threads + Wait + Copy + Drop + Send + 'static>(
 {
     let listening = bind_socket(rt, settings)?;
     say_unknown(rt, unknown);
-    let listening = log.tell_address(listening);
+    let listening = log.report_address(listening);
     match log.queue() {
         Ok(queue) => Ok((listening, queue)),
         Err(fault) => Err(fault),

@@ -1,13 +1,13 @@
 //! What is noted of a connection, and which lines it has in the log.
 
 use radio_addr::Peer;
-use radio_notes::{Account, Log, Told};
+use radio_notes::{Account, Log, ReplyNote};
 use std::alloc::Global;
 
 /// The account of a connection that came two seconds ago, and was replied to so.
-fn account_of(alloc: Global, told: Told) -> Account {
+fn account_of(alloc: Global, note: ReplyNote) -> Account {
     let account = Account::new(alloc, 1000);
-    account.note_reply(told);
+    account.note_reply(note);
     account
 }
 
@@ -15,10 +15,10 @@ fn account_of(alloc: Global, told: Told) -> Account {
 /// writes it.
 fn has_lines(alloc: Global, log: &Log, account: &Account, word: &str, count: usize) -> bool {
     let peer = Peer::of_v4(0x7f00_0001);
-    account.tell_source(log, peer, 3000);
-    account.tell_source(log, peer, 3000);
-    account.tell_client(log, peer, 3000);
-    account.tell_client(log, peer, 3000);
+    account.log_source_gone(log, peer, 3000);
+    account.log_source_gone(log, peer, 3000);
+    account.log_client_ended(log, peer, 3000);
+    account.log_client_ended(log, peer, 3000);
     lines_with(log.take().as_slice(), word) == count
 }
 
@@ -39,19 +39,19 @@ fn lines_with(bytes: &[u8], word: &str) -> usize {
 // rule: Line of a client
 // only tested: Line of a client: that a worker notes each thing
 #[test]
-fn a_source_is_told_once(rt: HostRuntime) {
+fn a_source_is_logged_once(rt: HostRuntime) {
     let alloc = rt.alloc();
     let log = Log::new(alloc);
-    let account = account_of(alloc, Told::Feeding);
+    let account = account_of(alloc, ReplyNote::Feeding);
     assert!(rt; has_lines(alloc, &log, &account, "source-gone", 1));
 }
 
 // rule: Line of a client
 #[test]
-fn the_first_end_is_told(rt: HostRuntime) {
+fn the_first_end_is_logged(rt: HostRuntime) {
     let alloc = rt.alloc();
     let log = Log::new(alloc);
-    let account = account_of(alloc, Told::Seated);
+    let account = account_of(alloc, ReplyNote::Seated);
     account.note_no_memory();
     account.note_stalled();
     assert!(rt; has_lines(alloc, &log, &account, "why=out-of-memory", 1));
@@ -61,9 +61,9 @@ fn the_first_end_is_told(rt: HostRuntime) {
 fn polls_may_be_left_out(rt: HostRuntime) {
     let alloc = rt.alloc();
     let log = Log::new(alloc);
-    let shown = account_of(alloc, Told::Shown);
-    let told = account_of(alloc, Told::Shown);
-    assert!(rt; has_lines(alloc, &log, &told, "why=left", 1));
+    let shown = account_of(alloc, ReplyNote::Shown);
+    let logged = account_of(alloc, ReplyNote::Shown);
+    assert!(rt; has_lines(alloc, &log, &logged, "why=left", 1));
     log.leave_out_polls();
     assert!(rt; has_lines(alloc, &log, &shown, "why=", 0));
 }

@@ -2,7 +2,7 @@
 
 ghost use Rattle.std.specs.Prelude.{◌≡◌, ◌-◌, ◌^◌, ◌<◌, All, IfOk, OnOk};
 ghost use Rattle.radio_access.specs.Lists.{no_lists};
-ghost use Rattle.radio_intake.specs.Passes.{all_parts};
+ghost use Rattle.radio_workers.specs.Passes.{all_parts};
 ghost use Rattle.radio_parts_station.specs.World.{opening};
 
 use crate::connections::{CONNECTIONS, Connections, peer_of};
@@ -12,14 +12,15 @@ use crate::line::DicedLine;
 use radio_access::Lists;
 use radio_addr::Peer;
 use radio_book::{Kept, Origin, PASSES, Pass};
-use radio_intake::{Intake, IntakePass};
+use radio_hall::settle;
 use radio_locks::{Hall, OutOfMemory};
 use radio_notes::Log;
 use radio_serving::{OpenGate, Turn, WebAnswers};
 use radio_settings::{SettingsFault, read_settings};
 use radio_settings_values::Settings;
-use radio_settling::settle;
-use radio_workers::{Seen, TurnSource, TurnStart, WorkerSlot, Workplace, add_slot, run_workers};
+use radio_workers::{
+    Intake, IntakePass, Seen, TurnSource, TurnStart, WorkerSlot, Workplace, add_slot, run_workers,
+};
 use std::alloc::Global;
 use std::marker::Brand;
 use std::sync::Wait;
@@ -53,7 +54,7 @@ impl<'a, R: Wait + Clock> TurnSource<usize, DicedLine<'a, R>> for DicedTurns<'a,
             turn: Turn {
                 ms: self.ms,
                 news: true,
-                told_ms: 0,
+                clock_ms: 0,
             },
             newcomers: 1,
         })
@@ -78,8 +79,8 @@ impl<'a, R: Wait + Clock> TurnSource<usize, DicedLine<'a, R>> for DicedTurns<'a,
         lingering
     }
 
-    fn begins_round(&mut self, is_told: bool, brings: bool) -> bool {
-        is_told || brings
+    fn begins_round(&mut self, has_news: bool, brings: bool) -> bool {
+        has_news || brings
     }
 
     fn note(&mut self, _seen: Seen, log: &Log) {
@@ -97,16 +98,16 @@ fn add_worker<'a, H: Origin, R: Wait + Clock>(
     hall: &Hall<Kept, H>,
     connections: &'a Connections,
     intake: &Intake<usize>,
-    hand: &mut IntakePass<usize>,
+    intake_pass: &mut IntakePass<usize>,
     slots: &mut Slots<'a, R, H>,
     seed: u64,
 ) -> Result<(), OutOfMemory>
-    requires own { hand.old.intake ≡ intake.now }
-    requires parts { 1 < hand.old.parts }
-    requires slots { All (λ slot. slot.hand.intake ≡ intake.now) slots.old.items }
-    ensures own { hand.new.intake ≡ intake.now }
-    ensures parts { OnOk result (hand.new.parts ≡ hand.old.parts - 1) }
-    ensures slots { OnOk result (All (λ slot. slot.hand.intake ≡ intake.now) slots.new.items) }
+    requires own { intake_pass.old.intake ≡ intake.now }
+    requires parts { 1 < intake_pass.old.parts }
+    requires slots { All (λ slot. slot.intake_pass.intake ≡ intake.now) slots.old.items }
+    ensures own { intake_pass.new.intake ≡ intake.now }
+    ensures parts { OnOk result (intake_pass.new.parts ≡ intake_pass.old.parts - 1) }
+    ensures slots { OnOk result (All (λ slot. slot.intake_pass.intake ≡ intake.now) slots.new.items) }
 {
     let turns = DicedTurns {
         rt,
@@ -115,7 +116,7 @@ fn add_worker<'a, H: Origin, R: Wait + Clock>(
         seed,
         ms: 0,
     };
-    add_slot(slots, intake, hand, hall.pass(rt), turns)
+    add_slot(slots, intake, intake_pass, hall.pass(rt), turns)
 }
 
 /// Returns slots for two workers. `OutOfMemory` if memory was refused.
@@ -125,28 +126,46 @@ fn slots_for<'a, H: Origin, R: Wait + Clock>(
     hall: &Hall<Kept, H>,
     connections: &'a Connections,
     intake: &Intake<usize>,
-    hand: &mut IntakePass<usize>,
+    intake_pass: &mut IntakePass<usize>,
     seed: u64,
 ) -> Result<Slots<'a, R, H>, OutOfMemory>
-    requires own { hand.old.intake ≡ intake.now }
-    requires parts { hand.old.parts ≡ all_parts }
-    ensures own { hand.new.intake ≡ intake.now }
-    ensures slots { IfOk result (λ slots. All (λ slot. slot.hand.intake ≡ intake.now) slots.items) }
+    requires own { intake_pass.old.intake ≡ intake.now }
+    requires parts { intake_pass.old.parts ≡ all_parts }
+    ensures own { intake_pass.new.intake ≡ intake.now }
+    ensures slots { IfOk result (λ slots. All (λ slot. slot.intake_pass.intake ≡ intake.now) slots.items) }
 {
     let mut slots = Vec::new(alloc);
-    add_worker(rt, alloc, hall, connections, intake, hand, &mut slots, seed)?;
-    add_worker(rt, alloc, hall, connections, intake, hand, &mut slots, seed)?;
+    add_worker(
+        rt,
+        alloc,
+        hall,
+        connections,
+        intake,
+        intake_pass,
+        &mut slots,
+        seed,
+    )?;
+    add_worker(
+        rt,
+        alloc,
+        hall,
+        connections,
+        intake,
+        intake_pass,
+        &mut slots,
+        seed,
+    )?;
     Ok(slots)
 }
 
 /// All connections wait to be taken. Returns whether there was room for them.
-fn fill<R: Wait>(rt: &R, intake: &Intake<usize>, hand: &mut IntakePass<usize>) -> bool
-    requires own { hand.old.intake ≡ intake.now }
-    ensures own { hand.new.intake ≡ intake.now }
-    ensures parts { hand.new.parts ≡ hand.old.parts }
+fn fill<R: Wait>(rt: &R, intake: &Intake<usize>, intake_pass: &mut IntakePass<usize>) -> bool
+    requires own { intake_pass.old.intake ≡ intake.now }
+    ensures own { intake_pass.new.intake ≡ intake.now }
+    ensures parts { intake_pass.new.parts ≡ intake_pass.old.parts }
 {
     'numbers: for number in 0..CONNECTIONS {
-        if intake.put(rt, hand, number).is_err() {
+        if intake.put(rt, intake_pass, number).is_err() {
             return false;
         }
     }
@@ -161,7 +180,7 @@ fn work<'a, H: Origin + Send + Sync, R: Threads + Wait + Clock + Sync>(
     intake: &Intake<usize>,
     slots: &mut [WorkerSlot<Pass<Kept, H>, usize, DicedTurns<'a, R>>],
 )
-    requires slots { All (λ slot. slot.hand.intake ≡ intake.now) slots.old }
+    requires slots { All (λ slot. slot.intake_pass.intake ≡ intake.now) slots.old }
 {
     let gate = OpenGate;
     let place = Workplace {
@@ -205,15 +224,23 @@ fn are_served<H: Origin + Send + Sync, R: Threads + Wait + Clock + Sync>(
     seed: u64,
     passes: &mut Vec<Pass<Kept, H>>,
 ) -> bool {
-    let Ok((intake, mut hand)) = Intake::new(alloc) else {
+    let Ok((intake, mut intake_pass)) = Intake::new(alloc) else {
         return false;
     };
-    let Ok(mut slots) = slots_for(rt, alloc, hall, connections, &intake, &mut hand, seed) else {
+    let Ok(mut slots) = slots_for(
+        rt,
+        alloc,
+        hall,
+        connections,
+        &intake,
+        &mut intake_pass,
+        seed,
+    ) else {
         return false;
     };
-    let is_filled = fill(rt, &intake, &mut hand);
+    let is_filled = fill(rt, &intake, &mut intake_pass);
     work(rt, alloc, hall, &intake, slots.as_mut_slice());
-    let is_empty = intake.take(rt, &mut hand).is_none();
+    let is_empty = intake.take(rt, &mut intake_pass).is_none();
     add_passes(slots, passes) && is_filled && is_empty
 }
 

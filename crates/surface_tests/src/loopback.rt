@@ -170,7 +170,7 @@ impl Station {
             let turn = Turn {
                 ms,
                 news: true,
-                told_ms: 0,
+                clock_ms: 0,
             };
             self.worker.serve_turn(&mut self.conns, &OpenGate, turn);
             if self.came == 2 && self.conns.is_empty() {
@@ -244,7 +244,7 @@ fn hear<R: Net<Stream = TcpStream>>(rt: &R, address: SocketAddr) -> bool {
 }
 
 /// Whether the worker of one thread serves the clients of another.
-fn are_heard<R>(rt: &R, alloc: Global, listener: &TcpListener) -> bool
+fn are_served_by_another<R>(rt: &R, alloc: Global, listener: &TcpListener) -> bool
 where
     R: Net<Listener = TcpListener, Stream = TcpStream> + Threads + Clock + Sync,
 {
@@ -256,13 +256,13 @@ where
 }
 
 /// The same at a port that is free.
-fn are_heard_somewhere<R>(rt: &R, alloc: Global) -> bool
+fn are_served_somewhere<R>(rt: &R, alloc: Global) -> bool
 where
     R: Net<Listener = TcpListener, Stream = TcpStream> + Threads + Clock + Sync,
 {
     match TcpListener::bind(rt, "127.0.0.1:0") {
         Ok(listener) => {
-            listener.set_nonblocking(true).is_ok() && are_heard(rt, alloc, &listener)
+            listener.set_nonblocking(true).is_ok() && are_served_by_another(rt, alloc, &listener)
         }
         Err(_) => false,
     }
@@ -270,5 +270,5 @@ where
 
 #[test]
 fn a_turn_over_loopback(rt: HostRuntime) {
-    assert!(rt; are_heard_somewhere(&rt, rt.alloc()));
+    assert!(rt; are_served_somewhere(&rt, rt.alloc()));
 }

@@ -143,8 +143,8 @@ fn deliveries(alloc: Global) -> Result<Vec<Delivery>, OutOfMemory> {
 }
 
 /// Whether this is the transcript; `None` if memory was refused.
-fn is_transcript(told: Result<Transcript, RunFault>) -> Option<bool> {
-    match told {
+fn is_transcript(played: Result<Transcript, RunFault>) -> Option<bool> {
+    match played {
         Ok(text) => Some(text.as_slice() == TRANSCRIPT),
         Err(RunFault::OutOfMemory) => None,
         Err(RunFault::Delivery { .. }) => Some(false),

@@ -89,9 +89,9 @@ fn is_sound(items: &[PullItem]) -> bool {
 /// Whether an answer without a stream is a fault with its status, and ends the pull.
 fn is_refused(alloc: Global) -> bool {
     let mut pull = Pull::new(alloc);
-    let told = pull.feed(b"HTTP/1.0 404 Not Found\r\n\r\n");
+    let fed = pull.feed(b"HTTP/1.0 404 Not Found\r\n\r\n");
     let again = pull.feed(b"");
-    matches!(told, Err(PullFault::Status(404))) && matches!(again, Err(PullFault::Failed))
+    matches!(fed, Err(PullFault::Status(404))) && matches!(again, Err(PullFault::Failed))
 }
 
 #[test]

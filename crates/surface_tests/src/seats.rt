@@ -119,7 +119,7 @@ fn are_users(seats: &Seats, mount: &MountName, has_ann: bool, has_anna: bool) ->
 
 /// One user sits at two mounts, and another at the second. The first loses the seat there, and leaves the other mount. Whether
 /// each user is found at each mount as long as somebody sits there who sent it.
-fn are_told_apart(alloc: Global, one: &MountName, other: &MountName) -> Result<bool, OutOfMemory> {
+fn are_users_apart(alloc: Global, one: &MountName, other: &MountName) -> Result<bool, OutOfMemory> {
     let mut seats = Seats::new(alloc);
     come_as(alloc, &mut seats, one, 3, ANN)?;
     come_as(alloc, &mut seats, other, 4, ANNA)?;
@@ -152,6 +152,6 @@ fn seats_of_mounts(rt: HostRuntime) {
         return;
     };
     assert!(rt; are_seated(rt.alloc(), &one, &other) == Ok(true));
-    assert!(rt; are_told_apart(rt.alloc(), &one, &other) == Ok(true));
+    assert!(rt; are_users_apart(rt.alloc(), &one, &other) == Ok(true));
     assert!(rt; are_listed(rt.alloc(), &one) == Ok(true));
 }

@@ -63,7 +63,7 @@ impl TurnSource<u64, SocketLine> for Closes {
             turn: Turn {
                 ms: self.ms,
                 news: false,
-                told_ms: 0,
+                clock_ms: 0,
             },
             newcomers: 1,
         })
@@ -78,8 +78,8 @@ impl TurnSource<u64, SocketLine> for Closes {
         lingering
     }
 
-    fn begins_round(&mut self, is_told: bool, _brings: bool) -> bool {
-        is_told
+    fn begins_round(&mut self, has_news: bool, _brings: bool) -> bool {
+        has_news
     }
 
     fn note(&mut self, _seen: Seen, log: &Log) {
@@ -94,7 +94,7 @@ fn count_closed<R: Threads + Wait + Sync>(
     intake: &Intake<u64>,
     seats: &mut [WorkerSlot<u64, u64, Closes>],
 ) -> u64
-    requires seats { All (λ seat. seat.hand.intake ≡ intake.now) seats.old }
+    requires seats { All (λ seat. seat.intake_pass.intake ≡ intake.now) seats.old }
 {
     let server = Closed { alloc };
     let place = Workplace {

@@ -190,7 +190,7 @@ impl<S: Server + Drop> Station<S> {
             let turn = Turn {
                 ms,
                 news,
-                told_ms: 0,
+                clock_ms: 0,
             };
             self.turn(&OpenGate, turn);
             ms = ms.saturating_add(step_ms);

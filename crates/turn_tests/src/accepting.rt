@@ -2,7 +2,7 @@
 
 ghost use Rattle.std.specs.Prelude.{⊤};
 
-use radio_intake::{AcceptResult, Accepts, Entrance, accept_next};
+use radio_workers::{AcceptResult, Accepts, Entrance, accept_next};
 
 /// A listener that fails so many times, and then gives one connection after another. It counts how
 /// often it was asked.

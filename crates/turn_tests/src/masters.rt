@@ -75,7 +75,7 @@ fn last_of(
     last
 }
 
-/// Whether the last of so many turns of such a relay has that result. It need not if memory is refused.
+/// Whether the last of so many turns of such a relay has that result.
 fn comes_to(alloc: Global, row: &Row) -> bool {
     match pull_of(alloc, row.manners) {
         Some(mut pull) => {
@@ -83,7 +83,7 @@ fn comes_to(alloc: Global, row: &Row) -> bool {
             drop(pull);
             comes
         }
-        None => true,
+        None => false,
     }
 }
 
@@ -94,7 +94,7 @@ fn asks_as(alloc: Global, pull: &mut MountPull<MemoryLine>, row: &Row) -> bool {
             drop(server.into_server());
             ends
         }
-        None => true,
+        None => false,
     }
 }
 
@@ -102,7 +102,7 @@ fn ends_as(pull: &mut MountPull<MemoryLine>, server: &mut RelayServer<Core>, row
     let last = last_of(pull, server, row.turns);
     let is_up = pull.number().is_some();
     let is_closed = pull.close(server).is_ok();
-    last == PullTurn::OutOfMemory || (last == row.last && is_up == row.is_up && is_closed)
+    last == row.last && is_up == row.is_up && is_closed
 }
 
 /// A relay, and what is seen of it.
@@ -179,11 +179,11 @@ fn pulls_over_a_line(rt: HostRuntime) {
     }
 }
 
-/// Whether a listener hears what a relay has pulled in. It need not if memory is refused.
+/// Whether a listener hears what a relay has pulled in.
 fn is_heard(alloc: Global) -> bool {
     match pulled(alloc) {
         Some(core) => hears(Station::new(alloc, core)),
-        None => true,
+        None => false,
     }
 }
 
@@ -213,7 +213,7 @@ fn hears(mut station: Station<Core>) -> bool {
 
 fn is_heard_at(station: &mut Station<Core>) -> bool {
     if !station.comes(LISTENER, 0) {
-        return true;
+        return false;
     }
     station.turns(1, 1, 2, true);
     station.shows(0, Look::Took(HEARD))
@@ -272,18 +272,18 @@ const LISTS: &[(&[u8], bool, Result<&[u8], MasterListFault>)] = &[
     (b"none\r\n\r\n", true, Err(MasterListFault::BadHead)),
 ];
 
-/// Whether these names are those, each followed by a space. They need not be if memory is refused.
+/// Whether these names are those, each followed by a space.
 fn are_named(alloc: Global, names: &BTreeSet<MountName>, wanted: &[u8]) -> bool {
-    let mut told = Vec::new(alloc);
+    let mut text = Vec::new(alloc);
     for name in names {
-        if told.extend_from_slice(name.as_bytes()).is_err() || told.push(b' ').is_err() {
-            return true;
+        if text.extend_from_slice(name.as_bytes()).is_err() || text.push(b' ').is_err() {
+            return false;
         }
     }
-    told.as_slice() == wanted
+    text.as_slice() == wanted
 }
 
-/// Whether an answer is read so. It need not be if memory is refused.
+/// Whether an answer is read so.
 fn is_read(
     alloc: Global,
     answer: &[u8],
@@ -292,7 +292,6 @@ fn is_read(
 ) -> bool {
     match (read_list_answer(alloc, answer, has_closed), wanted) {
         (Ok(names), Ok(wanted)) => are_named(alloc, &names, wanted),
-        (Err(MasterListFault::OutOfMemory), _) => true,
         (Err(fault), Err(wanted)) => fault == wanted,
         _ => false,
     }
@@ -313,7 +312,7 @@ const LISTED: Manners = Manners {
     ..SILENT
 };
 
-/// Whether the slave has this list with its fifth turn. It need not if memory is refused.
+/// Whether the slave has this list with its fifth turn.
 fn is_listed(alloc: Global) -> bool {
     match settings(alloc, RELAYED) {
         Ok(settings) => {
@@ -321,25 +320,25 @@ fn is_listed(alloc: Global) -> bool {
             drop(settings);
             is_listed
         }
-        Err(_) => true,
+        Err(_) => false,
     }
 }
 
 fn is_listed_by(alloc: Global, settings: &Settings) -> bool {
     match &settings.slave {
-        Some(slave) => is_told_to(alloc, slave),
+        Some(slave) => comes_to_slave(alloc, slave),
         None => false,
     }
 }
 
-fn is_told_to(alloc: Global, slave: &SlaveSetting) -> bool {
+fn comes_to_slave(alloc: Global, slave: &SlaveSetting) -> bool {
     match ListPull::new(alloc, slave, MemoryLine::new(alloc, LISTED)) {
         Ok(mut pull) => {
-            let is_told = is_last(alloc, &mut pull, 5);
+            let is_last = is_last(alloc, &mut pull, 5);
             drop(pull);
-            is_told
+            is_last
         }
-        Err(_) => true,
+        Err(_) => false,
     }
 }
 
@@ -350,7 +349,7 @@ fn is_last(alloc: Global, pull: &mut ListPull<MemoryLine>, turns: u64) -> bool {
         match has_come(pull, &mut buffer) {
             Ok(false) => (),
             Ok(true) => return false,
-            Err(fault) => return fault == MasterListFault::OutOfMemory,
+            Err(_) => return false,
         }
     }
     is_whole(alloc, pull, &mut buffer)
@@ -366,7 +365,7 @@ fn is_whole(alloc: Global, pull: &mut ListPull<MemoryLine>, buffer: &mut [u8]) -
     match pull.turn(buffer) {
         Ok(Some(names)) => are_named(alloc, &names, b"/a /c "),
         Ok(None) => false,
-        Err(fault) => fault == MasterListFault::OutOfMemory,
+        Err(_) => false,
     }
 }
 

@@ -30,11 +30,11 @@ fn begun(alloc: Global, due: &[u64], places: usize) -> Result<Vec<usize>, AllocE
     Ok(numbers)
 }
 
-/// Whether these begin. They need not if memory is refused.
+/// Whether these begin.
 fn begin_as(alloc: Global, due: &[u64], places: usize, want: &[usize]) -> bool {
     match begun(alloc, due, places) {
         Ok(numbers) => numbers.as_slice() == want,
-        Err(_) => true,
+        Err(_) => false,
     }
 }
 

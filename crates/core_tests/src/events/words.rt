@@ -163,9 +163,9 @@ fn is_replied(
 ) -> Result<bool, OutOfMemory> {
     let event = call.event(alloc)?;
     let reply = core.step(event)?;
-    let told = is_told(alloc, &reply, want);
+    let is_wanted = is_in_words(alloc, &reply, want);
     drop(reply);
-    told
+    is_wanted
 }
 
 /// Whether each of the three replies of a core to a call is as the table says.
@@ -201,41 +201,41 @@ fn is_replied_three_times(
 ) -> Result<bool, OutOfMemory> {
     let event = call.event(alloc)?;
     let three = core.step3(event)?;
-    let told = are_told(alloc, &three, want);
+    let are_wanted = are_in_words(alloc, &three, want);
     drop(three);
-    told
+    are_wanted
 }
 
-fn are_told(alloc: Global, replies: &[Reply], want: &str) -> Result<bool, OutOfMemory> {
+fn are_in_words(alloc: Global, replies: &[Reply], want: &str) -> Result<bool, OutOfMemory> {
     for reply in replies {
-        if !is_told(alloc, reply, want)? {
+        if !is_in_words(alloc, reply, want)? {
             return Ok(false);
         }
     }
     Ok(true)
 }
 
-fn is_told(alloc: Global, reply: &Reply, want: &str) -> Result<bool, OutOfMemory> {
-    let words = told(alloc, reply)?;
+fn is_in_words(alloc: Global, reply: &Reply, want: &str) -> Result<bool, OutOfMemory> {
+    let words = words_of(alloc, reply)?;
     Ok(words.as_str() == want)
 }
 
 /// A reply in words.
-fn told(alloc: Global, reply: &Reply) -> Result<String, OutOfMemory> {
+fn words_of(alloc: Global, reply: &Reply) -> Result<String, OutOfMemory> {
     match reply {
         Reply::Arrived(id) => format!(in alloc; "arrived {id}"),
         Reply::Feeding => "feeding".to_string(alloc),
-        Reply::Seated { head, .. } => told_shown(alloc, &head.shown),
-        Reply::Drawn { pieces, .. } => told_drawn(alloc, pieces),
+        Reply::Seated { head, .. } => words_of_shown(alloc, &head.shown),
+        Reply::Drawn { pieces, .. } => words_of_drawn(alloc, pieces),
         Reply::Noted => "noted".to_string(alloc),
-        Reply::Text(text) => told_text(alloc, text),
+        Reply::Text(text) => words_of_text(alloc, text),
         Reply::Deny(rule) => format!(in alloc; "deny {rule}"),
         Reply::Finished(rule) => format!(in alloc; "finished {rule}"),
         Reply::Stray => "stray".to_string(alloc),
     }
 }
 
-fn told_text(alloc: Global, answer: &ReplyText) -> Result<String, OutOfMemory> {
+fn words_of_text(alloc: Global, answer: &ReplyText) -> Result<String, OutOfMemory> {
     match answer {
         ReplyText::Done => "done".to_string(alloc),
         ReplyText::Moved(count) => format!(in alloc; "moved {count}"),
@@ -247,14 +247,14 @@ fn told_text(alloc: Global, answer: &ReplyText) -> Result<String, OutOfMemory> {
     }
 }
 
-fn told_shown(alloc: Global, shown: &Shown) -> Result<String, OutOfMemory> {
+fn words_of_shown(alloc: Global, shown: &Shown) -> Result<String, OutOfMemory> {
     let content_type = shown.content_type.as_str();
     let name = shown.name.as_str();
     let genre = shown.genre.as_str();
     format!(in alloc; "seated {content_type},{name},{genre}")
 }
 
-fn told_drawn(alloc: Global, pieces: &Pieces) -> Result<String, OutOfMemory> {
+fn words_of_drawn(alloc: Global, pieces: &Pieces) -> Result<String, OutOfMemory> {
     let mut drawn = Vec::new(alloc);
     pieces.write_to(&mut drawn)?;
     format!(in alloc; "drawn {}", text(drawn.as_slice()))

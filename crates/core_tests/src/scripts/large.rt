@@ -128,7 +128,7 @@ fn is_line_of_body(alloc: Global, body: &(&[u8], &[u8], &[u8]), bytes: &[u8], li
 }
 
 /// Whether a listener that then draws gets all of the data.
-fn is_told(alloc: Global, body: &(&[u8], &[u8], &[u8])) -> Result<bool, OutOfMemory> {
+fn is_drawn(alloc: Global, body: &(&[u8], &[u8], &[u8])) -> Result<bool, OutOfMemory> {
     let bytes = data(alloc)?;
     let line = joined(alloc, b"out 2 ", bytes.as_slice(), b"")?;
     Ok(is_line_of_body(alloc, body, bytes.as_slice(), line.as_slice()))
@@ -138,6 +138,6 @@ fn is_told(alloc: Global, body: &(&[u8], &[u8], &[u8])) -> Result<bool, OutOfMem
 #[test]
 fn a_mebibyte_in_one_delivery(rt: HostRuntime) {
     for body in BODIES {
-        assert!(rt; is_told(rt.alloc(), body) == Ok(true));
+        assert!(rt; is_drawn(rt.alloc(), body) == Ok(true));
     }
 }

@@ -61,9 +61,9 @@ const MESSAGES: &[(HeadFault, &str)] = &[
     (HeadFault::HeadTooLong, "head too long"),
 ];
 
-fn is_told(alloc: Global, fault: HeadFault, want: &str) -> bool {
+fn is_worded(alloc: Global, fault: HeadFault, want: &str) -> bool {
     match fault.to_string(alloc) {
-        Ok(told) => told.as_str() == want,
+        Ok(words) => words.as_str() == want,
         Err(_) => false,
     }
 }
@@ -71,6 +71,6 @@ fn is_told(alloc: Global, fault: HeadFault, want: &str) -> bool {
 #[test]
 fn messages(rt: HostRuntime) {
     for (fault, want) in MESSAGES {
-        assert!(rt; is_told(rt.alloc(), *fault, want));
+        assert!(rt; is_worded(rt.alloc(), *fault, want));
     }
 }

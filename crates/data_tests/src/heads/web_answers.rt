@@ -1,10 +1,10 @@
 //! Answers that the pages of web sites read, and whose pages may.
 use crate::heads::answers::nothing_more;
+use radio_answers::{POLICY, page};
 use radio_heads::{
     AboutHeaders, FieldValue, Progress, TextKind, WebAnswer, Welcome, read_response,
     write_web_answer,
 };
-use radio_page::{POLICY, page};
 use std::alloc::Global;
 
 const STREAM: &[u8] = b"HTTP/1.0 200 OK\r\n\

@@ -6,30 +6,30 @@ use super::*;
 use radio_icy::{Item, Unweaver, Weaver};
 
 /// Appends items to what came before: sound as it is, and each text in brackets.
-fn gather(items: &[Item], told: &mut Vec<u8>) -> Result<(), OutOfMemory> {
+fn gather(items: &[Item], seen: &mut Vec<u8>) -> Result<(), OutOfMemory> {
     for item in items {
-        tell(item, told)?;
+        append_item(item, seen)?;
     }
     Ok(())
 }
 
-fn tell(item: &Item, told: &mut Vec<u8>) -> Result<(), OutOfMemory> {
+fn append_item(item: &Item, seen: &mut Vec<u8>) -> Result<(), OutOfMemory> {
     match item {
-        Item::Sound(bytes) => told.extend_from_slice(bytes.as_slice()),
-        Item::Text(text) => tell_text(text.as_slice(), told),
+        Item::Sound(bytes) => seen.extend_from_slice(bytes.as_slice()),
+        Item::Text(text) => append_text(text.as_slice(), seen),
     }
 }
 
-fn tell_text(text: &[u8], told: &mut Vec<u8>) -> Result<(), OutOfMemory> {
-    told.extend_from_slice(b"<")?;
-    told.extend_from_slice(text)?;
-    told.extend_from_slice(b">")
+fn append_text(text: &[u8], seen: &mut Vec<u8>) -> Result<(), OutOfMemory> {
+    seen.extend_from_slice(b"<")?;
+    seen.extend_from_slice(text)?;
+    seen.extend_from_slice(b">")
 }
 
 /// Feeds a piece, and gathers what it brings.
-fn feed(unweaver: &mut Unweaver, piece: &[u8], told: &mut Vec<u8>) -> Result<(), OutOfMemory> {
+fn feed(unweaver: &mut Unweaver, piece: &[u8], seen: &mut Vec<u8>) -> Result<(), OutOfMemory> {
     let items = unweaver.feed(piece)?;
-    gather(items.as_slice(), told)
+    gather(items.as_slice(), seen)
 }
 
 /// Feeds a stream in pieces of so many bytes.
@@ -37,12 +37,12 @@ fn feed_pieces(
     unweaver: &mut Unweaver,
     stream: &[u8],
     size: usize,
-    told: &mut Vec<u8>,
+    seen: &mut Vec<u8>,
 ) -> Result<(), OutOfMemory>
     requires { 1 ≤ size }
 {
     for piece in stream.chunks(size) {
-        feed(unweaver, piece, told)?;
+        feed(unweaver, piece, seen)?;
     }
     Ok(())
 }
@@ -58,34 +58,34 @@ fn is_told(
     requires interval { 1 ≤ interval }
     requires piece { 1 ≤ piece }
 {
-    let mut told = Vec::new(alloc);
+    let mut seen = Vec::new(alloc);
     let mut unweaver = Unweaver::new(alloc, interval);
-    feed_pieces(&mut unweaver, stream, piece, &mut told)?;
-    Ok(told.as_slice() == want)
+    feed_pieces(&mut unweaver, stream, piece, &mut seen)?;
+    Ok(seen.as_slice() == want)
 }
 
 /// Feeds two pieces.
 fn feed_two(
     unweaver: &mut Unweaver,
     pieces: (&[u8], &[u8]),
-    told: &mut Vec<u8>,
+    seen: &mut Vec<u8>,
 ) -> Result<(), OutOfMemory> {
-    feed(unweaver, pieces.0, told)?;
-    feed(unweaver, pieces.1, told)
+    feed(unweaver, pieces.0, seen)?;
+    feed(unweaver, pieces.1, seen)
 }
 
 /// Whether a stream that is cut there brings these items.
 fn is_told_cut(alloc: Global, stream: &[u8], cut: usize, want: &[u8]) -> Result<bool, OutOfMemory>
     requires { cut ≤ length stream.now }
 {
-    let mut told = Vec::new(alloc);
+    let mut seen = Vec::new(alloc);
     let mut unweaver = Unweaver::new(alloc, 4);
-    feed_two(&mut unweaver, stream.split_at(cut), &mut told)?;
-    Ok(told.as_slice() == want)
+    feed_two(&mut unweaver, stream.split_at(cut), &mut seen)?;
+    Ok(seen.as_slice() == want)
 }
 
 /// Whether a stream brings these items wherever it is cut.
-fn is_told_at_each_cut(alloc: Global, stream: &[u8], want: &[u8]) -> Result<bool, OutOfMemory> {
+fn is_unwoven_at_each_cut(alloc: Global, stream: &[u8], want: &[u8]) -> Result<bool, OutOfMemory> {
     for cut in 0..=stream.len() {
         if !is_told_cut(alloc, stream, cut, want)? {
             return Ok(false);
@@ -98,7 +98,7 @@ fn is_told_at_each_cut(alloc: Global, stream: &[u8], want: &[u8]) -> Result<bool
 fn is_longest_told(alloc: Global) -> Result<bool, OutOfMemory> {
     let stream = enclosed(alloc, b"abcd\xffStreamTitle='", LONGEST, b"';ef")?;
     let want = enclosed(alloc, b"abcd<StreamTitle='", LONGEST, b"';>ef")?;
-    is_told_at_each_cut(alloc, stream.as_slice(), want.as_slice())
+    is_unwoven_at_each_cut(alloc, stream.as_slice(), want.as_slice())
 }
 
 // rule: Metadata block

@@ -37,22 +37,22 @@ const PLANS: &[(&[u8], &[u8], &[u8])] = &[
     (b"\n\r\n /a\n/a b\n/admin/x\n", b"/c\n/r", b"+/a b=m:/a b "),
 ];
 
-fn tell_order(order: &RelayOrder, told: &mut Vec<u8>) -> Result<(), OutOfMemory> {
+fn append_order(order: &RelayOrder, out: &mut Vec<u8>) -> Result<(), OutOfMemory> {
     match order {
-        RelayOrder::Start(relay) => tell_start(relay, told),
-        RelayOrder::Stop(mount) => tell_parts(&[b"-", mount.as_bytes(), b" "], told),
+        RelayOrder::Start(relay) => append_start(relay, out),
+        RelayOrder::Stop(mount) => append_parts(&[b"-", mount.as_bytes(), b" "], out),
     }
 }
 
-fn tell_start(relay: &RelaySetting, told: &mut Vec<u8>) -> Result<(), OutOfMemory> {
+fn append_start(relay: &RelaySetting, out: &mut Vec<u8>) -> Result<(), OutOfMemory> {
     let (local, far) = (relay.local_mount.as_bytes(), relay.mount.as_bytes());
     let server = relay.master.server.as_bytes();
-    tell_parts(&[b"+", local, b"=", server, b":", far, b" "], told)
+    append_parts(&[b"+", local, b"=", server, b":", far, b" "], out)
 }
 
-fn tell_orders(orders: &[RelayOrder], told: &mut Vec<u8>) -> Result<(), OutOfMemory> {
+fn append_orders(orders: &[RelayOrder], out: &mut Vec<u8>) -> Result<(), OutOfMemory> {
     for order in orders {
-        tell_order(order, told)?;
+        append_order(order, out)?;
     }
     Ok(())
 }
@@ -69,10 +69,10 @@ fn names(alloc: Global, text: &[u8]) -> Result<Vec<MountName>, OutOfMemory> {
 }
 
 /// Whether this text shows these orders.
-fn are_told(alloc: Global, orders: &[RelayOrder], want: &[u8]) -> Result<bool, OutOfMemory> {
-    let mut told = Vec::new(alloc);
-    tell_orders(orders, &mut told)?;
-    Ok(told.as_slice() == want)
+fn are_written(alloc: Global, orders: &[RelayOrder], want: &[u8]) -> Result<bool, OutOfMemory> {
+    let mut out = Vec::new(alloc);
+    append_orders(orders, &mut out)?;
+    Ok(out.as_slice() == want)
 }
 
 /// Whether that is ordered for this list and these names of what relays feed.
@@ -84,7 +84,7 @@ fn is_ordered(
     want: &[u8],
 ) -> Result<bool, OutOfMemory> {
     let orders = plan(alloc, station, list, live, &[])?;
-    are_told(alloc, orders.as_slice(), want)
+    are_written(alloc, orders.as_slice(), want)
 }
 
 fn is_ordered_for(
@@ -156,7 +156,7 @@ fn is_ordered_on_demand(
     want: &[u8],
 ) -> Result<bool, OutOfMemory> {
     let orders = plan(alloc, station, &BTreeSet::new(alloc), live, wanted)?;
-    are_told(alloc, orders.as_slice(), want)
+    are_written(alloc, orders.as_slice(), want)
 }
 
 /// Whether that is ordered for these names of what relays feed, and of what somebody waits for.

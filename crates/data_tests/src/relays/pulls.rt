@@ -94,11 +94,11 @@ const ANSWERS: &[(&[u8], &[u8], Option<PullFault>)] = &[
 fn feed(
     pull: &mut Pull,
     piece: &[u8],
-    told: &mut Vec<u8>,
+    out: &mut Vec<u8>,
 ) -> Result<Option<PullFault>, OutOfMemory> {
     match pull.feed(piece) {
         Ok(items) => {
-            tell_all(items.as_slice(), told)?;
+            append_items(items.as_slice(), out)?;
             Ok(None)
         }
         Err(PullFault::OutOfMemory) => Err(AllocError),
@@ -132,11 +132,11 @@ impl Faults {
 fn feed_all(
     pull: &mut Pull,
     pieces: (&[u8], &[u8]),
-    told: &mut Vec<u8>,
+    out: &mut Vec<u8>,
 ) -> Result<Faults, OutOfMemory> {
-    let first = feed(pull, pieces.0, told)?;
-    let second = feed(pull, pieces.1, told)?;
-    let last = feed(pull, b"", told)?;
+    let first = feed(pull, pieces.0, out)?;
+    let second = feed(pull, pieces.1, out)?;
+    let last = feed(pull, b"", out)?;
     Ok(Faults {
         first,
         second,
@@ -147,35 +147,35 @@ fn feed_all(
 fn pull_all(
     alloc: Global,
     pieces: (&[u8], &[u8]),
-    told: &mut Vec<u8>,
+    out: &mut Vec<u8>,
 ) -> Result<Faults, OutOfMemory> {
     let mut pull = Pull::new(alloc);
-    let faults = feed_all(&mut pull, pieces, told);
+    let faults = feed_all(&mut pull, pieces, out);
     drop(pull);
     faults
 }
 
 /// Whether two pieces bring what this text shows. The fault comes once, and after it that the pull has failed.
-fn is_told(
+fn is_pulled(
     alloc: Global,
     pieces: (&[u8], &[u8]),
     want: &[u8],
     fault: Option<PullFault>,
 ) -> Result<bool, OutOfMemory> {
-    let mut told = Vec::new(alloc);
-    let faults = pull_all(alloc, pieces, &mut told)?;
-    Ok(faults.are(fault) && told.as_slice() == want)
+    let mut out = Vec::new(alloc);
+    let faults = pull_all(alloc, pieces, &mut out)?;
+    Ok(faults.are(fault) && out.as_slice() == want)
 }
 
 /// Whether an answer brings the same wherever it is cut.
-fn is_told_however_cut(
+fn is_pulled_however_cut(
     alloc: Global,
     answer: &[u8],
     want: &[u8],
     fault: Option<PullFault>,
 ) -> Result<bool, OutOfMemory> {
     for cut in 0..=answer.len() {
-        if !is_told(alloc, answer.split_at(cut), want, fault)? {
+        if !is_pulled(alloc, answer.split_at(cut), want, fault)? {
             return Ok(false);
         }
     }
@@ -186,7 +186,7 @@ fn is_told_however_cut(
 #[test]
 fn answers_cut_at_each_byte(rt: HostRuntime) {
     for (answer, want, fault) in ANSWERS {
-        assert!(rt; is_told_however_cut(rt.alloc(), answer, want, *fault) == Ok(true));
+        assert!(rt; is_pulled_however_cut(rt.alloc(), answer, want, *fault) == Ok(true));
     }
 }
 
@@ -229,5 +229,5 @@ fn runs_in_blocks(rt: HostRuntime) {
 #[test]
 fn endless_heads(rt: HostRuntime) {
     let (front, last) = ENDLESS.split_at(8191);
-    assert!(rt; is_told(rt.alloc(), (front, last), b"", Some(PullFault::BadHead)) == Ok(true));
+    assert!(rt; is_pulled(rt.alloc(), (front, last), b"", Some(PullFault::BadHead)) == Ok(true));
 }

@@ -1,15 +1,16 @@
 //! Seats of workers who take lines in memory, turn after turn.
 
 ghost use Rattle.std.specs.Prelude.{◌≡◌, ◌-◌, ◌<◌, All, IfOk, OnOk};
-ghost use Rattle.radio_intake.specs.Passes.{all_parts};
+ghost use Rattle.radio_workers.specs.Passes.{all_parts};
 
 use radio_addr::Peer;
 use radio_book::{Kept, Origin, Pass};
-use radio_intake::{Intake, IntakePass};
 use radio_locks::Hall;
 use radio_notes::Log;
 use radio_serving::Turn;
-use radio_workers::{OutOfMemory, Seen, TurnSource, TurnStart, WorkerSlot, add_slot};
+use radio_workers::{
+    Intake, IntakePass, OutOfMemory, Seen, TurnSource, TurnStart, WorkerSlot, add_slot,
+};
 use std::alloc::Global;
 use std::sync::Wait;
 use test_stations::{Manners, MemoryLine};
@@ -28,7 +29,7 @@ impl TurnSource<Manners, MemoryLine> for MemoryPost {
             turn: Turn {
                 ms: self.ms,
                 news: true,
-                told_ms: 0,
+                clock_ms: 0,
             },
             newcomers: 1,
         })
@@ -45,8 +46,8 @@ impl TurnSource<Manners, MemoryLine> for MemoryPost {
         lingering
     }
 
-    fn begins_round(&mut self, is_told: bool, brings: bool) -> bool {
-        is_told || brings
+    fn begins_round(&mut self, has_news: bool, brings: bool) -> bool {
+        has_news || brings
     }
 
     fn note(&mut self, _seen: Seen, log: &Log) {
@@ -68,10 +69,10 @@ fn add_two<H: Origin, R: Wait>(
 ) -> Result<(), OutOfMemory>
     requires own { pass.old.intake ≡ intake.now }
     requires parts { 2 < pass.old.parts }
-    requires seats { All (λ seat. seat.hand.intake ≡ intake.now) seats.old.items }
+    requires seats { All (λ seat. seat.intake_pass.intake ≡ intake.now) seats.old.items }
     ensures own { pass.new.intake ≡ intake.now }
     ensures parts { OnOk result (pass.new.parts ≡ pass.old.parts - 2) }
-    ensures seats { OnOk result (All (λ seat. seat.hand.intake ≡ intake.now) seats.new.items) }
+    ensures seats { OnOk result (All (λ seat. seat.intake_pass.intake ≡ intake.now) seats.new.items) }
 {
     add_slot(
         seats,
@@ -101,9 +102,9 @@ fn add_workers<H: Origin, R: Wait>(
 ) -> Result<(), OutOfMemory>
     requires own { pass.old.intake ≡ intake.now }
     requires parts { pass.old.parts ≡ all_parts }
-    requires seats { All (λ seat. seat.hand.intake ≡ intake.now) seats.old.items }
+    requires seats { All (λ seat. seat.intake_pass.intake ≡ intake.now) seats.old.items }
     ensures own { pass.new.intake ≡ intake.now }
-    ensures seats { OnOk result (All (λ seat. seat.hand.intake ≡ intake.now) seats.new.items) }
+    ensures seats { OnOk result (All (λ seat. seat.intake_pass.intake ≡ intake.now) seats.new.items) }
 {
     add_two(rt, alloc, hall, intake, pass, seats)?;
     if !are_four {
@@ -124,7 +125,7 @@ pub fn seats_for<H: Origin, R: Wait>(
     requires own { pass.old.intake ≡ intake.now }
     requires parts { pass.old.parts ≡ all_parts }
     ensures own { pass.new.intake ≡ intake.now }
-    ensures seats { IfOk result (λ seats. All (λ seat. seat.hand.intake ≡ intake.now) seats.items) }
+    ensures seats { IfOk result (λ seats. All (λ seat. seat.intake_pass.intake ≡ intake.now) seats.items) }
 {
     let mut seats = Vec::new(alloc);
     add_workers(rt, alloc, hall, intake, pass, &mut seats, are_four)?;

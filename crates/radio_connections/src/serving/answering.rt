@@ -6,13 +6,13 @@ ghost use Rattle.radio_session.specs.Exchanges.{is_leave};
 ghost use Rattle.radio_connections.specs.Course.{is_listen, is_seated};
 ghost use Rattle.radio_connections.specs.declared.conn.Fate.TheVariants.{Closed, Cut};
 ghost use Rattle.radio_events.specs.Servers.{Chain};
-ghost use Rattle.radio_connections.specs.Answering.{IsToldAs, IsAnswered, AreAnswered};
+ghost use Rattle.radio_connections.specs.Answering.{IsAppendedAs, IsAnswered, AreAnswered};
 
 use crate::outgoing::Outgoing;
 use crate::serving::drawing::fills_room;
 use crate::{Conn, ConnStatus, Fate, Line, Server};
 use radio_events::{Event, Reply};
-use radio_notes::{Account, Log, Notice, Told};
+use radio_notes::{Account, Log, Notice, ReplyNote};
 use radio_session::{Session, State};
 
 /// Applies an event of the connection, and appends the reply. The connection has ended if that shuts
@@ -32,7 +32,7 @@ pub(crate) fn answer<S: Server, L: Line>(
     let listens = is_listen(&event);
     match conn.refusals.apply(server, event) {
         Ok(reply) => {
-            conn.account.hear_reply(log, notice, Told::of(&reply));
+            conn.account.log_reply(log, notice, ReplyNote::of(&reply));
             let sits = both(listens, is_seated(&reply));
             let has_more = fills_room(&reply);
             let answered = Answered {
@@ -42,11 +42,11 @@ pub(crate) fn answer<S: Server, L: Line>(
             };
             note(&mut conn.status, answered);
             pass_over_if(&mut conn.line, sits);
-            conn.status.fate = tell(&mut conn.outgoing, &mut conn.session, &reply, &conn.account);
+            conn.status.fate = append(&mut conn.outgoing, &mut conn.session, &reply, &conn.account);
             drop(reply);
         }
         Err(_) => {
-            conn.account.hear_refusal(notice);
+            conn.account.note_refusal(notice);
             conn.status.fate = Fate::Cut;
         }
     }
@@ -72,13 +72,13 @@ pub(crate) fn answer_all<S: Server, L: Line>(
 }
 
 /// Appends a reply to what is pending, and returns what becomes of the connection by that.
-fn tell(outgoing: &mut Outgoing, session: &mut Session, reply: &Reply, account: &Account) -> Fate
-    ensures told { IsToldAs result reply.now session.old outgoing.old session.new outgoing.new }
+fn append(outgoing: &mut Outgoing, session: &mut Session, reply: &Reply, account: &Account) -> Fate
+    ensures appended { IsAppendedAs result reply.now session.old outgoing.old session.new outgoing.new }
     // it is not closed by that, and cut off only if the session fails
     ensures closed { result ≡ Closed → ⊥ }
     ensures cut { result ≡ Cut → session.new.has_failed ≡ true }
 {
-    match outgoing.tell(session, reply) {
+    match outgoing.append_reply(session, reply) {
         Ok(State::Running) => Fate::Open,
         Ok(State::Shut(ending)) => {
             account.note_ending(ending);

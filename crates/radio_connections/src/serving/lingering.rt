@@ -45,7 +45,7 @@ fn finish<L: Line>(conn: &mut Conn<L>, now: Now)
     ensures calls { conn.new.calls ≡ conn.old.calls }
     ensures taken { conn.new.taken ≡ conn.old.taken }
     ensures has_taken { conn.new.status.has_taken ≡ conn.old.status.has_taken }
-    ensures told { conn.new.status.is_finished ≡ true }
+    ensures finished { conn.new.status.is_finished ≡ true }
     ensures noted { NotesFinish now.ms conn.old conn.new }
 {
     if conn.status.is_finished {

@@ -40,7 +40,7 @@ fn hear<S: Server, L: Line>(server: &mut S, conn: &mut Conn<L>, bytes: &[u8], no
 {
     match conn.session.take(bytes) {
         Ok(events) => {
-            conn.account.hear(bytes, &events);
+            conn.account.receive(bytes, &events);
             conn.status.asked_ms = asked_ms(events.is_empty(), conn.status.asked_ms, now);
             answer_all(server, conn, events, log);
         }

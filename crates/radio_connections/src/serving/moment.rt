@@ -30,7 +30,7 @@ pub fn serve<S: Server, L: Line, G: Gate>(
     lend(conn, &mut workspace.spare, now);
     write_and_work(server, conn, &mut workspace.buffer, gate, now, log);
     take_back(conn, &mut workspace.spare);
-    tell_end(conn, now, log);
+    log_end(conn, now, log);
 }
 
 /// Lends the spare memory to a connection on which nothing is pending, for the reply to its draw.
@@ -73,19 +73,19 @@ fn write_and_work<S: Server, L: Line, G: Gate>(
 }
 
 /// Logs the end of a connection: of its source, and of its client once nothing more is written.
-fn tell_end<L: Line>(conn: &Conn<L>, now: Now, log: &Log) {
+fn log_end<L: Line>(conn: &Conn<L>, now: Now, log: &Log) {
     if !conn.status.fate.is_open() {
-        tell_over(conn, now, log);
+        log_over(conn, now, log);
     }
 }
 
 /// Logs a connection that does not go on. It is no part of what is done for each at each turn.
 #[cold]
-fn tell_over<L: Line>(conn: &Conn<L>, now: Now, log: &Log) {
+fn log_over<L: Line>(conn: &Conn<L>, now: Now, log: &Log) {
     let peer = conn.session.peer();
-    conn.account.tell_source(log, peer, now.ms);
+    conn.account.log_source_gone(log, peer, now.ms);
     if conn.lingers() || !conn.stays() {
-        conn.account.tell_client(log, peer, now.ms);
+        conn.account.log_client_ended(log, peer, now.ms);
     }
 }
 

@@ -17,7 +17,7 @@ use Rattle.radio_parts_station.specs.StationState.{StationState}
 use Rattle.radio_parts_station.specs.Streams.{shown_for}
 use Rattle.radio_parts_changes.specs.Changes.{answered, session_killed, changed, before_silence, session_silenced, silent_in, ticked, session_begun, session_raised}
 use Rattle.radio_core.specs.ClientSteps.{ArrivalsStay}
-use Rattle.radio_parts_station.specs.Clients.{Client, client_of, with_state, in_state, without_client}
+use Rattle.radio_parts_station.specs.Clients.{Client, client_of, with_client_state, in_state, without_client}
 use Rattle.radio_parts_mount.specs.Sessions.{Session, session_of}
 use Rattle.radio_core.specs.Sound.{IsSound}
 use Rattle.radio_parts.specs.Step.{outcome, world_after}
@@ -60,9 +60,9 @@ keeps_state xs him state id later e =
       by_found same None none =
           let now : client_of (in_state xs him state) id ≡ None = ap (client_of (in_state xs him state)) (sym same) ∙ still_none him state xs none in cc
       by_found same (Some client) there =
-          let now : Some (with_state state client) ≡ Some later =
+          let now : Some (with_client_state state client) ≡ Some later =
           sym (does xs him state client there) ∙ ap (client_of (in_state xs him state)) same ∙ e in
-          let one : with_state state client ≡ later = cc in
+          let one : with_client_state state client ≡ later = cc in
           record {
             client = client;
             there = ap (client_of xs) (sym same) ∙ there;

@@ -24,7 +24,7 @@ use Rattle.radio_core.specs.Moves.{his_turn, moved_into}
 use Rattle.radio_parts_mount.specs.Sessions.{Session}
 use Rattle.radio_core.specs.Sound.{IsSound}
 use Rattle.radio_parts_mount.specs.Stream.{end_of}
-use Rattle.radio_parts_station.specs.World.{World, standing_of, standing_in}
+use Rattle.radio_parts_station.specs.World.{World, standing_of, standing_of_found}
 use Rattle.radio_core.proofs.Clients.Fates.{Fate, IsEnded, IsMoved, lost_in, active_sitter}
 use Rattle.radio_parts_mount.proofs.NumberOrder.{same_order}
 use Rattle.radio_core.proofs.Clients.Standings.{sits_in}
@@ -65,11 +65,11 @@ module _ (C : ℕ → Rule → Type 0) (M : ℕ → Session → Type 0) (S : ℕ
   relay = relay_of w.station.relays id
 
   -- it stands as its place in the table says
-  stands_by : (listener : Option Listener) → listener_of after.seats id ≡ listener → standing_of after id ≡ standing_in relay listener client
+  stands_by : (listener : Option Listener) → listener_of after.seats id ≡ listener → standing_of after id ≡ standing_of_found relay listener client
   stands_by listener e =
-      ap (λ l. standing_in (relay_of station.relays id) l (client_of station.clients id)) e
-      ∙ ap (λ (cs : List Client). standing_in (relay_of station.relays id) listener (client_of cs id)) clients
-      ∙ ap (λ (rs : List Relay). standing_in (relay_of rs id) listener client) relays
+      ap (λ l. standing_of_found (relay_of station.relays id) l (client_of station.clients id)) e
+      ∙ ap (λ (cs : List Client). standing_of_found (relay_of station.relays id) listener (client_of cs id)) clients
+      ∙ ap (λ (rs : List Relay). standing_of_found (relay_of rs id) listener client) relays
 
   module _ (stands : standing_of later id ≡ standing_of after id) (seats : seat_of later.seats id ≡ seat_of after.seats id)
       (stays : ((seat : Seat) → seat_of w.seats id ≡ Some seat → his_turn before move id ≡ Stays) → standing_of later id ≡ standing_of w id

@@ -10,7 +10,7 @@ use Rattle.radio_events.specs.Events.{client_in}
 use Rattle.radio_parts.specs.declared.outcome.Outcome.{Outcome}
 use Rattle.radio_parts_station.specs.declared.standing.Standing.{Standing}
 use Rattle.radio_parts_station.specs.declared.standing.Standing.TheVariants.{Unknown, Undecided, Feeds, Finished as HasFinished}
-use Rattle.radio_parts_changes.specs.Changes.{changed, taken_in}
+use Rattle.radio_parts_changes.specs.Changes.{changed, block_received}
 use Rattle.radio_core.specs.ClientSteps.{ClientStep, Stays, Arrives, IsAnswered, IsObeyed, IsShown, BeginsToFeed, SitsDown, StopsFeeding, ClientsStep}
 use Rattle.radio_core.specs.ClientSteps.{Leaves as HeLeaves, ComesUp as ItComesUp, GoesDown as ItGoesDown, IsFinished as HeIsFinished}
 use Rattle.radio_core.specs.Finishes.{Cause, Finishes}
@@ -88,8 +88,8 @@ module _ (w : World) (s : IsSound w) (id : ℕ) (C : Rule → Type 0) where
     not_before rule (inl was) then_so = let is : standing_of w id ≡ Feeds mount = feeds in cc
     not_before rule (inr cause) then_so = then_so cause
 
-    by_fate : Fate (Cause w (taken_in w mount block) (Push him block)) NoMove Nobody HasEnded (grown_world w mount block) (taken_in w mount block) id
-        → ClientStep w C (Push him block) id (standing_of w id) (standing_of (taken_in w mount block) id)
+    by_fate : Fate (Cause w (block_received w mount block) (Push him block)) NoMove Nobody HasEnded (grown_world w mount block) (block_received w mount block) id
+        → ClientStep w C (Push him block) id (standing_of w id) (standing_of (block_received w mount block) id)
     by_fate (GoesOn same seat sources sits) = turned w C (Push him block) id refl (sym same) (Stays (standing_of w id))
     by_fate (IsEnded rule cause active ended none over) =
         not_before rule (fin rule ended)

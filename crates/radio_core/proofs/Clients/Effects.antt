@@ -15,7 +15,7 @@ use Rattle.radio_parts_station.specs.declared.standing.Standing.{Standing}
 use Rattle.radio_parts_station.specs.declared.standing.Standing.TheVariants.{Unknown, Undecided, Feeds, Sits, Answered, Finished}
 use Rattle.radio_access.specs.Lists.{passes}
 use Rattle.radio_parts_station.specs.World.{World, standing_of}
-use Rattle.radio_parts_changes.specs.Changes.{changed, taken_in, ticked}
+use Rattle.radio_parts_changes.specs.Changes.{changed, block_received, ticked}
 use Rattle.radio_core.specs.Finishes.{Cause}
 use Rattle.radio_core.specs.Moves.{TakesTo}
 use Rattle.radio_parts.specs.Listen.{first_seat}
@@ -80,10 +80,10 @@ pub data Effect (w later : World) (event : Event) (reply : Reply) : Type 0 where
 
 -- a block comes: who is too far behind is finished
 module _ (w : World) (s : IsSound w) (mount block : List ℕ) (him : ℕ) (feeding : standing_of w him ≡ Feeds mount) where
-  pub lag_swept : (id : ℕ) → IsSwept w (taken_in w mount block) (Push him block) id
+  pub lag_swept : (id : ℕ) → IsSwept w (block_received w mount block) (Push him block) id
   lag_swept id = by_fate ((lag_fates w s mount block him feeding).fate id) where
-    by_fate : Fate (Cause w (taken_in w mount block) (Push him block)) NoMove Nobody HasEnded (grown_world w mount block) (taken_in w mount block) id
-        → IsSwept w (taken_in w mount block) (Push him block) id
+    by_fate : Fate (Cause w (block_received w mount block) (Push him block)) NoMove Nobody HasEnded (grown_world w mount block) (block_received w mount block) id
+        → IsSwept w (block_received w mount block) (Push him block) id
     by_fate (GoesOn same seat feeds sits) = GoesOnAs same
     by_fate (IsEnded rule cause active ended none over) = IsOut rule cause ended none
     by_fate (HasStopped other why feeds done none over) = absurd why

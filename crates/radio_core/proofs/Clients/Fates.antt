@@ -17,7 +17,7 @@ use Rattle.radio_core.specs.Moves.{moved_into}
 use Rattle.radio_parts_mount.specs.Sessions.{Session, session_of, AreApart}
 use Rattle.radio_core.specs.Sound.{IsSeatedIn, IsSound}
 use Rattle.radio_parts_station.specs.Timeouts.{asks_too_late}
-use Rattle.radio_parts_station.specs.World.{World, standing_of, standing_in, standing_by}
+use Rattle.radio_parts_station.specs.World.{World, standing_of, standing_of_found, standing_of_client}
 use Rattle.radio_parts_mount.proofs.NumberOrder.{order_ended}
 use Rattle.radio_core.proofs.Clients.Standings.{no_relay_sits}
 use Rattle.radio_parts_station.specs.Waiting.{heard_at}
@@ -243,8 +243,8 @@ module _ (C : ℕ → Rule → Type 0) (M : ℕ → Session → Type 0) (w betwe
 
 -- one who sits and has lost its seat has finished
 lost_by : (listener : Option Listener) (number : ℕ) (rule : Rule) (last : List ℕ) (client : Client) (state : ClientState)
-    → standing_by listener client.peer state ≡ Sits
-    → standing_by (Some (record { id = number; seating = HasLostIt rule last })) client.peer state ≡ Finished rule
+    → standing_of_client listener client.peer state ≡ Sits
+    → standing_of_client (Some (record { id = number; seating = HasLostIt rule last })) client.peer state ≡ Finished rule
 lost_by listener number rule last client IsNew e = cc
 lost_by listener number rule last client (IsSource mount) e = cc
 lost_by listener number rule last client Listens e = refl
@@ -252,7 +252,7 @@ lost_by listener number rule last client HasHisAnswer e = cc
 lost_by listener number rule last client (Ended by) e = cc
 
 pub lost_in : (relay : Option Relay) (listener : Option Listener) (number : ℕ) (rule : Rule) (last : List ℕ) (client : Option Client)
-    → standing_in relay listener client ≡ Sits → standing_in relay (Some (record { id = number; seating = HasLostIt rule last })) client ≡ Finished rule
+    → standing_of_found relay listener client ≡ Sits → standing_of_found relay (Some (record { id = number; seating = HasLostIt rule last })) client ≡ Finished rule
 lost_in relay listener number rule last None e = absurd (no_relay_sits relay e)
 lost_in relay listener number rule last (Some client) e = lost_by listener number rule last client client.state e
 
@@ -270,11 +270,11 @@ module _ (C : ℕ → Rule → Type 0) (M : ℕ → Session → Type 0) (S : ℕ
     by_loss : (listener_of (with_ended w.seats p rule) id ≡ listener_of w.seats id)
         ⊎ LosesSeat p rule (listener_of w.seats id) (listener_of (with_ended w.seats p rule) id)
         → Fate C M S L w (record w { seats = with_ended w.seats p rule }) id
-    by_loss (inl same) = GoesOn (ap (λ l. standing_in (relay_of w.station.relays id) l (client_of w.station.clients id)) same) (ap seat_in same) (λ mount e. refl) (λ seat e. refl)
+    by_loss (inl same) = GoesOn (ap (λ l. standing_of_found (relay_of w.station.relays id) l (client_of w.station.clients id)) same) (ap seat_in same) (λ mount e. refl) (λ seat e. refl)
     by_loss (inr loses) =
         let sat : standing_of w id ≡ Sits = s.sitting id loses.seat loses.had_a_seat in
         IsEnded rule (causes id loses.seat loses.had_a_seat loses.holds) (active_sitter (standing_of w id) sat)
-        (ap (λ l. standing_in (relay_of w.station.relays id) l (client_of w.station.clients id)) loses.finished
+        (ap (λ l. standing_of_found (relay_of w.station.relays id) l (client_of w.station.clients id)) loses.finished
         ∙ lost_in (relay_of w.station.relays id) (listener_of w.seats id) loses.id rule loses.seat.mount (client_of w.station.clients id) sat)
         (ap seat_in loses.finished) (λ mount e. cc)
 

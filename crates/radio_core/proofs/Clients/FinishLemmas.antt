@@ -14,7 +14,7 @@ use Rattle.radio_parts.specs.declared.outcome.Outcome.{Outcome}
 use Rattle.radio_events.specs.declared.reply.Reply.TheVariants.{Arrived, Finished}
 use Rattle.radio_parts_station.specs.declared.standing.Standing.{Standing}
 use Rattle.radio_parts_station.specs.declared.standing.Standing.TheVariants.{Unknown, Undecided, Feeds, Sits, Answered, Finished as HasFinished}
-use Rattle.radio_parts_station.specs.World.{World, standing_of, standing_in}
+use Rattle.radio_parts_station.specs.World.{World, standing_of, standing_of_found}
 use Rattle.radio_core.specs.Finishes.{Cause, SessionIsOver, IsFarBehind, HasSatOut, HasAskedNothing, HasSentNothing, IsKilled, HisSessionIsKilled, Finishes, IsNotAccepted}
 use Rattle.radio_core.specs.Others.{StandsOn, OthersStandOn}
 use Rattle.radio_seats_rows.specs.Seats.{listener_of, seat_of}
@@ -26,8 +26,8 @@ use Rattle.radio_core.proofs.Clients.Effects.{Effect, Same, Joins, Rises, Acts, 
 use Rattle.radio_core.proofs.Sessions.TickLemmas.{asking_at}
 
 -- whoever is finished by an event was there
-new_in : (relay : Option Relay) (listener : Option Listener) (client : Client) → client.state ≡ IsNew → standing_in relay listener (Some client) ≡ Unknown → ⊥
-new_in relay listener client e u = let undecided : standing_in relay listener (Some client) ≡ Undecided client.peer = rw e refl in cc
+new_in : (relay : Option Relay) (listener : Option Listener) (client : Client) → client.state ≡ IsNew → standing_of_found relay listener (Some client) ≡ Unknown → ⊥
+new_in relay listener client e u = let undecided : standing_of_found relay listener (Some client) ≡ Undecided client.peer = rw e refl in cc
 
 pub known_before : (w : World) → IsSound w → (event : Event) (id : ℕ) (rule : Rule) → Finishes w event id rule → standing_of w id ≡ Unknown → ⊥
 known_before w s event id rule finishes unknown = by_cause finishes.cause where
@@ -40,7 +40,7 @@ known_before w s event id rule finishes unknown = by_cause finishes.cause where
   by_cause (HasSatOut ms seat e has out) = no_seat seat has
   by_cause (HasAskedNothing ms client e found late) =
       new_in (relay_of w.station.relays id) (listener_of w.seats id) client (asking_at w.station.settings.limits.header_timeout ms client.arrived client.state late)
-      (ap (standing_in (relay_of w.station.relays id) (listener_of w.seats id)) (sym found) ∙ unknown)
+      (ap (standing_of_found (relay_of w.station.relays id) (listener_of w.seats id)) (sym found) ∙ unknown)
   by_cause (HasSentNothing ms session e feeds live silent) = cc
   by_cause (IsKilled seat has named) = no_seat seat has
   by_cause (IsNotAccepted seat has changes out) = no_seat seat has

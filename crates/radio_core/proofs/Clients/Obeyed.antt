@@ -35,7 +35,7 @@ use Rattle.radio_core.specs.Moves.{TakesTo, ByKilling, ByMoving}
 use Rattle.radio_core.specs.SeatSteps.{IsSent, HisSessionIsOver, IsCommandedThere}
 use Rattle.radio_parts_mount.specs.Sessions.{Session, session_of}
 use Rattle.radio_core.specs.Sound.{IsSound}
-use Rattle.radio_parts_station.specs.World.{World, standing_of, standing_in}
+use Rattle.radio_parts_station.specs.World.{World, standing_of, standing_of_found}
 use Rattle.radio_core.proofs.Commands.AllowedCommands.{may_act, may_move, needs_hold, may_go}
 use Rattle.radio_core.proofs.Seats.CommandedSeats.{found_there, killed_seat}
 use Rattle.radio_core.proofs.Clients.CarriedFates.{order_carried, carried_fate}
@@ -176,7 +176,7 @@ module _ (w : World) (s : IsSound w) (event : Event) where
 
     pub has_been_killed : standing_of killed_world listener ≡ Finished Killed
     has_been_killed =
-        ap (λ l. standing_in (relay_of w.station.relays listener) l (client_of (heard c).station.clients listener)) then_so
+        ap (λ l. standing_of_found (relay_of w.station.relays listener) l (client_of (heard c).station.clients listener)) then_so
         ∙ lost_in (relay_of w.station.relays listener) (listener_of w.seats listener) held.0.id Killed his_seat.0.mount (client_of (heard c).station.clients listener) sat
 
     pub sits_no_more : seat_of killed_world.seats listener ≡ None
@@ -196,7 +196,7 @@ module _ (w : World) (s : IsSound w) (event : Event) where
     killed_fate : (id : ℕ) → KilledFate id
     killed_fate id =
         by_number listener id (λ same. subst KilledFate same his_end)
-        (λ apart. GoesOn (ap (λ l. standing_in (relay_of w.station.relays id) l (client_of (heard c).station.clients id)) (beside_him id apart)) (ap seat_in (beside_him id apart)) (λ m e. refl) (λ seat e. refl))
+        (λ apart. GoesOn (ap (λ l. standing_of_found (relay_of w.station.relays id) l (client_of (heard c).station.clients id)) (beside_him id apart)) (ap seat_in (beside_him id apart)) (λ m e. refl) (λ seat e. refl))
 
     obeyed_kill : IsObeyed w event c.asked.id killed_world
     obeyed_kill = with_seats c killed_world.seats (order_lost w.seats s.by_number listener Killed) killed_fate

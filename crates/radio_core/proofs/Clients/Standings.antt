@@ -17,10 +17,10 @@ use Rattle.radio_parts_station.specs.declared.standing.Standing.TheVariants.{Unk
 use Rattle.radio_parts_station.specs.declared.standing.Standing.TheVariants.{Answered as IsAnswered, Finished}
 use Rattle.radio_parts_station.specs.declared.relays.RelayState.{RelayState}
 use Rattle.radio_parts_station.specs.declared.relays.RelayState.TheVariants.{Feeds as RelayFeeds, Ended as RelayEnded}
-use Rattle.radio_parts_station.specs.Clients.{Client, client_of, in_state, with_state}
-use Rattle.radio_parts_station.specs.Relays.{Relay, relay_of, risen, ended}
+use Rattle.radio_parts_station.specs.Clients.{Client, client_of, in_state, with_client_state}
+use Rattle.radio_parts_station.specs.Relays.{Relay, relay_of, risen, relay_ended}
 use Rattle.radio_seats_rows.specs.Seats.{listener_of, advanced, heard_to, hears_session, in_session_at, with_session_at}
-use Rattle.radio_parts_station.specs.World.{World, standing_of, standing_in, standing_by, standing_seated, standing_of_listener, standing_relayed, standing_of_relay, has_relay, world}
+use Rattle.radio_parts_station.specs.World.{World, standing_of, standing_of_found, standing_of_client, standing_seated, standing_of_listener, standing_relayed, standing_of_relay, has_relay, world}
 use Rattle.radio_parts_changes.specs.Changes.{changed}
 use Rattle.radio_parts_station.specs.StationChanges.{begun, raised, finished_in}
 use Rattle.radio_seats_rows.proofs.SeatLaws.{beside_moved, beside_left, beside_seated, has_moved, is_no_listener, has_sat_down}
@@ -56,7 +56,7 @@ no_unknown_listener : (listener : Option Listener) → standing_of_listener list
 no_unknown_listener None e = cc
 no_unknown_listener (Some listener) e = no_unknown_seating listener.seating e
 
-pub is_known : (listener : Option Listener) (peer : Peer) (state : ClientState) → standing_by listener peer state ≡ Unknown → ⊥
+pub is_known : (listener : Option Listener) (peer : Peer) (state : ClientState) → standing_of_client listener peer state ≡ Unknown → ⊥
 is_known listener peer Undecided e = cc
 is_known listener peer (Feeds mount) e = cc
 is_known listener peer Listens e = no_unknown_listener listener e
@@ -77,10 +77,10 @@ module _ (w : World) (id : ℕ) where
 
   -- where there is no client, it stands as a relay
   pub stands_as_relay : client_of w.station.clients id ≡ None → standing_of w id ≡ standing_of_relay relay_row
-  stands_as_relay none = ap (standing_in relay_row listener_row) none
+  stands_as_relay none = ap (standing_of_found relay_row listener_row) none
 
-  pub stands_as_client : (client : Client) → client_of w.station.clients id ≡ Some client → standing_of w id ≡ standing_by listener_row client.peer client.state
-  stands_as_client client there = ap (standing_in relay_row listener_row) there
+  pub stands_as_client : (client : Client) → client_of w.station.clients id ≡ Some client → standing_of w id ≡ standing_of_client listener_row client.peer client.state
+  stands_as_client client there = ap (standing_of_found relay_row listener_row) there
 
   -- whoever has yet to ask for something is a client
   pub asks : (peer : Peer) → standing_of w id ≡ IsUndecided peer → IsThere w id
@@ -120,13 +120,13 @@ module _ (w later : World) (him : ℕ) (relay : Option Relay) (client : Option C
     → relay_of later.station.relays id ≡ relay_of w.station.relays id) (clients : (id : ℕ) → (him == id) ≡ false
     → client_of later.station.clients id ≡ client_of w.station.clients id)
     (seats : (id : ℕ) → (him == id) ≡ false → listener_of later.seats id ≡ listener_of w.seats id) where
-  turns : Turns w later him (standing_in relay listener client)
+  turns : Turns w later him (standing_of_found relay listener client)
   turns = record {
-    his = ap (λ r. standing_in r (listener_of later.seats him) (client_of later.station.clients him)) its_row
-        ∙ ap (λ l. standing_in relay l (client_of later.station.clients him)) his_seat ∙ ap (standing_in relay listener) his_client;
-    others = λ id other. ap (λ r. standing_in r (listener_of later.seats id) (client_of later.station.clients id)) (relays id other)
-        ∙ ap (λ l. standing_in (relay_of w.station.relays id) l (client_of later.station.clients id)) (seats id other)
-        ∙ ap (standing_in (relay_of w.station.relays id) (listener_of w.seats id)) (clients id other);
+    his = ap (λ r. standing_of_found r (listener_of later.seats him) (client_of later.station.clients him)) its_row
+        ∙ ap (λ l. standing_of_found relay l (client_of later.station.clients him)) his_seat ∙ ap (standing_of_found relay listener) his_client;
+    others = λ id other. ap (λ r. standing_of_found r (listener_of later.seats id) (client_of later.station.clients id)) (relays id other)
+        ∙ ap (λ l. standing_of_found (relay_of w.station.relays id) l (client_of later.station.clients id)) (seats id other)
+        ∙ ap (standing_of_found (relay_of w.station.relays id) (listener_of w.seats id)) (clients id other);
   }
 
 module _ (w : World) (id : ℕ) where
@@ -135,12 +135,12 @@ module _ (w : World) (id : ℕ) where
     turns_state : (later : World) (listener : Option Listener) → later.station.clients ≡ in_state w.station.clients id state
         → ((him : ℕ) → (id == him) ≡ false → relay_of later.station.relays him ≡ relay_of w.station.relays him)
         → listener_of later.seats id ≡ listener → ((him : ℕ) → (id == him) ≡ false → listener_of later.seats him ≡ listener_of w.seats him)
-        → (client : Client) × Turns w later id (standing_by listener client.peer state)
+        → (client : Client) × Turns w later id (standing_of_client listener client.peer state)
     turns_state later listener e relays his others =
-        let is_so : client_of later.station.clients id ≡ Some (with_state state there.0) =
+        let is_so : client_of later.station.clients id ≡ Some (with_client_state state there.0) =
         ap (λ cs. client_of cs id) e ∙ does w.station.clients id state there.0 there.1 in (
           there.0,
-          turns w later id (relay_of later.station.relays id) (Some (with_state state there.0)) listener refl is_so his relays
+          turns w later id (relay_of later.station.relays id) (Some (with_client_state state there.0)) listener refl is_so his relays
               (λ him other. ap (λ cs. client_of cs him) e ∙ beside_state w.station.clients id him other state) others,
         )
 
@@ -156,7 +156,7 @@ module _ (w : World) (id : ℕ) where
     by_relay : client_of w.station.clients id ≡ None → (found : Option Relay) → relay_of w.station.relays id ≡ found → Turns w (ended_then rule) id (Finished rule)
     by_relay nobody None none = absurd (known (stands_as_relay w id nobody ∙ ap standing_of_relay none))
     by_relay nobody (Some relay) there =
-        turns w (ended_then rule) id (Some (ended rule relay)) None (listener_of w.seats id) (is_ended_relay w.station.relays id rule relay there)
+        turns w (ended_then rule) id (Some (relay_ended rule relay)) None (listener_of w.seats id) (is_ended_relay w.station.relays id rule relay there)
         (still_none id (Ended rule) w.station.clients nobody) refl (λ him other. relay_beside_ended w.station.relays id him other rule)
         (λ him other. beside_state w.station.clients id him other (Ended rule)) (λ him other. refl)
 
@@ -207,7 +207,7 @@ heard_on place (HasSeat seat) = refl
 heard_on place (HasFinished rule mount) = refl
 
 heard_by : (place : ℕ) (listener : Listener) (peer : Peer) (state : ClientState)
-    → standing_by (Some (advanced place listener)) peer state ≡ standing_by (Some listener) peer state
+    → standing_of_client (Some (advanced place listener)) peer state ≡ standing_of_client (Some listener) peer state
 heard_by place listener peer Undecided = refl
 heard_by place listener peer (Feeds mount) = refl
 heard_by place listener peer Listens = heard_on place listener.seating
@@ -215,7 +215,7 @@ heard_by place listener peer Answered = refl
 heard_by place listener peer (Ended rule) = refl
 
 heard_in : (relay : Option Relay) (place : ℕ) (listener : Listener) (client : Option Client)
-    → standing_in relay (Some (advanced place listener)) client ≡ standing_in relay (Some listener) client
+    → standing_of_found relay (Some (advanced place listener)) client ≡ standing_of_found relay (Some listener) client
 heard_in relay place listener None = refl
 heard_in relay place listener (Some client) = heard_by place listener client.peer client.state
 
@@ -226,14 +226,14 @@ stays_hearing w him place listener found id = by_number him id his others where
   his same =
       let client = client_of w.station.clients id in
       let relay = relay_of w.station.relays id in
-      ap (λ n. standing_in relay (listener_of (changed w (Advance him place)).seats n) client) (sym same)
-      ∙ ap (λ l. standing_in relay l client) (has_moved w.seats him place listener found)
+      ap (λ n. standing_of_found relay (listener_of (changed w (Advance him place)).seats n) client) (sym same)
+      ∙ ap (λ l. standing_of_found relay l client) (has_moved w.seats him place listener found)
       ∙ heard_in relay place listener client
-      ∙ ap (λ l. standing_in relay l client) (sym found)
-      ∙ ap (λ n. standing_in relay (listener_of w.seats n) client) same
+      ∙ ap (λ l. standing_of_found relay l client) (sym found)
+      ∙ ap (λ n. standing_of_found relay (listener_of w.seats n) client) same
 
   others : (him == id) ≡ false → standing_of (changed w (Advance him place)) id ≡ standing_of w id
-  others other = ap (λ l. standing_in (relay_of w.station.relays id) l (client_of w.station.clients id)) (beside_moved w.seats him id other place)
+  others other = ap (λ l. standing_of_found (relay_of w.station.relays id) l (client_of w.station.clients id)) (beside_moved w.seats him id other place)
 
 -- who hears a session that begins at its mount stands as before
 given_seated : (mount : List ℕ) (session : ℕ) (seating : Seating) → standing_seated (in_session_at mount session seating) ≡ standing_seated seating
@@ -241,7 +241,7 @@ given_seated mount session (HasSeat seat) = refl
 given_seated mount session (HasFinished rule last) = refl
 
 given_by : (mount : List ℕ) (session : ℕ) (listener : Listener) (peer : Peer) (state : ClientState)
-    → standing_by (Some (hears_session mount session listener)) peer state ≡ standing_by (Some listener) peer state
+    → standing_of_client (Some (hears_session mount session listener)) peer state ≡ standing_of_client (Some listener) peer state
 given_by mount session listener peer Undecided = refl
 given_by mount session listener peer (Feeds at) = refl
 given_by mount session listener peer Listens = given_seated mount session listener.seating
@@ -249,7 +249,7 @@ given_by mount session listener peer Answered = refl
 given_by mount session listener peer (Ended rule) = refl
 
 given_in : (relay : Option Relay) (mount : List ℕ) (session : ℕ) (listener : Option Listener) (client : Option Client)
-    → standing_in relay (option_map (hears_session mount session) listener) client ≡ standing_in relay listener client
+    → standing_of_found relay (option_map (hears_session mount session) listener) client ≡ standing_of_found relay listener client
 given_in relay mount session None client = refl
 given_in relay mount session (Some listener) None = refl
 given_in relay mount session (Some listener) (Some client) = given_by mount session listener client.peer client.state
@@ -257,7 +257,7 @@ given_in relay mount session (Some listener) (Some client) = given_by mount sess
 pub stays_given : (station : StationState) (seats : List Listener) (mount : List ℕ) (session id : ℕ)
     → standing_of (world station (with_session_at seats mount session)) id ≡ standing_of (world station seats) id
 stays_given station seats mount session id =
-    ap (λ l. standing_in (relay_of station.relays id) l (client_of station.clients id)) (listener_hearing mount session seats id)
+    ap (λ l. standing_of_found (relay_of station.relays id) l (client_of station.clients id)) (listener_hearing mount session seats id)
     ∙ given_in (relay_of station.relays id) mount session (listener_of seats id) (client_of station.clients id)
 
 pub turns_given : (w : World) (station : StationState) (mount : List ℕ) (session him : ℕ) (now : Standing) → Turns w (record w { station = station }) him now
@@ -272,8 +272,8 @@ no_source : (seating : Seating) (mount : List ℕ) → standing_seated seating �
 no_source (HasSeat seat) mount e = cc
 no_source (HasFinished rule last) mount e = cc
 
-feeds_by : (listener other : Option Listener) (peer : Peer) (state : ClientState) (mount : List ℕ) → standing_by listener peer state ≡ IsFeeding mount
-    → standing_by other peer state ≡ IsFeeding mount
+feeds_by : (listener other : Option Listener) (peer : Peer) (state : ClientState) (mount : List ℕ) → standing_of_client listener peer state ≡ IsFeeding mount
+    → standing_of_client other peer state ≡ IsFeeding mount
 feeds_by listener other peer Undecided mount e = cc
 feeds_by listener other peer (Feeds own) mount e = e
 feeds_by None other peer Listens mount e = cc
@@ -282,7 +282,7 @@ feeds_by listener other peer Answered mount e = cc
 feeds_by listener other peer (Ended rule) mount e = cc
 
 pub feeds_in : (relay : Option Relay) (listener other : Option Listener) (client : Option Client) (mount : List ℕ)
-    → standing_in relay listener client ≡ IsFeeding mount → standing_in relay other client ≡ IsFeeding mount
+    → standing_of_found relay listener client ≡ IsFeeding mount → standing_of_found relay other client ≡ IsFeeding mount
 feeds_in relay listener other None mount e = e
 feeds_in relay listener other (Some client) mount e = feeds_by listener other client.peer client.state mount e
 
@@ -291,8 +291,8 @@ pub feeds_whoever_sits : (w : World) (seats : List Listener) (id : ℕ) (mount :
 feeds_whoever_sits w seats id mount e = feeds_in (relay_of w.station.relays id) (listener_of w.seats id) (listener_of seats id) (client_of w.station.clients id) mount e
 
 -- who sits does so at whatever mount
-sits_by : (listener : Option Listener) (peer : Peer) (state : ClientState) (id : ℕ) (seat : Seat) → standing_by listener peer state ≡ Sits
-    → standing_by (Some (record { id = id; seating = HasSeat seat })) peer state ≡ Sits
+sits_by : (listener : Option Listener) (peer : Peer) (state : ClientState) (id : ℕ) (seat : Seat) → standing_of_client listener peer state ≡ Sits
+    → standing_of_client (Some (record { id = id; seating = HasSeat seat })) peer state ≡ Sits
 sits_by listener peer Undecided id seat e = cc
 sits_by listener peer (Feeds mount) id seat e = cc
 sits_by listener peer Listens id seat e = refl
@@ -306,7 +306,7 @@ no_relay_sits (Some relay) e = by_state relay.state e where
   by_state (RelayFeeds mount) h = cc
   by_state (RelayEnded rule) h = cc
 
-pub sits_in : (relay : Option Relay) (listener : Option Listener) (client : Option Client) (id : ℕ) (seat : Seat) → standing_in relay listener client ≡ Sits
-    → standing_in relay (Some (record { id = id; seating = HasSeat seat })) client ≡ Sits
+pub sits_in : (relay : Option Relay) (listener : Option Listener) (client : Option Client) (id : ℕ) (seat : Seat) → standing_of_found relay listener client ≡ Sits
+    → standing_of_found relay (Some (record { id = id; seating = HasSeat seat })) client ≡ Sits
 sits_in relay listener None id seat e = absurd (no_relay_sits relay e)
 sits_in relay listener (Some client) id seat e = sits_by listener client.peer client.state id seat e

@@ -8,11 +8,11 @@ use Rattle.radio_parts_mount.specs.Steps.{IsKept}
 use Rattle.radio_parts_mount.specs.Sessions.{Session, session_of}
 use Rattle.radio_seats_rows.specs.declared.seat.Seat.{Seat}
 use Rattle.radio_seats_rows.specs.Seats.{seat_of}
-use Rattle.radio_parts.specs.CanStep.{CanDraw, CanStep}
+use Rattle.radio_parts.specs.CanStep.{MayDraw, CanStep}
 use Rattle.radio_core.specs.Represents.{StandsForSome}
 use Rattle.radio_core.proofs.Kept.StepLemmas.{place_is_kept, seat_sits}
 
-can_draw : (w : World) → StandsForSome w → (id : ℕ) → CanDraw w id
+can_draw : (w : World) → StandsForSome w → (id : ℕ) → MayDraw w id
 can_draw w stands id = record {
   sits = seat_sits w stands id;
   kept = λ seat has. by_session seat has (session_of w.station.live seat.mount) refl;

@@ -9,7 +9,7 @@ use Rattle.radio_listing.specs.Admin.{stats_text, mounts_text}
 use Rattle.radio_listing.specs.Public.{status_text, stream_text}
 use Rattle.radio_parts_mount.specs.Kept.{kept_live}
 use Rattle.radio_core.specs.Kept.{kept_of}
-use Rattle.radio_parts_facts.specs.Listings.{shown, mount_row, mount_rows}
+use Rattle.radio_parts_facts.specs.Listings.{shown, row_of_session, mount_rows}
 use Rattle.radio_parts_facts.specs.Pages.{page_at, server_as}
 use Rattle.radio_settings_values.specs.declared.web.WebPath.{WebPath}
 use Rattle.radio_settings_values.specs.declared.web.WebPath.TheVariants.{IcecastStatus, Page as AtPage}
@@ -19,9 +19,9 @@ use Rattle.radio_parts_mount.specs.Sessions.{Session}
 use Rattle.radio_parts_station.specs.World.{World}
 
 module _ (w : World) where
-  rows_of : (live : List Session) → map (mount_row (kept_of w)) (kept_live w.station.settings.limits.queue_size live) ≡ map (mount_row w) live
+  rows_of : (live : List Session) → map (row_of_session (kept_of w)) (kept_live w.station.settings.limits.queue_size live) ≡ map (row_of_session w) live
   rows_of [] = refl
-  rows_of (session ∷ live) = ap (λ (rows : List MountRow). mount_row w session ∷ rows) (rows_of live)
+  rows_of (session ∷ live) = ap (λ (rows : List MountRow). row_of_session w session ∷ rows) (rows_of live)
 
   rows_kept : mount_rows (kept_of w) ≡ mount_rows w
   rows_kept = rows_of w.station.live

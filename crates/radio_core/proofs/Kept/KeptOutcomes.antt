@@ -43,14 +43,14 @@ use Rattle.radio_events.specs.declared.text.ReplyText.{ReplyText}
 use Rattle.radio_fallback.specs.declared.moves.Carried.{Carried}
 use Rattle.radio_fallback.specs.declared.moves.Move.TheVariants.{To}
 use Rattle.radio_fallback.specs.Carry.{carried}
-use Rattle.radio_parts.specs.Command.{said_of, does_asked, gives_command}
-use Rattle.radio_parts_facts.specs.CommandFacts.{sits_at, needs_of, facts_for, facts_asked, access_to, needs_to_list, opened_by, rows_to_command}
+use Rattle.radio_parts.specs.Command.{said_of, does_asked, command_outcome}
+use Rattle.radio_parts_facts.specs.CommandFacts.{is_listener_at, needs_of, facts_for, facts_asked, access_to, needs_to_list, opened_by, rows_to_command}
 use Rattle.radio_parts_changes.specs.Counts.{counts_by}
 use Rattle.radio_parts.specs.Draw.{hands_out}
 use Rattle.radio_parts.proofs.DrawLemmas.{hands_out_at, draws_so}
 use Rattle.radio_fallback.specs.declared.walking.Landing.{Landing}
 use Rattle.radio_fallback.specs.declared.walking.Landing.TheVariants.{Lands, Stops}
-use Rattle.radio_parts_station.specs.Facts.{largest_number, is_full, is_in_settings, sight_of, walks_to, source_facts, relay_facts, listen_facts, names_mount}
+use Rattle.radio_parts_station.specs.Facts.{largest_number, is_limit_reached, is_in_settings, sight_of, walks_to, source_facts, relay_facts, listen_facts, names_mount}
 use Rattle.radio_parts_mount.specs.Kept.{kept_session}
 use Rattle.radio_core.specs.Kept.{kept_of}
 use Rattle.radio_parts_facts.specs.Streams.{burst_of, head_of, interval_for}
@@ -92,7 +92,7 @@ module _ (w : World) (rise : Each HasRisingStarts w.station.live) (kept : SeatsA
   feed_facts asked =
       let facts : ℕ → Bool → Option SourceFacts = λ count live. (if names_mount w.station.settings asked.mount then Some (record {
         is_source_pair = is_source_pair w.station.settings asked.mount asked.pair;
-        sources_are_full = is_full count w.station.settings.limits.sources;
+        sources_are_full = is_limit_reached count w.station.settings.limits.sources;
         mount_is_live = live;
         type_is_refused = is_refused_type asked.shown.content_type;
       }) else None) in
@@ -103,7 +103,7 @@ module _ (w : World) (rise : Each HasRisingStarts w.station.live) (kept : SeatsA
   raise_facts : (mount : List ℕ) (shown : Shown) → relay_facts kept_station mount shown ≡ relay_facts w.station mount shown
   raise_facts mount shown =
       let facts : ℕ → Bool → Option RelayFacts = λ count live. (if names_mount w.station.settings mount then Some (record {
-        sources_are_full = is_full count w.station.settings.limits.sources;
+        sources_are_full = is_limit_reached count w.station.settings.limits.sources;
         mount_is_live = live;
         type_is_refused = is_refused_type shown.content_type;
         number_is_spent = w.station.last_id == largest_number;
@@ -168,7 +168,7 @@ module _ (w : World) (rise : Each HasRisingStarts w.station.live) (kept : SeatsA
       Destination (record { mount_is_live = here; destination_is_live = there; is_same_mount = bytes_eq mount destination }) in
       ap (λ (here : Bool). facts here (is_some (session_of kept_station.live destination))) (has_session w rise mount)
       ∙ ap (facts (is_some (session_of w.station.live mount))) (has_session w rise destination)
-  needs_alike (KillClient mount listener) = ap (λ (here : Bool). ClientNeeds here (sits_at w.seats mount listener)) (has_session w rise mount)
+  needs_alike (KillClient mount listener) = ap (λ (here : Bool). ClientNeeds here (is_listener_at w.seats mount listener)) (has_session w rise mount)
   needs_alike (KillSource mount) = ap (λ (here : Bool). MountNeeds here) (has_session w rise mount)
   needs_alike (SetTitle mount text) = ap (λ (here : Bool). MountNeeds here) (has_session w rise mount)
   needs_alike (SetFallback mount fallback) = ap (λ (here : Bool). MountNeeds here) (has_session w rise mount)
@@ -204,7 +204,7 @@ module _ (w : World) (rise : Each HasRisingStarts w.station.live) (kept : SeatsA
   does_alike id (AsksFor listing) = ap (λ (text : ReplyText). says (SaysText text) (Answer id)) (shown_kept w listing)
   does_alike id (Asks command) = ap (λ (counts : Carried). says (SaysText (said_of command counts)) (Obey id command)) (counts_alike command)
 
-  commands_alike : (asked : CommandRequest) → gives_command (kept_of w) asked ≡ gives_command w asked
+  commands_alike : (asked : CommandRequest) → command_outcome (kept_of w) asked ≡ command_outcome w asked
   commands_alike asked =
       ap (λ (facts : Option CommandFacts). if_undecided (standing_of w asked.id) (λ _.
       on_verdict (verdict_in (command_rows facts)) (Answer asked.id) (does_asked (kept_of w) asked.id asked.asked))) (facts_alike asked.asked asked.pair)

@@ -32,7 +32,7 @@ use Rattle.radio_core.specs.SourceReplies.{unless_spent, to_session, to_data_fro
 use Rattle.radio_core.specs.SourceReplies.{SourcesAreToldByTheirData, EndsAreTold}
 use Rattle.radio_parts.specs.Step.{outcome, reply_to, world_after}
 use Rattle.radio_parts_mount.specs.Stream.{end_of}
-use Rattle.radio_parts_station.specs.World.{World, standing_of, has_relay, standing_in}
+use Rattle.radio_parts_station.specs.World.{World, standing_of, has_relay, standing_of_found}
 use Rattle.radio_core.proofs.Clients.Standings.{feeds_in}
 
 -- the first that is sought, after a change of it
@@ -47,8 +47,8 @@ find-updated p f same (x ∷ xs) = by_test (find-updated p f same xs) (p x) refl
 feeds_on : (w w' : World) (id : ℕ) (mount : List ℕ) → w'.station.clients ≡ w.station.clients → w'.station.relays ≡ w.station.relays
     → standing_of w id ≡ IsFeeding mount → standing_of w' id ≡ IsFeeding mount
 feeds_on w w' id mount same same_relays e =
-    ap (λ (clients : List Client). standing_in (relay_of w'.station.relays id) (listener_of w'.seats id) (client_of clients id)) same
-    ∙ ap (λ (relays : List Relay). standing_in (relay_of relays id) (listener_of w'.seats id) (client_of w.station.clients id)) same_relays
+    ap (λ (clients : List Client). standing_of_found (relay_of w'.station.relays id) (listener_of w'.seats id) (client_of clients id)) same
+    ∙ ap (λ (relays : List Relay). standing_of_found (relay_of relays id) (listener_of w'.seats id) (client_of w.station.clients id)) same_relays
     ∙ feeds_in (relay_of w.station.relays id) (listener_of w.seats id) (listener_of w'.seats id) (client_of w.station.clients id) mount e
 
 -- more data, behind a block that was taken

@@ -24,11 +24,11 @@ use Rattle.radio_parts_station.specs.declared.standing.Standing.TheVariants.{Unk
 use Rattle.radio_values.specs.declared.field.Shown.{Shown}
 use Rattle.radio_tables.specs.Lists.{placed, Each}
 use Rattle.radio_tables.proofs.EachLaws.{Each_each, Each_kept, Each_placed}
-use Rattle.radio_parts_station.specs.Clients.{Client, client_of, newcomer}
+use Rattle.radio_parts_station.specs.Clients.{Client, client_of, undecided_client}
 use Rattle.radio_parts_station.specs.Relays.{Relay, relay_of, risen}
 use Rattle.radio_parts_mount.specs.Sessions.{session_of}
 use Rattle.radio_core.specs.Finishes.{Cause}
-use Rattle.radio_parts_changes.specs.Changes.{changed, session_ended, taken_in}
+use Rattle.radio_parts_changes.specs.Changes.{changed, session_ended, block_received}
 use Rattle.radio_parts_changes.specs.Changes.{ticked}
 use Rattle.radio_parts.specs.Listen.{first_seat}
 use Rattle.radio_core.specs.Sound.{IsSound}
@@ -36,7 +36,7 @@ use Rattle.radio_parts_station.specs.Streams.{shown_for}
 use Rattle.radio_parts.specs.Step.{outcome, world_after}
 use Rattle.radio_parts.specs.Ways.{Way, Misplaced, IsFinished, IsDenied, IsRefused, IsAdmitted, Begins, ComesUp, Receives, SetsTitle, TakesSeat, HandsOut, Ends}
 use Rattle.radio_parts.specs.Ways.{EndsAndLeaves, Leaves, GoesDown, Obeys, Shows, HasPassed, Ticks}
-use Rattle.radio_parts_station.specs.World.{World, opening, standing_of, standing_in, standing_by, standing_seated, standing_of_listener}
+use Rattle.radio_parts_station.specs.World.{World, opening, standing_of, standing_of_found, standing_of_client, standing_seated, standing_of_listener}
 use Rattle.radio_core.proofs.Clients.CalledHome.{turns_up, just_raised, sound_just_raised, stands_called}
 use Rattle.radio_core.proofs.Clients.Effects.{IsSwept, GoesOnAs, IsOut, HasDone, tick_swept, obeyed_swept, his_event}
 use Rattle.radio_core.proofs.Clients.Fates.{Fate, GoesOn, IsEnded, HasStopped, IsMoved, HasEnded, Nobody}
@@ -113,16 +113,16 @@ no_yet_listener : (listener : Option Listener) → IsYetToAsk (standing_of_liste
 no_yet_listener None asks = asks
 no_yet_listener (Some listener) asks = no_yet_seating listener.seating asks
 
-yet_by_state : (listener other : Option Listener) (peer : Peer) (state : ClientState) → IsYetToAsk (standing_by listener peer state)
-    → IsYetToAsk (standing_by other peer state)
+yet_by_state : (listener other : Option Listener) (peer : Peer) (state : ClientState) → IsYetToAsk (standing_of_client listener peer state)
+    → IsYetToAsk (standing_of_client other peer state)
 yet_by_state listener other peer IsNew asks = tt
 yet_by_state listener other peer (IsSource mount) asks = absurd asks
 yet_by_state listener other peer Listens asks = absurd (no_yet_listener listener asks)
 yet_by_state listener other peer HasHisAnswer asks = absurd asks
 yet_by_state listener other peer (Ended rule) asks = absurd asks
 
-yet_whoever_sits : (relay : Option Relay) (listener other : Option Listener) (client : Option Client) → IsYetToAsk (standing_in relay listener client)
-    → IsYetToAsk (standing_in relay other client)
+yet_whoever_sits : (relay : Option Relay) (listener other : Option Listener) (client : Option Client) → IsYetToAsk (standing_of_found relay listener client)
+    → IsYetToAsk (standing_of_found relay other client)
 yet_whoever_sits relay listener other None asks = asks
 yet_whoever_sits relay listener other (Some client) asks = yet_by_state listener other client.peer client.state asks
 
@@ -234,7 +234,7 @@ module _ (w : World) (s : IsSound w) (inv : AreInOrder w) where
       (turns_answered w him (asks w him undecided.0 undecided.1)) (λ h. h)
   order_by event o (IsAdmitted peer allowed) =
       let id = w.station.last_id + 1 in
-      let new = newcomer id peer w.station.time in
+      let new = undecided_client id peer w.station.time in
       let none = inv.fresh id (subst IsYetToAsk (sym (s.numbered id (omega arith))) tt) in
       record {
         clients = subst IsRising (sym (numbers_placed number_of new w.station.clients)) (placed_rising id (ids w) inv.clients);
@@ -259,8 +259,8 @@ module _ (w : World) (s : IsSound w) (inv : AreInOrder w) where
   order_by event o (Receives him mount block feeding) =
       order_still w inv (changed w o.change) (same_received w mount block)
       (λ id. lags_yet id ((lag_fates w s mount block him feeding).fate id)) where
-        lags_yet : (id : ℕ) → Fate (Cause w (taken_in w mount block) (Push him block)) NoMove Nobody HasEnded (grown_world w mount block) (taken_in w mount block) id
-            → IsYetToAsk (standing_of (taken_in w mount block) id) → IsYetToAsk (standing_of w id)
+        lags_yet : (id : ℕ) → Fate (Cause w (block_received w mount block) (Push him block)) NoMove Nobody HasEnded (grown_world w mount block) (block_received w mount block) id
+            → IsYetToAsk (standing_of (block_received w mount block) id) → IsYetToAsk (standing_of w id)
         lags_yet id (GoesOn same seat feeds sits) asks = subst IsYetToAsk same asks
         lags_yet id (IsEnded rule cause active ended none over) asks = absurd (subst IsYetToAsk ended asks)
         lags_yet id (HasStopped other why feeds done none over) asks = absurd why

@@ -12,14 +12,14 @@ use Rattle.radio_parts_station.specs.declared.clients.ClientState.TheVariants.{F
 use Rattle.radio_events.specs.declared.command.Command.{Command}
 use Rattle.radio_events.specs.declared.command.Command.TheVariants.{MoveClients, KillClient, KillSource, SetTitle, SetFallback, AddUser, DeleteUser}
 use Rattle.radio_parts_changes.specs.declared.change.Change.TheVariants.{Begin, Obey}
-use Rattle.radio_parts_station.specs.Clients.{Client, is_client, in_state, with_state}
-use Rattle.radio_parts_station.specs.Relays.{Relay, is_relay, ended, with_relay_ended}
+use Rattle.radio_parts_station.specs.Clients.{Client, is_client, in_state, with_client_state}
+use Rattle.radio_parts_station.specs.Relays.{Relay, is_relay, relay_ended, with_relay_ended}
 use Rattle.radio_settings_values.specs.Options.{options_for}
 use Rattle.radio_values.specs.declared.field.Shown.{Shown}
 use Rattle.radio_fallback.specs.declared.moves.Move.{Move}
 use Rattle.radio_fallback.specs.declared.moves.Move.TheVariants.{Ended as SessionEnds, Up, To}
 use Rattle.radio_fallback.proofs.FaresLemmas.{numbers_kept}
-use Rattle.radio_parts_changes.specs.Changes.{answered, session_killed, changed, carried_along, session_over, session_ended, called_home, taken_in, session_begun}
+use Rattle.radio_parts_changes.specs.Changes.{answered, session_killed, changed, carried_along, session_over, session_ended, called_home, block_received, session_begun}
 use Rattle.radio_parts_changes.specs.Changes.{before_silence, session_silenced, silent_in, ticked}
 use Rattle.radio_parts_station.specs.Facts.{sight_of}
 use Rattle.radio_parts_mount.specs.Sessions.{Session, session_of}
@@ -72,10 +72,10 @@ then_the_same w next later a b = record {
 }
 
 pub same_state : (id : ℕ) (state : ClientState) (clients : List Client) → map number_of (in_state clients id state) ≡ map number_of clients
-same_state id state clients = numbers_updated number_of (is_client id) (with_state state) (λ x. refl) clients
+same_state id state clients = numbers_updated number_of (is_client id) (with_client_state state) (λ x. refl) clients
 
 same_finished : (id : ℕ) (rule : Rule) (relays : List Relay) → map relay_number (with_relay_ended relays id rule) ≡ map relay_number relays
-same_finished id rule relays = numbers_updated relay_number (is_relay id) (ended rule) (λ x. refl) relays
+same_finished id rule relays = numbers_updated relay_number (is_relay id) (relay_ended rule) (λ x. refl) relays
 
 same_ended : (p : Seat → Bool) (rule : Rule) (seats : List Listener) → map row_of (with_ended seats p rule) ≡ map row_of seats
 same_ended p rule seats = numbers_mapped row_of (finished_if p rule) (λ x. refl) seats
@@ -154,7 +154,7 @@ same_begun w id mount shown =
       same_last = refl;
     }) (same_called up mount)
 
-pub same_received : (w : World) (mount block : List ℕ) → AreTheSame w (taken_in w mount block)
+pub same_received : (w : World) (mount block : List ℕ) → AreTheSame w (block_received w mount block)
 same_received w mount block = record {
   same_ids = refl;
   same_relays = refl;

@@ -17,7 +17,7 @@ use Rattle.radio_events.specs.declared.reply.Reply.{Reply}
 use Rattle.radio_events.specs.declared.reply.Reply.TheVariants.{Noted, Stray}
 use Rattle.radio_parts_station.specs.declared.standing.Standing.TheVariants.{Unknown, Feeds}
 use Rattle.radio_parts_changes.specs.declared.change.Change.TheVariants.{Nothing, EndAndLeave, Forget}
-use Rattle.radio_parts_station.specs.Clients.{Client, client_of, newcomer, without_client}
+use Rattle.radio_parts_station.specs.Clients.{Client, client_of, undecided_client, without_client}
 use Rattle.radio_parts_station.specs.Relays.{Relay, risen, without_relay}
 use Rattle.radio_parts.specs.Closing.{Closes, OfClient, OfRelay}
 use Rattle.radio_parts.specs.Outcomes.{says, unless_relayed}
@@ -153,7 +153,7 @@ module _ (w : World) (s : IsSound w) (inv : AreInOrder w) where
       nobody_moves (changed w o.change) event o.reply (record { same_ids = same_state him HasHisAnswer w.station.clients; same_relays = refl; same_rows = refl; same_last = refl })
       refl refl refl refl refl refl refl
   adds_by event o (IsAdmitted peer allowed) known =
-      let new = newcomer (w.station.last_id + 1) peer w.station.time in
+      let new = undecided_client (w.station.last_id + 1) peer w.station.time in
       let none = no_client_there w (w.station.last_id + 1) (s.numbered (w.station.last_id + 1) (omega arith)) in
       let more = placed_length (w.station.last_id + 1) (ids w) (number_free number_of (w.station.last_id + 1) w.station.clients none) in
       adds (changed w o.change) event o.reply refl (omega (arith, ap length (numbers_placed number_of new w.station.clients), more)) (omega arith) (omega arith)

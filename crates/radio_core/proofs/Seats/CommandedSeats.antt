@@ -8,7 +8,7 @@ use Rattle.radio_seats_rows.specs.declared.seat.Seat.{Seat}
 use Rattle.radio_seats_rows.specs.Seats.{seat_of}
 use Rattle.radio_events.specs.declared.command.Command.TheVariants.{KillClient}
 use Rattle.radio_events.specs.declared.event.Event.{Event}
-use Rattle.radio_parts_facts.specs.CommandFacts.{is_live, sits_at}
+use Rattle.radio_parts_facts.specs.CommandFacts.{is_live, is_listener_at}
 use Rattle.radio_parts_station.specs.World.{World}
 use Rattle.radio_parts.specs.Allowed.{IsCommanded}
 use Rattle.radio_core.proofs.Commands.AllowedCommands.{may_kill, needs_hold}
@@ -27,4 +27,4 @@ sits_by mount (Some seat) e = (seat, refl, (bytes_eq-Decides seat.mount mount).0
 pub killed_seat : (w : World) (event : Event) (mount : List ℕ) (listener : ℕ) → IsCommanded w event (KillClient mount listener)
     → (seat : Seat) × (seat_of w.seats listener ≡ Some seat) × (seat.mount ≡ mount)
 killed_seat w event mount listener c =
-    sits_by mount (seat_of w.seats listener) (may_kill (is_live w.station mount) (sits_at w.seats mount listener) (needs_hold w event c))
+    sits_by mount (seat_of w.seats listener) (may_kill (is_live w.station mount) (is_listener_at w.seats mount listener) (needs_hold w event c))

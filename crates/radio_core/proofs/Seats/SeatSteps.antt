@@ -16,7 +16,7 @@ use Rattle.radio_parts.specs.declared.outcome.Outcome.{Outcome}
 use Rattle.radio_seats_rows.specs.declared.seat.Seat.{Seat}
 use Rattle.radio_parts_station.specs.declared.standing.Standing.TheVariants.{Undecided, Feeds, Sits, Unknown}
 use Rattle.radio_parts_station.specs.World.{World, standing_of, world}
-use Rattle.radio_parts_changes.specs.Changes.{changed, called_home, taken_in, ticked}
+use Rattle.radio_parts_changes.specs.Changes.{changed, called_home, block_received, ticked}
 use Rattle.radio_parts_station.specs.StationChanges.{begun, raised}
 use Rattle.radio_core.specs.Handing.{data_in, of_client, handed_at}
 use Rattle.radio_parts_station.specs.Facts.{sight_of, rows_to_listen, walks_to}
@@ -173,13 +173,13 @@ module _ (w : World) (s : IsSound w) (id : ℕ) where
 
   -- a block comes: it goes on, or is too far behind
   lags : (him : ℕ) (mount block : List ℕ) → standing_of w him ≡ Feeds mount → (bytes : List ℕ) → bytes ≡ []
-      → Turn w (taken_in w mount block) (Push him block) id mine bytes (seat_of (taken_in w mount block).seats id)
+      → Turn w (block_received w mount block) (Push him block) id mine bytes (seat_of (block_received w mount block).seats id)
   lags him mount block feeding bytes none = by_fate ((lag_fates w s mount block him feeding).fate id) where
-    by_fate : Fate (Cause w (taken_in w mount block) (Push him block)) NoMove Nobody HasEnded (grown_world w mount block) (taken_in w mount block) id
-        → Turn w (taken_in w mount block) (Push him block) id mine bytes (seat_of (taken_in w mount block).seats id)
-    by_fate (GoesOn same seats feeds sits) = stays (taken_in w mount block) (Push him block) bytes (seat_of (taken_in w mount block).seats id) none seats
+    by_fate : Fate (Cause w (block_received w mount block) (Push him block)) NoMove Nobody HasEnded (grown_world w mount block) (block_received w mount block) id
+        → Turn w (block_received w mount block) (Push him block) id mine bytes (seat_of (block_received w mount block).seats id)
+    by_fate (GoesOn same seats feeds sits) = stays (block_received w mount block) (Push him block) bytes (seat_of (block_received w mount block).seats id) none seats
     by_fate (IsEnded rule cause active ended gone over) =
-        loses (taken_in w mount block) (Push him block) bytes (seat_of (taken_in w mount block).seats id) none gone
+        loses (block_received w mount block) (Push him block) bytes (seat_of (block_received w mount block).seats id) none gone
     by_fate (HasStopped other why feeds done gone over) = absurd why
     by_fate (IsMoved old session carries left had has same live opens) = absurd carries
 

@@ -12,7 +12,7 @@ use Rattle.radio_parts_station.specs.declared.standing.Standing.TheVariants.{Sit
 use Rattle.radio_parts_station.specs.Clients.{Client, client_of}
 use Rattle.radio_parts_station.specs.Relays.{Relay, relay_of}
 use Rattle.radio_core.proofs.Clients.Standings.{no_relay_sits}
-use Rattle.radio_parts_station.specs.World.{World, standing_of, standing_in, standing_by, standing_of_listener, standing_seated}
+use Rattle.radio_parts_station.specs.World.{World, standing_of, standing_of_found, standing_of_client, standing_of_listener, standing_seated}
 
 -- who sits has a seat
 held_seat : (seating : Seating) → standing_seated seating ≡ Sits → (seat : Seat) × (seat_held seating ≡ Some seat)
@@ -23,7 +23,7 @@ listener_seat : (listener : Option Listener) → standing_of_listener listener �
 listener_seat None e = cc
 listener_seat (Some listener) e = held_seat listener.seating e
 
-by_state : (listener : Option Listener) (peer : Peer) (state : ClientState) → standing_by listener peer state ≡ Sits
+by_state : (listener : Option Listener) (peer : Peer) (state : ClientState) → standing_of_client listener peer state ≡ Sits
     → (seat : Seat) × (seat_in listener ≡ Some seat)
 by_state listener peer IsNew e = cc
 by_state listener peer (IsSource mount) e = cc
@@ -31,7 +31,7 @@ by_state listener peer Listens e = listener_seat listener e
 by_state listener peer Answered e = cc
 by_state listener peer (Ended rule) e = cc
 
-by_client : (relay : Option Relay) (listener : Option Listener) (client : Option Client) → standing_in relay listener client ≡ Sits → (seat : Seat) × (seat_in listener ≡ Some seat)
+by_client : (relay : Option Relay) (listener : Option Listener) (client : Option Client) → standing_of_found relay listener client ≡ Sits → (seat : Seat) × (seat_in listener ≡ Some seat)
 by_client relay listener None e = absurd (no_relay_sits relay e)
 by_client relay listener (Some client) e = by_state listener client.peer client.state e
 

@@ -33,7 +33,7 @@ use Rattle.radio_parts_station.specs.Streams.{shown_for}
 use Rattle.radio_parts.specs.Step.{outcome, world_after}
 use Rattle.radio_parts.specs.Ways.{Way, Misplaced, IsFinished, IsDenied, IsRefused, IsAdmitted, Begins, ComesUp, Receives, SetsTitle, TakesSeat, HandsOut, Ends}
 use Rattle.radio_parts.specs.Ways.{EndsAndLeaves, Leaves, GoesDown, Obeys, Shows, HasPassed, Ticks}
-use Rattle.radio_parts_station.specs.World.{World, standing_of, standing_in, world}
+use Rattle.radio_parts_station.specs.World.{World, standing_of, standing_of_found, world}
 use Rattle.radio_parts.proofs.CalledStation.{station_called}
 use Rattle.radio_core.proofs.Clients.Fates.{Fate, GoesOn, IsEnded, HasStopped, IsMoved, HasEnded, Nobody}
 use Rattle.radio_core.proofs.Kept.KeptSeats.{settings_stay}
@@ -206,10 +206,10 @@ module _ (w : World) (s : IsSound w) (mount : List ℕ) where
         let feeds : standing_of w session.number ≡ Feeds mount = s.fed mount session here in
         let new : client.state ≡ IsNew = asking_at w.station.settings.limits.header_timeout moment client.arrived client.state late in
         let undecided : standing_of w session.number ≡ Undecided client.peer =
-        ap (standing_in (relay_of w.station.relays session.number) (listener_of w.seats session.number)) found
+        ap (standing_of_found (relay_of w.station.relays session.number) (listener_of w.seats session.number)) found
         ∙ is_new (relay_of w.station.relays session.number) (listener_of w.seats session.number) client new in
         cc where
-          is_new : (relay : _) (listener : _) (x : Client) → x.state ≡ IsNew → standing_in relay listener (Some x) ≡ Undecided x.peer
+          is_new : (relay : _) (listener : _) (x : Client) → x.state ≡ IsNew → standing_of_found relay listener (Some x) ≡ Undecided x.peer
           is_new relay listener x e = rw e refl
     is_silenced session here (HasSentNothing moment silent e feeds live is) gone =
         let both : Feeds mount ≡ Feeds silent.mount = sym (s.fed mount session here) ∙ feeds in

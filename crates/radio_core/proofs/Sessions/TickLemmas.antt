@@ -17,7 +17,7 @@ use Rattle.radio_parts_station.specs.declared.standing.Standing.{Standing}
 use Rattle.radio_parts_station.specs.declared.standing.Standing.TheVariants.{Undecided, Feeds, Sits, Finished}
 use Rattle.radio_parts_changes.specs.Changes.{session_over, session_ended, before_silence, silent_in, session_silenced, ticked}
 use Rattle.radio_parts_station.specs.StationChanges.{timed_out_by}
-use Rattle.radio_parts_station.specs.Clients.{Client, is_client, client_of, with_state}
+use Rattle.radio_parts_station.specs.Clients.{Client, is_client, client_of, with_client_state}
 use Rattle.radio_parts_station.specs.Relays.{Relay, relay_of}
 use Rattle.radio_core.specs.Finishes.{Cause, SessionIsOver, HasSatOut, HasAskedNothing, HasSentNothing}
 use Rattle.radio_core.specs.Moves.{Brings, BySilence, TakesTo}
@@ -28,7 +28,7 @@ use Rattle.radio_parts_mount.specs.Sessions.{Session, session_of}
 use Rattle.radio_core.specs.Sound.{IsSound}
 use Rattle.radio_parts_mount.specs.Timeouts.{has_sat_out, is_silent}
 use Rattle.radio_parts_station.specs.Timeouts.{asks_nothing, asks_too_late, timed_out}
-use Rattle.radio_parts_station.specs.World.{World, standing_of, standing_in}
+use Rattle.radio_parts_station.specs.World.{World, standing_of, standing_of_found}
 use Rattle.radio_parts_mount.proofs.ApartLemmas.{found_own}
 use Rattle.radio_core.proofs.Clients.Fates.{IsActive, Fate, GoesOn, IsEnded, HasStopped, IsMoved, Fates, HasEnded, Nobody, feeds_on, sound_fates, fates_none, fates_then, seats_fates}
 use Rattle.radio_parts_mount.proofs.SessionLookups.{is_over}
@@ -44,8 +44,8 @@ module _ (seconds ms : ℕ) where
 
   -- who asks too late after that, by whatever measure, was as it is
   late_at : (client : Client) (b : Bool) (seconds' ms' : ℕ)
-      → asks_too_late seconds' ms' (with_state (if b then Ended HeaderTimeout else client.state) client) ≡ true
-      → with_state (if b then Ended HeaderTimeout else client.state) client ≡ client
+      → asks_too_late seconds' ms' (with_client_state (if b then Ended HeaderTimeout else client.state) client) ≡ true
+      → with_client_state (if b then Ended HeaderTimeout else client.state) client ≡ client
   late_at client true seconds' ms' e = cc
   late_at client false seconds' ms' e = refl
 
@@ -96,15 +96,15 @@ module _ (w : World) (s : IsSound w) (ms : ℕ) where
   timeout = w.station.settings.limits.header_timeout
 
   stands_in : (id : ℕ) (found : Option Client) → client_of timed.station.clients id ≡ found
-      → standing_of timed id ≡ standing_in (relay_of w.station.relays id) (listener_of w.seats id) found
-  stands_in id found e = ap (standing_in (relay_of w.station.relays id) (listener_of w.seats id)) e
+      → standing_of timed id ≡ standing_of_found (relay_of w.station.relays id) (listener_of w.seats id) found
+  stands_in id found e = ap (standing_of_found (relay_of w.station.relays id) (listener_of w.seats id)) e
 
   stood_in : (id : ℕ) (found : Option Client) → client_of w.station.clients id ≡ found
-      → standing_of w id ≡ standing_in (relay_of w.station.relays id) (listener_of w.seats id) found
-  stood_in id found e = ap (standing_in (relay_of w.station.relays id) (listener_of w.seats id)) e
+      → standing_of w id ≡ standing_of_found (relay_of w.station.relays id) (listener_of w.seats id) found
+  stood_in id found e = ap (standing_of_found (relay_of w.station.relays id) (listener_of w.seats id)) e
 
   new_by : (relay : Option Relay) (listener : Option Listener) (client : Client) → client.state ≡ IsNew
-      → standing_in relay listener (Some client) ≡ Undecided client.peer
+      → standing_of_found relay listener (Some client) ≡ Undecided client.peer
   new_by relay listener client e = rw e refl
 
   has_no_seat : (id : ℕ) (peer : Peer) → standing_of w id ≡ Undecided peer → seat_of w.seats id ≡ None
@@ -114,13 +114,13 @@ module _ (w : World) (s : IsSound w) (ms : ℕ) where
     by_found (Some seat) h = let sat : standing_of w id ≡ Sits = s.sitting id seat h in cc
 
   timeout_at : (id : ℕ) (client : Client) → client_of w.station.clients id ≡ Some client → (b : Bool) → asks_too_late timeout ms client ≡ b
-      → client_of timed.station.clients id ≡ Some (with_state (if b then Ended HeaderTimeout else client.state) client)
+      → client_of timed.station.clients id ≡ Some (with_client_state (if b then Ended HeaderTimeout else client.state) client)
       → ClockFate w timed id
   timeout_at id client found true late now =
       let is_new : client.state ≡ IsNew = asking_at timeout ms client.arrived client.state late in
       let undecided : standing_of w id ≡ Undecided client.peer = stood_in id (Some client) found ∙ new_by (relay_of w.station.relays id) (listener_of w.seats id) client is_new in
       IsEnded HeaderTimeout (HasAskedNothing ms client refl found late) (subst (λ (x : Standing). IsActive x) (sym undecided) tt)
-      (stands_in id (Some (with_state (Ended HeaderTimeout) client)) now) (has_no_seat id client.peer undecided) (λ mount e. cc)
+      (stands_in id (Some (with_client_state (Ended HeaderTimeout) client)) now) (has_no_seat id client.peer undecided) (λ mount e. cc)
   timeout_at id client found false late now =
       GoesOn (stands_in id (Some client) now ∙ sym (stood_in id (Some client) found)) refl (λ mount e. refl) (λ seat e. refl)
 

@@ -21,7 +21,7 @@ use Rattle.radio_parts_station.specs.declared.standing.Standing.{Standing}
 use Rattle.radio_parts_station.specs.declared.standing.Standing.TheVariants.{Unknown, Feeds, Sits, Answered}
 use Rattle.radio_parts_station.specs.World.{World, standing_of, has_relay}
 use Rattle.radio_parts_changes.specs.Changes.{changed, carried_along, session_over, session_ended}
-use Rattle.radio_parts_station.specs.Clients.{Client, client_of, with_state, in_state}
+use Rattle.radio_parts_station.specs.Clients.{Client, client_of, with_client_state, in_state}
 use Rattle.radio_parts.specs.Closing.{Closes}
 use Rattle.radio_parts_station.specs.Facts.{sight_of}
 use Rattle.radio_core.specs.Finishes.{Cause, SessionIsOver}
@@ -136,7 +136,7 @@ module _ (C : ℕ → Rule → Type 0) (M : ℕ → Session → Type 0) (S : ℕ
 
 -- who asks too late after one client has turned to something else was as it is
 pub late_beside : (clients : List Client) (him : ℕ) (state : ClientState)
-    → ((client : Client) (seconds ms : ℕ) → asks_too_late seconds ms (with_state state client) ≡ true → ⊥)
+    → ((client : Client) (seconds ms : ℕ) → asks_too_late seconds ms (with_client_state state client) ≡ true → ⊥)
     → (id : ℕ) (client : Client) (seconds ms : ℕ) → client_of (in_state clients him state) id ≡ Some client → asks_too_late seconds ms client ≡ true
     → client_of clients id ≡ Some client
 late_beside clients him state never id client seconds ms e late =
@@ -146,9 +146,9 @@ late_beside clients him state never id client seconds ms e late =
           let still : client_of (in_state clients him state) id ≡ None
           = ap (client_of (in_state clients him state)) (sym same) ∙ still_none him state clients none in cc
       by_found same (Some old) there =
-          let both : Some (with_state state old) ≡ Some client
+          let both : Some (with_client_state state old) ≡ Some client
           = sym (does clients him state old there) ∙ ap (client_of (in_state clients him state)) same ∙ e in
-          let one : with_state state old ≡ client = cc in
+          let one : with_client_state state old ≡ client = cc in
           absurd (never old seconds ms (ap (λ (x : Client). asks_too_late seconds ms x) one ∙ late))
 
 module _ (w : World) (s : IsSound w) (him : ℕ) (mount : List ℕ) (feeding : standing_of w him ≡ Feeds mount) where

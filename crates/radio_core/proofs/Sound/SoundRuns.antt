@@ -11,7 +11,7 @@ use Rattle.radio_events.specs.declared.event.Event.TheVariants.{Push}
 use Rattle.radio_parts_station.specs.declared.standing.Standing.TheVariants.{Feeds}
 use Rattle.radio_parts.specs.declared.outcome.Outcome.{Outcome}
 use Rattle.radio_parts_station.specs.World.{World, opening, standing_of}
-use Rattle.radio_parts_changes.specs.Changes.{changed, laggards_ended, taken_in, ticked}
+use Rattle.radio_parts_changes.specs.Changes.{changed, laggards_ended, block_received, ticked}
 use Rattle.radio_parts_changes.proofs.PartChanges.{is_taken_in}
 use Rattle.radio_parts_station.specs.StationChanges.{received}
 use Rattle.radio_parts_station.specs.Facts.{live_end}
@@ -44,7 +44,7 @@ abbrev pub NoMove : ℕ → Session → Type 0
 NoMove id session = ⊥
 
 pub lag_fates : (w : World) → IsSound w → (mount block : List ℕ) (him : ℕ) → standing_of w him ≡ Feeds mount
-    → Fates (Cause w (taken_in w mount block) (Push him block)) NoMove Nobody HasEnded (grown_world w mount block) (taken_in w mount block)
+    → Fates (Cause w (block_received w mount block) (Push him block)) NoMove Nobody HasEnded (grown_world w mount block) (block_received w mount block)
 lag_fates w s mount block him feeding =
     let station = received w.station mount block in
     let queue = w.station.settings.limits.queue_size in
@@ -66,8 +66,8 @@ sound_by w s event o (IsAdmitted peer allowed) = sound_admitted w s peer
 sound_by w s event o (Begins asked undecided none allowed) =
     sound_up w s asked.id asked.mount (shown_for w.station asked.mount asked.shown) undecided.0 undecided.1 none
 sound_by w s event o (ComesUp mount shown none allowed) = sound_risen w s mount (shown_for w.station mount shown) none
-sound_by w s event o (Receives id mount block feeding) = sound_fates (Cause w (taken_in w mount block) (Push id block)) NoMove Nobody HasEnded
-    (grown_world w mount block) (taken_in w mount block) (sound_grown w s mount block id feeding) (lag_fates w s mount block id feeding)
+sound_by w s event o (Receives id mount block feeding) = sound_fates (Cause w (block_received w mount block) (Push id block)) NoMove Nobody HasEnded
+    (grown_world w mount block) (block_received w mount block) (sound_grown w s mount block id feeding) (lag_fates w s mount block id feeding)
 sound_by w s event o (Shows _ asker peer text its undecided what) = sound_answered w s asker peer undecided
 sound_by w s event o (Obeys _ command c) = sound_obeyed w s event command c
 sound_by w s event o (HasPassed ms e) = s

@@ -8,13 +8,14 @@ use Rattle.radio_events.specs.declared.event.Event.TheVariants.{RelayUp}
 use Rattle.radio_events.specs.declared.state.State.{State}
 use Rattle.radio_events.specs.declared.state.State.TheVariants.{Running, Shut}
 use Rattle.radio_events.specs.Events.{entry}
-use Rattle.radio_heads.specs.Laws.{IsSettled, HeadsLieWithin}
+use Rattle.radio_heads.specs.Laws.{IsStableReading, HeadsLieWithin}
 use Rattle.radio_heads.specs.Response.{ShowsResponse}
-use Rattle.radio_relay.specs.Answer.{shown_by}
+use Rattle.radio_relay.specs.Answer.{shown_in_response}
 use Rattle.radio_relay.proofs.CutLemmas.{AfterPieces, HeardInPieces}
-use Rattle.radio_pull.specs.Applied.{AreAtMostOfTurn, AreOfTurn, IsGoingDown, PullCourse, PullSoFar, begins, goes_down, has_turn, is_refused}
-use Rattle.radio_pull.specs.Applied.{is_shut, number_after}
-use Rattle.radio_pull.specs.Pulling.{Pulling}
+use Rattle.radio_relay.specs.Applied.{AreAtMostOfTurn, AreOfTurn, IsGoingDown, PullCourse, PullSoFar, begins, goes_down, has_turn, is_refused}
+use Rattle.radio_relay.specs.Applied.{number_after}
+use Rattle.radio_relay.specs.Pulling.{is_shut}
+use Rattle.radio_relay.specs.Pulling.{Pulling}
 use Rattle.radio_answers.specs.declared.web_answers.WebAnswers.{WebAnswers}
 use Rattle.radio_headline.specs.Sources.{pushed}
 use Rattle.radio_headline.proofs.Logs.{Each, each_first, each_joined}
@@ -40,13 +41,13 @@ cut_going [] more cut going later = later
 cut_going (e ∷ log) more cut going later =
     ((λ r. each_joined (λ x. IsGoing x.event) log more (cut.0 r) going), cut_going log more cut.1 going later)
 
-module _ (settled : IsSettled ShowsResponse) (within : HeadsLieWithin ShowsResponse) (joined : (bytes : List ℕ) → concat (blocks_of bytes) ≡ bytes)
+module _ (settled : IsStableReading ShowsResponse) (within : HeadsLieWithin ShowsResponse) (joined : (bytes : List ℕ) → concat (blocks_of bytes) ≡ bytes)
     (none_blocks : blocks_of [] ≡ []) (in_pieces : HeardInPieces) (afters : AfterPieces) where
   -- a front of what was applied pushes a front of the sound
   pulls_front : (bytes : List ℕ) (log more : List Entry) → OwnRelay None (log ++ more) → Pulls bytes (log ++ more) → HasPulled bytes log
   pulls_front bytes [] more own p = inl refl
   pulls_front bytes (e ∷ log) more own p =
-      let up = entry (RelayUp p.mount (shown_by p.head)) p.reply in
+      let up = entry (RelayUp p.mount (shown_in_response p.head)) p.reply in
       let both : e ∷ log ++ more ≡ up ∷ p.behind = p.in_order in
       let first : e ≡ up = cc in
       let behind : log ++ more ≡ p.behind = cc in

@@ -14,9 +14,9 @@ use Rattle.radio_events.specs.declared.state.Ending.{Ending}
 use Rattle.radio_events.specs.Events.{entry}
 use Rattle.radio_relay.specs.declared.items.PullItem.{PullItem}
 use Rattle.radio_relay.specs.declared.items.PullItem.TheVariants.{Up, Sound, Title as Named}
-use Rattle.radio_pull.specs.Applied.{AreOfEvent, AreOfEventIf, AreOfItems, IsDownIfShut, IsGoingDown, number_after}
-use Rattle.radio_pull.specs.Course.{Follows}
-use Rattle.radio_pull.specs.Pulling.{Standing, answered, event_of, going_on, shut_by}
+use Rattle.radio_relay.specs.Applied.{AreOfEvent, AreOfEventIf, AreOfItems, IsDownIfShut, IsGoingDown, number_after}
+use Rattle.radio_relay.specs.Course.{Follows}
+use Rattle.radio_relay.specs.Pulling.{NumberedState, state_after_reply, event_of, running_pull, shut_by}
 use Rattle.radio_headline.specs.Sources.{pushed, pushed_by}
 use Rattle.radio_headline.proofs.Logs.{Each, each_joined}
 use Rattle.radio_headline.proofs.Relays.RelayWords.{AreNoUps, IsCut, IsGoing, IsNoUp, IsNotRefused, OfRelay, OwnRelay}
@@ -68,7 +68,7 @@ none_if_running Running number entries none run = none
 none_if_running (Shut ending) number entries goes run = cc
 
 -- an event of the relay was applied
-pub record HasAsked (number : Option ℕ) (event : Event) (entries : List Entry) (after : Standing) : Type 0 where
+pub record HasAsked (number : Option ℕ) (event : Event) (entries : List Entry) (after : NumberedState) : Type 0 where
   pub reply : Reply
   pub down : List Entry
   pub in_order : entries ≡ entry event reply ∷ down
@@ -79,11 +79,11 @@ pub record HasAsked (number : Option ℕ) (event : Event) (entries : List Entry)
   pub quiet : after.state ≡ Running → Each IsNotRefused entries
   pub cut : IsCut entries
 
-pub has_asked : (number : Option ℕ) (event : Event) (entries : List Entry) (after : Standing) → AreOfEvent number event entries after
+pub has_asked : (number : Option ℕ) (event : Event) (entries : List Entry) (after : NumberedState) → AreOfEvent number event entries after
     → HasAsked number event entries after
 has_asked number event entries after a =
     let d = downs_if_shut after.state after.number a.down a.goes_down in
-    let now : after.number ≡ (answered number a.reply).number = ap (λ (s : Standing). s.number) a.is_answered in
+    let now : after.number ≡ (state_after_reply number a.reply).number = ap (λ (s : NumberedState). s.number) a.is_answered in
     record {
       reply = a.reply;
       down = a.down;
@@ -94,14 +94,14 @@ has_asked number event entries after a =
           ∙ append-nil (pushed_by event);
       plain = d.plain;
       quiet = λ run. subst (Each IsNotRefused) (sym a.in_order) (
-        (λ r. refused_shuts number a.reply (ap (λ (s : Standing). s.state) (sym a.is_answered) ∙ run) r),
+        (λ r. refused_shuts number a.reply (ap (λ (s : NumberedState). s.state) (sym a.is_answered) ∙ run) r),
         subst (Each IsNotRefused) (sym (none_if_running after.state after.number a.down a.goes_down run)) tt,
       );
       cut = subst IsCut (sym a.in_order) ((λ r. d.going), d.cut);
     }
 
 -- By these entries of a relay of this number a front of this sound is pushed. If the pull goes on and the relay is up, all of it is.
-pub record HasBrought (number : Option ℕ) (sound : List ℕ) (entries : List Entry) (after : Standing) : Type 0 where
+pub record HasBrought (number : Option ℕ) (sound : List ℕ) (entries : List Entry) (after : NumberedState) : Type 0 where
   pub own : OwnRelay number entries
   pub stands : after.number ≡ number_after number entries
   pub rest : List ℕ
@@ -110,10 +110,10 @@ pub record HasBrought (number : Option ℕ) (sound : List ℕ) (entries : List E
   pub quiet : after.state ≡ Running → Each IsNotRefused entries
   pub cut : IsCut entries
 
-nothing_brought : (number : Option ℕ) (sound : List ℕ) (entries : List Entry) (after : Standing) → (number ≡ None) ⊎ (sound ≡ [])
-    → (entries ≡ []) × (after ≡ going_on number) → HasBrought number sound entries after
+nothing_brought : (number : Option ℕ) (sound : List ℕ) (entries : List Entry) (after : NumberedState) → (number ≡ None) ⊎ (sound ≡ [])
+    → (entries ≡ []) × (after ≡ running_pull number) → HasBrought number sound entries after
 nothing_brought number sound entries after none b =
-    let same : after.number ≡ number = ap (λ (s : Standing). s.number) b.1 in
+    let same : after.number ≡ number = ap (λ (s : NumberedState). s.number) b.1 in
     subst (λ (es : List Entry). HasBrought number sound es after) (sym b.0) (record {
       own = tt;
       stands = same;
@@ -143,7 +143,7 @@ down_brought number ending entries goes =
     }
 
 -- an event was applied, and then the rest if the pull goes on
-module _ (number : Option ℕ) (event : Event) (his : OfRelay number event) (sound : List ℕ) (first later : List Entry) (now after : Standing)
+module _ (number : Option ℕ) (event : Event) (his : OfRelay number event) (sound : List ℕ) (first later : List Entry) (now after : NumberedState)
     (h : HasAsked number event first now) where
   goes_on : now.state ≡ Running → HasBrought now.number sound later after → HasBrought number (pushed_by event ++ sound) (first ++ later) after
   goes_on run r = record {
@@ -165,7 +165,7 @@ module _ (number : Option ℕ) (event : Event) (his : OfRelay number event) (sou
       subst (λ (es : List Entry). HasBrought number (pushed_by event ++ sound) es after)
       (sym (append-nil first) ∙ ap (λ (xs : List Entry). first ++ xs) (sym same.1)) (record {
         own = h.own his;
-        stands = ap (λ (s : Standing). s.number) same.0 ∙ h.stands;
+        stands = ap (λ (s : NumberedState). s.number) same.0 ∙ h.stands;
         rest = sound;
         front = ap (λ (xs : List ℕ). xs ++ sound) h.pushes;
         whole = λ run. absurd (stopped run);
@@ -173,7 +173,7 @@ module _ (number : Option ℕ) (event : Event) (his : OfRelay number event) (sou
         cut = h.cut;
       }) where
         stopped : after.state ≡ Running → ⊥
-        stopped run = let both : Shut ending ≡ Running = sym shut ∙ sym (ap (λ (s : Standing). s.state) same.0) ∙ run in cc
+        stopped run = let both : Shut ending ≡ Running = sym shut ∙ sym (ap (λ (s : NumberedState). s.state) same.0) ∙ run in cc
 
   then_brought : (Rest : Type 0) → (Rest → HasBrought now.number sound later after) → (state : State) → now.state ≡ state
       → Follows state Rest ((after ≡ now) × (later ≡ [])) → HasBrought number (pushed_by event ++ sound) (first ++ later) after
@@ -199,7 +199,7 @@ his_event mount id (Sound block) = refl
 his_event mount id (Named text) = refl
 
 -- what items ask for was applied
-pub items_brought : (mount : List ℕ) (items : List PullItem) (number : Option ℕ) (entries : List Entry) (after : Standing)
+pub items_brought : (mount : List ℕ) (items : List PullItem) (number : Option ℕ) (entries : List Entry) (after : NumberedState)
     → AreOfItems mount number items entries after → HasBrought number (sound_of_items items) entries after
 items_brought mount [] number entries after b = nothing_brought number [] entries after (inr refl) b
 items_brought mount (Up shown ∷ items) None entries after (now, first, later, joined, asked, follows) =
@@ -216,7 +216,7 @@ items_brought mount (item ∷ items) (Some id) entries after (now, first, later,
     (AreOfItems mount now.number items later after) (λ r. items_brought mount items now.number later after r) now.state refl follows))
 
 -- a single event was applied if the relay is up, and it pushes nothing
-pub event_brought : (number : Option ℕ) (event : ℕ → Event) (entries : List Entry) (after : Standing) → ((id : ℕ) → OfRelay (Some id) (event id))
+pub event_brought : (number : Option ℕ) (event : ℕ → Event) (entries : List Entry) (after : NumberedState) → ((id : ℕ) → OfRelay (Some id) (event id))
     → ((id : ℕ) → pushed_by (event id) ≡ []) → AreOfEventIf number (option_map event number) entries after → HasBrought number [] entries after
 event_brought None event entries after his silent b = nothing_brought None [] entries after (inr refl) b
 event_brought (Some id) event entries after his silent b =
@@ -232,22 +232,22 @@ event_brought (Some id) event entries after his silent b =
     }
 
 -- No relay comes up by an event that is none.
-plain_asked : (number : Option ℕ) (event : Event) (entries : List Entry) (after : Standing) → HasAsked number event entries after → IsNoUp event
+plain_asked : (number : Option ℕ) (event : Event) (entries : List Entry) (after : NumberedState) → HasAsked number event entries after → IsNoUp event
     → Each (λ e. IsNoUp e.event) entries
 plain_asked number event entries after h plain = subst (Each (λ e. IsNoUp e.event)) (sym h.in_order) (plain, h.plain)
 
-pub plain_event : (number : Option ℕ) (event : ℕ → Event) (entries : List Entry) (after : Standing) → ((id : ℕ) → IsNoUp (event id))
+pub plain_event : (number : Option ℕ) (event : ℕ → Event) (entries : List Entry) (after : NumberedState) → ((id : ℕ) → IsNoUp (event id))
     → AreOfEventIf number (option_map event number) entries after → Each (λ e. IsNoUp e.event) entries
 plain_event None event entries after plain b = subst (Each (λ e. IsNoUp e.event)) (sym b.0) tt
 plain_event (Some id) event entries after plain b = plain_asked (Some id) (event id) entries after (has_asked (Some id) (event id) entries after b) (plain id)
 
-plain_rest : (Rest : Type 0) (later : List Entry) (now after : Standing) → (Rest → Each (λ e. IsNoUp e.event) later) → (state : State)
+plain_rest : (Rest : Type 0) (later : List Entry) (now after : NumberedState) → (Rest → Each (λ e. IsNoUp e.event) later) → (state : State)
     → Follows state Rest ((after ≡ now) × (later ≡ [])) → Each (λ e. IsNoUp e.event) later
 plain_rest Rest later now after plain Running f = plain f
 plain_rest Rest later now after plain (Shut ending) f = subst (Each (λ e. IsNoUp e.event)) (sym f.1) tt
 
 -- an event that brings no relay up was applied, and then such a rest
-plain_both : (number : Option ℕ) (event : Event) (Rest : Type 0) (entries first later : List Entry) (now after : Standing) → entries ≡ first ++ later
+plain_both : (number : Option ℕ) (event : Event) (Rest : Type 0) (entries first later : List Entry) (now after : NumberedState) → entries ≡ first ++ later
     → AreOfEvent number event first now → IsNoUp event → (Rest → Each (λ e. IsNoUp e.event) later) → Follows now.state Rest ((after ≡ now) × (later ≡ []))
     → Each (λ e. IsNoUp e.event) entries
 plain_both number event Rest entries first later now after joined asked none plain follows =
@@ -255,7 +255,7 @@ plain_both number event Rest entries first later now after joined asked none pla
     (each_joined (λ e. IsNoUp e.event) first later (plain_asked number event first now (has_asked number event first now asked) none)
     (plain_rest Rest later now after plain now.state follows))
 
-pub plain_items : (mount : List ℕ) (items : List PullItem) (number : Option ℕ) (entries : List Entry) (after : Standing)
+pub plain_items : (mount : List ℕ) (items : List PullItem) (number : Option ℕ) (entries : List Entry) (after : NumberedState)
     → AreOfItems mount number items entries after → AreNoUps items → Each (λ e. IsNoUp e.event) entries
 plain_items mount [] number entries after b none = subst (Each (λ e. IsNoUp e.event)) (sym b.0) tt
 plain_items mount (Up shown ∷ items) number entries after b none = elim none [ ]
@@ -275,7 +275,7 @@ pub record ComesUp (mount : List ℕ) (shown : Shown) (entries : List Entry) : T
   pub in_order : entries ≡ entry (RelayUp mount shown) reply ∷ behind
   pub no_more : Each (λ e. IsNoUp e.event) behind
 
-pub comes_up : (mount : List ℕ) (shown : Shown) (items : List PullItem) (entries : List Entry) (after : Standing)
+pub comes_up : (mount : List ℕ) (shown : Shown) (items : List PullItem) (entries : List Entry) (after : NumberedState)
     → AreOfItems mount None (Up shown ∷ items) entries after → AreNoUps items → ComesUp mount shown entries
 comes_up mount shown items entries after (now, first, later, joined, asked, follows) none =
     let h = has_asked None (RelayUp mount shown) first now asked in

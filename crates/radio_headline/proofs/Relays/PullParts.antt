@@ -6,18 +6,18 @@ use Rattle.std.proofs.lemmas.List.{append-nil, drop-append-le}
 use Rattle.std.proofs.lemmas.List.Concat.{flat_map-append}
 use Rattle.radio_blocks.specs.Cutting.{blocks_of}
 use Rattle.radio_values.specs.declared.field.Shown.{Shown}
-use Rattle.radio_icy.specs.Unweaving.{Atom, SoundByte, WholeText, heard}
+use Rattle.radio_icy.specs.Unweaving.{StreamItem, SoundByte, WholeText, atoms_of_piece}
 use Rattle.radio_icy.specs.Titles.{title_of}
 use Rattle.radio_events.specs.declared.entry.Entry.{Entry}
 use Rattle.radio_events.specs.declared.event.Event.TheVariants.{RelayUp}
 use Rattle.radio_heads.specs.declared.outcome.Progress.TheVariants.{Whole}
-use Rattle.radio_heads.specs.Laws.{IsSettled, HeadsLieWithin}
+use Rattle.radio_heads.specs.Laws.{IsStableReading, HeadsLieWithin}
 use Rattle.radio_heads.specs.Reading.{IsReading}
 use Rattle.radio_heads.specs.Response.{ResponseParts, ShowsResponse}
-use Rattle.radio_relay.specs.Answer.{shown_by}
-use Rattle.radio_relay.specs.Items.{Gathered, all_items, items_of, nothing_gathered, with_part, with_parts}
-use Rattle.radio_relay.specs.Laws.{sound_in}
-use Rattle.radio_relay.specs.Pulled.{Part, ShownPart, SoundPart, TitlePart}
+use Rattle.radio_relay.specs.Answer.{shown_in_response}
+use Rattle.radio_relay.specs.Items.{Gathered, all_items, items_of, nothing_gathered, with_gathered_part, with_parts}
+use Rattle.radio_relay.specs.Laws.{sound_of_parts}
+use Rattle.radio_relay.specs.Pulled.{PulledPart, ShownPart, SoundPart, TitlePart}
 use Rattle.radio_relay.specs.Pulled.{parts_heard, stream_parts, stream_with, title_parts}
 use Rattle.radio_relay.specs.declared.items.PullItem.{PullItem}
 use Rattle.radio_relay.specs.declared.items.PullItem.TheVariants.{Up, Sound, Title as Named}
@@ -31,19 +31,19 @@ use Rattle.radio_headline.proofs.Relays.PullEntries.{sound_of_item, sound_of_ite
 use Rattle.radio_headline.proofs.Connections.{Pulls, events_of, stream_after}
 
 -- sound among parts, one after another
-pub sound_joined : (parts more : List Part) → sound_in (parts ++ more) ≡ sound_in parts ++ sound_in more
+pub sound_joined : (parts more : List PulledPart) → sound_of_parts (parts ++ more) ≡ sound_of_parts parts ++ sound_of_parts more
 sound_joined [] more = refl
 sound_joined (ShownPart shown ∷ parts) more = sound_joined parts more
 sound_joined (SoundPart b ∷ parts) more = ap (λ (xs : List ℕ). b ∷ xs) (sound_joined parts more)
 sound_joined (TitlePart title ∷ parts) more = sound_joined parts more
 
 -- a stream shows nothing of itself behind its head
-abbrev ShowNothing : List Part → Type 0
+abbrev ShowNothing : List PulledPart → Type 0
 ShowNothing [] = Unit {0}
 ShowNothing (ShownPart shown ∷ parts) = ⊥
 ShowNothing (part ∷ parts) = ShowNothing parts
 
-show_joined : (parts more : List Part) → ShowNothing parts → ShowNothing more → ShowNothing (parts ++ more)
+show_joined : (parts more : List PulledPart) → ShowNothing parts → ShowNothing more → ShowNothing (parts ++ more)
 show_joined [] more h k = k
 show_joined (ShownPart shown ∷ parts) more h k = elim h [ ]
 show_joined (SoundPart b ∷ parts) more h k = show_joined parts more h k
@@ -57,14 +57,14 @@ title_shows : (title : Option (List ℕ)) → ShowNothing (title_parts title)
 title_shows None = tt
 title_shows (Some title) = tt
 
-woven_shows : (atoms : List Atom) → ShowNothing (parts_heard atoms)
+woven_shows : (atoms : List StreamItem) → ShowNothing (parts_heard atoms)
 woven_shows [] = tt
 woven_shows (SoundByte b ∷ atoms) = woven_shows atoms
 woven_shows (WholeText text ∷ atoms) = show_joined (title_parts (title_of text)) (parts_heard atoms) (title_shows (title_of text)) (woven_shows atoms)
 
 pub stream_shows : (stream : PulledStream) (bytes : List ℕ) → ShowNothing (stream_parts stream bytes)
 stream_shows Plain bytes = plain_shows bytes
-stream_shows (Woven reader) bytes = woven_shows (heard reader bytes)
+stream_shows (Woven reader) bytes = woven_shows (atoms_of_piece reader bytes)
 
 -- items
 pub ups_joined : (items more : List PullItem) → AreNoUps items → AreNoUps more → AreNoUps (items ++ more)
@@ -77,12 +77,12 @@ pub sounds_up : (blocks : List (List ℕ)) → AreNoUps (map Sound blocks)
 sounds_up [] = tt
 sounds_up (block ∷ blocks) = sounds_up blocks
 
-pub items_up : (g : Gathered) (parts : List Part) → AreNoUps g.complete → ShowNothing parts → AreNoUps (all_items (with_parts g parts))
+pub items_up : (g : Gathered) (parts : List PulledPart) → AreNoUps g.complete → ShowNothing parts → AreNoUps (all_items (with_parts g parts))
 items_up g [] h s = ups_joined g.complete (map Sound (blocks_of g.run)) h (sounds_up (blocks_of g.run))
 items_up g (ShownPart shown ∷ parts) h s = elim s [ ]
-items_up g (SoundPart b ∷ parts) h s = items_up (with_part g (SoundPart b)) parts h s
+items_up g (SoundPart b ∷ parts) h s = items_up (with_gathered_part g (SoundPart b)) parts h s
 items_up g (TitlePart title ∷ parts) h s =
-    items_up (with_part g (TitlePart title)) parts
+    items_up (with_gathered_part g (TitlePart title)) parts
     (ups_joined (all_items g) (Named title ∷ []) (ups_joined g.complete (map Sound (blocks_of g.run)) h (sounds_up (blocks_of g.run))) tt) s
 
 abbrev led_by : List PullItem → Gathered → Gathered
@@ -91,7 +91,7 @@ led_by before g = record { complete = before ++ g.complete; run = g.run }
 pub led_items : (before : List PullItem) (g : Gathered) → all_items (led_by before g) ≡ before ++ all_items g
 led_items before g = append_assoc before g.complete (map Sound (blocks_of g.run))
 
-pub led_part : (before : List PullItem) (g : Gathered) (part : Part) → with_part (led_by before g) part ≡ led_by before (with_part g part)
+pub led_part : (before : List PullItem) (g : Gathered) (part : PulledPart) → with_gathered_part (led_by before g) part ≡ led_by before (with_gathered_part g part)
 led_part before g (ShownPart shown) =
     ap (λ (xs : List PullItem). record { complete = xs ++ Up shown ∷ []; run = [] }) (led_items before g)
     ∙ ap (λ (xs : List PullItem). record { complete = xs; run = [] }) (append_assoc before (all_items g) (Up shown ∷ []))
@@ -100,12 +100,12 @@ led_part before g (TitlePart title) =
     ap (λ (xs : List PullItem). record { complete = xs ++ Named title ∷ []; run = [] }) (led_items before g)
     ∙ ap (λ (xs : List PullItem). record { complete = xs; run = [] }) (append_assoc before (all_items g) (Named title ∷ []))
 
-pub led_parts : (before : List PullItem) (g : Gathered) (parts : List Part) → all_items (with_parts (led_by before g) parts) ≡ before ++ all_items (with_parts g parts)
+pub led_parts : (before : List PullItem) (g : Gathered) (parts : List PulledPart) → all_items (with_parts (led_by before g) parts) ≡ before ++ all_items (with_parts g parts)
 led_parts before g [] = led_items before g
 led_parts before g (part ∷ parts) =
-    ap (λ (x : Gathered). all_items (with_parts x parts)) (led_part before g part) ∙ led_parts before (with_part g part) parts
+    ap (λ (x : Gathered). all_items (with_parts x parts)) (led_part before g part) ∙ led_parts before (with_gathered_part g part) parts
 
-module _ (settled : IsSettled ShowsResponse) (within : HeadsLieWithin ShowsResponse) (joined : (bytes : List ℕ) → concat (blocks_of bytes) ≡ bytes)
+module _ (settled : IsStableReading ShowsResponse) (within : HeadsLieWithin ShowsResponse) (joined : (bytes : List ℕ) → concat (blocks_of bytes) ≡ bytes)
     (none_blocks : blocks_of [] ≡ []) (in_pieces : HeardInPieces) (afters : AfterPieces) where
   -- items have the sound of their parts
   pub block_sounds : (blocks : List (List ℕ)) → sound_of_items (map Sound blocks) ≡ concat blocks
@@ -117,29 +117,29 @@ module _ (settled : IsSettled ShowsResponse) (within : HeadsLieWithin ShowsRespo
       flat_map-append sound_of_item g.complete (map Sound (blocks_of g.run))
       ∙ ap (λ (xs : List ℕ). sound_of_items g.complete ++ xs) (block_sounds (blocks_of g.run) ∙ joined g.run)
 
-  pub with_sounds : (g : Gathered) (parts : List Part)
-      → sound_of_items (all_items (with_parts g parts)) ≡ sound_of_items g.complete ++ g.run ++ sound_in parts
+  pub with_sounds : (g : Gathered) (parts : List PulledPart)
+      → sound_of_items (all_items (with_parts g parts)) ≡ sound_of_items g.complete ++ g.run ++ sound_of_parts parts
   with_sounds g [] = all_sounds g ∙ sym (append-nil (sound_of_items g.complete ++ g.run))
   with_sounds g (ShownPart shown ∷ parts) =
-      with_sounds (with_part g (ShownPart shown)) parts
-      ∙ ap (λ (xs : List ℕ). xs ++ [] ++ sound_in parts)
+      with_sounds (with_gathered_part g (ShownPart shown)) parts
+      ∙ ap (λ (xs : List ℕ). xs ++ [] ++ sound_of_parts parts)
       (flat_map-append sound_of_item (all_items g) (Up shown ∷ []) ∙ append-nil (sound_of_items (all_items g)) ∙ all_sounds g)
-      ∙ ap (λ (xs : List ℕ). xs ++ sound_in parts) (append-nil (sound_of_items g.complete ++ g.run))
+      ∙ ap (λ (xs : List ℕ). xs ++ sound_of_parts parts) (append-nil (sound_of_items g.complete ++ g.run))
   with_sounds g (SoundPart b ∷ parts) =
-      with_sounds (with_part g (SoundPart b)) parts
-      ∙ ap (λ (xs : List ℕ). xs ++ sound_in parts) (sym (append_assoc (sound_of_items g.complete) g.run (b ∷ [])))
-      ∙ append_assoc (sound_of_items g.complete ++ g.run) (b ∷ []) (sound_in parts)
+      with_sounds (with_gathered_part g (SoundPart b)) parts
+      ∙ ap (λ (xs : List ℕ). xs ++ sound_of_parts parts) (sym (append_assoc (sound_of_items g.complete) g.run (b ∷ [])))
+      ∙ append_assoc (sound_of_items g.complete ++ g.run) (b ∷ []) (sound_of_parts parts)
   with_sounds g (TitlePart title ∷ parts) =
-      with_sounds (with_part g (TitlePart title)) parts
-      ∙ ap (λ (xs : List ℕ). xs ++ [] ++ sound_in parts)
+      with_sounds (with_gathered_part g (TitlePart title)) parts
+      ∙ ap (λ (xs : List ℕ). xs ++ [] ++ sound_of_parts parts)
       (flat_map-append sound_of_item (all_items g) (Named title ∷ []) ∙ append-nil (sound_of_items (all_items g)) ∙ all_sounds g)
-      ∙ ap (λ (xs : List ℕ). xs ++ sound_in parts) (append-nil (sound_of_items g.complete ++ g.run))
+      ∙ ap (λ (xs : List ℕ). xs ++ sound_of_parts parts) (append-nil (sound_of_items g.complete ++ g.run))
 
-  pub items_sound : (parts : List Part) → sound_of_items (items_of parts) ≡ sound_in parts
+  pub items_sound : (parts : List PulledPart) → sound_of_items (items_of parts) ≡ sound_of_parts parts
   items_sound parts = with_sounds nothing_gathered parts
 
   -- the first of what comes with a head
-  pub head_items : (shown : Shown) (parts : List Part) → items_of (ShownPart shown ∷ parts) ≡ Up shown ∷ items_of parts
+  pub head_items : (shown : Shown) (parts : List PulledPart) → items_of (ShownPart shown ∷ parts) ≡ Up shown ∷ items_of parts
   head_items shown parts =
       ap (λ (blocks : List (List ℕ)). all_items (with_parts (record { complete = map Sound blocks ++ Up shown ∷ []; run = [] }) parts)) none_blocks
       ∙ led_parts (Up shown ∷ []) nothing_gathered parts
@@ -157,17 +157,17 @@ module _ (settled : IsSettled ShowsResponse) (within : HeadsLieWithin ShowsRespo
   behind_head bytes more head n reading = drop-append-le n bytes more (within bytes head n reading)
 
   pub more_sound : (bytes more : List ℕ) (log : List Entry) (p : Pulls bytes log)
-      → sound_in (stream_parts (stream_with p.interval) (drop p.length (bytes ++ more)))
-      ≡ sound_in (stream_parts (stream_with p.interval) (drop p.length bytes)) ++ sound_in (stream_parts (stream_after p) more)
+      → sound_of_parts (stream_parts (stream_with p.interval) (drop p.length (bytes ++ more)))
+      ≡ sound_of_parts (stream_parts (stream_with p.interval) (drop p.length bytes)) ++ sound_of_parts (stream_parts (stream_after p) more)
   more_sound bytes more log p =
-      ap (λ (xs : List ℕ). sound_in (stream_parts (stream_with p.interval) xs)) (behind_head bytes more p.head p.length p.reading)
-      ∙ ap sound_in (parts-cut in_pieces afters (stream_with p.interval) (drop p.length bytes) more)
+      ap (λ (xs : List ℕ). sound_of_parts (stream_parts (stream_with p.interval) xs)) (behind_head bytes more p.head p.length p.reading)
+      ∙ ap sound_of_parts (parts-cut in_pieces afters (stream_with p.interval) (drop p.length bytes) more)
       ∙ sound_joined (stream_parts (stream_with p.interval) (drop p.length bytes)) (stream_parts (stream_after p) more)
 
   abbrev pub pulls_with : (bytes bytes' : List ℕ) (log log' : List Entry) (p : Pulls bytes log) → IsReading ShowsResponse bytes' (Ok (Whole p.head p.length))
-      → (behind : List Entry) → log' ≡ record { event = RelayUp p.mount (shown_by p.head); reply = p.reply } ∷ behind → OwnRelay None log'
+      → (behind : List Entry) → log' ≡ record { event = RelayUp p.mount (shown_in_response p.head); reply = p.reply } ∷ behind → OwnRelay None log'
       → Each (λ e. IsNoUp e.event) behind → IsCut log' → (rest : List ℕ)
-      → pushed (events_of behind) ++ rest ≡ sound_in (stream_parts (stream_with p.interval) (drop p.length bytes')) → Pulls bytes' log'
+      → pushed (events_of behind) ++ rest ≡ sound_of_parts (stream_parts (stream_with p.interval) (drop p.length bytes')) → Pulls bytes' log'
   pulls_with bytes bytes' log log' p reading behind in_order own no_more cut rest front = record {
     mount = p.mount;
     head = p.head;
@@ -188,6 +188,6 @@ module _ (settled : IsSettled ShowsResponse) (within : HeadsLieWithin ShowsRespo
   pub more_pulled : (bytes more : List ℕ) (log : List Entry) → Pulls bytes log → Pulls (bytes ++ more) log
   more_pulled bytes more log p =
       pulls_with bytes (bytes ++ more) log log p (read_more bytes more p.head p.length p.reading) p.behind p.in_order p.own p.no_more p.cut
-      (p.rest ++ sound_in (stream_parts (stream_after p) more))
-      (sym (append_assoc (pushed (events_of p.behind)) p.rest (sound_in (stream_parts (stream_after p) more)))
-      ∙ ap (λ (xs : List ℕ). xs ++ sound_in (stream_parts (stream_after p) more)) p.front ∙ sym (more_sound bytes more log p))
+      (p.rest ++ sound_of_parts (stream_parts (stream_after p) more))
+      (sym (append_assoc (pushed (events_of p.behind)) p.rest (sound_of_parts (stream_parts (stream_after p) more)))
+      ∙ ap (λ (xs : List ℕ). xs ++ sound_of_parts (stream_parts (stream_after p) more)) p.front ∙ sym (more_sound bytes more log p))

@@ -12,14 +12,14 @@ use Rattle.radio_core.specs.Run.{world_after_all}
 use Rattle.radio_parts.specs.Step.{Step}
 use Rattle.radio_parts_station.specs.World.{World}
 use Rattle.radio_heads.specs.Head.{ShowsRequest}
-use Rattle.radio_heads.specs.Laws.{IsSettled, HeadsLieWithin}
+use Rattle.radio_heads.specs.Laws.{IsStableReading, HeadsLieWithin}
 use Rattle.radio_heads.specs.Response.{ShowsResponse}
 use Rattle.radio_relay.specs.Items.{items_of}
 use Rattle.radio_relay.proofs.CutLemmas.{AfterPieces, HeardInPieces}
-use Rattle.radio_pull.specs.Applied.{AreOfEventIf, IsGoingDown}
-use Rattle.radio_pull.specs.Course.{Takes}
-use Rattle.radio_pull.specs.Pulling.{Pulling, Standing, shut_by}
-use Rattle.radio_deliveries.specs.declared.delivery.Input.TheVariants.{Data}
+use Rattle.radio_relay.specs.Applied.{AreOfEventIf, IsGoingDown}
+use Rattle.radio_relay.specs.Course.{Takes}
+use Rattle.radio_relay.specs.Pulling.{Pulling, NumberedState, shut_by}
+use Rattle.radio_script.specs.declared.delivery.Input.TheVariants.{Data}
 use Rattle.radio_floor.specs.declared.labelled.Connection.TheVariants.{Relay}
 use Rattle.radio_floor.specs.ScriptState.{connection_unless}
 use Rattle.radio_source.specs.Place.{Place, after, data_of}
@@ -36,7 +36,7 @@ use Rattle.radio_headline.proofs.Relays.PullParts.{more_pulled}
 use Rattle.radio_headline.proofs.Relays.PullTurns.{IsStill, facts_of, idles_on, takes_on}
 use Rattle.radio_answers.specs.declared.web_answers.WebAnswers.{WebAnswers}
 
-module _ (web : WebAnswers) (settled : IsSettled ShowsResponse) (within : HeadsLieWithin ShowsResponse)
+module _ (web : WebAnswers) (settled : IsStableReading ShowsResponse) (within : HeadsLieWithin ShowsResponse)
     (joined : (bytes : List ℕ) → concat (blocks_of bytes) ≡ bytes) (none_blocks : blocks_of [] ≡ []) (in_pieces : HeardInPieces) (afters : AfterPieces) where
   -- it goes on, or was shut
   still_so : (bytes : List ℕ) (log : List Entry) (given : List ℕ) (now : Pulling) (ends : State) → IsStill bytes log now ends
@@ -47,7 +47,7 @@ module _ (web : WebAnswers) (settled : IsSettled ShowsResponse) (within : HeadsL
   -- something arrives on a relay's connection that is open
   module _ (w : World) (bytes : List ℕ) (log : List Entry) (pulling : Pulling) (r : IsRelay bytes log pulling) (given : List ℕ) where
     -- a single event is applied if the relay is up, and it pushes nothing
-    pub asks_so : (event : ℕ → Event) (events : List Event) (after : Standing) → ((id : ℕ) → OfRelay (Some id) (event id))
+    pub asks_so : (event : ℕ → Event) (events : List Event) (after : NumberedState) → ((id : ℕ) → OfRelay (Some id) (event id))
         → ((id : ℕ) → pushed_by (event id) ≡ []) → ((id : ℕ) → IsNoUp (event id))
         → AreOfEventIf pulling.number (option_map event pulling.number) (entries w events) after
         → IsSo web (Some (connection_unless (Some (Relay (record pulling { number = after.number }))) after.state)) bytes (log ++ entries w events) given
@@ -84,7 +84,7 @@ module _ (web : WebAnswers) (settled : IsSettled ShowsResponse) (within : HeadsL
         }
 
   -- more bytes may come where it was shut
-  module _ (settled_requests : IsSettled ShowsRequest) (within_requests : HeadsLieWithin ShowsRequest)
+  module _ (settled_requests : IsStableReading ShowsRequest) (within_requests : HeadsLieWithin ShowsRequest)
       (places : (place : Place) (first second : List ℕ) → after place (first ++ second) ≡ after (after place first) second)
       (data_joined : (place : Place) (first second : List ℕ) → data_of place (first ++ second) ≡ data_of place first ++ data_of (after place first) second) where
     pub more_facts : (bytes more : List ℕ) (log : List Entry) (given : List ℕ) → Facts web bytes log given → Facts web (bytes ++ more) log given

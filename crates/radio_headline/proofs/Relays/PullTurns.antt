@@ -13,13 +13,13 @@ use Rattle.radio_events.specs.declared.state.Ending.TheVariants.{BadPull}
 use Rattle.radio_heads.specs.declared.outcome.Progress.{Progress}
 use Rattle.radio_heads.specs.declared.outcome.Progress.TheVariants.{More, Whole}
 use Rattle.radio_heads.specs.declared.outcome.HeadFault.{HeadFault}
-use Rattle.radio_heads.specs.Laws.{IsSettled, HeadsLieWithin}
+use Rattle.radio_heads.specs.Laws.{IsStableReading, HeadsLieWithin}
 use Rattle.radio_heads.specs.Reading.{IsReading}
 use Rattle.radio_heads.specs.Response.{ResponseParts, ShowsResponse}
-use Rattle.radio_relay.specs.Answer.{interval_in, shown_by}
+use Rattle.radio_relay.specs.Answer.{interval_in, shown_in_response}
 use Rattle.radio_relay.specs.Items.{items_of, nothing_gathered}
-use Rattle.radio_relay.specs.Laws.{sound_in}
-use Rattle.radio_relay.specs.Pulled.{IsPulledAt, Part, Pulled, ShownPart}
+use Rattle.radio_relay.specs.Laws.{sound_of_parts}
+use Rattle.radio_relay.specs.Pulled.{IsPulledAt, PulledPart, Pulled, ShownPart}
 use Rattle.radio_relay.specs.Pulled.{after_bytes, goes_on, pulled_as, pulled_by_interval, stops, stream_parts, stream_pulled, stream_with}
 use Rattle.radio_relay.specs.declared.fault.PullFault.{PullFault}
 use Rattle.radio_relay.specs.declared.fault.PullFault.TheVariants.{BadHead}
@@ -28,8 +28,8 @@ use Rattle.radio_relay.specs.declared.items.PullItem.TheVariants.{Up}
 use Rattle.radio_relay.specs.declared.pull.PullStage.{PullStage}
 use Rattle.radio_relay.specs.declared.pull.PullStage.TheVariants.{Head, Behind}
 use Rattle.radio_relay.proofs.CutLemmas.{AfterPieces, HeardInPieces, after-cut}
-use Rattle.radio_pull.specs.Applied.{AreOfBytes, AreOfItems, AreOfPulled, AreOfTurn, number_after}
-use Rattle.radio_pull.specs.Pulling.{Pulling, Standing}
+use Rattle.radio_relay.specs.Applied.{AreOfBytes, AreOfItems, AreOfPulled, AreOfTurn, number_after}
+use Rattle.radio_relay.specs.Pulling.{Pulling, NumberedState}
 use Rattle.radio_answers.specs.declared.web_answers.WebAnswers.{WebAnswers}
 use Rattle.radio_headline.specs.Sources.{pushed}
 use Rattle.radio_headline.proofs.Logs.{Each, each_joined}
@@ -73,12 +73,12 @@ pub record IsStill (bytes : List ℕ) (log : List Entry) (pulling : Pulling) (en
   pub pulls : HasPulled bytes log
   pub stage : ends ≡ Running → RelayStage bytes log pulling
 
-module _ (settled : IsSettled ShowsResponse) (within : HeadsLieWithin ShowsResponse) (joined : (bytes : List ℕ) → concat (blocks_of bytes) ≡ bytes)
+module _ (settled : IsStableReading ShowsResponse) (within : HeadsLieWithin ShowsResponse) (joined : (bytes : List ℕ) → concat (blocks_of bytes) ≡ bytes)
     (none_blocks : blocks_of [] ≡ []) (in_pieces : HeardInPieces) (afters : AfterPieces) where
   -- a head has been read, and more is pushed behind it
   abbrev pub grown : (bytes later : List ℕ) (log made : List Entry) (p : Pulls bytes log) → IsReading ShowsResponse later (Ok (Whole p.head p.length))
       → OwnRelay None (log ++ made) → Each (λ e. IsNoUp e.event) made → IsCut (log ++ made) → (rest : List ℕ)
-      → pushed (events_of p.behind) ++ (pushed (events_of made) ++ rest) ≡ sound_in (stream_parts (stream_with p.interval) (drop p.length later))
+      → pushed (events_of p.behind) ++ (pushed (events_of made) ++ rest) ≡ sound_of_parts (stream_parts (stream_with p.interval) (drop p.length later))
       → Pulls later (log ++ made)
   grown bytes later log made p reading own plain cut rest front =
       pulls_with settled within joined none_blocks in_pieces afters bytes later log (log ++ made) p reading (p.behind ++ made)
@@ -112,7 +112,7 @@ module _ (settled : IsSettled ShowsResponse) (within : HeadsLieWithin ShowsRespo
     nothing_yet e own plain = ap (λ (xs : List Entry). xs ++ made) e ∙ none_made (no_number e) own plain
 
     -- nothing is pushed
-    pub idles_on : (now : Pulling) (ends : State) (after : Standing) → HasBrought pulling.number [] made after → Each (λ e. IsNoUp e.event) made
+    pub idles_on : (now : Pulling) (ends : State) (after : NumberedState) → HasBrought pulling.number [] made after → Each (λ e. IsNoUp e.event) made
         → now ≡ record pulling { number = after.number } → ends ≡ after.state → IsStill bytes (log ++ made) now ends
     idles_on now ends after h plain so goes = by_stage r.stage where
       number : now.number ≡ number_after pulling.number made
@@ -162,22 +162,22 @@ module _ (settled : IsSettled ShowsResponse) (within : HeadsLieWithin ShowsRespo
       -- its head has come
       module _ (head : ResponseParts) (n : ℕ) (interval : Option ℕ) (reading : IsReading ShowsResponse (bytes ++ more) (Ok (Whole head n)))
           (told : interval_in head ≡ Ok interval) (lg : log ≡ []) where
-        abbrev behind_it : List Part
+        abbrev behind_it : List PulledPart
         behind_it = stream_parts (stream_with interval) (drop n (bytes ++ more))
 
-        abbrev parts : List Part
-        parts = ShownPart (shown_by head) ∷ behind_it
+        abbrev parts : List PulledPart
+        parts = ShownPart (shown_in_response head) ∷ behind_it
 
-        up : (after : Standing) → AreOfItems pulling.mount pulling.number (items_of parts) made after → ComesUp pulling.mount (shown_by head) made
+        up : (after : NumberedState) → AreOfItems pulling.mount pulling.number (items_of parts) made after → ComesUp pulling.mount (shown_in_response head) made
         up after items =
-            comes_up pulling.mount (shown_by head) (items_of behind_it) made after
-            (subst (λ (number : Option ℕ). AreOfItems pulling.mount number (Up (shown_by head) ∷ items_of behind_it) made after) (no_number lg)
+            comes_up pulling.mount (shown_in_response head) (items_of behind_it) made after
+            (subst (λ (number : Option ℕ). AreOfItems pulling.mount number (Up (shown_in_response head) ∷ items_of behind_it) made after) (no_number lg)
             (subst (λ (is : List PullItem). AreOfItems pulling.mount pulling.number is made after)
-            (head_items settled within joined none_blocks in_pieces afters (shown_by head) behind_it) items))
+            (head_items settled within joined none_blocks in_pieces afters (shown_in_response head) behind_it) items))
             (items_up nothing_gathered behind_it tt (stream_shows (stream_with interval) (drop n (bytes ++ more))))
 
-        abbrev begun_by : (after : Standing) → HasBrought pulling.number (sound_of_items (items_of parts)) made after
-            → ComesUp pulling.mount (shown_by head) made → Pulls (bytes ++ more) (log ++ made)
+        abbrev begun_by : (after : NumberedState) → HasBrought pulling.number (sound_of_items (items_of parts)) made after
+            → ComesUp pulling.mount (shown_in_response head) made → Pulls (bytes ++ more) (log ++ made)
         begun_by after h u = record {
           mount = pulling.mount;
           head = head;
@@ -196,7 +196,7 @@ module _ (settled : IsSettled ShowsResponse) (within : HeadsLieWithin ShowsRespo
               ∙ items_sound settled within joined none_blocks in_pieces afters parts;
         }
 
-        head_comes : AreOf (stream_pulled (ShownPart (shown_by head) ∷ []) (stream_with interval) (drop n (bytes ++ more))) → Then
+        head_comes : AreOf (stream_pulled (ShownPart (shown_in_response head) ∷ []) (stream_with interval) (drop n (bytes ++ more))) → Then
         head_comes (after, items, goes, so) =
             let h = items_brought pulling.mount (items_of parts) pulling.number made after items in
             let p = begun_by after h (up after items) in
@@ -222,7 +222,7 @@ module _ (settled : IsSettled ShowsResponse) (within : HeadsLieWithin ShowsRespo
         number : now.number ≡ number_after pulling.number made
         number = ap (λ (x : Pulling). x.number) so ∙ h.stands
 
-        front : pushed (events_of made) ++ h.rest ≡ sound_in (stream_parts (stream_after p) more)
+        front : pushed (events_of made) ++ h.rest ≡ sound_of_parts (stream_parts (stream_after p) more)
         front = h.front ∙ items_sound settled within joined none_blocks in_pieces afters (stream_parts (stream_after p) more)
 
         stage : now.stage ≡ Behind (after_bytes (stream_with p.interval) (drop p.length (bytes ++ more)))
@@ -231,14 +231,14 @@ module _ (settled : IsSettled ShowsResponse) (within : HeadsLieWithin ShowsRespo
             (behind_head settled within joined none_blocks in_pieces afters bytes more p.head p.length p.reading)
             ∙ after-cut in_pieces afters (stream_with p.interval) (drop p.length bytes) more))
 
-        with_rest : (rest : List ℕ) → pushed (events_of made) ++ rest ≡ p.rest ++ sound_in (stream_parts (stream_after p) more)
+        with_rest : (rest : List ℕ) → pushed (events_of made) ++ rest ≡ p.rest ++ sound_of_parts (stream_parts (stream_after p) more)
             → (ends ≡ Running → (now.number ≡ None) ⊎ (rest ≡ [])) → Then
         with_rest rest e done =
             let q = grown bytes (bytes ++ more) log made p (read_more settled within joined none_blocks in_pieces afters bytes more p.head p.length p.reading)
             (all_own h.own) plain (cut_joined log made calm h.cut) rest
             (ap (λ (xs : List ℕ). pushed (events_of p.behind) ++ xs) e
-            ∙ sym (append_assoc (pushed (events_of p.behind)) p.rest (sound_in (stream_parts (stream_after p) more)))
-            ∙ ap (λ (xs : List ℕ). xs ++ sound_in (stream_parts (stream_after p) more)) p.front
+            ∙ sym (append_assoc (pushed (events_of p.behind)) p.rest (sound_of_parts (stream_parts (stream_after p) more)))
+            ∙ ap (λ (xs : List ℕ). xs ++ sound_of_parts (stream_parts (stream_after p) more)) p.front
             ∙ sym (more_sound settled within joined none_blocks in_pieces afters bytes more log p)) in
             still (bytes ++ more) now ends h.own number (inr q)
             (λ run. InAnswer q stage (done run) (each_joined IsNotRefused log made calm (h.quiet (sym goes ∙ run))))
@@ -246,11 +246,11 @@ module _ (settled : IsSettled ShowsResponse) (within : HeadsLieWithin ShowsRespo
         by_case : (pulling.number ≡ None) ⊎ (p.rest ≡ []) → Then
         by_case (inl none) =
             let nothing = none_made none h.own plain in
-            let rest = p.rest ++ sound_in (stream_parts (stream_after p) more) in
+            let rest = p.rest ++ sound_of_parts (stream_parts (stream_after p) more) in
             with_rest rest (ap (λ (es : List Entry). pushed (events_of es) ++ rest) nothing)
             (λ run. inl (number ∙ ap (number_after pulling.number) nothing ∙ none))
         by_case (inr none) =
-            with_rest h.rest (front ∙ ap (λ (xs : List ℕ). xs ++ sound_in (stream_parts (stream_after p) more)) (sym none))
+            with_rest h.rest (front ∙ ap (λ (xs : List ℕ). xs ++ sound_of_parts (stream_parts (stream_after p) more)) (sym none))
             (λ run. elim (h.whole (sym goes ∙ run)) [
               | inl n ↦ inl (ap (λ (x : Pulling). x.number) so ∙ n)
               | inr n ↦ inr n

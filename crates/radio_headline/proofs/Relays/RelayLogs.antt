@@ -12,10 +12,10 @@ use Rattle.radio_parts.specs.Step.{Step, reply_to, world_after}
 use Rattle.radio_parts_station.specs.World.{World}
 use Rattle.radio_relay.specs.declared.items.PullItem.{PullItem}
 use Rattle.radio_relay.specs.declared.items.PullItem.TheVariants.{Up, Sound, Title as Named}
-use Rattle.radio_relay.specs.Pulled.{GoesOn, Standing as AnswerStanding, Stops}
-use Rattle.radio_pull.specs.Applied.{AreOfEvent, AreOfEventAnd, AreOfEventIf, AreOfItems, AreOfPulled, IsDownIfShut, IsGoingDown}
-use Rattle.radio_pull.specs.Course.{Asks, AsksIf, Brings, ComesOf, Follows, GoesDown, GoesDownIfShut, Onwards}
-use Rattle.radio_pull.specs.Pulling.{Pulling, Standing, answered, event_of, going_on}
+use Rattle.radio_relay.specs.Pulled.{GoesOn, PullProgress as AnswerStanding, Stops}
+use Rattle.radio_relay.specs.Applied.{AreOfEvent, AreOfEventAnd, AreOfEventIf, AreOfItems, AreOfPulled, IsDownIfShut, IsGoingDown}
+use Rattle.radio_relay.specs.Course.{Asks, AsksIf, BringsItems, ComesOf, Follows, GoesDown, GoesDownIfShut, Onwards}
+use Rattle.radio_relay.specs.Pulling.{Pulling, NumberedState, state_after_reply, event_of, running_pull}
 use Rattle.radio_headline.specs.Course.{Noted, noting}
 use Rattle.radio_headline.proofs.Logs.{after_joined, entries, entries_joined}
 
@@ -46,7 +46,7 @@ down_if_lifts (Shut ending) number w later old goes =
     let d = down_lifts number w later old goes in record { events = d.events; lifted = d.lifted; leads = d.leads; are = d.are }
 
 -- an event is applied
-asks_lifts : (number : Option ℕ) (event : Event) (w later : World) (old : List Event) (after : Standing) → Asks Step number event w after later
+asks_lifts : (number : Option ℕ) (event : Event) (w later : World) (old : List Event) (after : NumberedState) → Asks Step number event w after later
     → Lifts (λ from to. Asks noting number event from after to) (λ es. AreOfEvent number event es after) w old later
 asks_lifts number event w later old after a =
     let d = down_if_lifts after.state after.number a.mid later (old ++ event ∷ []) a.goes in
@@ -66,34 +66,34 @@ asks_lifts number event w later old after a =
         reply = reply_to w event;
         down = entries (world_after w event) d.events;
         in_order = refl;
-        is_answered = a.is_answered ∙ ap (λ (r : Reply). answered number r) a.step.0;
+        is_answered = a.is_answered ∙ ap (λ (r : Reply). state_after_reply number r) a.step.0;
         goes_down = subst (λ (x : World). IsDownIfShut after.state after.number (entries x d.events)) mid d.are;
       };
     }
 
-pub asks_if_lifts : (number : Option ℕ) (event : Option Event) (w later : World) (old : List Event) (after : Standing) → AsksIf Step number event w after later
+pub asks_if_lifts : (number : Option ℕ) (event : Option Event) (w later : World) (old : List Event) (after : NumberedState) → AsksIf Step number event w after later
     → Lifts (λ from to. AsksIf noting number event from after to) (λ es. AreOfEventIf number event es after) w old later
 asks_if_lifts number None w later old after (so, e) = record { events = []; lifted = (so, same_at w later old e); leads = e; are = (refl, so) }
 asks_if_lifts number (Some event) w later old after a =
     let l = asks_lifts number event w later old after a in record { events = l.events; lifted = l.lifted; leads = l.leads; are = l.are }
 
 -- an event is applied, and then what items ask for
-module _ (mount : List ℕ) (items : List PullItem) (number : Option ℕ) (event : Event) (w later : World) (old : List Event) (after : Standing)
-    (rest : (n : Option ℕ) (mid : World) (before : List Event) → Brings Step mount n items mid after later
-    → Lifts (λ from to. Brings noting mount n items from after to) (λ es. AreOfItems mount n items es after) mid before later)
-    (now : Standing) (mid : World) (l : Lifts (λ from to. Asks noting number event from now to) (λ es. AreOfEvent number event es now) w old mid) where
+module _ (mount : List ℕ) (items : List PullItem) (number : Option ℕ) (event : Event) (w later : World) (old : List Event) (after : NumberedState)
+    (rest : (n : Option ℕ) (mid : World) (before : List Event) → BringsItems Step mount n items mid after later
+    → Lifts (λ from to. BringsItems noting mount n items from after to) (λ es. AreOfItems mount n items es after) mid before later)
+    (now : NumberedState) (mid : World) (l : Lifts (λ from to. Asks noting number event from now to) (λ es. AreOfEvent number event es now) w old mid) where
   abbrev Both : Type 0
-  Both = Lifts (λ from to. Onwards noting number (Some event) from (λ now mid. Brings noting mount now.number items mid after to) after to)
+  Both = Lifts (λ from to. Onwards noting number (Some event) from (λ now mid. BringsItems noting mount now.number items mid after to) after to)
       (λ es. AreOfEventAnd number (Some event) es (λ now later. AreOfItems mount now.number items later after) after) w old later
 
   abbrev NotedRest : State → Noted → Type 0
-  NotedRest state to = Follows state (Brings noting mount now.number items (at mid (old ++ l.events)) after to)
+  NotedRest state to = Follows state (BringsItems noting mount now.number items (at mid (old ++ l.events)) after to)
       ((after ≡ now) × (to ≡ at mid (old ++ l.events)))
 
   abbrev AppliedRest : State → List Entry → Type 0
   AppliedRest state es = Follows state (AreOfItems mount now.number items es after) ((after ≡ now) × (es ≡ []))
 
-  then_lifts : (state : State) → now.state ≡ state → Follows state (Brings Step mount now.number items mid after later) ((after ≡ now) × (later ≡ mid)) → Both
+  then_lifts : (state : State) → now.state ≡ state → Follows state (BringsItems Step mount now.number items mid after later) ((after ≡ now) × (later ≡ mid)) → Both
   then_lifts (Shut ending) shut same = record {
     events = l.events;
     lifted = (
@@ -127,14 +127,14 @@ module _ (mount : List ℕ) (items : List PullItem) (number : Option ℕ) (event
         );
       }
 
-nothing_lifts : (number : Option ℕ) (w later : World) (old : List Event) (after : Standing) → (after ≡ going_on number) × (later ≡ w)
-    → Lifts (λ from to. (after ≡ going_on number) × (to ≡ from)) (λ es. (es ≡ []) × (after ≡ going_on number)) w old later
+nothing_lifts : (number : Option ℕ) (w later : World) (old : List Event) (after : NumberedState) → (after ≡ running_pull number) × (later ≡ w)
+    → Lifts (λ from to. (after ≡ running_pull number) × (to ≡ from)) (λ es. (es ≡ []) × (after ≡ running_pull number)) w old later
 nothing_lifts number w later old after (so, e) = record { events = []; lifted = (so, same_at w later old e); leads = e; are = (refl, so) }
 
 -- what items ask for
-brings_lifts : (mount : List ℕ) (items : List PullItem) (number : Option ℕ) (w later : World) (old : List Event) (after : Standing)
-    → Brings Step mount number items w after later
-    → Lifts (λ from to. Brings noting mount number items from after to) (λ es. AreOfItems mount number items es after) w old later
+brings_lifts : (mount : List ℕ) (items : List PullItem) (number : Option ℕ) (w later : World) (old : List Event) (after : NumberedState)
+    → BringsItems Step mount number items w after later
+    → Lifts (λ from to. BringsItems noting mount number items from after to) (λ es. AreOfItems mount number items es after) w old later
 brings_lifts mount [] number w later old after b = nothing_lifts number w later old after b
 brings_lifts mount (Up shown ∷ items) None w later old after (now, mid, asks, follows) =
     then_lifts mount items None (event_of mount zero (Up shown)) w later old after (λ n mid before b. brings_lifts mount items n mid later before after b) now mid

@@ -9,8 +9,8 @@ use Rattle.radio_events.specs.declared.reply.Reply.TheVariants.{Arrived, Feeding
 use Rattle.radio_relay.specs.declared.items.PullItem.{PullItem}
 use Rattle.radio_relay.specs.declared.items.PullItem.TheVariants.{Up}
 use Rattle.radio_events.specs.declared.state.State.TheVariants.{Running}
-use Rattle.radio_pull.specs.Applied.{number_after}
-use Rattle.radio_pull.specs.Pulling.{answered}
+use Rattle.radio_relay.specs.Applied.{number_after}
+use Rattle.radio_relay.specs.Pulling.{state_after_reply}
 use Rattle.radio_headline.proofs.Logs.{Each}
 
 -- an event is of the relay of this number, or asks for one
@@ -25,7 +25,7 @@ OfRelay number event = ⊥
 -- each event is of the relay, by the number that it has then
 abbrev pub OwnRelay : Option ℕ → List Entry → Type 0
 OwnRelay number [] = Unit {0}
-OwnRelay number (e ∷ log) = OfRelay number e.event × OwnRelay (answered number e.reply).number log
+OwnRelay number (e ∷ log) = OfRelay number e.event × OwnRelay (state_after_reply number e.reply).number log
 
 -- whatever holds of nothing that a relay asks for holds of none of these
 pub relay_asks_not : (P : Event → Type 0) → ((mount : List ℕ) (shown : Shown) → P (RelayUp mount shown) → ⊥) → ((id : ℕ) (block : List ℕ) → P (Push id block) → ⊥)
@@ -33,7 +33,7 @@ pub relay_asks_not : (P : Event → Type 0) → ((mount : List ℕ) (shown : Sho
     → (number : Option ℕ) (log : List Entry) → OwnRelay number log → Each (λ e. P e.event → ⊥) log
 relay_asks_not P up push title draw down number [] own = tt
 relay_asks_not P up push title draw down number (e ∷ log) own =
-    (by_event e.event own.0, relay_asks_not P up push title draw down (answered number e.reply).number log own.1) where
+    (by_event e.event own.0, relay_asks_not P up push title draw down (state_after_reply number e.reply).number log own.1) where
       by_event : (event : Event) → OfRelay number event → P event → ⊥
       by_event (Arrive peer) h a = elim h [ ]
       by_event (Source asked) h a = elim h [ ]
@@ -50,14 +50,14 @@ relay_asks_not P up push title draw down number (e ∷ log) own =
 
 pub number_joined : (number : Option ℕ) (log more : List Entry) → number_after number (log ++ more) ≡ number_after (number_after number log) more
 number_joined number [] more = refl
-number_joined number (e ∷ log) more = number_joined (answered number e.reply).number log more
+number_joined number (e ∷ log) more = number_joined (state_after_reply number e.reply).number log more
 
 pub own_joined : (number : Option ℕ) (log more : List Entry) → OwnRelay number log → OwnRelay (number_after number log) more → OwnRelay number (log ++ more)
 own_joined number [] more h k = k
-own_joined number (e ∷ log) more h k = (h.0, own_joined (answered number e.reply).number log more h.1 k)
+own_joined number (e ∷ log) more h k = (h.0, own_joined (state_after_reply number e.reply).number log more h.1 k)
 
 -- a number stays
-pub number_stays : (number : ℕ) (reply : Reply) → (answered (Some number) reply).number ≡ Some number
+pub number_stays : (number : ℕ) (reply : Reply) → (state_after_reply (Some number) reply).number ≡ Some number
 number_stays number (Arrived id) = refl
 number_stays number Feeding = refl
 number_stays number (Seated interval shown) = refl
@@ -102,7 +102,7 @@ AreNoUps [] = Unit {0}
 AreNoUps (Up shown ∷ items) = ⊥
 AreNoUps (item ∷ items) = AreNoUps items
 
-pub refused_shuts : (number : Option ℕ) (reply : Reply) → (answered number reply).state ≡ Running → IsRefusal reply → ⊥
+pub refused_shuts : (number : Option ℕ) (reply : Reply) → (state_after_reply number reply).state ≡ Running → IsRefusal reply → ⊥
 refused_shuts number (Arrived id) e h = h
 refused_shuts number Feeding e h = h
 refused_shuts number (Seated interval head) e h = h

@@ -21,7 +21,7 @@ use Rattle.radio_parts_changes.specs.declared.change.Change.TheVariants.{Obey}
 use Rattle.radio_parts_station.specs.declared.standing.Standing.TheVariants.{Answered, Finished}
 use Rattle.radio_parts_changes.specs.Changes.{answered, carried_along, changed, session_over}
 use Rattle.radio_parts.specs.Allowed.{IsCommanded}
-use Rattle.radio_parts_facts.specs.CommandFacts.{opened_by, opens_as_source, is_live, sits_at}
+use Rattle.radio_parts_facts.specs.CommandFacts.{opened_by, opens_as_source, is_live, is_listener_at}
 use Rattle.radio_policy.specs.declared.rule.Rule.TheVariants.{NoMount, NoDestination, SameMount, NoClient, Killed}
 use Rattle.radio_seats_rows.specs.declared.seat.Seat.{Seat}
 use Rattle.radio_seats_rows.specs.Seats.{seat_in, seat_of, count_at, AreByNumber}
@@ -50,7 +50,7 @@ use Rattle.radio_core.proofs.Clients.Obeyed.{is_another, his_seat, has_been_kill
 use Rattle.radio_core.proofs.Sound.SoundRuns.{sound_after}
 use Rattle.radio_laws.proofs.Ends.GoneLemmas.{given_number, last_rises}
 use Rattle.radio_laws.proofs.Commands.KilledLemmas.{IsOver, hears_no_more}
-use Rattle.radio_laws.specs.Commanded.{MayGive, IsLive, IsThere, AsTheAdmin, ItsTitle, ItsFallback, IsGivenByRight, OnlyWhoMayCommands, IsSourceKilled, HasDone, mount_of, StaysBeside, CommandsAreKept, KilledHearNothing}
+use Rattle.radio_laws.specs.Commanded.{MayGive, IsLive, HasTarget, AsTheAdmin, ItsTitle, ItsFallback, IsGivenByRight, OnlyWhoMayCommands, IsSourceKilled, HasDone, mount_of, StaysBeside, CommandsAreKept, KilledHearNothing}
 use Rattle.radio_creds.specs.UserList.{UserList, with_user, without_user}
 use Rattle.radio_access.specs.Lists.{has_users, has_user_at, with_user_at, without_user_at}
 use Rattle.radio_parts.specs.Allowed.{Adds, Deletes}
@@ -107,7 +107,7 @@ lives_by w mount e = is_found (session_of w.station.live mount) e
 
 module _ (w : World) (s : IsSound w) (event : Event) where
   -- what it needs was there
-  was_there : (command : TheCommand) (c : IsCommanded w event command) → IsThere w command
+  was_there : (command : TheCommand) (c : IsCommanded w event command) → HasTarget w command
   was_there (MoveClients mount destination) c =
       let both = may_go (is_live w.station mount) (is_live w.station destination) (bytes_eq mount destination) (needs_hold w event c) in (
         lives_by w mount both.0,
@@ -119,7 +119,7 @@ module _ (w : World) (s : IsSound w) (event : Event) where
       )
   was_there (KillClient mount listener) c =
       let his = his_seat w s event mount listener c in
-      let live = lives_by w mount (may_end (is_live w.station mount) (sits_at w.seats mount listener) (needs_hold w event c)) in
+      let live = lives_by w mount (may_end (is_live w.station mount) (is_listener_at w.seats mount listener) (needs_hold w event c)) in
       (live, his.0, his.1, his.2)
   was_there (KillSource mount) c = lives_by w mount (may_act (is_live w.station mount) (needs_hold w event c))
   was_there (SetTitle mount text) c = lives_by w mount (may_act (is_live w.station mount) (needs_hold w event c))

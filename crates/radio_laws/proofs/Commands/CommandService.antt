@@ -20,13 +20,13 @@ use Rattle.radio_events.specs.declared.command.Command.{Command as TheCommand}
 use Rattle.radio_events.specs.declared.command.Command.TheVariants.{MoveClients, KillClient, KillSource, SetTitle, SetFallback, AddUser, DeleteUser}
 use Rattle.radio_events.specs.declared.event.Event.TheVariants.{Command}
 use Rattle.radio_parts.specs.Command.{said_of}
-use Rattle.radio_parts_facts.specs.CommandFacts.{opened_by, opener_in, opens, opens_as_source, is_live, sits_at, needs_of, facts_asked}
+use Rattle.radio_parts_facts.specs.CommandFacts.{opened_by, opener_in, opens, opens_as_source, is_live, is_listener_at, needs_of, facts_asked}
 use Rattle.radio_parts_changes.specs.Counts.{counts_by}
 use Rattle.radio_fallback.specs.declared.moves.Carried.{Carried}
 use Rattle.radio_events.specs.Texts.{IsShort}
 use Rattle.radio_core.specs.Sound.{IsSound}
 use Rattle.radio_parts_station.specs.World.{World}
-use Rattle.radio_laws.specs.Commanded.{IsLive, IsThere, MayGive, AsTheAdmin, ItsTitle, ItsFallback, WhoMayIsServed}
+use Rattle.radio_laws.specs.Commanded.{IsLive, HasTarget, MayGive, AsTheAdmin, ItsTitle, ItsFallback, WhoMayIsServed}
 use Rattle.radio_laws.proofs.Commands.CommandSteps.{told_so}
 use Rattle.radio_creds.specs.UserList.{has_user}
 use Rattle.radio_access.specs.declared.lists.MountUsers.{MountUsers}
@@ -93,12 +93,12 @@ module _ (w : World) where
   with_destination true false same e f g = cc
   with_destination false there same e f g = cc
 
-  needs_are_there : (command : TheCommand) → IsThere w command → verdict_in (needs_rows (needs_of w command)) ≡ Allow
+  needs_are_there : (command : TheCommand) → HasTarget w command → verdict_in (needs_rows (needs_of w command)) ≡ Allow
   needs_are_there (MoveClients mount destination) there =
       with_destination (is_live w.station mount) (is_live w.station destination) (bytes_eq mount destination) (lives mount there.0) (lives destination there.1)
       (by_name mount destination (λ same. absurd (there.2 same)) (λ apart. apart))
   needs_are_there (KillClient mount listener) there =
-      with_client (is_live w.station mount) (sits_at w.seats mount listener) (lives mount there.0)
+      with_client (is_live w.station mount) (is_listener_at w.seats mount listener) (lives mount there.0)
       (ap (λ (found : Option Seat). option_map_or (λ (seat : Seat). bytes_eq seat.mount mount) found false) there.2
       ∙ (bytes_eq-Decides there.1.mount mount).1 there.3)
   needs_are_there (KillSource mount) there = with_mount (is_live w.station mount) (lives mount there)

@@ -30,7 +30,7 @@ use Rattle.radio_parts_station.specs.Clients.{client_of}
 use Rattle.radio_parts_station.specs.Outsiders.{is_shut_out}
 use Rattle.radio_parts_station.specs.Relays.{relay_of}
 use Rattle.radio_parts_station.specs.declared.standing.Standing.TheVariants.{Sits}
-use Rattle.radio_parts_station.specs.World.{World, standing_of, standing_in}
+use Rattle.radio_parts_station.specs.World.{World, standing_of, standing_of_found}
 use Rattle.radio_parts.specs.Allowed.{IsCommanded, ChangesUsers}
 use Rattle.radio_parts_changes.specs.Changes.{answered, outsiders_ended}
 use Rattle.radio_core.specs.ListsSteps.{ListsStep, Stay, IsAdded, IsDeleted}
@@ -112,7 +112,7 @@ module _ (w : World) (s : IsSound w) (event : Event) {command : TheCommand} (c :
         (ap (λ (m : List ℕ). lets_in lists m seat.pair) (sym at) ∙ ap (λ (x : Seat). lets_in lists x.mount x.pair) (sym his)
         ∙ (shut_out_there lists mount loses.seat loses.holds).1)
         (ap seat_in loses.finished)
-        (ap (λ (l : Option Listener). standing_in (relay_of w.station.relays id) l (client_of (answered w c.asked.id).station.clients id)) loses.finished
+        (ap (λ (l : Option Listener). standing_of_found (relay_of w.station.relays id) l (client_of (answered w c.asked.id).station.clients id)) loses.finished
         ∙ lost_in (relay_of w.station.relays id) (listener_of w.seats id) loses.id ListenerPassword loses.seat.mount (client_of (answered w c.asked.id).station.clients id) sat)
 
   pub have_changed : world_after w event ≡ then_so → reply_to w event ≡ SaysText (Ended (how_many (is_shut_out lists mount) w.seats)) → HaveChanged w event mount

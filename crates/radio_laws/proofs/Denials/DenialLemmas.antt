@@ -40,7 +40,7 @@ use Rattle.radio_parts.specs.Outcomes.{on_verdict}
 use Rattle.radio_parts_mount.specs.Sessions.{session_of}
 use Rattle.radio_parts.specs.Step.{outcome, reply_to, world_after}
 use Rattle.radio_parts.specs.Ways.{rows_for, IsUndecided}
-use Rattle.radio_parts_station.specs.World.{World, standing_of, standing_in}
+use Rattle.radio_parts_station.specs.World.{World, standing_of, standing_of_found}
 use Rattle.radio_laws.proofs.Denials.LimitDenials.{denied_by}
 use Rattle.radio_laws.proofs.Denials.ListenerDenials.{why_denied, unknown_where}
 use Rattle.radio_parts_station.proofs.Lookups.{does, beside_state}
@@ -54,9 +54,9 @@ module _ (denies : (rows : List Row) (rule : Rule) → (verdict_in rows ≡ Deni
 
   -- who is there and has asked for nothing is undecided
   is_undecided : (relay : Option Relay) (listener : Option Listener) (client : Option Client) (him : Client) → client ≡ Some him → him.state ≡ IsNew
-      → standing_in relay listener client ≡ Undecided him.peer
-  is_undecided relay listener client him there new = ap (standing_in relay listener) there ∙ by_state him new where
-    by_state : (x : Client) → x.state ≡ IsNew → standing_in relay listener (Some x) ≡ Undecided x.peer
+      → standing_of_found relay listener client ≡ Undecided him.peer
+  is_undecided relay listener client him there new = ap (standing_of_found relay listener) there ∙ by_state him new where
+    by_state : (x : Client) → x.state ≡ IsNew → standing_of_found relay listener (Some x) ≡ Undecided x.peer
     by_state x e = rw e refl
 
   -- the list of clients alone is another

@@ -23,7 +23,7 @@ use Rattle.radio_parts_station.specs.declared.standing.Standing.{Standing}
 use Rattle.radio_parts_station.specs.declared.standing.Standing.TheVariants.{Unknown, Undecided, Feeds, Sits, Answered, Finished}
 use Rattle.radio_parts_facts.specs.CommandFacts.{facts_asked, rows_to_command}
 use Rattle.radio_policy.specs.declared.facts.CommandFacts.{CommandFacts}
-use Rattle.radio_parts_station.specs.Facts.{is_full as is_too_many, arrive_facts, source_facts_at, relay_facts_at, rows_to_raise, names_mount}
+use Rattle.radio_parts_station.specs.Facts.{is_limit_reached as is_too_many, arrive_facts, source_facts_at, relay_facts_at, rows_to_raise, names_mount}
 use Rattle.radio_laws.specs.Limits.{IsFullAt, AdmitsByLimits}
 use Rattle.radio_laws.specs.LimitDenials.{HasUserAt, ByAMount, DeniesByLimits}
 use Rattle.radio_laws.specs.Walks.{ComesBy}

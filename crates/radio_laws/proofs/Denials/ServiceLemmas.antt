@@ -37,7 +37,7 @@ use Rattle.radio_parts_facts.specs.Streams.{head_of}
 use Rattle.radio_parts.specs.Draw.{hands_out}
 use Rattle.radio_parts.proofs.DrawLemmas.{hands_out_at, draws_so}
 use Rattle.radio_seats_rows.specs.Seats.{seat_of}
-use Rattle.radio_laws.specs.Service.{IsTakenIn, IsHanded, Serves, ChangesNothing}
+use Rattle.radio_laws.specs.Service.{IsSeatedByWalk, DrawsData, Serves, ChangesNothing}
 use Rattle.radio_parts_mount.specs.Sessions.{Session, session_of}
 use Rattle.radio_core.specs.Sound.{IsSound}
 use Rattle.radio_parts.specs.Step.{outcome, reply_to, world_after}
@@ -155,7 +155,7 @@ module _ (allows : (rows : List Row) → (verdict_in rows ≡ Allow) ↔ Allows 
   unfolding reply_to
   reply_is event o e = ap (λ (x : Outcome). x.reply) e
 
-  received : (asked : ListenRequest) (peer : Peer) → standing_of w asked.id ≡ Undecided peer → Allows (rows_to_listen w asked) → IsTakenIn w asked
+  received : (asked : ListenRequest) (peer : Peer) → standing_of w asked.id ≡ Undecided peer → Allows (rows_to_listen w asked) → IsSeatedByWalk w asked
   received asked peer e a =
       let v = (allows (rows_to_listen w asked)).1 a in
       let landed = lands_at w asked v in
@@ -176,7 +176,7 @@ module _ (allows : (rows : List Row) → (verdict_in rows ≡ Allow) ↔ Allows 
             (turns_sitting w asked.id (first_seat w.station asked peer there.0) (asks w asked.id peer e)).his;
       }
 
-  handed_out : (id room : ℕ) → standing_of w id ≡ Sits → IsHanded w id room
+  handed_out : (id room : ℕ) → standing_of w id ≡ Sits → DrawsData w id room
   handed_out id room e =
       let has = seat_of_sitting w id e in
       let in_session = s.seated id has.0 has.1 in

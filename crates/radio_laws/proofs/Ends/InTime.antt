@@ -8,7 +8,7 @@ use Rattle.radio_tables.proofs.FindLaws.{found_has}
 use Rattle.radio_seats_rows.proofs.EndLaws.{kept_seat}
 use Rattle.radio_parts_station.specs.declared.clients.ClientState.TheVariants.{Ended}
 use Rattle.radio_parts_changes.specs.Changes.{before_silence, session_silenced, silent_in, ticked}
-use Rattle.radio_parts_station.specs.Clients.{Client, client_of, with_state}
+use Rattle.radio_parts_station.specs.Clients.{Client, client_of, with_client_state}
 use Rattle.radio_laws.specs.Outstaying.{IsInTime}
 use Rattle.radio_parts_mount.specs.Sessions.{Session, is_of, session_of, AreApart}
 use Rattle.radio_core.specs.Sound.{IsSound}
@@ -27,7 +27,7 @@ use Rattle.radio_core.proofs.Sessions.TickLemmas.{ClockCause, ClockCarries, clie
 module _ (seconds ms : ℕ) where
   -- nobody asks too late by the same measure
   in_time_at : (client : Client) (b : Bool) → asks_too_late seconds ms client ≡ b
-      → asks_too_late seconds ms (with_state (if b then Ended HeaderTimeout else client.state) client) ≡ false
+      → asks_too_late seconds ms (with_client_state (if b then Ended HeaderTimeout else client.state) client) ≡ false
   in_time_at client true e = refl
   in_time_at client false e = e
 

@@ -30,7 +30,7 @@ use Rattle.radio_parts_station.specs.declared.clients.ClientState.TheVariants.{U
 use Rattle.radio_parts_station.specs.declared.standing.Standing.{Standing}
 use Rattle.radio_parts_station.specs.declared.standing.Standing.TheVariants.{Undecided, Feeds, Sits, Finished}
 use Rattle.radio_parts_changes.specs.Changes.{session_over, session_ended, before_silence, session_silenced, silent_in, ticked}
-use Rattle.radio_parts_station.specs.Clients.{Client, client_of, with_state}
+use Rattle.radio_parts_station.specs.Clients.{Client, client_of, with_client_state}
 use Rattle.radio_parts_station.specs.Relays.{Relay, relay_of}
 use Rattle.radio_parts_station.specs.Facts.{sight_of, fallback_of}
 use Rattle.radio_core.specs.Finishes.{Cause, SessionIsOver, IsFarBehind, HasSatOut, HasAskedNothing, HasSentNothing, IsKilled, HisSessionIsKilled, IsNotAccepted}
@@ -39,7 +39,7 @@ use Rattle.radio_parts_mount.specs.Sessions.{Session, session_of}
 use Rattle.radio_core.specs.Sound.{IsSound}
 use Rattle.radio_parts_mount.specs.Timeouts.{has_sat_out, is_silent}
 use Rattle.radio_parts_station.specs.Timeouts.{asks_too_late, timed_out}
-use Rattle.radio_parts_station.specs.World.{World, standing_of, standing_in}
+use Rattle.radio_parts_station.specs.World.{World, standing_of, standing_of_found}
 use Rattle.radio_core.proofs.Clients.Fates.{Fate, GoesOn, IsEnded, HasStopped, IsMoved, HasEnded, Nobody, IsActive, sound_fates, lost_in}
 use Rattle.radio_parts_mount.proofs.SessionLookups.{is_over}
 use Rattle.radio_core.proofs.Sessions.TickLemmas.{ClockCause, ClockCarries, ClockFates, asking_at, clients_after, timed, sound_timed}
@@ -66,9 +66,9 @@ module _ (w : World) (s : IsSound w) (ms : ℕ) (from later : World) (f : ClockF
 
 -- a client who has asked for nothing is undecided
 new_in : (relay : Option Relay) (listener : Option Listener) (found : Option Client) (client : Client) → found ≡ Some client → client.state ≡ IsNew
-    → standing_in relay listener found ≡ Undecided client.peer
-new_in relay listener found client there new = ap (standing_in relay listener) there ∙ by_state client new where
-  by_state : (x : Client) → x.state ≡ IsNew → standing_in relay listener (Some x) ≡ Undecided x.peer
+    → standing_of_found relay listener found ≡ Undecided client.peer
+new_in relay listener found client there new = ap (standing_of_found relay listener) there ∙ by_state client new where
+  by_state : (x : Client) → x.state ≡ IsNew → standing_of_found relay listener (Some x) ≡ Undecided x.peer
   by_state x e = rw e refl
 
 module _ (w : World) (s : IsSound w) (ms : ℕ) where
@@ -76,17 +76,17 @@ module _ (w : World) (s : IsSound w) (ms : ℕ) where
       → standing_of (timed w s ms) id ≡ Finished HeaderTimeout
   too_late id client found late =
       let seconds = w.station.settings.limits.header_timeout in
-      ap (standing_in (relay_of w.station.relays id) (listener_of w.seats id)) (clients_after seconds ms w.station.clients id ∙ ap (option_map (timed_out seconds ms)) found)
+      ap (standing_of_found (relay_of w.station.relays id) (listener_of w.seats id)) (clients_after seconds ms w.station.clients id ∙ ap (option_map (timed_out seconds ms)) found)
       ∙ ends (asks_too_late seconds ms client) late where
         ends : (b : Bool) → b ≡ true
-            → standing_in (relay_of w.station.relays id) (listener_of w.seats id) (Some (with_state (if b then Ended HeaderTimeout else client.state) client)) ≡ Finished HeaderTimeout
+            → standing_of_found (relay_of w.station.relays id) (listener_of w.seats id) (Some (with_client_state (if b then Ended HeaderTimeout else client.state) client)) ≡ Finished HeaderTimeout
         ends b e = rw e refl
 
   -- a seat that ends when durations are looked at ends by them
   pub time_over : (id : ℕ) (seat : Seat) → seat_of w.seats id ≡ Some seat → has_sat_out w.station.settings ms seat ≡ true
       → standing_of (before_silence w ms) id ≡ Finished TimeOver
   time_over id seat has out =
-      ap (λ l. standing_in relay l client) (have_ended test TimeOver w.seats id ∙ ap (option_map (finished_if test TimeOver)) listener.1)
+      ap (λ l. standing_of_found relay l client) (have_ended test TimeOver w.seats id ∙ ap (option_map (finished_if test TimeOver)) listener.1)
       ∙ by_seating listener.0.seating listener.2
     where
       test : Seat → Bool
@@ -105,13 +105,13 @@ module _ (w : World) (s : IsSound w) (ms : ℕ) where
       sits = (sound_timed w s ms).sitting id seat has
 
       ends : (b : Bool) (him : ℕ) (own : Seat) → b ≡ true
-          → standing_in (relay_of w.station.relays id) (Some (record { id = him; seating = (if b then HasLostIt TimeOver own.mount else HasSeat own) })) client
+          → standing_of_found (relay_of w.station.relays id) (Some (record { id = him; seating = (if b then HasLostIt TimeOver own.mount else HasSeat own) })) client
           ≡ Finished TimeOver
       ends true him own e = lost_in (relay_of w.station.relays id) (listener_of w.seats id) him TimeOver own.mount client sits
       ends false him own e = cc
 
       by_seating : (seating : Seating) → seat_held seating ≡ Some seat
-          → standing_in (relay_of w.station.relays id) (Some (record { id = listener.0.id; seating = ended_if test TimeOver seating })) client ≡ Finished TimeOver
+          → standing_of_found (relay_of w.station.relays id) (Some (record { id = listener.0.id; seating = ended_if test TimeOver seating })) client ≡ Finished TimeOver
       by_seating (HasSeat held) e =
           let same : held ≡ seat = cc in
           ends (test held) listener.0.id held (ap test same ∙ out)
@@ -259,7 +259,7 @@ module _ (w : World) (s : IsSound w) (ms : ℕ) where
     out_by_fare during mount sound same set has there (HasLost old rule turn had concerned now) =
         let both : IsOut NotLive ≡ IsOut rule = sym (out_by_turn during mount same set has there) ∙ turn in
         let one : NotLive ≡ rule = cc in
-        ap (λ l. standing_in (relay_of during.station.relays id) l (client_of during.station.clients id)) now
+        ap (λ l. standing_of_found (relay_of during.station.relays id) l (client_of during.station.clients id)) now
         ∙ lost_in (relay_of during.station.relays id) (listener_of during.seats id) id rule old.mount (client_of during.station.clients id) (sound.sitting id seat has)
         ∙ ap (λ (r : Rule). Finished r) (sym one)
 

@@ -16,7 +16,7 @@ use Rattle.radio_events.specs.declared.command.Listing.{Listing}
 use Rattle.radio_events.specs.declared.command.Listing.TheVariants.{Status, Stats, Mounts, Clients, Streams}
 use Rattle.radio_parts_station.specs.Facts.{fallback_of}
 use Rattle.radio_parts_station.specs.Fallbacks.{Fallback}
-use Rattle.radio_parts_facts.specs.Listings.{shown, mount_row, mount_rows, listener_row, listener_rows, seconds_since, user_of}
+use Rattle.radio_parts_facts.specs.Listings.{shown, row_of_session, mount_rows, listener_row, listener_rows, seconds_since, user_of}
 use Rattle.radio_parts_mount.specs.Sessions.{Session}
 use Rattle.radio_parts_station.specs.World.{World}
 use Rattle.radio_laws.specs.Shown.{TellsOf, TellOf, TellsOfListener, TellOfListeners, Tells}
@@ -33,7 +33,7 @@ module _ (w : World) where
       ap (λ (found : Option Fallback). option_map_or (λ (set : Fallback). set.fallback) found (options_for w.station.settings mount).listeners.fallback_mount) found
       ∙ goes
 
-  tells_of : (fed : Session) → TellsOf w fed (mount_row w fed)
+  tells_of : (fed : Session) → TellsOf w fed (row_of_session w fed)
   tells_of fed = record {
     mount = refl;
     name = refl;
@@ -47,7 +47,7 @@ module _ (w : World) where
     fallback = λ next. (falls_to fed.mount next, falls_back w fed.mount next);
   }
 
-  tell_of : (live : List Session) → TellOf w live (map (mount_row w) live)
+  tell_of : (live : List Session) → TellOf w live (map (row_of_session w) live)
   tell_of [] = tt
   tell_of (fed ∷ live) = (tells_of fed, tell_of live)
 

@@ -27,7 +27,7 @@ use Rattle.radio_parts_facts.specs.Pages.{page_at, server_as}
 use Rattle.radio_events.specs.declared.reply.Reply.TheVariants.{Text as SaysText}
 use Rattle.radio_events.specs.declared.text.ReplyText.{ReplyText}
 use Rattle.radio_events.specs.declared.text.ReplyText.TheVariants.{Streams as StreamList}
-use Rattle.radio_parts_facts.specs.Listings.{about_row, shown, mount_row, mount_rows, public_row}
+use Rattle.radio_parts_facts.specs.Listings.{about_row, shown, row_of_session, mount_rows, public_row}
 use Rattle.radio_parts_mount.specs.Sessions.{Session}
 use Rattle.radio_parts.specs.Step.{reply_to}
 use Rattle.radio_parts_station.specs.World.{World}
@@ -92,13 +92,13 @@ row_seen seen = record {
 }
 
 module _ (w : World) where
-  shown_at : (hidden : Bool) (session : Session) (live public : List Session) → rows_shown (map (mount_row w) live) ≡ map row_seen (map (seen w) public)
-      → (if hidden then rows_shown (map (mount_row w) live) else public_row w session ∷ rows_shown (map (mount_row w) live))
+  shown_at : (hidden : Bool) (session : Session) (live public : List Session) → rows_shown (map (row_of_session w) live) ≡ map row_seen (map (seen w) public)
+      → (if hidden then rows_shown (map (row_of_session w) live) else public_row w session ∷ rows_shown (map (row_of_session w) live))
       ≡ map row_seen (map (seen w) (if not hidden then session ∷ public else public))
   shown_at true session live public e = e
   shown_at false session live public e = ap (λ (rows : List PublicRow). public_row w session ∷ rows) e
 
-  shown_rows : (live : List Session) → rows_shown (map (mount_row w) live) ≡ map row_seen (map (seen w) (filter (is_public w) live))
+  shown_rows : (live : List Session) → rows_shown (map (row_of_session w) live) ≡ map row_seen (map (seen w) (filter (is_public w) live))
   shown_rows [] = refl
   shown_rows (session ∷ live) =
       shown_at (options_for w.station.settings session.mount).stream.hidden session live (filter (is_public w) live) (shown_rows live)

@@ -31,17 +31,17 @@ use Rattle.radio_parts_station.specs.declared.standing.Standing.{Standing}
 use Rattle.radio_parts_station.specs.declared.standing.Standing.TheVariants.{Unknown, Undecided as IsUndecided, Feeds as IsFeeding, Sits, Answered as IsAnswered, Finished}
 use Rattle.radio_parts_station.specs.Clients.{client_of}
 use Rattle.radio_parts.specs.Command.{does_asked}
-use Rattle.radio_parts_facts.specs.CommandFacts.{facts_asked, needs_of, sits_at}
+use Rattle.radio_parts_facts.specs.CommandFacts.{facts_asked, needs_of, is_listener_at}
 use Rattle.radio_parts.proofs.DrawLemmas.{hands_out_at, draws_so}
 use Rattle.radio_parts_station.specs.Facts.{rows_to_push, rows_to_listen, walks_to}
-use Rattle.radio_parts.specs.Listen.{asks_to_hear, sits_where}
+use Rattle.radio_parts.specs.Listen.{listen_outcome, sits_where}
 use Rattle.radio_parts.specs.Outcomes.{if_undecided, if_feeding, if_sitting, on_verdict}
 use Rattle.radio_parts.specs.Pages.{asks_by, asks_by_path}
 use Rattle.radio_parts.specs.Push.{takes_in}
 use Rattle.radio_parts_station.specs.Relays.{relay_of}
 use Rattle.radio_parts.specs.Step.{outcome}
-use Rattle.radio_parts_station.specs.World.{World, standing_of, standing_in}
-use Rattle.radio_laws.specs.Locality.{IsAll, IsWithin, LastWithin, AsksWithin, HearsWithin, FallBackWithin, WalksWithin}
+use Rattle.radio_parts_station.specs.World.{World, standing_of, standing_of_found}
+use Rattle.radio_laws.specs.Locality.{IsAll, IsWithinReach, LastWithin, AsksWithin, HearsWithin, FallBackWithin, WalksWithin}
 use Rattle.radio_laws.proofs.Locality.Agreeing.{beyond, SessionsDo, as_many_live, live_alike, session_alike, all_sessions, ListenersDo, SeatsAgree, SameSeat, BothBeyond}
 use Rattle.radio_laws.proofs.Locality.Agreeing.{listener_same, seat_alike, guests_alike, all_listeners, IsBeyond}
 use Rattle.radio_laws.proofs.Locality.AgreeingWalks.{Onward, found_alike, landing_alike, lands_within, counts_alike}
@@ -73,7 +73,7 @@ module _ (within : List ℕ → Bool) (w : World) (live : List Session) (seats :
   -- how a client stands
 
   pub standing_alike : (id : ℕ) → LastWithin w within id → standing_of v id ≡ standing_of w id
-  standing_alike id near = ap (λ (found : Option Listener). standing_in (relay_of w.station.relays id) found (client_of w.station.clients id)) (listener_same within seats w.seats s id near)
+  standing_alike id near = ap (λ (found : Option Listener). standing_of_found (relay_of w.station.relays id) found (client_of w.station.clients id)) (listener_same within seats w.seats s id near)
 
   -- a block
   pushes : (id : ℕ) (block : List ℕ) (now : Standing) → standing_of w id ≡ now → ((mount : List ℕ) → standing_of w id ≡ IsFeeding mount → within mount ≡ true)
@@ -115,7 +115,7 @@ module _ (within : List ℕ → Bool) (w : World) (live : List Session) (seats :
         let near = lands_within within w live r seats w.seats s (onward_by within w walks.onward live r) asked.mount mount asked.pair walks.there e in
         rw (session_alike within live w.station.live r mount near) refl
 
-    hears : asks_to_hear v asked ≡ asks_to_hear w asked
+    hears : listen_outcome v asked ≡ listen_outcome w asked
     hears =
         rw (standing_alike asked.id his, rows_same, walk_same) (by_standing (standing_of w asked.id)) where
           by_standing : (now : Standing)
@@ -141,7 +141,7 @@ module _ (within : List ℕ → Bool) (w : World) (live : List Session) (seats :
 
   -- a command
 
-  sits_same : (mount : List ℕ) (listener : ℕ) → within mount ≡ true → sits_at seats mount listener ≡ sits_at w.seats mount listener
+  sits_same : (mount : List ℕ) (listener : ℕ) → within mount ≡ true → is_listener_at seats mount listener ≡ is_listener_at w.seats mount listener
   sits_same mount listener near = by_seats (seat_of seats listener) (seat_of w.seats listener) (seat_alike within seats w.seats s listener) where
     not_there : (x : Option Seat) → IsBeyond within x → option_map_or (λ (seat : Seat). bytes_eq seat.mount mount) x false ≡ false
     not_there None out = refl
@@ -194,7 +194,7 @@ module _ (within : List ℕ → Bool) (w : World) (live : List Session) (seats :
       rw (out_alike (with_user_at w.station.lists mount user password) mount near) refl
   does_alike (Asks (DeleteUser mount user)) id near = rw (out_alike (without_user_at w.station.lists mount user) mount near) refl
 
-  pub outcome_alike : (event : Event) → IsWithin w within event → outcome v event ≡ outcome w event
+  pub outcome_alike : (event : Event) → IsWithinReach w within event → outcome v event ≡ outcome w event
   unfolding outcome
   outcome_alike (Arrive peer) near = refl
   outcome_alike (Source asked) near =

@@ -16,7 +16,7 @@ use Rattle.radio_fallback.specs.declared.moves.Move.TheVariants.{Ended, Up, To}
 use Rattle.radio_fallback.specs.declared.moves.MoveEffect.{MoveEffect}
 use Rattle.radio_fallback.specs.declared.moves.MoveEffect.TheVariants.{Stays, GoesTo, IsOut}
 use Rattle.radio_fallback.specs.Walk.{Sight, is_full, sits_already, is_full_for, found_at, stop_of, landing_at, landing_here, hands_on, next_mount, onward, walk, landing}
-use Rattle.radio_fallback.specs.Carry.{concerns, walks_on, is_asked, turn_by, turn_in, turn_of, Carry, after_turn, turns, numbers_of, at_first, carried}
+use Rattle.radio_fallback.specs.Carry.{concerns, walks_on, is_asked, turn_by, turn_in, turn_of, Carry, carry_after_move, turns, numbers_of, at_first, carried}
 use Rattle.radio_fallback.proofs.FitsLemmas.{is_out}
 use Rattle.radio_fallback.proofs.WalkLaws.{walks_ten}
 use Rattle.radio_parts_station.specs.Facts.{sight_of, fallback_of}
@@ -202,7 +202,7 @@ module _ (within : List ℕ → Bool) (w : World) (live : List Session) (r : Ses
       counts : a.counts ≡ b.counts
 
     one_turn : (a b : Carry) → CarriesDo a b → (id : ℕ) (turn : MoveEffect) → turn_of other move b.seats id ≡ turn
-        → CarriesDo (after_turn one id a turn) (after_turn other id b turn)
+        → CarriesDo (carry_after_move one id a turn) (carry_after_move other id b turn)
     one_turn a b both id Stays e = both
     one_turn a b both id (GoesTo to) e =
         let goes = goes_in a.seats b.seats both.seats id (seat_of b.seats id) to e in
@@ -221,7 +221,7 @@ module _ (within : List ℕ → Bool) (w : World) (live : List Session) (r : Ses
     all_turns : (ids : List ℕ) (a b : Carry) → CarriesDo a b → CarriesDo (turns one move ids a) (turns other move ids b)
     all_turns [] a b both = both
     all_turns (id ∷ ids) a b both =
-        all_turns ids (after_turn one id a (turn_of one move a.seats id)) (after_turn other id b (turn_of other move b.seats id))
+        all_turns ids (carry_after_move one id a (turn_of one move a.seats id)) (carry_after_move other id b (turn_of other move b.seats id))
         (rw (turn_alike a.seats b.seats both.seats id) (one_turn a b both id (turn_of other move b.seats id) refl))
 
     module _ (here there : List Listener) (s : ListenersDo within here there) where

@@ -21,7 +21,7 @@ use Rattle.radio_parts_changes.specs.declared.change.Change.TheVariants.{Nothing
 use Rattle.radio_parts_changes.specs.declared.change.Change.TheVariants.{EndAndLeave, Tick, Obey}
 use Rattle.radio_parts.specs.declared.outcome.Outcome.{Outcome}
 use Rattle.radio_parts_station.specs.declared.standing.Standing.TheVariants.{Feeds}
-use Rattle.radio_parts_changes.specs.Changes.{changed, session_over, session_ended, session_killed, answered, laggards_ended, taken_in, on_air}
+use Rattle.radio_parts_changes.specs.Changes.{changed, session_over, session_ended, session_killed, answered, laggards_ended, block_received, on_air}
 use Rattle.radio_parts_changes.proofs.PartChanges.{is_taken_in, is_on_air}
 use Rattle.radio_parts_station.specs.StationChanges.{received, retitled}
 use Rattle.radio_parts.specs.Closing.{Closes, OfClient, OfRelay}
@@ -37,7 +37,7 @@ use Rattle.radio_parts.specs.Ways.{EndsAndLeaves, Leaves, GoesDown, Obeys, Shows
 use Rattle.radio_parts_station.specs.World.{World, standing_of}
 use Rattle.radio_core.proofs.Seats.CommandedSeats.{killed_seat}
 use Rattle.radio_parts.proofs.Ways.{way_of}
-use Rattle.radio_laws.specs.Locality.{AgreeWithin, SessionsAgree, SameSession, ListenersAgree, SameListener, IsAll, IsWithin, ReachesWithin, AsksWithin, ComesUpWithin, WalksWithin}
+use Rattle.radio_laws.specs.Locality.{AgreeWithin, SessionsAgree, SameSession, ListenersAgree, SameListener, IsAll, IsWithinReach, ReachesWithin, AsksWithin, ComesUpWithin, WalksWithin}
 use Rattle.radio_laws.specs.Locality.{AnswersAlike}
 use Rattle.radio_laws.proofs.Locality.AgreeingLists.{agree_all}
 use Rattle.radio_laws.proofs.Locality.Agreeing.{beyond, SessionsDo, session_alike, with_session_alike, without_session_alike, fed_alike, titled_alike, ListenersDo}
@@ -120,7 +120,7 @@ module _ (within : List ℕ → Bool) (w : World) (live : List Session) (seats :
   receives mount block near =
       let longer = fed_alike within live w.station.live r mount block w.station.time in
       let same = session_alike within (fed live mount block w.station.time) (fed w.station.live mount block w.station.time) longer mount near in
-      comes_alike within (taken_in v mount block) (taken_in w mount block) (laggards_ended (record v { station = received v.station mount block }) mount)
+      comes_alike within (block_received v mount block) (block_received w mount block) (laggards_ended (record v { station = received v.station mount block }) mount)
       (laggards_ended (record w { station = received w.station mount block }) mount) (is_taken_in v mount block) (is_taken_in w mount block) (record {
         station = refl;
         sessions = longer;
@@ -232,7 +232,7 @@ module _ (within : List ℕ → Bool) (w : World) (live : List Session) (seats :
   by_way event o (HasPassed ms past) near = unchanged
   by_way event o (Ticks ms past) near = all_agree near (Tick ms)
 
-  in_step : (event : Event) → IsWithin w within event
+  in_step : (event : Event) → IsWithinReach w within event
       → (reply_to v event ≡ reply_to w event) × AgreeWithin within (world_after v event) (world_after w event)
   unfolding reply_to world_after
   in_step event near =

@@ -41,7 +41,7 @@ use Rattle.radio_parts.specs.Step.{outcome, reply_to, world_after}
 use Rattle.radio_parts.proofs.HeardLemmas.{heard_cases}
 use Rattle.radio_core.proofs.Kept.KeptSeats.{settings_stay}
 use Rattle.radio_laws.specs.OwnSteps.{PartStands, IsServersStep}
-use Rattle.radio_laws.specs.Parts.{seat_if, is_at, seat_at, IsPartOf, part_heard}
+use Rattle.radio_laws.specs.Parts.{seat_if, is_at, seat_at, IsPartOf, part_with_place}
 use Rattle.radio_laws.proofs.Locality.PartLemmas.{sits_there, parts_draw}
 
 -- at a mount where nothing was delivered nothing is drawn
@@ -187,7 +187,7 @@ module _ (core w : World) (for : StandsFor core w) where
           record {
             can_draw = λ other there. kept_for other (sym found ∙ there);
             replied = sym its ∙ sym (ap (λ (o : Outcome). o.reply) portions);
-            here = has_then (Draw id room) p (part_after queue w.station.time p (Draw id room)) (part_heard (whole p) id after) refl step.here stands.session
+            here = has_then (Draw id room) p (part_after queue w.station.time p (Draw id room)) (part_with_place (whole p) id after) refl step.here stands.session
                 attached_then (in_order_updated further (λ x. refl) (is_attached id) p.attachments stands.once);
             there = step.there;
           } where

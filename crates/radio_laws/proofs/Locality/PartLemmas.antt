@@ -36,7 +36,7 @@ use Rattle.radio_parts.specs.Push.{takes_in}
 use Rattle.radio_core.specs.Sound.{IsSound}
 use Rattle.radio_parts.specs.Step.{outcome, reply_to, world_after}
 use Rattle.radio_parts.proofs.DrawLemmas.{hands_out_at, draws_so}
-use Rattle.radio_laws.specs.Parts.{seat_if, is_at, seat_at, IsPartOf, part_heard, is_mount_of, IsPartsStep, DrawsByItsPart}
+use Rattle.radio_laws.specs.Parts.{seat_if, is_at, seat_at, IsPartOf, part_with_place, is_mount_of, IsPartsStep, DrawsByItsPart}
 use Rattle.radio_laws.proofs.Locality.LeftAlone.{left_alone}
 
 -- who keeps its seat when those lose theirs of whom this holds
@@ -130,7 +130,7 @@ module _ (w : World) (s : IsSound w) (p : Part) (of : IsPartOf w p) where
       step = λ place change.
           let after : world_after w (Draw id room) ≡ changed w (Advance id place) = ap (changed w) (ap (λ (o : Outcome). o.change) handed ∙ change) in
           record {
-            here = subst (λ (later : World). IsPartOf later (part_heard p id place)) (sym after) (record { live = of.live; seats = seat_heard place });
+            here = subst (λ (later : World). IsPartOf later (part_with_place p id place)) (sym after) (record { live = of.live; seats = seat_heard place });
             there = left_alone (is_mount_of p) w s (Draw id room) tt within;
           };
     } where

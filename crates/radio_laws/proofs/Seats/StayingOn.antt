@@ -27,7 +27,7 @@ use Rattle.radio_fallback.specs.declared.moves.Move.TheVariants.{Ended}
 use Rattle.radio_fallback.specs.declared.moves.MoveEffect.TheVariants.{Stays, GoesTo, IsOut}
 use Rattle.radio_fallback.specs.declared.walking.Landing.TheVariants.{Lands}
 use Rattle.radio_fallback.specs.Walk.{Sight, is_full, is_full_for, is_twice_for, sits_already, landing, landing_here, next_mount, onward, walk}
-use Rattle.radio_fallback.specs.Carry.{Carry, walks_on, turn_in, turn_of, after_turn, numbers_of, at_first, at_his_turn}
+use Rattle.radio_fallback.specs.Carry.{Carry, walks_on, turn_in, turn_of, carry_after_move, numbers_of, at_first, at_his_turn}
 use Rattle.radio_fallback.specs.Fares.{IsWithinLimit, SitOnce, seat_at_end}
 use Rattle.radio_fallback.proofs.CarryLemmas.{same_numbers}
 use Rattle.radio_fallback.proofs.Faring.{sits_as_before}
@@ -100,7 +100,7 @@ module _ (sight : Sight) (mount : List ℕ) (seats : List Listener) (order : Are
   at_most_one false = omega arith
 
   none_shifts : (carry : Carry) (him : ℕ) (to : List ℕ) → NobodyCameTo mount seats carry.seats → IsShifted sight (Ended mount) carry.seats him to
-      → NobodyCameTo mount seats (after_turn sight him carry (GoesTo to)).seats
+      → NobodyCameTo mount seats (carry_after_move sight him carry (GoesTo to)).seats
   none_shifts carry him to none shifted = record {
     same = same_numbers sight him carry (GoesTo to) ∙ none.same;
     no_more =
@@ -127,7 +127,7 @@ module _ (sight : Sight) (mount : List ℕ) (seats : List Listener) (order : Are
   }
 
   none_ends : (carry : Carry) (him : ℕ) (rule : Rule) → NobodyCameTo mount seats carry.seats
-      → NobodyCameTo mount seats (after_turn sight him carry (IsOut rule)).seats
+      → NobodyCameTo mount seats (carry_after_move sight him carry (IsOut rule)).seats
   none_ends carry him rule none = record {
     same = same_numbers sight him carry (IsOut rule) ∙ none.same;
     no_more = let fewer = count_out sight carry.seats him mount rule in let before = none.no_more in omega (arith, fewer, before);

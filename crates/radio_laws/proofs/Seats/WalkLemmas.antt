@@ -19,7 +19,7 @@ use Rattle.radio_parts_station.specs.Fallbacks.{Fallback, set_for}
 use Rattle.radio_parts_mount.specs.Sessions.{Session}
 use Rattle.radio_parts_station.specs.World.{World}
 use Rattle.radio_laws.specs.Limits.{IsFullAt, most_at}
-use Rattle.radio_laws.specs.Walks.{FallsBack, ByTheSettings, ByACommand, GoesOn, HasNoSource, IsFull, ComesBy, AtFirst, Next}
+use Rattle.radio_laws.specs.Walks.{FallsBack, ByTheSettings, ByACommand, PassesWalkOn, HasNoSource, IsFull, ComesBy, AtFirst, Next}
 use Rattle.radio_parts_station.specs.Waiting.{heard_at}
 
 -- as many sit there as may
@@ -59,16 +59,16 @@ module _ (w : World) (pair : Option Credentials) where
   -- where a mount hands on to the next, it does so by its settings
   hands_by : (mount next : List ℕ) (live full : Bool) → is_some (heard_at w.station mount) ≡ live → is_full_for sight w.seats mount ≡ full
       → (if not live || full && (options_for w.station.settings mount).listeners.fallback_when_full
-      then fallback_of w.station mount else None) ≡ Some next → GoesOn w mount next
+      then fallback_of w.station mount else None) ≡ Some next → PassesWalkOn w mount next
   hands_by mount next false full l f e = HasNoSource (falls_back w mount next e) (none_there (heard_at w.station mount) l)
   hands_by mount next true true l f e = by_flag (options_for w.station.settings mount).listeners.fallback_when_full refl e where
     by_flag : (b : Bool) → (options_for w.station.settings mount).listeners.fallback_when_full ≡ b
-        → (if b then fallback_of w.station mount else None) ≡ Some next → GoesOn w mount next
+        → (if b then fallback_of w.station mount else None) ≡ Some next → PassesWalkOn w mount next
     by_flag true set goes = IsFull (falls_back w mount next goes) set (full_at w mount (most_at w mount) refl f)
     by_flag false set goes = cc
   hands_by mount next true false l f e = cc
 
-  goes_on : (mount next : List ℕ) → next_mount sight w.seats mount ≡ Some next → GoesOn w mount next
+  goes_on : (mount next : List ℕ) → next_mount sight w.seats mount ≡ Some next → PassesWalkOn w mount next
   goes_on mount next e = hands_by mount next (is_some (heard_at w.station mount)) (is_full_for sight w.seats mount) refl refl e
 
   module _ (asked : List ℕ) where

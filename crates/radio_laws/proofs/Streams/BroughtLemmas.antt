@@ -29,7 +29,7 @@ use Rattle.radio_core.proofs.Clients.OwnLemmas.{nothing_of}
 use Rattle.radio_core.proofs.Sound.SoundEnds.{was_live}
 use Rattle.radio_core.proofs.Sessions.TickLemmas.{ticked_fates}
 use Rattle.radio_parts.proofs.Ways.{way_of}
-use Rattle.radio_laws.specs.TitlesTold.{title_in, set_by}
+use Rattle.radio_laws.specs.TitlesTold.{title_of_event, set_by}
 use Rattle.radio_laws.proofs.Streams.BegunLemmas.{source_begins, relay_begins}
 
 -- what an outcome sets for the source of this number
@@ -66,7 +66,7 @@ module _ (w : World) (s : IsSound w) where
   untitled event id = nothing_of event id [] refl
 
   -- whose connection is closed sets no title by it
-  closes_untitled : (him : ℕ) (event : Event) → Closes w him event → title_in event ≡ []
+  closes_untitled : (him : ℕ) (event : Event) → Closes w him event → title_of_event event ≡ []
   closes_untitled him event (OfClient no_relay) = refl
   closes_untitled him event (OfRelay relay) = refl
 
@@ -95,7 +95,7 @@ module _ (w : World) (s : IsSound w) where
       (relay_begins w s (IsOldOrEmpty w) as_it_was mount shown none (IsEmpty refl refl (inr (omega arith))))
   brought_by event o (Ends him mount feeding no_relay) = BringsNothing event o refl (untitled event) (left_over mount)
   brought_by event o (EndsAndLeaves _ him mount closes feeding) =
-      BringsNothing event o refl (λ id. nothing_of event id (title_in event) (closes_untitled him event closes)) (left_over mount)
+      BringsNothing event o refl (λ id. nothing_of event id (title_of_event event) (closes_untitled him event closes)) (left_over mount)
   brought_by event o (Ticks ms e) =
       BringsNothing event o refl (untitled event) (λ mount session live. IsOld mount ((ticked_fates w s ms).live mount session live))
   brought_by event o (Shows _ asker peer text its undecided what) = BringsNothing event o refl (shown_sets_none event text what asker) as_it_was

@@ -26,7 +26,7 @@ use Rattle.radio_parts_mount.specs.Sessions.{Session, session_of}
 use Rattle.radio_core.specs.Sound.{IsSound}
 use Rattle.radio_parts.specs.Step.{outcome, world_after}
 use Rattle.radio_parts_mount.specs.Stream.{WholeStream, data_at, end_of}
-use Rattle.radio_laws.specs.Stretches.{between, Sitting, sitting_in, begun_sittings, sittings, AreStretches, StretchesAreWhole, IsSlice, AreSlices, Cut, cut_behind, cut_at_sittings, StretchesAreCut}
+use Rattle.radio_laws.specs.Stretches.{between, Sitting, sitting_of_seat, begun_sittings, sittings, AreStretches, StretchesAreWhole, IsSlice, AreSlices, Cut, cut_behind, cut_at_sittings, StretchesAreCut}
 use Rattle.radio_core.proofs.Clients.FinishLemmas.{undecided_before}
 use Rattle.radio_core.proofs.Clients.OwnLemmas.{not_of, nothing_of}
 use Rattle.radio_laws.proofs.Ends.GoneLemmas.{his_own, with_nothing, last_rises}
@@ -45,7 +45,7 @@ use Rattle.radio_laws.proofs.Streams.SliceLemmas.{between_grown, between_drawn, 
 use Rattle.radio_parts_station.specs.Waiting.{heard_at}
 
 -- a seat in the same session begins no sitting
-begun_same : (old seat : Seat) (b : Bool) → (old.session == seat.session) ≡ b → b ≡ true → (if b then [] else sitting_in seat ∷ []) ≡ []
+begun_same : (old seat : Seat) (b : Bool) → (old.session == seat.session) ≡ b → b ≡ true → (if b then [] else sitting_of_seat seat ∷ []) ≡ []
 begun_same old seat true e h = refl
 begun_same old seat false e h = cc
 
@@ -56,7 +56,7 @@ begun_none old seat same = let itself : (old.session == seat.session) ≡ true =
 -- what comes next for one who has this seat, or none: a slice from its place, or nothing
 abbrev IsNext : (ℕ → List ℕ) → Option Seat → List ℕ → Type 0
 IsNext sent None bytes = bytes ≡ []
-IsNext sent (Some seat) bytes = IsSlice sent (sitting_in seat) bytes
+IsNext sent (Some seat) bytes = IsSlice sent (sitting_of_seat seat) bytes
 
 abbrev IsCutSo : (ℕ → List ℕ) → Option Seat → List Sitting → Cut ℕ → Type 0
 IsCutSo sent seat sittings cut = IsNext sent seat cut.before × AreSlices sent sittings cut.each
@@ -67,7 +67,7 @@ module _ (w : World) (s : IsSound w) (sent more : ℕ → List ℕ) (whole : (mo
   abbrev all : ℕ → List ℕ
   all n = sent n ++ more n
 
-  nothing_first : (id : ℕ) (seat : Seat) → seat_of w.seats id ≡ Some seat → IsSlice all (sitting_in seat) []
+  nothing_first : (id : ℕ) (seat : Seat) → seat_of w.seats id ≡ Some seat → IsSlice all (sitting_of_seat seat) []
   nothing_first id seat has =
       let sits = s.seated id seat has in
       let same : sits.session.stream.bytes ≡ sent seat.session = whole seat.mount sits.session sits.is_heard ∙ ap sent sits.his_session in
@@ -80,8 +80,8 @@ module _ (w : World) (s : IsSound w) (sent more : ℕ → List ℕ) (whole : (mo
 
   handed_first : (seat : Seat) (session : Session) (room : ℕ) → heard_at w.station seat.mount ≡ Some session → session.number ≡ seat.session
       → seat.place + length (data_at session.stream seat.place room) ≤ end_of session.stream → (bytes : List ℕ)
-      → IsSlice all (sitting_in (record seat { place = seat.place + length (data_at session.stream seat.place room) })) bytes
-      → IsSlice all (sitting_in seat) (data_at session.stream seat.place room ++ bytes)
+      → IsSlice all (sitting_of_seat (record seat { place = seat.place + length (data_at session.stream seat.place room) })) bytes
+      → IsSlice all (sitting_of_seat seat) (data_at session.stream seat.place room ++ bytes)
   handed_first seat session room live number within bytes (stop, low, high, e) =
       let so_far = sent seat.session in
       let drawn = data_at session.stream seat.place room in
@@ -112,17 +112,17 @@ module _ (w : World) (s : IsSound w) (sent more : ℕ → List ℕ) (whole : (mo
   cut_step event C id before later bytes (SitsDown asked peer session e his undecided lands live allowed) has others cut h = (refl, h)
   cut_step event C id before later bytes (IsMoved seat session takes why live opens apart) has others cut h =
       let new = moved_into session seat in
-      let started : begun_sittings (Some seat) (Some new) ≡ sitting_in new ∷ [] = ap (λ (b : Bool). if b then [] else sitting_in new ∷ []) apart in
+      let started : begun_sittings (Some seat) (Some new) ≡ sitting_of_seat new ∷ [] = ap (λ (b : Bool). if b then [] else sitting_of_seat new ∷ []) apart in
       subst (λ (begun : List Sitting). IsCutSo all (Some seat) (begun ++ others) (cut_behind [] begun cut)) (sym started) (nothing_first id seat has, h)
   cut_step event C id before later bytes (IsGiven seat session coming idle live empty waits start past_zero) has others cut h =
       let new : Seat = record seat { session = session.number } in
       let apart : (seat.session == session.number) ≡ false = ap (λ (n : ℕ). n == session.number) waits ∙ past_zero in
-      let started : begun_sittings (Some seat) (Some new) ≡ sitting_in new ∷ [] = ap (λ (b : Bool). if b then [] else sitting_in new ∷ []) apart in
+      let started : begun_sittings (Some seat) (Some new) ≡ sitting_of_seat new ∷ [] = ap (λ (b : Bool). if b then [] else sitting_of_seat new ∷ []) apart in
       subst (λ (begun : List Sitting). IsCutSo all (Some seat) (begun ++ others) (cut_behind [] begun cut)) (sym started) (nothing_first id seat has, h)
   cut_step event C id before later bytes (HeLeaves seat left) has others cut h =
-      (subst (IsSlice all (sitting_in seat)) (sym h.0) (nothing_first id seat has), h.1)
+      (subst (IsSlice all (sitting_of_seat seat)) (sym h.0) (nothing_first id seat has), h.1)
   cut_step event C id before later bytes (HeIsEnded seat rule cause) has others cut h =
-      (subst (IsSlice all (sitting_in seat)) (sym h.0) (nothing_first id seat has), h.1)
+      (subst (IsSlice all (sitting_of_seat seat)) (sym h.0) (nothing_first id seat has), h.1)
 
   -- where nothing happens any more
   nothing_next : (id : ℕ) (seat : Option Seat) → seat_of w.seats id ≡ seat → IsNext all seat []

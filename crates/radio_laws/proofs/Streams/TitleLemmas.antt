@@ -27,7 +27,7 @@ use Rattle.radio_parts_station.specs.World.{World, opening, standing_of}
 use Rattle.radio_parts_changes.specs.Changes.{answered, changed, session_killed}
 use Rattle.radio_parts.specs.Command.{obeys as obeys_it}
 use Rattle.radio_parts.specs.Allowed.{IsCommanded}
-use Rattle.radio_core.specs.Handing.{is_number, of_client}
+use Rattle.radio_core.specs.Handing.{is_same_number, of_client}
 use Rattle.radio_core.specs.Run.{world_after_all, run_after}
 use Rattle.radio_parts_mount.specs.Sessions.{Session, session_of}
 use Rattle.radio_core.specs.Sound.{IsSound}
@@ -89,7 +89,7 @@ module _ (w : World) (s : IsSound w) (told : ℕ → List (List ℕ)) (h : Told 
 
   -- the source that feeds a mount, by its number
   numbered : (found : Option Session) (session : Session) (id : ℕ) → found ≡ Some session
-      → is_number id (option_map (λ (x : Session). x.number) found) ≡ (session.number == id)
+      → is_same_number id (option_map (λ (x : Session). x.number) found) ≡ (session.number == id)
   numbered found session id e = rw e refl
 
   title_of_command : (event : Event) (mount text : List ℕ) (c : IsCommanded w event (CommandsTitle mount text)) (session : Session) (id : ℕ)

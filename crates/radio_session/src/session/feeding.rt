@@ -89,8 +89,8 @@ fn read(
             let word = fault(body)?;
             Ok((blocks, word))
         }
-        Err(told) => {
-            let word = faulty(told)?;
+        Err(body_fault) => {
+            let word = faulty(body_fault)?;
             Ok((Vec::new(alloc), Some(word)))
         }
     }
@@ -103,10 +103,10 @@ fn fault(body: &mut Body) -> Result<Option<LastWord>, OutOfMemory>
     ensures word { IfOk result (λ word. word ≡ body_closes false (fault_at body.old.place)) }
     ensures body { IfOk result (λ word. word ≡ None → body.new ≡ body.old) }
 {
-    let Err(told) = body.feed(&[]) else {
+    let Err(body_fault) = body.feed(&[]) else {
         return Ok(None);
     };
-    let word = faulty(told)?;
+    let word = faulty(body_fault)?;
     Ok(Some(word))
 }
 

@@ -25,7 +25,7 @@ impl Session {
     // rule: Bad framing; Listen request
     pub fn take(&mut self, bytes: &[u8]) -> Result<Vec<Event>, OutOfMemory>
         // the events and what is left are those that the bytes mean
-        ensures heard { IfOk result (λ events. IsHeard self.old bytes.now (record { events = events.items; conversation = self.new })) }
+        ensures events { IfOk result (λ events. IsHeard self.old bytes.now (record { events = events.items; conversation = self.new })) }
         // a refused call fails the session, and a failed session refuses
         ensures fails { OnErr result (self.new.has_failed ≡ true) }
         ensures failed { self.old.has_failed ≡ true → IsErr result }

@@ -1,6 +1,6 @@
 ghost use Rattle.std.specs.Prelude.{◌≡◌, ◌≤◌, ◌++◌, length, true, Some, option_copied, option_map, IfOk, IfSome, IsErr, OnOk, OnErr};
 ghost use Rattle.radio_session.specs.Conversation.{saying_now};
-ghost use Rattle.radio_session.specs.Saying.{said, texted, denied, noted, counted, one_less, admitted, seated, drew, last_text, last_ending, greeting_text};
+ghost use Rattle.radio_session.specs.Saying.{said, texted, denied, noted, one_less, admitted, listener_admitted, drew, last_text, last_ending, greeting_text, counted_down};
 ghost use Rattle.radio_answers.specs.Answers.{head_text};
 ghost use Rattle.radio_session.specs.Draws.{draw, drawn, weaver_at};
 ghost use Rattle.radio_values.specs.Limits.{max_title};
@@ -34,9 +34,9 @@ impl Session {
         ensures fails { OnErr result (self.new.has_failed ≡ true) }
         ensures failed { self.old.has_failed ≡ true → IsErr result }
     {
-        let told = self.tell_reply(&reply, out);
+        let appended = self.tell_reply(&reply, out);
         drop(reply);
-        told
+        appended
     }
 
     /// The same, of a reply that the caller keeps.
@@ -103,7 +103,7 @@ impl Session {
     ) -> Result<State, OutOfMemory>
         ensures bytes { IfOk result (λ _. out.new.items ≡ out.old.items ++ head_text self.old.says.web interval head.now) }
         ensures state { IfOk result (λ state. state ≡ Running) }
-        ensures says { IfOk result (λ _. self.new ≡ saying_now self.old (seated self.old.says interval)) }
+        ensures says { IfOk result (λ _. self.new ≡ saying_now self.old (listener_admitted self.old.says interval)) }
         ensures silent { OnErr result (out.new.items ≡ out.old.items) }
     {
         append_stream_head(self.alloc, self.says.web, interval, head, out)?;
@@ -197,7 +197,7 @@ impl Session {
 
     /// Counts one reply less before that with the last word.
     fn count(&mut self)
-        ensures { self.new ≡ saying_now self.old (counted self.old.says) }
+        ensures { self.new ≡ saying_now self.old (counted_down self.old.says) }
     {
         self.says.closing = counted(self.says.closing);
     }

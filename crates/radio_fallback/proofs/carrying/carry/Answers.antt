@@ -4,7 +4,7 @@ use Rattle.radio_seats.proofs.RowLemmas.{same_table}
 use Rattle.radio_parts_mount.specs.StatePart.{ends_in}
 use Rattle.radio_parts_mount.specs.Sessions.{Session}
 use Rattle.radio_fallback.specs.Walk.{with_ends}
-use Rattle.radio_fallback.specs.Carry.{Carry, after_turn, turn_of, turns}
+use Rattle.radio_fallback.specs.Carry.{Carry, carry_after_move, turn_of, turns}
 use Rattle.radio_fallback.specs.Heard.{heard}
 use Rattle.radio_fallback.proofs.HeardLemmas.{begins_heard, goes_on_heard}
 use Rattle.radio_fallback.proofs.CarryLemmas.{begins, as_many, goes_on, fewer_left, all_counted, has_room, nobody_is_next}
@@ -53,13 +53,13 @@ listeners-preserved g c =
     let unmoved = c.listeners.invariant.6 in
     let next = sym c.in-Some.is ∙ c.next.ensures.next in
     let is_later = subst (λ (live : List Session). new
-    ≡ (after_turn (with_ends view (ends_in live)) id (record { seats = seats; counts = counts }) (turn_of (with_ends view (ends_in live)) move seats id)).seats) unmoved
+    ≡ (carry_after_move (with_ends view (ends_in live)) id (record { seats = seats; counts = counts }) (turn_of (with_ends view (ends_in live)) move seats id)).seats) unmoved
     (ap (λ (b : SeatTable). b.seats) c.take_turn-counts.ensures.seats) in
     let is_counted = subst (λ (live : List Session). counted
-    ≡ (after_turn (with_ends view (ends_in live)) id (record { seats = seats; counts = counts }) (turn_of (with_ends view (ends_in live)) move seats id)).counts) unmoved
+    ≡ (carry_after_move (with_ends view (ends_in live)) id (record { seats = seats; counts = counts }) (turn_of (with_ends view (ends_in live)) move seats id)).counts) unmoved
     c.take_turn-counts.ensures.counts in
     let is_heard = subst (λ (live : List Session). heard later new
-    ≡ (after_turn (with_ends view (ends_in live)) id (record { seats = heard places seats; counts = counts }) (turn_of (with_ends view (ends_in live)) move (heard places seats) id)).seats)
+    ≡ (carry_after_move (with_ends view (ends_in live)) id (record { seats = heard places seats; counts = counts }) (turn_of (with_ends view (ends_in live)) move (heard places seats) id)).seats)
     unmoved c.take_turn-counts.ensures.heard in (
       goes_on sight move c.listeners.last id seats counts c.next.ensures.rising next new counted is_later is_counted ∙ c.listeners.invariant.0,
       ap (λ (b : SeatTable). b.prepared) c.take_turn-counts.ensures.seats ∙ c.listeners.invariant.1,

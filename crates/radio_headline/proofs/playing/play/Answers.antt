@@ -1,8 +1,8 @@
 use Rattle.std.proofs.Common.{◌≡◌, List, ℕ, None, subst}
 use Rattle.std.specs.Prelude.{Ok, Result}
-use Rattle.radio_deliveries.specs.declared.faults.PlayFault.{PlayFault}
+use Rattle.radio_script.specs.declared.faults.PlayFault.{PlayFault}
 use Rattle.radio_script.specs.Plays.{Writes}
-use Rattle.radio_script.specs.Script.{deliveries_from, lines_of}
+use Rattle.radio_script.specs.Script.{deliveries_from, script_lines}
 use Rattle.radio_floor.specs.Transcript.{PlaysScript}
 use Rattle.radio_floor.proofs.Weakened.{known-weaker, writes-weaker}
 use Rattle.radio_headline.specs.Scripts.{HearsSlices}
@@ -20,7 +20,7 @@ returns-clause-hears g c =
     let old = c.args.writer.now in
     let new = c.play.new.writer in
     let plays = λ (script left written : List ℕ) (turns : ℕ). PlaysScript web settings lists script left result written turns in
-    let hears = λ (script written : List ℕ). (done : Unit {0}) → result ≡ Ok done → HearsSlices web settings lists (deliveries_from 1 (lines_of script)) written None in
+    let hears = λ (script written : List ℕ). (done : Unit {0}) → result ≡ Ok done → HearsSlices web settings lists (deliveries_from 1 (script_lines script)) written None in
     known-weaker (remaining c.args.reader.now) (remaining c.play.new.reader)
     (λ script left. Writes (contents old) (contents new) (calls old) (calls new) (λ written turns. plays script left written turns))
     (λ script left. Writes (contents old) (contents new) (calls old) (calls new) (λ written turns. hears script written))

@@ -1,6 +1,6 @@
 use Rattle.std.proofs.Common.{◌≡◌, ℕ, ◌*◌, ◌<◌, ◌∷◌, ◌++◌, length, List, arith, ap, ◌∙◌, sym}
 use Rattle.std.proofs.lemmas.List.{append-nil, nil_from_length}
-use Rattle.radio_icy.specs.Unweaving.{at_sound, heard, after_feeding}
+use Rattle.radio_icy.specs.Unweaving.{at_sound, atoms_of_piece, after_feeding}
 use Rattle.radio_icy.proofs.UnweavingLemmas.{heard_all_sound, after_all_sound, heard_to_part, after_to_part, heard_to_text, after_to_text, heard_to_none}
 use Rattle.radio_icy.proofs.UnweavingLemmas.{after_to_none, turn_to_text, turn_to_none, turn_to_end}
 use Rattle.radio_icy.proofs.unweaver.read_intervals.Goals as goal
@@ -11,7 +11,7 @@ returns-in_default-clause-heard c =
     let none = nil_from_length c.split_at.result.1.now c.in_default.ensures.cases in
     let rest_is : c.intervals.rest.now ≡ sound = c.split_at.ensures.by_index.0 ∙ (ap (λ t. sound ++ t) none ∙ append-nil sound) in
     turn_to_end _ _ _ _ _ c.in_ok-add_sound.ensures
-    (ap (heard (at_sound c.args.interval c.intervals.left)) rest_is
+    (ap (atoms_of_piece (at_sound c.args.interval c.intervals.left)) rest_is
     ∙ heard_all_sound c.args.interval c.intervals.left sound (omega (arith, c.split_at.ensures.front_len)))
     c.intervals.invariant.0
 
@@ -31,7 +31,7 @@ returns-then-block-size-clause-heard c =
     let whole : c.intervals.left ≡ length sound = omega (arith, c.split_at.ensures.front_len, c.split_at.ensures.back_len, c.in-Some.ensures.cases.1) in
     let rest_is : c.intervals.rest.now ≡ sound ++ units ∷ block = c.split_at.ensures.by_index.0 ∙ ap (λ t. sound ++ t) c.in-Some.ensures.cases.0 in
     turn_to_end _ _ _ _ _ c.in_ok-add_sound.ensures
-    (ap (heard (at_sound c.args.interval c.intervals.left)) rest_is
+    (ap (atoms_of_piece (at_sound c.args.interval c.intervals.left)) rest_is
     ∙ heard_to_part c.args.interval c.intervals.left units sound block whole c.if-block-size.true)
     c.intervals.invariant.0
 
@@ -58,7 +58,7 @@ intervals-preserved-in_ok-add_text c =
     let rest_is : c.intervals.rest.now ≡ sound ++ units ∷ (text ++ later) =
     c.split_at.ensures.by_index.0 ∙ ap (λ t. sound ++ t) (c.in-Some.ensures.cases.0 ∙ ap (λ t. units ∷ t) block_is) in (
       turn_to_text _ _ _ _ _ _ _ _ c.in_ok-add_sound.ensures c.in_ok-add_text.ensures
-          (ap (heard (at_sound c.args.interval c.intervals.left)) rest_is
+          (ap (atoms_of_piece (at_sound c.args.interval c.intervals.left)) rest_is
           ∙ heard_to_text c.args.interval c.intervals.left units sound text later whole some size)
           c.intervals.invariant.0,
       sym (ap (after_feeding (at_sound c.args.interval c.intervals.left)) rest_is
@@ -79,7 +79,7 @@ intervals-preserved c =
     c.split_at.ensures.by_index.0 ∙ ap (λ t. sound ++ t)
     (c.in-Some.ensures.cases.0 ∙ (ap (λ (q : ℕ). q ∷ c.in-Some.block.now) none ∙ ap (λ (t : List ℕ). 0 ∷ t) block_is)) in (
       turn_to_none _ _ _ _ _ _ c.in_ok-add_sound.ensures
-          (ap (heard (at_sound c.args.interval c.intervals.left)) rest_is ∙ heard_to_none c.args.interval c.intervals.left sound later whole)
+          (ap (atoms_of_piece (at_sound c.args.interval c.intervals.left)) rest_is ∙ heard_to_none c.args.interval c.intervals.left sound later whole)
           c.intervals.invariant.0,
       sym (ap (after_feeding (at_sound c.args.interval c.intervals.left)) rest_is ∙ after_to_none c.args.interval c.intervals.left sound later whole)
           ∙ c.intervals.invariant.1,

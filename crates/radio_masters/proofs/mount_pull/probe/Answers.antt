@@ -5,7 +5,7 @@ use Rattle.radio_masters.proofs.PullEntries.{asked_comes}
 use Rattle.radio_masters.specs.declared.mount_pull.PullTurn.{PullTurn}
 use Rattle.radio_masters.specs.Pulls.{Comes}
 use Rattle.radio_masters.proofs.mount_pull.probe.Goals as goal
-use Rattle.radio_pull.specs.Course.{AsksAtMostIf, AsksIf}
+use Rattle.radio_relay.specs.Course.{AsksAtMostIf, AsksIf}
 
 pub returns-in-Ok-clause-comes : goal.returns-in-Ok-clause-comes
 returns-in-Ok-clause-comes g c =

@@ -1,7 +1,7 @@
 use Rattle.std.proofs.Common.{◌≡◌, length}
 use Rattle.std.specs.Prelude.{map}
 use Rattle.radio_policy.specs.declared.rule.Rule.TheVariants.{Lagged}
-use Rattle.radio_parts_table.specs.Losses.{ended_where}
+use Rattle.radio_parts_table.specs.Losses.{ended_if_lost}
 use Rattle.radio_parts_mount.specs.Attached.{is_among}
 use Rattle.radio_parts_table.proofs.listeners.end_each.Given as goal
 
@@ -9,7 +9,7 @@ use Rattle.radio_parts_table.proofs.listeners.end_each.Given as goal
 abbrev pub invariant-lagging : goal.invariant-lagging
 invariant-lagging l =
     (l.seats.prepared ≡ l.initial.seats.prepared)
-    × (map (ended_where (is_among l.lagging) Lagged) l.seats.seats ≡ map (ended_where (is_among l.initial.lagging) Lagged) l.initial.seats.seats)
+    × (map (ended_if_lost (is_among l.lagging) Lagged) l.seats.seats ≡ map (ended_if_lost (is_among l.initial.lagging) Lagged) l.initial.seats.seats)
 
 abbrev pub decreases-lagging : goal.decreases-lagging
 decreases-lagging l = length l.lagging

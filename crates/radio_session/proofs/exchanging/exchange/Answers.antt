@@ -30,22 +30,22 @@ loop-event-preserved g c =
     let a = c.in_ok-ending.ensures in
     let start = c.args.session.now in
     let before = c.loop-event.session in
-    let told = said before.says a.0 in
+    let written = said before.says a.0 in
     let rest = into_iter_items c.next.new.self in
-    let now : c.answer.new.session ≡ record start { says = told.says } = says_on start before c.answer.new.session told.says inv.same a.2.2 in
-    let says : c.answer.new.session.says ≡ told.says = ap (λ (x : Conversation). x.says) now in
+    let now : c.answer.new.session ≡ record start { says = written.says } = says_on start before c.answer.new.session written.says inv.same a.2.2 in
+    let says : c.answer.new.session.says ≡ written.says = ap (λ (x : Conversation). x.says) now in
     record {
-      so_far = inv.so_far ++ told.bytes;
-      out = a.2.0 ∙ ap (λ (xs : List ℕ). xs ++ told.bytes) inv.out ∙ append_assoc c.args.out.now.items inv.so_far told.bytes;
+      so_far = inv.so_far ++ written.bytes;
+      out = a.2.0 ∙ ap (λ (xs : List ℕ). xs ++ written.bytes) inv.out ∙ append_assoc c.args.out.now.items inv.so_far written.bytes;
       same = now ∙ ap (λ (s : Says). record start { says = s }) (sym says);
       all = λ x to e.
           let others = subst (λ (s : Says). Exchanges g.S.Server.steps start.id s rest c.answer.new.server x to) says e in
           let here = one_on g.S.Server.steps start.id before.says c.in-Some.event rest c.loop-event.server c.answer.new.server to a.0 a.1 x
           (sym a.2.1 ∙ c.in_default.is) others in
           let left = subst (λ (events : List Event). Exchanges g.S.Server.steps start.id before.says events c.loop-event.server
-          (prefixed told.bytes x) to) (sym c.in-Some.ensures.steps.0) here in
+          (prefixed written.bytes x) to) (sym c.in-Some.ensures.steps.0) here in
           subst (λ (y : Exchange). Exchanges g.S.Server.steps start.id start.says c.args.events.items c.args.server.now y to)
-          (prefix_twice inv.so_far told.bytes x) (inv.all (prefixed told.bytes x) to left);
+          (prefix_twice inv.so_far written.bytes x) (inv.all (prefixed written.bytes x) to left);
     }
 
 pub returns-in-Shut : goal.returns-in-Shut
@@ -54,21 +54,21 @@ returns-in-Shut g c =
     let a = c.in_ok-ending.ensures in
     let start = c.args.session.now in
     let before = c.loop-event.session in
-    let told = said before.says a.0 in
+    let written = said before.says a.0 in
     let rest = into_iter_items c.next.new.self in
     let ending = c.in-Shut.ending in
     let to = c.leave_after.new.server in
-    let now : c.answer.new.session ≡ record start { says = told.says } = says_on start before c.answer.new.session told.says inv.same a.2.2 in
+    let now : c.answer.new.session ≡ record start { says = written.says } = says_on start before c.answer.new.session written.says inv.same a.2.2 in
     let id : c.id.result ≡ start.id = c.id.ensures ∙ ap (λ (x : Conversation). x.id) now in
     let leaves = subst (λ (b : Bool). LeavesAfter g.S.Server.steps start.id b c.answer.new.server to) c.is_leave-leaves.ensures
     (subst (λ (n : ℕ). LeavesAfter g.S.Server.steps n c.is_leave-leaves.result c.answer.new.server to) id c.in_ok-leave_after.ensures) in
     let here = one_last g.S.Server.steps start.id before.says c.in-Some.event rest c.loop-event.server c.answer.new.server to a.0 a.1 ending
     (sym a.2.1 ∙ c.in-Shut.is) leaves in
     let left = subst (λ (events : List Event). Exchanges g.S.Server.steps start.id before.says events c.loop-event.server
-    (ended_with told ending) to) (sym c.in-Some.ensures.steps.0) here in (
-      prefixed inv.so_far (ended_with told ending),
-      inv.all (ended_with told ending) to left,
-      a.2.0 ∙ ap (λ (xs : List ℕ). xs ++ told.bytes) inv.out ∙ append_assoc c.args.out.now.items inv.so_far told.bytes,
+    (ended_with written ending) to) (sym c.in-Some.ensures.steps.0) here in (
+      prefixed inv.so_far (ended_with written ending),
+      inv.all (ended_with written ending) to left,
+      a.2.0 ∙ ap (λ (xs : List ℕ). xs ++ written.bytes) inv.out ∙ append_assoc c.args.out.now.items inv.so_far written.bytes,
       refl,
       now,
     )

@@ -3,4 +3,4 @@ use Rattle.radio_session.proofs.FailingLemmas.{hearing_fails_nothing}
 use Rattle.radio_session.proofs.laws.only_refused_calls_fail.Goals as goal
 
 pub returns : goal.returns
-returns c = record { heard = hearing_fails_nothing; told = λ conversation reply. refl }
+returns c = record { read = hearing_fails_nothing; written = λ conversation reply. refl }

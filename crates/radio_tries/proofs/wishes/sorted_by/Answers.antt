@@ -1,6 +1,6 @@
 use Rattle.std.proofs.Common.{ℕ, List, [], ◌∷◌, ◌++◌, ap, sym, ◌∙◌}
 use Rattle.radio_settings_values.specs.declared.settings.RelaySetting.{RelaySetting}
-use Rattle.radio_tries.specs.Wishes.{stopped_by, own_of, others_of}
+use Rattle.radio_tries.specs.Wishes.{stopped_by, own_of, other_started_relays}
 use Rattle.radio_tries.proofs.Orders.{stopped-append, own-append, others-append}
 use Rattle.radio_tries.proofs.wishes.sorted_by.Goals as goal
 
@@ -12,5 +12,5 @@ orders-preserved c =
     record {
       stops = c.in_ok-add.ensures.stops ∙ ap (λ (xs : List (List ℕ)). xs ++ stopped_by this) c.orders.invariant.stops ∙ sym (stopped-append past this);
       own = c.in_ok-add.ensures.own ∙ ap (λ (xs : List RelaySetting). xs ++ own_of settings this) c.orders.invariant.own ∙ sym (own-append settings past this);
-      listed = c.in_ok-add.ensures.listed ∙ ap (λ (xs : List RelaySetting). xs ++ others_of settings this) c.orders.invariant.listed ∙ sym (others-append settings past this);
+      listed = c.in_ok-add.ensures.listed ∙ ap (λ (xs : List RelaySetting). xs ++ other_started_relays settings this) c.orders.invariant.listed ∙ sym (others-append settings past this);
     }

@@ -6,7 +6,7 @@ use Rattle.radio_events.specs.declared.event.Event.{Event}
 use Rattle.radio_events.specs.declared.reply.Reply.{Reply}
 use Rattle.radio_book.specs.ControlLists.{entries_in}
 use Rattle.radio_book.specs.LentParts.{IsControlStep}
-use Rattle.radio_book.proofs.ToldLemmas.{noted_entries, told_more, told_still}
+use Rattle.radio_book.proofs.HistoryLemmas.{noted_entries, made_more, made_still}
 use Rattle.radio_book.proofs.accounts.Accounts.note_in_room.Goals as goal
 
 pub invariant_of-self-clause-by_entries : goal.invariant_of-self-clause-by_entries
@@ -25,7 +25,7 @@ invariant_of-self-clause-by_entries g c =
     let after = c.step3_over.new.control in
     let noted_so : IsControlStep books before c.args.copies.noted step.0 back after =
     subst (λ (e : Event). IsControlStep books before e step.0 back after) (sym c.requires.copies.0) step.2 in
-    told_more g.C.Chronicle.KEEPS g.H.Origin.opening lines.items c.note.new.self.items books back before after made
+    made_more g.C.Chronicle.KEEPS g.H.Origin.opening lines.items c.note.new.self.items books back before after made
     (subst (λ (r : Reply). IsControlStep books before c.args.copies.noted r back after) (sym first) noted_so)
     (λ kept. ap entries_in noted ∙ noted_entries lines.items cuts.0 c.step3_over.new.lent made cuts.1) c.args.self.now.by_entries
 
@@ -38,6 +38,6 @@ invariant_of-self-in-Err-1 g c =
       left = before.left;
       none = before.none;
       by_entries =
-          told_still g.C.Chronicle.KEEPS g.H.Origin.opening before.lines.items before.lines.items c.args.lent.now c.step3_over.new.lent before.control
+          made_still g.C.Chronicle.KEEPS g.H.Origin.opening before.lines.items before.lines.items c.args.lent.now c.step3_over.new.lent before.control
           c.step3_over.new.control refl c.in-Err.ensures.err before.by_entries;
     }

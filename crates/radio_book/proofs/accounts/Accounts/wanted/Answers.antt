@@ -1,6 +1,6 @@
 use Rattle.std.proofs.Common.{refl, true}
 use Rattle.radio_book.specs.LentParts.{IsControlAsBefore}
-use Rattle.radio_book.proofs.ToldLemmas.{legal_wanted, told_still, wanted_over}
+use Rattle.radio_book.proofs.HistoryLemmas.{legal_wanted, made_still, wanted_over}
 use Rattle.radio_book.proofs.accounts.Accounts.wanted.Goals as goal
 
 pub invariant_of-self-clause-by_entries : goal.invariant_of-self-clause-by_entries
@@ -12,7 +12,7 @@ invariant_of-self-clause-by_entries g c =
       lends = c.lend_each.ensures;
       takes_back = c.take_back_each.ensures;
     } in
-    told_still g.C.Chronicle.KEEPS g.H.Origin.opening c.args.self.now.lines.items c.args.self.now.lines.items c.args.lent.now c.take_back_each.new.lent
+    made_still g.C.Chronicle.KEEPS g.H.Origin.opening c.args.self.now.lines.items c.args.self.now.lines.items c.args.lent.now c.take_back_each.new.lent
     c.args.self.now.control c.take_back_each.new.control refl as_before c.args.self.now.by_entries
 
 pub returns-clause-over : goal.returns-clause-over

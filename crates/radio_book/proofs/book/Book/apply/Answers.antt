@@ -1,5 +1,5 @@
 use Rattle.radio_book.proofs.MountBookLemmas.{same_so}
-use Rattle.radio_book.proofs.ToldLemmas.{legal_reply}
+use Rattle.radio_book.proofs.HistoryLemmas.{legal_reply}
 use Rattle.radio_book.proofs.book.Book.apply.Goals as goal
 
 pub returns-then-KEEPS-clause-same : goal.returns-then-KEEPS-clause-same

@@ -1,5 +1,5 @@
 use Rattle.std.proofs.Common.{rules}
-use Rattle.radio_book.proofs.ToldLemmas.{legal_last}
+use Rattle.radio_book.proofs.HistoryLemmas.{legal_last}
 use Rattle.radio_book.proofs.book.Book.last_mount.Goals as goal
 
 pub returns-clause-legal : goal.returns-clause-legal

@@ -1,4 +1,4 @@
-use Rattle.radio_book.proofs.ToldLemmas.{legal_none}
+use Rattle.radio_book.proofs.HistoryLemmas.{legal_none}
 use Rattle.radio_book.proofs.book.Book.pass.Goals as goal
 
 pub returns-in_default-clause-legal : goal.returns-in_default-clause-legal

@@ -23,4 +23,4 @@ returns-clause-enough g c =
     let e =
     enough_noted c.args.receipt self.present.items c.come_and_go.new.present.items c.leaver_in-leaver.result c.newcomer_in-newcomer.result
     c.leaver_in-leaver.ensures c.newcomer_in-newcomer.ensures c.come_and_go.ensures.present in
-    omega (arith, e, self.present.ok.0, c.come_and_go.new.present.ok.0, c.come_and_go.ensures.owed)
+    omega (arith, e, self.present.ok.0, c.come_and_go.new.present.ok.0, c.come_and_go.ensures.reserved)

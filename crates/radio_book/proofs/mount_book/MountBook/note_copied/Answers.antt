@@ -9,7 +9,7 @@ returns-clause-done g c can =
     let stepped = c.step_twice_here-stepped.result in
     let later = c.step_twice_here-stepped.new.part in
     let after = part_here inside.queue inside.moment inside.part c.args.event in
-    done_here _ later c.args.event c.args.self.now _ c.args.told (once_in stepped) c.note_own.result c.self.view_is c.note_own.ensures.value (
+    done_here _ later c.args.event c.args.self.now _ c.args.returned (once_in stepped) c.note_own.result c.self.view_is c.note_own.ensures.value (
       λ draws. once_answers (answered_here inside.part c.args.event) stepped (c.step_twice_here-stepped.ensures.answer draws),
       λ draws. once_becomes after later stepped (c.step_twice_here-stepped.ensures.ok draws),
       λ draws. once_kept inside.part later stepped (c.step_twice_here-stepped.ensures.elsewhere draws),

@@ -28,8 +28,8 @@ returns-in-Ok g c =
         made = λ goes. (c.in-Ok.reply, refl);
         seat = λ other. sits ∙ ap (λ (b : Bool). (b && is_seated c.in-Ok.reply) || before.sits) other;
         stands =
-            λ arrival later past st. answered_as _ _ c.args.event later past c.in-Ok.reply goes refl over.given over.taken sits left st c.tell-conn-inside.result refl
-            c.tell-conn-inside.ensures.told;
+            λ arrival later past st. answered_as _ _ c.args.event later past c.in-Ok.reply goes refl over.given over.taken sits left st c.append-conn-inside.result refl
+            c.append-conn-inside.ensures.appended;
         later = later_same over.calls over.taken c.in-Ok.ensures.none;
         spared = record {
           calls = over.calls;
@@ -40,8 +40,8 @@ returns-in-Ok g c =
             has_taken = ap (λ (s : ConnStatus). s.has_taken) c.note.ensures;
             finished = ap (λ (s : ConnStatus). s.is_finished) c.note.ensures;
           };
-          closed = c.tell-conn-inside.ensures.closed;
-          cut = λ e. inl (c.tell-conn-inside.ensures.cut e);
+          closed = c.append-conn-inside.ensures.closed;
+          cut = λ e. inl (c.append-conn-inside.ensures.cut e);
         };
         asked = ap (λ (s : ConnStatus). s.asked_ms) c.note.ensures;
       }),

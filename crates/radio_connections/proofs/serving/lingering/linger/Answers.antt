@@ -2,7 +2,7 @@ use Rattle.std.proofs.Common.{◌≡◌, [], inl, refl, ◌∙◌, ap}
 use Rattle.radio_connections.specs.declared.conn.Fate.TheVariants.{Ended}
 use Rattle.radio_connections.specs.Connections.{Connection}
 use Rattle.radio_connections.proofs.Calling.{later_same, unread_same}
-use Rattle.radio_connections.specs.Duties.{HeardNothing}
+use Rattle.radio_connections.specs.Duties.{NothingWritten}
 use Rattle.radio_connections.proofs.Deeds.{served_as, served_by_close, ended_is_written, closed_not_ended}
 use Rattle.radio_connections.proofs.serving.lingering.linger.Goals as goal
 
@@ -20,6 +20,6 @@ returns-else-conn g c =
       taken = ap (λ (o : Connection). o.taken) c.conn.view_is;
       has_taken = ap (λ (o : Connection). o.status.has_taken) c.conn.view_is;
       noted = inl (ap (λ (o : Connection). o.status.is_finished) c.conn.view_is, ap (λ (o : Connection). o.status.moved_ms) c.conn.view_is);
-      closed = λ e. HeardNothing c.requires.fate c.if-conn.false;
+      closed = λ e. NothingWritten c.requires.fate c.if-conn.false;
       lingers = λ e. absurd (closed_not_ended e);
     }

@@ -13,7 +13,7 @@ returns-then-is_over g c =
     let ended : c.conn.inside.status.fate ≡ Ended = ap (λ (o : Connection). o.status.fate) c.conn.view_is
     ∙ ap (λ (s : ConnStatus). s.fate) c.pass_over.ensures.status ∙ c.finish.ensures.fate ∙ c.requires.fate in
     let none : c.conn.inside.outgoing ≡ [] = ap (λ (o : Connection). o.outgoing) c.conn.view_is ∙ c.pass_over.ensures.outgoing ∙ c.finish.ensures.outgoing ∙ c.requires.all in
-    ended_by_close c.finish.new.conn c.pass_over.new.conn c.requires.fate c.finish.ensures.told c.finish.ensures.noted c.finish.ensures.calls
+    ended_by_close c.finish.new.conn c.pass_over.new.conn c.requires.fate c.finish.ensures.finished c.finish.ensures.noted c.finish.ensures.calls
     c.pass_over.result c.pass_over.ensures.answer
     (subst (λ (n : ℕ). is_over c.pass_over.result (nat_le 1000 (c.args.now.ms - n)) ≡ true)
     (ap (λ (o : Connection). o.status.moved_ms) c.conn.view_is ∙ ap (λ (s : ConnStatus). s.moved_ms) c.pass_over.ensures.status)
@@ -30,7 +30,7 @@ returns-then-is_over g c =
 
 pub returns-else-is_over : goal.returns-else-is_over
 returns-else-is_over g c =
-    ended_by_lingering c.finish.new.conn c.requires.fate c.requires.written c.finish.ensures.told c.finish.ensures.noted c.finish.ensures.calls
+    ended_by_lingering c.finish.new.conn c.requires.fate c.requires.written c.finish.ensures.finished c.finish.ensures.noted c.finish.ensures.calls
     c.pass_over.result c.pass_over.ensures.answer
     (subst (λ (n : ℕ). is_over c.pass_over.result (nat_le 1000 (c.args.now.ms - n)) ≡ false)
     (ap (λ (o : Connection). o.status.moved_ms) c.conn.view_is ∙ ap (λ (s : ConnStatus). s.moved_ms) c.pass_over.ensures.status)

@@ -1,7 +1,7 @@
 use Rattle.std.proofs.Common.{ℕ, List, Some, ap, sym, subst}
 use Rattle.radio_floor.specs.declared.labelled.Connection.TheVariants.{Relay}
 use Rattle.radio_floor.specs.ScriptServer.{performed_as, script_state_of}
-use Rattle.radio_floor.specs.ScriptState.{ComesToRelay, Performed, kept_unless, told_lines, with_connection}
+use Rattle.radio_floor.specs.ScriptState.{ComesToRelay, Performed, kept_unless, written_lines, with_connection}
 use Rattle.radio_floor.proofs.handler.Handler.answer_relay.Goals as goal
 
 pub returns : goal.returns
@@ -11,8 +11,8 @@ returns c w stands =
       a.0,
       a.1,
       λ connections label.
-          let told = λ (bytes : List ℕ). performed_as (Some (told_lines label bytes ends)) a.0
+          let performed = λ (bytes : List ℕ). performed_as (Some (written_lines label bytes ends)) a.0
           (with_connection connections label (kept_unless (Relay c.pull.new.pull) ends)) in
           subst (λ (done : Performed). ComesToRelay (script_state_of w connections) label c.args.pull.now c.args.input.now done)
-          (ap told (sym c.new.ensures.items)) (a.2 connections label),
+          (ap performed (sym c.new.ensures.items)) (a.2 connections label),
     )

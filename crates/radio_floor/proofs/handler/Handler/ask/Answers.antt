@@ -2,8 +2,8 @@ use Rattle.std.proofs.Common.{◌≡◌, ap, sym, ◌∙◌}
 use Rattle.std.proofs.lemmas.Result.{IfOk-weaker}
 use Rattle.radio_events.specs.declared.state.State.{State}
 use Rattle.radio_core.specs.Represents.{core_steps}
-use Rattle.radio_pull.specs.Course.{AsksIf}
-use Rattle.radio_pull.specs.Pulling.{Pulling, Standing}
+use Rattle.radio_relay.specs.Course.{AsksIf}
+use Rattle.radio_relay.specs.Pulling.{Pulling, NumberedState}
 use Rattle.radio_floor.specs.ScriptServer.{PullsAs, script_state_of}
 use Rattle.radio_floor.specs.ScriptState.{AsksOn, pulled_on}
 use Rattle.radio_floor.proofs.handler.Handler.ask.Goals as goal
@@ -15,7 +15,7 @@ returns c =
     let before = c.args.pull.now in
     let now = c.ask.new.relay in
     IfOk-weaker c.ask.result
-    (λ ends. (after : Standing) × AsksIf core_steps before.number c.args.event old after new × (ends ≡ after.state)
+    (λ ends. (after : NumberedState) × AsksIf core_steps before.number c.args.event old after new × (ends ≡ after.state)
     × (now ≡ record before { number = after.number }))
     (λ ends. PullsAs old new ends now (λ state label done. AsksOn state label before c.args.event done))
     (λ ends asked w stands.

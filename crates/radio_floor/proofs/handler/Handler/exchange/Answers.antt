@@ -1,11 +1,11 @@
 use Rattle.std.proofs.Common.{◌≡◌, ◌++◌, List, ℕ, Some, sym, ap, ◌∙◌}
 use Rattle.radio_events.specs.declared.state.State.{State}
 use Rattle.radio_session.specs.Conversation.{Conversation, saying_now}
-use Rattle.radio_exchanges.specs.Exchanges.{exchanged}
+use Rattle.radio_floor.specs.Exchanges.{exchanged}
 use Rattle.radio_session.specs.Exchanges.{Exchange}
 use Rattle.radio_floor.specs.declared.labelled.Connection.TheVariants.{Client}
 use Rattle.radio_floor.specs.declared.labelled.Labelled.{Labelled}
-use Rattle.radio_floor.specs.ScriptState.{told_lines, kept_unless, with_connection}
+use Rattle.radio_floor.specs.ScriptState.{written_lines, kept_unless, with_connection}
 use Rattle.radio_floor.specs.ScriptServer.{performed_as}
 use Rattle.radio_floor.proofs.handler.Handler.exchange.Goals as goal
 
@@ -23,7 +23,7 @@ returns c w stands =
     let ends : state ≡ x.state = e.3 ∙ ap (λ (y : Exchange). y.state) d.same in
     let goes : c.exchange.new.session ≡ saying_now conversation x.says = e.4 ∙ ap (λ (y : Exchange). saying_now conversation y.says) d.same in
     let done_as = λ (connections : List Labelled) (label : ℕ) (out : List ℕ) (ends : State) (after : Conversation).
-    performed_as (Some (told_lines label out ends)) done.world (with_connection connections label (kept_unless (Client after) ends)) in (
+    performed_as (Some (written_lines label out ends)) done.world (with_connection connections label (kept_unless (Client after) ends)) in (
       done.world,
       d.stands,
       λ connections label.

@@ -1,6 +1,6 @@
 use Rattle.std.proofs.Common.{◌≡◌}
 use Rattle.std.proofs.lemmas.Result.{IfOk-weaker}
-use Rattle.radio_session.specs.Hearing.{Heard, IsHeard}
+use Rattle.radio_session.specs.Hearing.{EventReading, IsHeard}
 use Rattle.radio_floor.specs.declared.labelled.Connection.TheVariants.{Client}
 use Rattle.radio_floor.specs.ScriptState.{exchanges}
 use Rattle.radio_floor.specs.ScriptServer.{AnswersAs}
@@ -8,14 +8,14 @@ use Rattle.radio_floor.proofs.handler.Handler.hear.Goals as goal
 
 pub returns : goal.returns
 returns c =
-    let heard : Heard = record { events = c.in_ok-events.events.items; conversation = c.take.new.self } in
+    let heard : EventReading = record { events = c.in_ok-events.events.items; conversation = c.take.new.self } in
     let old = c.args.self.now.core in
     let new = c.exchange.new.self.core in
     IfOk-weaker c.exchange.result
-    (λ told. AnswersAs old new told (Client c.exchange.new.connection) (λ state label done. exchanges state label heard.conversation heard.events ≡ done))
-    (λ told. AnswersAs old new told (Client c.exchange.new.connection)
-    (λ state label done. (h : Heard) × IsHeard c.args.connection.now c.args.bytes.now h × (exchanges state label h.conversation h.events ≡ done)))
-    (λ told answers w stands.
+    (λ answered. AnswersAs old new answered (Client c.exchange.new.connection) (λ state label done. exchanges state label heard.conversation heard.events ≡ done))
+    (λ answered. AnswersAs old new answered (Client c.exchange.new.connection)
+    (λ state label done. (h : EventReading) × IsHeard c.args.connection.now c.args.bytes.now h × (exchanges state label h.conversation h.events ≡ done)))
+    (λ answered answers w stands.
     let a = answers w stands in
-    (a.0, a.1, λ connections label. (heard, c.in_ok-events.ensures.heard, a.2 connections label)))
+    (a.0, a.1, λ connections label. (heard, c.in_ok-events.ensures.events, a.2 connections label)))
     c.exchange.ensures

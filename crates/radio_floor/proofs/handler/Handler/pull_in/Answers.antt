@@ -1,8 +1,8 @@
 use Rattle.std.proofs.Common.{refl}
 use Rattle.std.proofs.lemmas.Result.{IfOk-weaker}
-use Rattle.radio_deliveries.specs.declared.delivery.Input.TheVariants.{Data}
+use Rattle.radio_script.specs.declared.delivery.Input.TheVariants.{Data}
 use Rattle.radio_core.specs.Represents.{core_steps}
-use Rattle.radio_pull.specs.Course.{Takes}
+use Rattle.radio_relay.specs.Course.{Takes}
 use Rattle.radio_floor.specs.ScriptServer.{PullsAs}
 use Rattle.radio_floor.specs.ScriptState.{ComesToRelay}
 use Rattle.radio_floor.proofs.handler.Handler.pull_in.Goals as goal

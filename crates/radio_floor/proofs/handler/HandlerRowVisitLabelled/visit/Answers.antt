@@ -5,9 +5,9 @@ use Rattle.radio_floor.proofs.handler.HandlerRowVisitLabelled.visit.Goals as goa
 
 pub returns : goal.returns
 returns c =
-    let told = c.in_ok-told.told in
+    let answered = c.in_ok-answered.answered in
     let later = c.close_if_shut.new.connection in (
       refl,
-      subst (λ (o : Option Connection). AnswersOn c.args.self.now.core c.args.input.now o (Ok (Some told)) c.answer.new.self.core later)
-          (sym c.in-Some.is) (told, c.answer.new.connection, refl, c.close_if_shut.ensures, c.in_ok-told.ensures),
+      subst (λ (o : Option Connection). AnswersOn c.args.self.now.core c.args.input.now o (Ok (Some answered)) c.answer.new.self.core later)
+          (sym c.in-Some.is) (answered, c.answer.new.connection, refl, c.close_if_shut.ensures, c.in_ok-answered.ensures),
     )

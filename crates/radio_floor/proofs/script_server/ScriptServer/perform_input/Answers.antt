@@ -4,13 +4,13 @@ use Rattle.radio_parts_station.specs.World.{World}
 use Rattle.radio_core.specs.Represents.{Represents}
 use Rattle.radio_tables.proofs.VisitLaws.{was_visited}
 use Rattle.radio_tables.specs.Visits.{IsVisited}
-use Rattle.radio_deliveries.specs.declared.delivery.Delivery.TheVariants.{To}
-use Rattle.radio_deliveries.specs.declared.delivery.Input.{Input}
+use Rattle.radio_script.specs.declared.delivery.Delivery.TheVariants.{To}
+use Rattle.radio_script.specs.declared.delivery.Input.{Input}
 use Rattle.radio_floor.specs.declared.handler.Handler.{Handler}
 use Rattle.radio_floor.specs.declared.handler.DeliveryAnswer.{DeliveryAnswer}
 use Rattle.radio_floor.specs.declared.labelled.Labelled.{Labelled}
 use Rattle.radio_floor.specs.ScriptServer.{AnswersUnder}
-use Rattle.radio_floor.specs.ScriptState.{has_label, told_lines}
+use Rattle.radio_floor.specs.ScriptState.{has_label, written_lines}
 use Rattle.radio_floor.proofs.VisitLemmas.{shut-label, answered-label, performs-written}
 use Rattle.radio_floor.proofs.script_server.ScriptServer.perform_input.Goals as goal
 
@@ -41,13 +41,13 @@ returns-in-Some-Ok-Some-clause-performs c =
     let old = c.args.self.now in
     let label = c.args.label in
     let input = c.args.input.now in
-    let told = c.in-Some-Ok-Some.told in
-    let is : c.visit.result ≡ Some (Ok (Some told)) =
+    let answered = c.in-Some-Ok-Some.answered in
+    let is : c.visit.result ≡ Some (Ok (Some answered)) =
     c.in-Some-Ok-Some.is ∙ ap (λ (a : Answer). Some a) (c.in-Some-Ok-Some.field-0-is ∙ ap (λ (t : Option DeliveryAnswer). Ok t) c.in-Some-Ok-Some.field-0-0-is) in
-    let visited = was_visited Visits (has_label label) old.handler input old.connections c.visit.new.visitor c.visit.new.self (Ok (Some told))
+    let visited = was_visited Visits (has_label label) old.handler input old.connections c.visit.new.visitor c.visit.new.self (Ok (Some answered))
     (subst (λ (a : Option Answer). IsVisited Visits (has_label label) old.handler input old.connections a c.visit.new.visitor c.visit.new.self)
     is c.visit.ensures) in
-    performs-written old.web c.write_told.result old.handler.core old.connections (To label input) c.args.lines.now.items c.write_told.new.lines.items
-    (told_lines label told.bytes.items told.state) c.visit.new.visitor.core c.visit.new.self c.write_told.ensures
+    performs-written old.web c.write_answer.result old.handler.core old.connections (To label input) c.args.lines.now.items c.write_answer.new.lines.items
+    (written_lines label answered.bytes.items answered.state) c.visit.new.visitor.core c.visit.new.self c.write_answer.ensures
     (answered-label label input old.connections c.visit.new.self old.handler.core c.visit.new.visitor.core visited.0 visited.1 visited.2 visited.3
-    told visited.4)
+    answered visited.4)

@@ -1,5 +1,5 @@
 use Rattle.std.proofs.Common.{◌≡◌, Some, false, is_some}
-use Rattle.radio_floor.specs.ScriptState.{connection_of, opens}
+use Rattle.radio_floor.specs.ScriptState.{connection_of, opens_connection}
 use Rattle.radio_floor.specs.ScriptServer.{script_state_of, performed_as, OpensAs}
 use Rattle.radio_floor.proofs.ScriptStateLemmas.{new-label}
 use Rattle.radio_floor.proofs.script_server.ScriptServer.perform_open.Goals as goal
@@ -18,7 +18,7 @@ returns-in-Ok-clause-performs c =
           let d = does.2 w stands in (
             d.0,
             d.1,
-            new-label (script_state_of w old.connections) label (opens old.web (script_state_of w old.connections) label c.args.peer)
+            new-label (script_state_of w old.connections) label (opens_connection old.web (script_state_of w old.connections) label c.args.peer)
                 (performed_as (Some does.0) d.0 new.connections) is_new d.2,
           ),
     )

@@ -1,6 +1,6 @@
 use Rattle.std.proofs.Common.{◌≡◌, ℕ, ◌<◌, ◌∷◌, ◌++◌, length, List, arith, ap, ◌∙◌, sym, MatchOption}
 use Rattle.std.specs.Prelude.{⊤}
-use Rattle.radio_icy.specs.Unweaving.{in_block, at_sound, heard, after_feeding, WholeText, without_padding}
+use Rattle.radio_icy.specs.Unweaving.{in_block, at_sound, atoms_of_piece, after_feeding, WholeText, without_padding}
 use Rattle.radio_icy.proofs.UnweavingLemmas.{heard_part, after_part, heard_block, after_block}
 use Rattle.radio_icy.proofs.unweaver.Unweaver.feed.Goals as goal
 
@@ -23,8 +23,8 @@ returns-in_ok-add_text-in-Some-clause-heard c =
     let some : 0 < c.self.inside.left = rw c.in-Some.is at begun in
     let size : c.self.inside.left ≡ length end = omega (arith, c.split_at.ensures.front_len) in
     let held : List ℕ = c.in-Some.held.items in
-    let all : heard (in_block n c.self.inside.left held) c.args.bytes.now ≡ WholeText (without_padding (held ++ end)) ∷ heard (at_sound n n) rest =
-    ap (heard (in_block n c.self.inside.left held)) c.split_at.ensures.by_index.0 ∙ heard_block n c.self.inside.left held end rest some size in
+    let all : atoms_of_piece (in_block n c.self.inside.left held) c.args.bytes.now ≡ WholeText (without_padding (held ++ end)) ∷ atoms_of_piece (at_sound n n) rest =
+    ap (atoms_of_piece (in_block n c.self.inside.left held)) c.split_at.ensures.by_index.0 ∙ heard_block n c.self.inside.left held end rest some size in
     rw (← c.self.view_is, c.in-Some.is, all)
     (rw (c.in_ok-add_text-in-Some.ensures, c.new-items.ensures, c.as_slice.ensures.value) at c.feed_sound-in-Some.ensures.heard)
 

@@ -8,7 +8,7 @@ use Rattle.radio_seats_rows.specs.Seats.{with_ended}
 use Rattle.radio_fallback.specs.Heard.{heard}
 use Rattle.radio_parts_table.specs.Listening.{AreAttached, Listening}
 use Rattle.radio_parts_table.specs.Attached.{places_in}
-use Rattle.radio_parts_table.specs.Losses.{ended_where}
+use Rattle.radio_parts_table.specs.Losses.{ended_if_lost}
 use Rattle.radio_parts_mount.specs.Attached.{is_among}
 use Rattle.radio_parts_table.specs.Parts.{ByMount}
 use Rattle.radio_parts_mount.specs.Parts.{MountAttachments}
@@ -32,7 +32,7 @@ left c =
     c.end_each.ensures.seats
     ∙ ap (λ (rows : List Attachment). record {
       prepared = c.self.inside.seats.prepared;
-      seats = map (ended_where (is_among rows) Lagged) c.self.inside.seats.seats;
+      seats = map (ended_if_lost (is_among rows) Lagged) c.self.inside.seats.seats;
     }) c.take_lagging-lagging.ensures.lagging
 
 pub invariant_of-self : goal.invariant_of-self

@@ -9,7 +9,7 @@ use Rattle.radio_parts_mount.specs.declared.part.MountPart.{MountPart}
 use Rattle.radio_parts_table.specs.Exchange.{IsExchanged, IsUnfit}
 use Rattle.radio_parts_table.specs.Listening.{Listening, listening}
 use Rattle.radio_parts_table.specs.Lent.{IsLent}
-use Rattle.radio_parts_table.specs.Losses.{ended_where}
+use Rattle.radio_parts_table.specs.Losses.{ended_if_lost}
 use Rattle.radio_parts_table.proofs.LentLemmas.{has_part_still, is_lent}
 use Rattle.radio_parts_table.proofs.listeners.Listeners.exchange.Goals as goal
 use Rattle.radio_parts_table.proofs.listeners.Listeners.exchange.Goals.{After-end_each}
@@ -21,7 +21,7 @@ is_put c =
 abbrev after_losses : After-end_each → List Attachment → SeatTable
 after_losses c lost = record {
   prepared = c.self.inside.seats.prepared;
-  seats = map (ended_where (is_among lost) Lagged) c.self.inside.seats.seats;
+  seats = map (ended_if_lost (is_among lost) Lagged) c.self.inside.seats.seats;
 }
 
 left : (c : After-end_each) → c.end_each.new.seats

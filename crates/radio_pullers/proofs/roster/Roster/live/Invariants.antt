@@ -1,7 +1,7 @@
 use Rattle.std.proofs.Common.{◌≡◌, map, take}
 use Rattle.std.specs.Arc.{arc_value}
-use Rattle.radio_pullers.specs.Running.{mounts_of}
+use Rattle.radio_pullers.specs.Running.{pulled_mounts}
 use Rattle.radio_pullers.proofs.roster.Roster.live.Given as goal
 
 abbrev pub invariant-relays : goal.invariant-relays
-invariant-relays l = l.mounts.items ≡ mounts_of (map arc_value (take l.relay-index l.self.running.items))
+invariant-relays l = l.mounts.items ≡ pulled_mounts (map arc_value (take l.relay-index l.self.running.items))

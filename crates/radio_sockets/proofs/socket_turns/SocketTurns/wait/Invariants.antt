@@ -1,6 +1,6 @@
 use Rattle.std.proofs.Common.{◌≡◌}
 use Rattle.radio_sockets.proofs.socket_turns.SocketTurns.wait.Given as goal
 
--- what was heard last is of the moment that the clock told last
+-- what was reported last is of the last moment of the clock
 abbrev pub invariant-loop : goal.invariant-loop
-invariant-loop g l = l.self.clock_us ≡ l.heard.us
+invariant-loop g l = l.self.clock_us ≡ l.polled.us

@@ -1,10 +1,10 @@
-use Rattle.radio_workers.specs.Hands.{HasTakenMore}
+use Rattle.radio_workers.specs.TakenConnections.{HasTakenMore}
 use Rattle.radio_workers.specs.Working.{WorkerHasDone, shift_of}
 use Rattle.radio_workers.proofs.shift.Shift.make_turns.Given as goal
 
 -- only takings since the loop began, and steps of the worker
 abbrev pub invariant-turns : goal.invariant-turns
 invariant-turns g l =
-    HasTakenMore l.initial.hand l.hand
+    HasTakenMore l.initial.intake_pass l.intake_pass
     × WorkerHasDone g.S.Server.steps g.S.Server.refuses (shift_of l.initial.self.worker l.initial.self.sources.items l.initial.self.conns.items)
     (shift_of l.self.worker l.self.sources.items l.self.conns.items)

@@ -1,4 +1,0 @@
-mod EscapeLemmas
-pub mod FeedLemmas
-mod SpellingLemmas
-mod LineReadings

@@ -1,7 +1,0 @@
-use Rattle.std.proofs.Common.{◌≡◌, ◌++◌, take}
-use Rattle.std.specs.List.{flat_map}
-use Rattle.radio_deliveries.specs.Escapes.{escape_of}
-use Rattle.radio_deliveries.proofs.escapes.push_escaped.Given as goal
-
-abbrev pub invariant-loop-b : goal.invariant-loop-b
-invariant-loop-b l = l.text.items ≡ l.fn.text.items ++ flat_map escape_of (take l.b-index l.bytes)

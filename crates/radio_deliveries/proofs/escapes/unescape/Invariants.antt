@@ -1,9 +1,0 @@
-use Rattle.std.proofs.Common.{◌≡◌, ◌++◌, drop}
-use Rattle.std.specs.Option.{option_map}
-use Rattle.radio_deliveries.specs.declared.escapes.EscapePlace.TheVariants.{Between}
-use Rattle.radio_deliveries.specs.Escapes.{unescaped_from}
-use Rattle.radio_deliveries.proofs.escapes.unescape.Given as goal
-
-abbrev pub invariant-loop-b : goal.invariant-loop-b
-invariant-loop-b l =
-    option_map (λ more. l.bytes.items ++ more) (unescaped_from l.place (drop l.b-index l.text)) ≡ unescaped_from Between l.text

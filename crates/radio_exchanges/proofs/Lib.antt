@@ -1,5 +1,0 @@
-mod ExchangeLemmas
-mod ToldLemmas
-mod CoreDataLemmas
-mod Simulation
-mod OneCourse

@@ -1,5 +1,0 @@
-use Rattle.radio_exchanges.proofs.ExchangeLemmas as lemmas
-use Rattle.radio_exchanges.proofs.laws.cores_exchange_as_their_states.Goals as goal
-
-pub returns : goal.returns
-returns c = lemmas.cores_exchange

@@ -1,3 +1,0 @@
-pub mod Exchanges
-pub mod Laws
-pub mod Pulls

@@ -1,3 +1,0 @@
-mod Sums
-mod Balances
-mod AcceptingLemmas

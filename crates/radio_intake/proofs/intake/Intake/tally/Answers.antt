@@ -1,5 +1,0 @@
-use Rattle.radio_intake.proofs.Balances.{knows}
-use Rattle.radio_intake.proofs.intake.Intake.tally.Goals as goal
-
-pub len_as-requires-clause-rule : goal.len_as-requires-clause-rule
-len_as-requires-clause-rule g c = knows _ _

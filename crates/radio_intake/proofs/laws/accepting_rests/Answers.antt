@@ -1,7 +1,0 @@
-use Rattle.std.proofs.Common.{arith}
-use Rattle.std.proofs.lemmas.Bool.Decides.{nat_tests}
-use Rattle.radio_intake.proofs.AcceptingLemmas.{counted}
-use Rattle.radio_intake.proofs.laws.accepting_rests.Goals as goal
-
-pub returns-clause-end : goal.returns-clause-end
-returns-clause-end c tries = grind (arith, nat_tests, counted tries)

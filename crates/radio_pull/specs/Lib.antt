@@ -1,4 +1,0 @@
-pub mod Pulling
-pub mod Course
-pub mod Applied
-pub mod Laws

@@ -1,9 +1,0 @@
-//! Laws on pulls, which run no code.
-
-ghost use Rattle.radio_pull.specs.Laws.{ItemsAreOfTheirRelay};
-
-/// What a pull brings is its own relay's: nobody else is fed, and no other mount's title is set.
-// rule: Pulled stream
-pub fn items_are_of_their_relay()
-    ensures { ItemsAreOfTheirRelay }
-{}

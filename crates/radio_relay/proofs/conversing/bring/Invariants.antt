@@ -1,0 +1,17 @@
+use Rattle.std.proofs.Common.{◌≡◌, ℕ, Option}
+use Rattle.std.specs.Vec.Iter.{into_iter_items}
+use Rattle.radio_relay.specs.Pulling.{NumberedState}
+use Rattle.radio_relay.specs.Course.{BringsItems, BringsAtMost}
+use Rattle.radio_relay.proofs.conversing.bring.Given as goal
+
+-- whatever the items that are left come to from here, all items come to from the start
+abbrev pub invariant-loop-item : goal.invariant-loop-item
+invariant-loop-item g l = record {
+  same : l.relay ≡ record l.initial.relay { number = l.relay.number };
+  all : (after : NumberedState) (to : g.row.S.Denot)
+      → BringsItems g.S.Server.steps l.initial.relay.mount l.relay.number (into_iter_items l.item-iterator) l.server after to
+      → BringsItems g.S.Server.steps l.initial.relay.mount l.initial.relay.number l.fn.items.items l.initial.server after to;
+  at_most : (number : Option ℕ) (to : g.row.S.Denot)
+      → BringsAtMost g.S.Server.steps l.initial.relay.mount l.relay.number (into_iter_items l.item-iterator) l.server number to
+      → BringsAtMost g.S.Server.steps l.initial.relay.mount l.initial.relay.number l.fn.items.items l.initial.server number to;
+}

@@ -1,0 +1,202 @@
+//! What a script delivers, a line each.
+
+ghost use Rattle.std.specs.Prelude.{◌≡◌, IfOk};
+ghost use Rattle.radio_script.specs.Delivery.{clock_of, decimal_of, delivery_of, delivery_of_fields, end_delivery, in_of, label_of, open_of, other_fields_of, pull_of, room_of, text_fields, title_delivery};
+
+use crate::OutOfMemory;
+use crate::escapes::unescape;
+use bytes::Bytes;
+use radio_addr::{Peer, read_peer};
+use radio_texts::{cut, read_number};
+use std::alloc::Global;
+
+/// What arrives on a connection that is open.
+#[derive(Drop)]
+pub enum Input {
+    /// Bytes arrive on it.
+    Data(Bytes),
+    /// There is room for so many bytes of data on it.
+    Room(u32),
+    /// Its source names what is on the air.
+    Title(Bytes),
+    /// The peer has closed it.
+    End,
+}
+
+/// What happens, a line of a script each. Connections are named by labels, from 1 on.
+#[derive(Drop)]
+pub enum Delivery {
+    /// The connection arrives.
+    Open { label: u32, peer: Peer },
+    /// The relay of this local mount connects to its master: the connection is its pull.
+    Pull { label: u32, mount: Bytes },
+    /// Something arrives on a connection.
+    To { label: u32, input: Input },
+    /// It is so many milliseconds since the server's start.
+    Clock { ms: u64 },
+}
+
+/// Returns the delivery that a line of a script writes; `None` if it writes none. The line is given
+/// without its line feed.
+#[tactic(auto, unfolding(crate::specs::Delivery::delivery_of))]
+pub fn read_delivery(alloc: Global, line: &[u8]) -> Result<Option<Delivery>, OutOfMemory>
+    ensures { IfOk result (λ delivery. delivery ≡ delivery_of line.now) }
+{
+    match cut(line, b' ') {
+        Some((word, fields)) => read_fields(alloc, word, fields),
+        None => Ok(None),
+    }
+}
+
+fn read_fields(alloc: Global, word: &[u8], fields: &[u8]) -> Result<Option<Delivery>, OutOfMemory>
+    ensures { IfOk result (λ delivery. delivery ≡ delivery_of_fields word.now fields.now) }
+{
+    if word == b"open".as_slice() {
+        return Ok(read_open(fields));
+    }
+    if word == b"in".as_slice() {
+        return read_in(alloc, fields);
+    }
+    if word == b"room".as_slice() {
+        return Ok(read_room(fields));
+    }
+    read_other_fields(alloc, word, fields)
+}
+
+/// The same of a word that opens nothing, brings nothing and gives no room.
+fn read_other_fields(
+    alloc: Global,
+    word: &[u8],
+    fields: &[u8],
+) -> Result<Option<Delivery>, OutOfMemory>
+    ensures { IfOk result (λ delivery. delivery ≡ other_fields_of word.now fields.now) }
+{
+    if word == b"title".as_slice() {
+        return read_title(alloc, fields);
+    }
+    if word == b"end".as_slice() {
+        return Ok(read_end(fields));
+    }
+    if word == b"pull".as_slice() {
+        return read_pull(alloc, fields);
+    }
+    if word == b"clock".as_slice() {
+        return Ok(read_clock(fields));
+    }
+    Ok(None)
+}
+
+#[tactic(auto, unfolding(crate::specs::Delivery::open_of))]
+fn read_open(fields: &[u8]) -> Option<Delivery>
+    ensures { result ≡ open_of fields.now }
+{
+    let (label, peer) = cut(fields, b' ')?;
+    let label = read_label(label)?;
+    let peer = read_peer(peer)?;
+    Some(Delivery::Open { label, peer })
+}
+
+#[tactic(auto, unfolding(crate::specs::Delivery::pull_of))]
+fn read_pull(alloc: Global, fields: &[u8]) -> Result<Option<Delivery>, OutOfMemory>
+    ensures { IfOk result (λ delivery. delivery ≡ pull_of fields.now) }
+{
+    let Some((label, mount)) = cut(fields, b' ') else {
+        return Ok(None);
+    };
+    let Some(label) = read_label(label) else {
+        return Ok(None);
+    };
+    let mount = Bytes::copy_from_slice(alloc, mount)?;
+    Ok(Some(Delivery::Pull { label, mount }))
+}
+
+#[tactic(auto, unfolding(crate::specs::Delivery::in_of))]
+fn read_in(alloc: Global, fields: &[u8]) -> Result<Option<Delivery>, OutOfMemory>
+    ensures { IfOk result (λ delivery. delivery ≡ in_of fields.now) }
+{
+    match read_text(alloc, fields)? {
+        Some((label, bytes)) => Ok(Some(Delivery::To {
+            label,
+            input: Input::Data(bytes),
+        })),
+        None => Ok(None),
+    }
+}
+
+#[tactic(auto, unfolding(crate::specs::Delivery::title_delivery))]
+fn read_title(alloc: Global, fields: &[u8]) -> Result<Option<Delivery>, OutOfMemory>
+    ensures { IfOk result (λ delivery. delivery ≡ title_delivery fields.now) }
+{
+    match read_text(alloc, fields)? {
+        Some((label, text)) => Ok(Some(Delivery::To {
+            label,
+            input: Input::Title(text),
+        })),
+        None => Ok(None),
+    }
+}
+
+/// A label and the bytes that a text writes.
+#[tactic(auto, unfolding(crate::specs::Delivery::text_fields))]
+fn read_text(alloc: Global, fields: &[u8]) -> Result<Option<(u32, Bytes)>, OutOfMemory>
+    ensures { IfOk result (λ read. read ≡ text_fields fields.now) }
+{
+    let Some((label, text)) = cut(fields, b' ') else {
+        return Ok(None);
+    };
+    let Some(label) = read_label(label) else {
+        return Ok(None);
+    };
+    match unescape(alloc, text)? {
+        Some(bytes) => Ok(Some((label, bytes))),
+        None => Ok(None),
+    }
+}
+
+#[tactic(auto, unfolding(crate::specs::Delivery::room_of))]
+fn read_room(fields: &[u8]) -> Option<Delivery>
+    ensures { result ≡ room_of fields.now }
+{
+    let (label, room) = cut(fields, b' ')?;
+    let label = read_label(label)?;
+    let room = read_decimal(room)?;
+    Some(Delivery::To {
+        label,
+        input: Input::Room(room),
+    })
+}
+
+#[tactic(auto, unfolding(crate::specs::Delivery::end_delivery))]
+fn read_end(fields: &[u8]) -> Option<Delivery>
+    ensures { result ≡ end_delivery fields.now }
+{
+    let label = read_label(fields)?;
+    Some(Delivery::To {
+        label,
+        input: Input::End,
+    })
+}
+
+#[tactic(auto, unfolding(crate::specs::Delivery::clock_of))]
+fn read_clock(fields: &[u8]) -> Option<Delivery>
+    ensures { result ≡ clock_of fields.now }
+{
+    let ms = read_number(fields, 10, u64::MAX)?;
+    Some(Delivery::Clock { ms })
+}
+
+#[tactic(auto, unfolding(crate::specs::Delivery::label_of))]
+fn read_label(text: &[u8]) -> Option<u32>
+    ensures { result ≡ label_of text.now }
+{
+    let label = read_decimal(text)?;
+    if label == 0 { None } else { Some(label) }
+}
+
+// The number that a text writes in decimal, if it is one of 32 bits.
+fn read_decimal(text: &[u8]) -> Option<u32>
+    ensures { result ≡ decimal_of text.now }
+{
+    let number = read_number(text, 10, u64::from(u32::MAX))?;
+    Some(number as u32)
+}

@@ -1,0 +1,28 @@
+//! Laws of the definitions: functions that do nothing, each with a law for its contract.
+
+ghost use Rattle.std.specs.Prelude.{◌≡◌, ◌<◌, ◌↔◌, List, ℕ, Some};
+ghost use Rattle.std.specs.List.{AllByRecursion};
+ghost use Rattle.radio_script.specs.Escapes.{escaped, unescaped};
+ghost use Rattle.radio_script.specs.Spelling.{SpellsAll};
+ghost use Rattle.radio_script.specs.Given.{AreLines, TranscriptLine, transcript_text};
+
+/// What a transcript writes of some bytes is read back as these bytes.
+// rule: Escapes
+#[tactic(auto, using(crate::proofs::EscapeLemmas::unescaped_escaped))]
+pub fn escapes_read_back()
+    ensures { (bytes : List ℕ) → AllByRecursion (λ b. b < 256) bytes
+        → unescaped (escaped bytes) ≡ Some bytes }
+{}
+
+/// The bytes that are read from a text are those that it writes, by the grammar of texts.
+#[tactic(auto, using(crate::proofs::SpellingLemmas::spelled))]
+pub fn texts_are_spelled()
+    ensures { (text bytes : List ℕ) → (unescaped text ≡ Some bytes) ↔ SpellsAll text bytes }
+{}
+
+/// A transcript can be read as one list of lines alone.
+#[tactic(auto, using(crate::proofs::LineReadings::read_one_way))]
+pub fn transcripts_are_read_one_way()
+    ensures { (lines others : List TranscriptLine) → AreLines lines → AreLines others
+        → transcript_text lines ≡ transcript_text others → lines ≡ others }
+{}

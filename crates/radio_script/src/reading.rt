@@ -1,0 +1,87 @@
+//! Reading a line, byte by byte: nothing behind the line is read before the line is answered.
+
+ghost use Rattle.std.specs.Prelude.{◌≡◌, ◌+◌, ◌<◌, ◌≤◌, [], ◌∷◌, length, vec_len, false, OnOk, OnErr, IfOk, MatchOption, ◌⊎◌};
+ghost use Rattle.std.specs.Io.KnownBytes.{Consumes, IsAtEnd, Keeps};
+ghost use Rattle.radio_script.specs.Devices.{bumped};
+ghost use Rattle.radio_script.specs.Reading.{reader_failures, ReadsLine};
+ghost use Rattle.radio_script.specs.Limits.{max_line};
+
+use crate::devices::CountedRead;
+use crate::{MAX_LINE, PlayFault};
+use std::io;
+
+/// What the reading of a line found.
+#[derive(Clone, Copy)]
+pub enum LineRead {
+    /// A line with its line feed.
+    Whole,
+    /// The last line, without a line feed: the reader is at its end.
+    Last,
+    /// No byte: the reader is at its end.
+    Nothing,
+    /// A byte more than a line may have.
+    TooLong,
+}
+
+/// Reads a line into `line`, without its line feed. It is refused with `Read` if the reader
+/// failed, and with `OutOfMemory`, and for nothing else.
+pub fn read_line<R: CountedRead>(reader: &mut R, line: &mut Vec<u8>) -> Result<LineRead, PlayFault>
+    ensures reads { ReadsLine (R.remaining reader.old) (R.remaining reader.new)
+        result line.new.items }
+
+    // A call for each byte of the longest line, and one for its line feed.
+    ensures calls { R.calls reader.new ≤ R.calls reader.old + (max_line + 1) }
+    ensures failures { R.failures reader.new ≡ reader_failures result (R.failures reader.old) }
+{
+    line.clear();
+    while line.len() < MAX_LINE {
+        match next_byte(reader) {
+            Err(_) => return Err(PlayFault::Read),
+            Ok(None) => return Ok(end_of_input(line)),
+            Ok(Some(b'\n')) => return Ok(LineRead::Whole),
+            Ok(Some(byte)) => {
+                if line.push(byte).is_err() {
+                    return Err(PlayFault::OutOfMemory);
+                }
+            }
+        }
+    }
+    match next_byte(reader) {
+        Err(_) => Err(PlayFault::Read),
+        Ok(None) => Ok(LineRead::Last),
+        Ok(Some(b'\n')) => Ok(LineRead::Whole),
+        Ok(Some(_)) => Ok(LineRead::TooLong),
+    }
+}
+
+fn end_of_input(line: &[u8]) -> LineRead
+    ensures nothing { result ≡ LineRead.Nothing → length line.now ≡ 0 }
+    ensures last { result ≡ LineRead.Last → 0 < length line.now }
+    ensures others { (result ≡ LineRead.Nothing) ⊎ (result ≡ LineRead.Last) }
+{
+    if line.is_empty() {
+        LineRead::Nothing
+    } else {
+        LineRead::Last
+    }
+}
+
+/// One call of the reader, for one byte. `Ok(None)` is the reader's end.
+pub fn next_byte<R: CountedRead>(reader: &mut R) -> io::Result<Option<u8>>
+    ensures byte { IfOk result (λ next. MatchOption next
+        (Consumes (R.remaining reader.old) (R.remaining reader.new) []
+        × IsAtEnd (R.remaining reader.new))
+        (λ byte. Consumes (R.remaining reader.old) (R.remaining reader.new) (byte ∷ []))) }
+    ensures err { OnErr result (Keeps (R.remaining reader.old) (R.remaining reader.new)) }
+    ensures called { R.calls reader.new ≡ bumped (R.calls reader.old) }
+    ensures sound { OnOk result (R.failures reader.new ≡ R.failures reader.old) }
+    ensures failed { OnErr result (R.failures reader.new ≡ bumped (R.failures reader.old)) }
+{
+    let mut buffer = [0];
+    let n = reader.read_counted(&mut buffer)?;
+    if n == 0 {
+        Ok(None)
+    } else {
+        Ok(Some(buffer[0]))
+    }
+}

@@ -1,6 +1,0 @@
-use Rattle.std.proofs.Common.{take}
-use Rattle.radio_settling.specs.Settling.{AllRise}
-use Rattle.radio_settling.proofs.passes.find_fall.Given as goal
-
-abbrev pub invariant-loop-pass : goal.invariant-loop-pass
-invariant-loop-pass g l = AllRise l.lists (take l.pass-index l.passes)

@@ -1,6 +1,0 @@
-use Rattle.std.proofs.Common.{take}
-use Rattle.radio_settling.specs.Settling.{AllStand}
-use Rattle.radio_settling.proofs.passes.find_strange.Given as goal
-
-abbrev pub invariant-loop-pass : goal.invariant-loop-pass
-invariant-loop-pass g l = AllStand l.family.control.items l.family.mounts.items (take l.pass-index l.passes)

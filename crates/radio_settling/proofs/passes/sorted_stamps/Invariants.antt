@@ -1,6 +1,0 @@
-use Rattle.std.proofs.Common.{◌≡◌, take}
-use Rattle.radio_settling.specs.Settling.{all_stamps}
-use Rattle.radio_settling.proofs.passes.sorted_stamps.Given as goal
-
-abbrev pub invariant-loop-pass : goal.invariant-loop-pass
-invariant-loop-pass g l = l.sorted.items ≡ all_stamps (take l.pass-index l.passes)

@@ -1,5 +1,0 @@
-use Rattle.radio_parts_station.specs.World.{opening}
-use Rattle.radio_settling.proofs.settling.settle_family.Goals as goal
-
-pub returns-in-Err-clause-fault : goal.returns-in-Err-clause-fault
-returns-in-Err-clause-fault g c = c.in-Err.ensures.fault (opening c.args.settings c.args.lists)

@@ -1,3 +1,0 @@
-pub mod Settling
-pub mod Words
-pub mod Woven

@@ -1,0 +1,7 @@
+use Rattle.std.proofs.Common.{◌<◌, subst, sym}
+use Rattle.radio_workers.specs.Passes.{PassRecord}
+use Rattle.radio_workers.proofs.Balances.{splits}
+use Rattle.radio_workers.proofs.intake.Intake.split.Goals as goal
+
+pub another-ledger-requires-clause-rule : goal.another-ledger-requires-clause-rule
+another-ledger-requires-clause-rule g c = splits _ _ (subst (λ (pass : PassRecord g.row.L.Denot). 1 < pass.parts) (sym c.pass.view_is) c.requires.parts)
