@@ -1,5 +1,5 @@
 -- What a pull applied when memory was refused, as the first of the entries of a whole turn.
-use Rattle.std.proofs.Common.{◌≡◌, ◌⊎◌, inl, inr, ◌<◌, ℕ, arith, List, [], ◌∷◌, ◌++◌, Option, None, Some, length, refl, sym, ap, subst, ◌∙◌, append_assoc}
+use Rattle.std.proofs.Common.{◌≡◌, inl, inr, ◌<◌, ℕ, arith, List, [], ◌∷◌, ◌++◌, Option, None, Some, length, refl, sym, ap, subst, ◌∙◌, append_assoc}
 use Rattle.radio_connections.proofs.DeedChains.{chain_one, chain_then}
 use Rattle.radio_events.specs.declared.entry.Entry.{Entry}
 use Rattle.radio_events.specs.declared.event.Event.{Event}
@@ -17,8 +17,8 @@ use Rattle.radio_relay.specs.Applied.{number_after, probe_of}
 use Rattle.radio_relay.specs.Course.{Asks, AsksAtMost, AsksAtMostIf, BringsAtMost, Follows, OnwardsAtMost, TakesAtMost}
 use Rattle.radio_relay.specs.Pulling.{Pulling, NumberedState, state_after_reply, event_for, running_pull}
 use Rattle.radio_relay.specs.declared.items.PullItem.{PullItem}
-use Rattle.radio_relay.specs.Items.{Answers, items_of}
-use Rattle.radio_relay.specs.Pulled.{GoesOn, Pulled, PullProgress as AnswerStanding}
+use Rattle.radio_relay.specs.Items.{items_of}
+use Rattle.radio_relay.specs.Pulled.{GoesOn, PullProgress as AnswerStanding}
 
 abbrev nil : List Entry
 nil = []
@@ -86,7 +86,7 @@ module _ (mount : List ℕ) where
     by_event None rest = ([], running_pull number, (refl, refl))
     by_event (Some event) rest = let some = event_first number event items Stray rest in (entry event Stray ∷ some.0, some.1, some.2)
 
-  module _ {S : Type 0} (steps : Steps S) where
+  module _ {S : Type 0} (steps : Steps S) (refuses : S → Event → Type 0) where
     pub record Front (number : Option ℕ) (from : S) (number' : Option ℕ) (to : S) (Are : List Entry → Type 0) : Type 0 where
       pub entries : List Entry
       pub chain : Chain steps from entries to
@@ -98,18 +98,20 @@ module _ (mount : List ℕ) where
     nothing_made number from number' to Are none (same, stays) = record { entries = []; chain = stays; first = none; numbered = same }
 
     -- what items brought before memory was refused
-    items_front : (items : List PullItem) (number : Option ℕ) (from : S) (number' : Option ℕ) (to : S) → BringsAtMost steps mount number items from number' to
+    items_front : (items : List PullItem) (number : Option ℕ) (from : S) (number' : Option ℕ) (to : S) → BringsAtMost steps refuses mount number items from number' to
         → Front number from number' to (AreFirst number items)
-    items_front [] number from number' to at = nothing_made number from number' to (AreFirst number []) (none_first [] number) at
-    items_front (item ∷ items) number from number' to at =
+    items_front [] number from number' to brings = absurd brings
+    items_front (item ∷ items) number from number' to (inl (making, same, stays)) =
+        nothing_made number from number' to (AreFirst number (item ∷ items)) (none_first (item ∷ items) number) (same, stays)
+    items_front (item ∷ items) number from number' to (inr at) =
         by_event (λ now mid rest. items_front items now mid number' to rest) (event_for mount number item) (none_first (item ∷ items) number) at where
           Rest : Type 0
-          Rest = (now : Option ℕ) (mid : S) → BringsAtMost steps mount now items mid number' to → Front now mid number' to (AreFirst now items)
+          Rest = (now : Option ℕ) (mid : S) → BringsAtMost steps refuses mount now items mid number' to → Front now mid number' to (AreFirst now items)
 
-          one_made : (event : Event) → AreFirstAnd number (Some event) items [] → AsksAtMost steps number event from number' to
+          one_made : (event : Event) → AreFirstAnd number (Some event) items [] → AsksAtMost steps refuses number event from number' to
               → Front number from number' to (AreFirstAnd number (Some event) items)
-          one_made event none (inl same) = nothing_made number from number' to (AreFirstAnd number (Some event) items) none same
-          one_made event none (inr (reply, step, shut, same)) = record {
+          one_made event none (inl (refused, same, stays)) = nothing_made number from number' to (AreFirstAnd number (Some event) items) none (same, stays)
+          one_made event none (inr (reply, step, shut, same, refused)) = record {
             entries = entry event reply ∷ [];
             chain = chain_one steps from to (entry event reply) step;
             first = event_first number event items reply (none_first items (state_after_reply number reply).number);
@@ -139,20 +141,20 @@ module _ (mount : List ℕ) where
                 numbered = later.numbered ∙ numbered_then number event now run made.0 made.2 later.entries;
               }
 
-          by_event : Rest → (event : Option Event) → AreFirstAnd number event items [] → OnwardsAtMost steps number event from
-              (λ now mid. BringsAtMost steps mount now items mid number' to) number' to → Front number from number' to (AreFirstAnd number event items)
-          by_event all None none at = nothing_made number from number' to (AreFirstAnd number None items) none at
+          by_event : Rest → (event : Option Event) → AreFirstAnd number event items [] → OnwardsAtMost steps refuses number event from
+              (λ now mid. BringsAtMost steps refuses mount now items mid number' to) number' to → Front number from number' to (AreFirstAnd number event items)
+          by_event all None none at = absurd at
           by_event all (Some event) none (inl at) = one_made event none at
           by_event all (Some event) none (inr (now, mid, asks, run, rest)) = then_made event now mid asks run (all now.number mid rest)
 
-module _ {S : Type 0} (steps : Steps S) where
+module _ {S : Type 0} (steps : Steps S) (refuses : S → Event → Type 0) where
   -- memory was refused as bytes came
   pub taken_at_most : (relay : Pulling) (bytes : List ℕ) (from : S) (relay' : Pulling) (to : S) → 0 < length bytes
-      → TakesAtMost steps relay bytes from relay'.number to → AppliesAtMost steps relay bytes from relay' to
+      → TakesAtMost steps refuses relay bytes from relay'.number to → AppliesAtMost steps relay bytes from relay' to
   taken_at_most relay [] from relay' to some takes = absurd (omega (arith, some))
   taken_at_most relay (byte ∷ bytes) from relay' to some (inl (same, stays)) = record { entries = []; chain = stays; are = inl refl; numbered = same }
   taken_at_most relay (byte ∷ bytes) from relay' to some (inr (items, stage, (pulled, is, answers), brings)) =
-      let f = items_front relay.mount steps items relay.number from relay'.number to brings in
+      let f = items_front relay.mount steps refuses items relay.number from relay'.number to brings in
       let after = f.first.1 in
       let last : Pulling = record { mount = relay.mount; number = after.number; stage = stage } in
       let all = f.entries ++ f.first.0 in
@@ -175,7 +177,7 @@ module _ {S : Type 0} (steps : Steps S) where
       }
 
   -- memory was refused as nothing came
-  pub asked_at_most : (relay : Pulling) (from : S) (relay' : Pulling) (to : S) → AsksAtMostIf steps relay.number (probe_of relay.number) from relay'.number to
+  pub asked_at_most : (relay : Pulling) (from : S) (relay' : Pulling) (to : S) → AsksAtMostIf steps refuses relay.number (probe_of relay.number) from relay'.number to
       → AppliesAtMost steps relay [] from relay' to
   asked_at_most relay from relay' to asks = by_event (probe_of relay.number) refl asks where
     probed : (event : Event) → probe_of relay.number ≡ Some event → (reply : Reply)
@@ -194,11 +196,11 @@ module _ {S : Type 0} (steps : Steps S) where
           },
         )
 
-    by_event : (event : Option Event) → probe_of relay.number ≡ event → AsksAtMostIf steps relay.number event from relay'.number to
+    by_event : (event : Option Event) → probe_of relay.number ≡ event → AsksAtMostIf steps refuses relay.number event from relay'.number to
         → AppliesAtMost steps relay [] from relay' to
-    by_event None is (same, stays) = record { entries = []; chain = stays; are = inl refl; numbered = same }
-    by_event (Some event) is (inl (same, stays)) = record { entries = []; chain = stays; are = inl refl; numbered = same }
-    by_event (Some event) is (inr (reply, step, shut, same)) = record {
+    by_event None is asked = absurd asked
+    by_event (Some event) is (inl (refused, same, stays)) = record { entries = []; chain = stays; are = inl refl; numbered = same }
+    by_event (Some event) is (inr (reply, step, shut, same, refused)) = record {
       entries = entry event reply ∷ [];
       chain = chain_one steps from to (entry event reply) step;
       are = inr (probed event is reply);

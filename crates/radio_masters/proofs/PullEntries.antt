@@ -8,10 +8,10 @@ use Rattle.radio_events.specs.declared.state.State.{State}
 use Rattle.radio_events.specs.declared.state.State.TheVariants.{Running, Shut}
 use Rattle.radio_events.specs.Events.{entry}
 use Rattle.radio_events.specs.Servers.{Chain, Steps}
-use Rattle.radio_masters.specs.Pulls.{Comes, AppliesAll, AppliesAtMost, turn_by_state}
-use Rattle.radio_relay.specs.Applied.{AreAtMostOfTurn, AreOfBytes, AreOfEvent, AreOfEventAnd, AreOfEventIf, AreOfItems, AreOfPulled, IsDownIfShut, IsGoingDown}
-use Rattle.radio_relay.specs.Applied.{number_after, probe_of}
-use Rattle.radio_relay.specs.Course.{Asks, AsksAtMost, AsksAtMostIf, AsksIf, BringsItems, BringsAtMost, ComesOf, Follows, GoesDown, GoesDownIfShut, Onwards, OnwardsAtMost, Takes, TakesAtMost}
+use Rattle.radio_masters.specs.Pulls.{Comes, AppliesAll, turn_by_state}
+use Rattle.radio_relay.specs.Applied.{AreOfBytes, AreOfEvent, AreOfEventAnd, AreOfEventIf, AreOfItems, AreOfPulled, IsDownIfShut, IsGoingDown}
+use Rattle.radio_relay.specs.Applied.{probe_of}
+use Rattle.radio_relay.specs.Course.{Asks, AsksIf, BringsItems, ComesOf, Follows, GoesDown, GoesDownIfShut, Onwards, Takes}
 use Rattle.radio_relay.specs.Pulling.{Pulling, NumberedState, event_for}
 use Rattle.radio_relay.specs.declared.items.PullItem.{PullItem}
 use Rattle.radio_relay.specs.Items.{items_of}

@@ -165,7 +165,7 @@ fn apply_bytes<S: Server>(server: &mut S, relay: &mut RelayPull, bytes: &[u8]) -
     apply_some(server, relay, bytes)
 }
 
-#[tactic(auto, using(crate::proofs::PullEntries::taken_comes, crate::proofs::AtMostEntries::taken_at_most))]
+#[tactic(auto, using(crate::proofs::PullEntries::taken_comes))]
 fn apply_some<S: Server>(server: &mut S, relay: &mut RelayPull, bytes: &[u8]) -> PullTurn
     requires { 0 < length bytes.now }
     ensures comes { Comes S.steps relay.old bytes.now server.old result relay.new server.new }

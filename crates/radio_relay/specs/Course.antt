@@ -12,7 +12,7 @@ use Rattle.radio_events.specs.declared.state.State.{State}
 use Rattle.radio_events.specs.declared.state.State.TheVariants.{Running, Shut}
 use Rattle.radio_events.specs.declared.state.Ending.TheVariants.{BadPull}
 use Rattle.radio_events.specs.Servers.{Steps}
-use Rattle.radio_relay.specs.Pulling.{Pulling, NumberedState, state_after_reply, event_for, is_shut, running_pull}
+use Rattle.radio_relay.specs.Pulling.{MakingTakesMemory, Pulling, NumberedState, state_after_reply, event_for, is_shut, running_pull}
 
 -- the rest comes about where the pull goes on
 abbrev pub Follows : State → Type 0 → Type 0 → Type 0
@@ -78,35 +78,39 @@ module _ {S : Type 0} (steps : Steps S) where
       (pulled : Pulled) × IsPulledAt pulling.stage bytes pulled
       × ComesOf pulling (items_of pulled.parts) pulled.standing from pulling' state to
 
-  -- memory was refused for an event, or for the relay's going down, since the reply has shut the pull
-  abbrev pub AsksAtMost : Option ℕ → Event → S → Option ℕ → S → Type 0
-  AsksAtMost number event from number' to =
-      ((number' ≡ number) × (to ≡ from))
-      ⊎ ((reply : Reply) × steps from event reply to × (is_shut (state_after_reply number reply).state ≡ true)
-      × (number' ≡ (state_after_reply number reply).number))
+  module _ (refuses : S → Event → Type 0) where
+    -- the server refused memory for an event, or for the going down of a relay that is up, after the reply has shut the pull
+    abbrev pub AsksAtMost : Option ℕ → Event → S → Option ℕ → S → Type 0
+    AsksAtMost number event from number' to =
+        (refuses from event × (number' ≡ number) × (to ≡ from))
+        ⊎ ((reply : Reply) × steps from event reply to × (is_shut (state_after_reply number reply).state ≡ true)
+        × (number' ≡ (state_after_reply number reply).number) × RefusesDown refuses number' to)
 
-  -- the same, if the relay asks for an event
-  abbrev pub AsksAtMostIf : Option ℕ → Option Event → S → Option ℕ → S → Type 0
-  AsksAtMostIf number None from number' to = (number' ≡ number) × (to ≡ from)
-  AsksAtMostIf number (Some event) from number' to = AsksAtMost number event from number' to
+    -- the same if the relay asks for an event; a relay that asks for none is never refused
+    abbrev pub AsksAtMostIf : Option ℕ → Option Event → S → Option ℕ → S → Type 0
+    AsksAtMostIf number None from number' to = ⊥
+    AsksAtMostIf number (Some event) from number' to = AsksAtMost number event from number' to
 
-  -- memory was refused for an event, or for the rest
-  abbrev pub OnwardsAtMost : Option ℕ → Option Event → S → (Option ℕ → S → Type 0) → Option ℕ → S → Type 0
-  OnwardsAtMost number None from Rest number' to = (number' ≡ number) × (to ≡ from)
-  OnwardsAtMost number (Some event) from Rest number' to =
-      AsksAtMost number event from number' to
-      ⊎ ((now : NumberedState) × (mid : S) × Asks number event from now mid × (now.state ≡ Running) × Rest now.number mid)
+    -- the server refused memory for an event, or memory was refused for the rest
+    abbrev pub OnwardsAtMost : Option ℕ → Option Event → S → (Option ℕ → S → Type 0) → Option ℕ → S → Type 0
+    OnwardsAtMost number None from Rest number' to = ⊥
+    OnwardsAtMost number (Some event) from Rest number' to =
+        AsksAtMost number event from number' to
+        ⊎ ((now : NumberedState) × (mid : S) × Asks number event from now mid × (now.state ≡ Running) × Rest now.number mid)
 
-  -- memory was refused for one of these items: the first of them came about
-  abbrev pub BringsAtMost : List ℕ → Option ℕ → List PullItem → S → Option ℕ → S → Type 0
-  BringsAtMost mount number [] from number' to = (number' ≡ number) × (to ≡ from)
-  BringsAtMost mount number (item ∷ items) from number' to =
-      OnwardsAtMost number (event_for mount number item) from (λ now mid. BringsAtMost mount now items mid number' to) number' to
+    -- memory was refused at one of these items, and what the items before it ask for was applied. The making of its event may take memory,
+    -- before the server is asked
+    abbrev pub BringsAtMost : List ℕ → Option ℕ → List PullItem → S → Option ℕ → S → Type 0
+    BringsAtMost mount number [] from number' to = ⊥
+    BringsAtMost mount number (item ∷ items) from number' to =
+        (MakingTakesMemory item × (number' ≡ number) × (to ≡ from))
+        ⊎ OnwardsAtMost number (event_for mount number item) from (λ now mid. BringsAtMost mount now items mid number' to) number' to
 
-  -- memory was refused when the next bytes of the master's answer came, and the relay has this number now
-  -- rule: Pulled stream
-  abbrev pub TakesAtMost : Pulling → List ℕ → S → Option ℕ → S → Type 0
-  TakesAtMost pulling bytes from number' to =
-      ((number' ≡ pulling.number) × (to ≡ from))
-      ⊎ ((items : List PullItem) × (stage : PullStage) × GivesItems pulling.stage bytes items stage
-      × BringsAtMost pulling.mount pulling.number items from number' to)
+    -- memory was refused when the next bytes of the master's answer came, and the relay has this number now. Either nothing was applied:
+    -- memory was refused for the items, or for the going down at a fault of the answer. Or it was refused at one of the items
+    -- rule: Pulled stream
+    abbrev pub TakesAtMost : Pulling → List ℕ → S → Option ℕ → S → Type 0
+    TakesAtMost pulling bytes from number' to =
+        ((number' ≡ pulling.number) × (to ≡ from))
+        ⊎ ((items : List PullItem) × (stage : PullStage) × GivesItems pulling.stage bytes items stage
+        × BringsAtMost pulling.mount pulling.number items from number' to)

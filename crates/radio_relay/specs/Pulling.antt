@@ -36,6 +36,12 @@ event_for mount (Some id) item = Some (event_of mount id item)
 event_for mount None (Up shown) = Some (RelayUp mount shown)
 event_for mount None item = None
 
+-- the making of an item's event takes memory: it does for what the head shows, and for nothing else
+abbrev pub MakingTakesMemory : PullItem → Type 0
+MakingTakesMemory (Up shown) = Unit {0}
+MakingTakesMemory (Sound block) = ⊥
+MakingTakesMemory (TitleItem text) = ⊥
+
 -- the number of a relay, and whether its pull goes on
 pub record NumberedState : Type 0 where
   pub number : Option ℕ

@@ -1,6 +1,6 @@
 //! What arrives on the pull of a relay, and the events that are applied for it.
 
-ghost use Rattle.std.specs.Prelude.{◌≡◌, ◌≢◌, IfOk, OnErr, OnOk};
+ghost use Rattle.std.specs.Prelude.{◌≡◌, ◌≢◌, ◌⊎◌, IfOk, OnErr, OnOk};
 ghost use Rattle.radio_relay.specs.declared.fault.PullFault.TheVariants.{OutOfMemory as NoMemory};
 ghost use Rattle.radio_events.specs.declared.state.State.TheVariants.{Shut};
 ghost use Rattle.radio_events.specs.declared.state.Ending.TheVariants.{BadPull};
@@ -18,7 +18,8 @@ use std::alloc::AllocError;
 /// The next bytes of the master's answer come: what they bring is applied, one event after another.
 /// It answers whether the pull goes on. A relay that is up, and whose pull is shut, goes down.
 ///
-/// `OutOfMemory`: memory was refused. The first of what the bytes bring was applied, or nothing; the pull is to be closed.
+/// `OutOfMemory`: memory was refused, by the server or for what the bytes bring. The first of what they bring was applied, or nothing;
+/// the pull is to be closed.
 // rule: Head of a master
 pub fn take<S: Server>(
     server: &mut S,
@@ -26,7 +27,7 @@ pub fn take<S: Server>(
     bytes: &[u8],
 ) -> Result<State, OutOfMemory>
     ensures ok { IfOk result (λ state. Takes S.steps relay.old bytes.now server.old relay.new state server.new) }
-    ensures err { OnErr result (TakesAtMost S.steps relay.old bytes.now server.old relay.new.number server.new) }
+    ensures err { OnErr result (TakesAtMost S.steps S.refuses relay.old bytes.now server.old relay.new.number server.new) }
 {
     match relay.pull.feed(bytes) {
         Ok(items) => bring(server, relay, items),
@@ -34,14 +35,15 @@ pub fn take<S: Server>(
     }
 }
 
-/// The answer has this fault: the pull is shut. `OutOfMemory` if it is want of memory, or more of
-/// it was wanted; nothing was applied then.
+/// The answer has this fault: the pull is shut. `OutOfMemory` if the fault is want of memory, or if memory was refused for the going
+/// down of a relay that is up; nothing was applied then.
 fn give_up<S: Server>(
     server: &mut S,
     relay: &RelayPull,
     fault: PullFault,
 ) -> Result<State, OutOfMemory>
     ensures err { OnErr result (server.new ≡ server.old) }
+    ensures refused { OnErr result ((fault ≡ NoMemory) ⊎ RefusesDown S.refuses relay.now.number server.old) }
     ensures ok { IfOk result (λ state. (fault ≢ NoMemory) × GoesDown S.steps relay.now.number server.old server.new
         × (state ≡ Shut BadPull)) }
 {
@@ -54,14 +56,14 @@ fn give_up<S: Server>(
     }
 }
 
-/// What the items ask for is applied, one after another, until the pull is shut. `OutOfMemory` if memory was refused; what the first
-/// of them ask for was applied then.
+/// What the items ask for is applied, one after another, until the pull is shut. `OutOfMemory` if memory was refused for one of them:
+/// what the items before it ask for was applied then.
 fn bring<S: Server>(
     server: &mut S,
     relay: &mut RelayPull,
     items: Vec<PullItem>,
 ) -> Result<State, OutOfMemory>
-    ensures err { OnErr result (BringsAtMost S.steps relay.old.mount relay.old.number items.items server.old relay.new.number server.new) }
+    ensures err { OnErr result (BringsAtMost S.steps S.refuses relay.old.mount relay.old.number items.items server.old relay.new.number server.new) }
     ensures ok { IfOk result (λ state. (after : NumberedState)
         × BringsItems S.steps relay.old.mount relay.old.number items.items server.old after server.new
         × (state ≡ after.state) × (relay.new ≡ record relay.old { number = after.number })) }
@@ -80,15 +82,15 @@ fn bring<S: Server>(
 /// An event of the relay is applied, if there is one. It answers whether the pull goes on. A relay
 /// that is up, and whose pull is shut, goes down.
 ///
-/// `OutOfMemory`: memory was refused. The event was applied and its reply has shut the pull, or nothing was applied; the pull is to be
-/// closed.
+/// `OutOfMemory`: the server refused memory, for the event or for the relay's going down. For the event: nothing was applied. For the
+/// going down: the event was applied, and its reply has shut the pull. The pull is to be closed.
 // rule: Relay goes down
 pub fn ask<S: Server>(
     server: &mut S,
     relay: &mut RelayPull,
     event: Option<Event>,
 ) -> Result<State, OutOfMemory>
-    ensures err { OnErr result (AsksAtMostIf S.steps relay.old.number event server.old relay.new.number server.new) }
+    ensures err { OnErr result (AsksAtMostIf S.steps S.refuses relay.old.number event server.old relay.new.number server.new) }
     ensures ok { IfOk result (λ state. (after : NumberedState)
         × AsksIf S.steps relay.old.number event server.old after server.new
         × (state ≡ after.state) × (relay.new ≡ record relay.old { number = after.number })) }
@@ -99,13 +101,13 @@ pub fn ask<S: Server>(
     }
 }
 
-/// One event of the relay is applied. `OutOfMemory` if memory was refused for that, or for its going down behind it.
+/// One event of the relay is applied. `OutOfMemory` if the server refused memory for that, or for the relay's going down after it.
 fn ask_for<S: Server>(
     server: &mut S,
     relay: &mut RelayPull,
     event: Event,
 ) -> Result<State, OutOfMemory>
-    ensures err { OnErr result (AsksAtMost S.steps relay.old.number event server.old relay.new.number server.new) }
+    ensures err { OnErr result (AsksAtMost S.steps S.refuses relay.old.number event server.old relay.new.number server.new) }
     ensures ok { IfOk result (λ state. (after : NumberedState)
         × Asks S.steps relay.old.number event server.old after server.new
         × (state ≡ after.state) × (relay.new ≡ record relay.old { number = after.number })) }

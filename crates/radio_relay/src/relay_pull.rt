@@ -1,9 +1,9 @@
 //! The state of a relay's pull.
 
-ghost use Rattle.std.specs.Prelude.{◌≡◌, IfOk};
+ghost use Rattle.std.specs.Prelude.{◌≡◌, IfOk, OnErr};
 ghost use Rattle.std.specs.Option.{option_map};
 ghost use Rattle.radio_events.specs.declared.event.Event.TheVariants.{Draw as DrawOf, Title as TitleOf};
-ghost use Rattle.radio_relay.specs.Pulling.{state_after_reply, pulling_begun, event_for, event_of};
+ghost use Rattle.radio_relay.specs.Pulling.{MakingTakesMemory, state_after_reply, pulling_begun, event_for, event_of};
 
 use crate::{OutOfMemory, Pull, PullItem};
 use bytes::Bytes;
@@ -86,9 +86,10 @@ impl RelayPull {
     }
 
     /// What an item asks for; `None` if the relay is not up, and the item does not bring it up.
-    /// `OutOfMemory` if memory was refused.
+    /// `OutOfMemory` if memory was refused for the event of what the head shows.
     pub(crate) fn event_for(&self, item: PullItem) -> Result<Option<Event>, OutOfMemory>
-        ensures { IfOk result (λ event. event ≡ event_for self.now.mount self.now.number item) }
+        ensures ok { IfOk result (λ event. event ≡ event_for self.now.mount self.now.number item) }
+        ensures refused { OnErr result (MakingTakesMemory item) }
     {
         match self.number {
             Some(id) => Ok(Some(self.event_of(id, item)?)),
@@ -96,9 +97,10 @@ impl RelayPull {
         }
     }
 
-    /// What an item asks for, of the relay of this number. `OutOfMemory` if memory was refused.
+    /// What an item asks for, of the relay of this number. `OutOfMemory` if memory was refused for the event of what the head shows.
     fn event_of(&self, id: u64, item: PullItem) -> Result<Event, OutOfMemory>
-        ensures { IfOk result (λ event. event ≡ event_of self.now.mount id item) }
+        ensures ok { IfOk result (λ event. event ≡ event_of self.now.mount id item) }
+        ensures refused { OnErr result (MakingTakesMemory item) }
     {
         match item {
             PullItem::Up(shown) => self.comes_up(shown),
@@ -107,9 +109,10 @@ impl RelayPull {
         }
     }
 
-    /// What an item asks for that may bring the relay up. `OutOfMemory` if memory was refused.
+    /// What an item asks for that may bring the relay up. `OutOfMemory` if memory was refused for the event of what the head shows.
     fn coming_up(&self, item: PullItem) -> Result<Option<Event>, OutOfMemory>
-        ensures { IfOk result (λ event. event ≡ event_for self.now.mount None item) }
+        ensures ok { IfOk result (λ event. event ≡ event_for self.now.mount None item) }
+        ensures refused { OnErr result (MakingTakesMemory item) }
     {
         match item {
             PullItem::Up(shown) => Ok(Some(self.comes_up(shown)?)),

@@ -24,5 +24,5 @@ returns-in-Err-clause-comes g c =
     let relay = c.args.relay.now in
     let from = c.args.server.now in
     let to = c.ask.new.server in
-    asked_at_most steps relay from c.ask.new.relay to
-    (subst (λ (event : Option Event). AsksAtMostIf steps relay.number event from c.ask.new.relay.number to) c.room-draw.ensures c.in-Err.ensures.err)
+    asked_at_most steps g.S.Server.refuses relay from c.ask.new.relay to
+    (subst (λ (event : Option Event). AsksAtMostIf steps g.S.Server.refuses relay.number event from c.ask.new.relay.number to) c.room-draw.ensures c.in-Err.ensures.err)

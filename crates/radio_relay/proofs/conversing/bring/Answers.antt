@@ -1,4 +1,4 @@
-use Rattle.std.proofs.Common.{◌≡◌, ℕ, List, [], ◌∷◌, None, Some, Option, refl, ap, arith, subst, sym, ◌∙◌}
+use Rattle.std.proofs.Common.{◌≡◌, inl, ℕ, List, [], None, Some, Option, refl, ap, arith, subst, sym, ◌∙◌}
 use Rattle.std.proofs.lemmas.List.{nil_from_length}
 use Rattle.std.specs.Vec.Iter.{into_iter_items}
 use Rattle.radio_events.specs.declared.event.Event.{Event}
@@ -21,7 +21,7 @@ returns-in_default-clause-ok g c =
     let after = running_pull before.number in
     let mount : before.mount ≡ start.mount = ap (λ (p : Pulling). p.mount) inv.same in
     let none : event_for start.mount before.number item ≡ None =
-    ap (λ (m : List ℕ). event_for m before.number item) (sym mount) ∙ sym c.in_ok-event.ensures ∙ c.in_default.is in
+    ap (λ (m : List ℕ). event_for m before.number item) (sym mount) ∙ sym c.in_ok-event.ensures.ok ∙ c.in_default.is in
     let here = subst (λ (e : Option Event). Onwards steps before.number e server
     (λ now mid. BringsItems steps start.mount now.number rest mid after server) after server) (sym none) (refl, refl) in
     let left = subst (λ (items : List PullItem). BringsItems steps start.mount before.number items server after server) (sym c.in-Some.ensures.steps.0) here in
@@ -43,6 +43,7 @@ returns-clause-ok g c =
 pub loop-item-preserved : goal.loop-item-preserved
 loop-item-preserved g c =
     let steps = g.S.Server.steps in
+    let refuses = g.S.Server.refuses in
     let inv = c.loop-item.invariant in
     let start = c.args.relay.now in
     let before = c.loop-item.relay in
@@ -50,7 +51,7 @@ loop-item-preserved g c =
     let rest = into_iter_items c.next.new.self in
     let mount : before.mount ≡ start.mount = ap (λ (p : Pulling). p.mount) inv.same in
     let some : event_for start.mount before.number item ≡ Some c.in-Some-2.event =
-    ap (λ (m : List ℕ). event_for m before.number item) (sym mount) ∙ sym c.in_ok-event.ensures ∙ c.in-Some-2.is in
+    ap (λ (m : List ℕ). event_for m before.number item) (sym mount) ∙ sym c.in_ok-event.ensures.ok ∙ c.in-Some-2.is in
     let (after, asks, stands, numbered) = c.in_ok-ending.ensures.ok in
     let run : after.state ≡ Running = sym stands ∙ c.in_default-2.is in
     record {
@@ -61,14 +62,15 @@ loop-item-preserved g c =
           (then_brings steps start.mount before.number item rest c.in-Some-2.event after c.loop-item.server c.ask_for.new.server last to some asks run
           (subst (λ (p : Pulling). BringsItems steps start.mount p.number rest c.ask_for.new.server last to) numbered given)));
       at_most = λ number to given. inv.at_most number to
-          (subst (λ (items : List PullItem). BringsAtMost steps start.mount before.number items c.loop-item.server number to) (sym c.in-Some.ensures.steps.0)
-          (then_brought steps start.mount before.number number item rest c.in-Some-2.event after c.loop-item.server c.ask_for.new.server to some asks run
-          (subst (λ (p : Pulling). BringsAtMost steps start.mount p.number rest c.ask_for.new.server number to) numbered given)));
+          (subst (λ (items : List PullItem). BringsAtMost steps refuses start.mount before.number items c.loop-item.server number to) (sym c.in-Some.ensures.steps.0)
+          (then_brought steps refuses start.mount before.number number item rest c.in-Some-2.event after c.loop-item.server c.ask_for.new.server to some asks run
+          (subst (λ (p : Pulling). BringsAtMost steps refuses start.mount p.number rest c.ask_for.new.server number to) numbered given)));
     }
 
 pub returns-in_err-ending-clause-err : goal.returns-in_err-ending-clause-err
 returns-in_err-ending-clause-err g c =
     let steps = g.S.Server.steps in
+    let refuses = g.S.Server.refuses in
     let inv = c.loop-item.invariant in
     let start = c.args.relay.now in
     let before = c.loop-item.relay in
@@ -77,9 +79,21 @@ returns-in_err-ending-clause-err g c =
     let to = c.ask_for.new.server in
     let mount : before.mount ≡ start.mount = ap (λ (p : Pulling). p.mount) inv.same in
     let some : event_for start.mount before.number item ≡ Some c.in-Some-2.event =
-    ap (λ (m : List ℕ). event_for m before.number item) (sym mount) ∙ sym c.in_ok-event.ensures ∙ c.in-Some-2.is in
+    ap (λ (m : List ℕ). event_for m before.number item) (sym mount) ∙ sym c.in_ok-event.ensures.ok ∙ c.in-Some-2.is in
     on_err c.from_residual-in_err-ending.result
     (inv.at_most number to
-    (subst (λ (items : List PullItem). BringsAtMost steps start.mount before.number items c.loop-item.server number to) (sym c.in-Some.ensures.steps.0)
-    (one_brought steps start.mount before.number number item (into_iter_items c.next.new.self) c.in-Some-2.event c.loop-item.server to some
+    (subst (λ (items : List PullItem). BringsAtMost steps refuses start.mount before.number items c.loop-item.server number to) (sym c.in-Some.ensures.steps.0)
+    (one_brought steps refuses start.mount before.number number item (into_iter_items c.next.new.self) c.in-Some-2.event c.loop-item.server to some
     c.in_err-ending.ensures.err)))
+
+pub returns-in_err-event-clause-err : goal.returns-in_err-event-clause-err
+returns-in_err-event-clause-err g c =
+    let steps = g.S.Server.steps in
+    let refuses = g.S.Server.refuses in
+    let inv = c.loop-item.invariant in
+    let before = c.loop-item.relay in
+    let server = c.loop-item.server in
+    on_err c.from_residual.result
+    (inv.at_most before.number server
+    (subst (λ (items : List PullItem). BringsAtMost steps refuses c.args.relay.now.mount before.number items server before.number server)
+    (sym c.in-Some.ensures.steps.0) (inl (c.in_err-event.ensures.refused, refl, refl))))

@@ -12,6 +12,6 @@ invariant-loop-item g l = record {
       → BringsItems g.S.Server.steps l.initial.relay.mount l.relay.number (into_iter_items l.item-iterator) l.server after to
       → BringsItems g.S.Server.steps l.initial.relay.mount l.initial.relay.number l.fn.items.items l.initial.server after to;
   at_most : (number : Option ℕ) (to : g.row.S.Denot)
-      → BringsAtMost g.S.Server.steps l.initial.relay.mount l.relay.number (into_iter_items l.item-iterator) l.server number to
-      → BringsAtMost g.S.Server.steps l.initial.relay.mount l.initial.relay.number l.fn.items.items l.initial.server number to;
+      → BringsAtMost g.S.Server.steps g.S.Server.refuses l.initial.relay.mount l.relay.number (into_iter_items l.item-iterator) l.server number to
+      → BringsAtMost g.S.Server.steps g.S.Server.refuses l.initial.relay.mount l.initial.relay.number l.fn.items.items l.initial.server number to;
 }
