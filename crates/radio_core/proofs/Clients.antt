@@ -1,4 +1,4 @@
--- How each client stands after an event: whose it is, whom it moves and whom it finishes.
+-- The standing of each client after an event: which client asked, which it moves and which it finishes.
 -- Read Standings first, then Fates and ClientSteps.
 pub mod Standings
 pub mod Fates

@@ -26,7 +26,8 @@ use Rattle.radio_parts_station.specs.Streams.{shown_for}
 use Rattle.radio_parts_mount.specs.Stream.{end_of}
 use Rattle.radio_parts_station.specs.World.{World, standing_of, has_relay}
 
--- what the move has in store for the listener at its turn, where the state before the first turn is w: those of lower numbers have had theirs
+-- what the move has in store for the listener at its turn; w is the state before the first turn.
+-- listeners with lower numbers have had their turns
 -- rule: Turns of a move
 abbrev pub his_turn : World → Move → ℕ → MoveEffect
 his_turn w move id = turn_of (sight_of w.station) move (at_his_turn (sight_of w.station) move w.seats id) id

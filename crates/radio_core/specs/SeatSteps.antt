@@ -33,15 +33,17 @@ pub data ComesUpOn : Event → List ℕ → Type 0 where
   ASource : (asked : SourceRequest) → ComesUpOn (Source asked) asked.mount
   ARelay : (mount : List ℕ) (shown : Shown) → ComesUpOn (RelayUp mount shown) mount
 
--- why a listener goes from its seat to the mount. The session in which it sat is over. Or a session has come up on the mount, which is the one that
--- the listener asked for and calls its listeners home. Or a command moves the listeners of its mount there
+-- a listener goes from its seat to the mount for one of three causes. The session in which it sat is over
+-- a session has come up on the mount that the listener asked for, and calls its listeners home
+-- or a command moves the listeners of its mount there
 pub data IsSent (w later : World) (event : Event) (seat : Seat) (mount : List ℕ) : Type 0 where
   HisSessionIsOver : session_of later.station.live seat.mount ≡ None → (seat.session == 0) ≡ false → IsSent w later event seat mount
   HeIsCalledHome : ComesUpOn event mount → seat.home ≡ mount → (options_for w.station.settings mount).listeners.fallback_override ≡ true
       → IsSent w later event seat mount
   IsCommandedThere : IsCommanded w event (MoveClients seat.mount mount) → IsSent w later event seat mount
 
--- all that an event can do to the seat of the client of this number, where a rule ends one only for its cause; between the seats, what it hands to it
+-- all that an event can do to the seat of the client of this number; between the two seats are the bytes that the client gets.
+-- a rule ends a seat only for its cause
 pub data SeatStep (w : World) (Cause : Rule → Type 0) (event : Event) (id : ℕ) : Option Seat → List ℕ → Option Seat → Type 0 where
   -- it stays as it is, or it has none still
   Stays : (seat : Option Seat) → SeatStep w Cause event id seat [] seat
@@ -55,12 +57,12 @@ pub data SeatStep (w : World) (Cause : Rule → Type 0) (event : Event) (id : �
       → walks_to w.station w.seats asked.mount asked.pair ≡ Lands session.mount → heard_at w.station session.mount ≡ Some session
       → verdict_in (rows_to_listen w asked) ≡ Allow
       → SeatStep w Cause event id None [] (Some (first_seat w.station asked peer session))
-  -- a session begins at its mount, which waited for one: it hears it from its start
+  -- a session begins at its mount, which waited for one: the listener draws it from its start
   IsGiven : (seat : Seat) (session : Session) → ComesUpOn event seat.mount → session_of w.station.live seat.mount ≡ None
       → session_of (world_after w event).station.live seat.mount ≡ Some session → session.stream.bytes ≡ [] → seat.session ≡ 0 → seat.place ≡ 0
       → (0 == session.number) ≡ false → SeatStep w Cause event id (Some seat) [] (Some (record seat { session = session.number }))
-  -- a move that the event brings takes it, at its turn, to the end of a stream. It is the stream of another mount, which is live and lets it in, or
-  -- of its own, which waits for a session from then on
+  -- a move by the event takes it, at its turn, to the end of a stream. The stream is of another mount, which is live and lets it in.
+  -- or it is of the listener's own mount, which waits for a session from then on
   IsMoved : (seat : Seat) (session : Session) → TakesTo w event id session.mount → IsSent w (world_after w event) event seat session.mount
       → heard_at (world_after w event).station session.mount ≡ Some session → lets_in (world_after w event).station.lists session.mount seat.pair ≡ true
       → (seat.session == session.number) ≡ false → SeatStep w Cause event id (Some seat) [] (Some (moved_into session seat))

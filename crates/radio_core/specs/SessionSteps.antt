@@ -25,8 +25,8 @@ pub record IsSaidAs (given : AboutOptions) (own : About) (about : About) : Type 
   pub bitrate : IsShownAs given.bitrate own.bitrate about.bitrate
   pub audio_info : about.audio_info ≡ own.audio_info
 
--- a session that has only begun. The source or relay of this number has come to feed the mount now, and has delivered nothing. The session shows its
--- content type, with the name, the genre and what else the mount's settings say of it, or else its own
+-- a session that has only begun. The source or relay of this number starts to feed the mount now, and has delivered nothing.
+-- the session shows its content type. It shows the name, the genre and the other fields of the mount's settings, or else its own
 pub record HasBegun (w : World) (mount : List ℕ) (number : ℕ) (shown : Shown) (session : Session) : Type 0 where
   pub its_mount : session.mount ≡ mount
   pub its_source : session.number ≡ number
@@ -60,7 +60,7 @@ pub data SessionStep (w : World) (event : Event) (mount : List ℕ) : Option Ses
   -- a command sets it
   IsRetitled : (session : Session) (text : List ℕ) → IsCommanded w event (SetTitle mount text)
       → SessionStep w event mount (Some session) (Some (record session { title = Some text }))
-  -- it ends: its source's data have ended, or it has left, or its relay has gone down, or it was sent nothing in the time that there is for it
+  -- it ends: its source's data have ended, its source has left, its relay has gone down, or `source-timeout` has passed since its last block
   Ends : (session : Session) → (event ≡ SourceEnd session.number) ⊎ (event ≡ Leave session.number) ⊎ (event ≡ RelayDown session.number)
       ⊎ ((ms : ℕ) × (event ≡ Clock ms) × (1000 * w.station.settings.limits.source_timeout ≤ ms - session.last_block)) → SessionStep w event mount (Some session) None
   -- a command ends it

@@ -18,7 +18,7 @@ pub record IsSeatedIn (w : World) (seat : Seat) : Type 0 where
 pub record IsSound (w : World) : Type 0 where
   -- nobody has a number that was not given yet
   pub numbered : (id : ℕ) → w.station.last_id < id → standing_of w id ≡ Unknown
-  -- nor the number 0, which that has what is heard where nobody feeds
+  -- nor the number 0, which belongs to the empty session at a mount that nobody feeds
   pub from_one : standing_of w 0 ≡ Unknown
   -- each source feeds the session of its number, and each session is fed by the source of its number
   pub feeds : (id : ℕ) (mount : List ℕ) → standing_of w id ≡ Feeds mount

@@ -46,7 +46,8 @@ to_data w id bytes = to_data_from (standing_of w id) w.station bytes
 unfoldable pub to_end : World → ℕ → Reply
 to_end w id = to_end_from (has_relay w id) (standing_of w id)
 
--- A block is replied to as its data are; while the source goes on, more data are replied to as if all had come at once; and a rule stays.
+-- the reply to a block is the reply to its data. While the source goes on, more data get the reply that all of them would get at once.
+-- what a rule has ended stays ended by it
 pub record IsToldByData (w : World) (id : ℕ) (block : List ℕ) : Type 0 where
   pub at_block : reply_to w (Push id block) ≡ to_data w id block
   pub kinds : IsQuiet (reply_to w (Push id block)) ⊎ EndsByRule (reply_to w (Push id block))

@@ -1,4 +1,4 @@
--- Cores go by a source's data.
+-- A core's replies depend on a source's data.
 use Rattle.std.proofs.Common.{◌≡◌, ◌⊎◌, ◌++◌, sym, subst, ◌∙◌}
 use Rattle.radio_events.specs.declared.event.Event.{Event}
 use Rattle.radio_events.specs.declared.event.Event.TheVariants.{Push, SourceEnd}
@@ -12,7 +12,7 @@ use Rattle.radio_parts_station.specs.World.{World}
 use Rattle.radio_session.specs.DataServers.{HasOneReply}
 use Rattle.radio_floor.specs.ExchangeLaws.{CoresGoByData}
 
--- a step of a core, from a state that it stands for
+-- a step of a core, from a state that it represents
 record IsStep (core core' : World) (event : Event) (reply : Reply) (w : World) : Type 0 where
   pub before : Represents core w
   pub replies : reply ≡ reply_to w event

@@ -1,4 +1,4 @@
--- Deliveries come to events.
+-- Deliveries yield events.
 use Rattle.std.proofs.Common.{◌≡◌, ℕ, Bool, true, false, cond, List, [], ◌∷◌, ◌++◌, Option, None, Some, Result, Ok, Err, inl, inr, refl, sym, ap, subst, ◌∙◌}
 use Rattle.std.specs.Prelude.{drop, codes, map}
 use Rattle.std.specs.Str.{bytes_eq}
@@ -48,7 +48,7 @@ use Rattle.std.specs.Option.{option_map}
 use Rattle.radio_floor.proofs.PullEventLemmas.{LeadBy, PullLeads, asks_lead, goes_lead, one_more, takes_lead}
 use Rattle.radio_floor.specs.Transcript.{conduct, IsTranscriptOf}
 
--- what is heard on a connection is of its client still
+-- a reading of a connection's bytes belongs to its client still
 module _ (conversation : Conversation) where
   of_choice : {A : Type 0} (heard : Option A → EventReading) → (heard None).conversation.id ≡ conversation.id
       → ((a : A) → (heard (Some a)).conversation.id ≡ conversation.id) → (choice : Option A) → (heard choice).conversation.id ≡ conversation.id
@@ -81,7 +81,7 @@ module _ (conversation : Conversation) where
       ap (λ (x : EventReading). x.conversation.id) h ∙ of_choice conversation (body_delivered (nothing_held conversation) _ _) refl (λ word. refl) _
   of_heard Nothing bytes heard h = ap (λ (x : EventReading). x.conversation.id) h
 
--- the connection has ended with the event, and its client leaves, unless that is what it was
+-- the event ends the connection, and its client leaves, unless the event was its leaving
 left_by : (w : World) (id : ℕ) (event : Event) (asked : List Event) (leaves : Bool)
     → LeadBy w (Leave id) (event ∷ asked) (cond leaves (world_after w event) (world_after (world_after w event) (Leave id)))
 left_by w id event asked true = (event ∷ [], record { front = event ∷ []; rest = asked; in_order = refl; come = inl refl }, refl)
@@ -93,14 +93,14 @@ then_lead : (w : World) (id : ℕ) (event : Event) (asked : List Event) (written
 then_lead w id event asked written Running others (events, come, leads) = (event ∷ events, one_more (Leave id) event asked events come, leads)
 then_lead w id event asked written (Shut ending) others lead = left_by w id event asked (is_leave event)
 
--- what is exchanged for a client leads by some of its events
+-- a client's exchange leads to its state by some of its events
 exchanges_lead : (w : World) (id : ℕ) (says : Says) (asked : List Event) → LeadBy w (Leave id) asked (exchanged w id says asked).world
 exchanges_lead w id says [] = ([], record { front = []; rest = []; in_order = refl; come = inl refl }, refl)
 exchanges_lead w id says (event ∷ asked) =
     let written = said says (reply_to w event) in
     then_lead w id event asked written written.state (exchanged (world_after w event) id written.says asked) (exchanges_lead (world_after w event) id written.says asked)
 
--- a delivery comes to events that lead to the state after it
+-- a delivery yields events that lead to the state after it
 abbrev Comes : ScriptState → Delivery → ScriptState → Type 0
 Comes state delivery later = (events : List Event) × ComesToEvents state delivery events × (later.world ≡ world_after_all state.world events)
 

@@ -1,4 +1,4 @@
--- what a core's exchanges come to, whatever state it stands for
+-- the result of a core's exchanges, for each state that it represents
 use Rattle.std.proofs.Common.{◌≡◌, ℕ, Bool, true, false, List, [], ◌∷◌, refl, ap, sym, subst, ◌∙◌}
 use Rattle.radio_events.specs.declared.event.Event.{Event}
 use Rattle.radio_events.specs.declared.reply.Reply.{Reply}

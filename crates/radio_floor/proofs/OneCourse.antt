@@ -1,4 +1,4 @@
--- What comes to a pull comes to one thing.
+-- Each input of a pull has one result.
 use Rattle.std.proofs.Common.{◌≡◌, ℕ, List, [], ◌∷◌, ◌++◌, Option, None, Some, sym, ap, subst, ◌∙◌}
 use Rattle.radio_events.specs.declared.event.Event.{Event}
 use Rattle.radio_parts_station.specs.World.{World}
@@ -23,7 +23,7 @@ down_if_once : (state : State) (number : Option ℕ) (w a b : World) → GoesDow
 down_if_once Running number w a b g h = g ∙ sym h
 down_if_once (Shut ending) number w a b g h = going_down_is_one number w a b g h
 
--- the two courses end alike
+-- the two courses have the same end
 abbrev Alike : NumberedState → World → NumberedState → World → Type 0
 Alike one a other b = (one ≡ other) × (a ≡ b)
 
@@ -65,7 +65,7 @@ brings_once mount (item ∷ items) number w one other a b g h =
     onwards_once (λ now mid final to. BringsItems Step mount now.number items mid final to)
     (λ now mid final last x y p q. brings_once mount items now.number mid final last x y p q) number (event_for mount number item) w one other a b g h
 
--- bytes pull in one thing at each stage
+-- bytes have one result at each stage of a pull
 pulled_once : PullingIsOne → (stage : PullStage) (bytes : List ℕ) (one other : Pulled) → IsPulledAt stage bytes one
     → IsPulledAt stage bytes other → one ≡ other
 pulled_once law (Head held) bytes one other g h = law (held ++ bytes) one other g h

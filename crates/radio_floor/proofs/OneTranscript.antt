@@ -1,4 +1,4 @@
--- Each delivery comes to one thing.
+-- Each delivery has one result.
 use Rattle.std.proofs.Common.{◌≡◌, ℕ, Option, None, Some, ap, sym, ◌∙◌}
 use Rattle.radio_script.specs.declared.delivery.Delivery.{Delivery}
 use Rattle.radio_script.specs.declared.delivery.Delivery.TheVariants.{Open, Pull, To, Clock}
@@ -22,7 +22,7 @@ use Rattle.radio_floor.specs.ScriptState.{exchanges, pulled_on}
 use Rattle.radio_floor.specs.Transcript.{conduct}
 use Rattle.radio_script.specs.Laws.{IsDetermined}
 
--- where a connection does one thing, so does its label
+-- if a connection has one result, so has its label
 one_on_connection : (state : ScriptState) (On : Connection → Performed → Type 0)
     → ((connection : Connection) (p q : Performed) → On connection p → On connection q → p ≡ q) → (o : Option (Option Connection)) (p q : Performed)
     → on_connection state On p o → on_connection state On q o → p ≡ q
@@ -30,7 +30,7 @@ one_on_connection state On one None p q h k = h ∙ sym k
 one_on_connection state On one (Some None) p q h k = h ∙ sym k
 one_on_connection state On one (Some (Some connection)) p q h k = one connection p q h k
 
--- a pull that stands alike, over servers that stand alike
+-- equal pulls over equal servers
 same_pull : (state : ScriptState) (label : ℕ) (one other : Pulling) (ends stops : State) (a b : World) → one ≡ other → ends ≡ stops → a ≡ b
     → pulled_on state label one ends a ≡ pulled_on state label other stops b
 same_pull state label one other ends stops a b e f g =
@@ -38,7 +38,7 @@ same_pull state label one other ends stops a b e f g =
     ∙ ap (λ (x : World). pulled_on state label other stops x) g
 
 module _ (heard_as_one : HearingIsOne) (take_as_one : TakingIsOne) (ask_as_one : AskingIsOne) (go_as_one : GoingDownIsOne) where
-  -- so does what comes to a client's connection
+  -- an input on a client's connection has one result
   client_once : (state : ScriptState) (label : ℕ) (conversation : Conversation) (input : Input) (p q : Performed)
       → ComesToClient state label conversation input p → ComesToClient state label conversation input q → p ≡ q
   client_once state label conversation (Data bytes) p q h k =
@@ -47,7 +47,7 @@ module _ (heard_as_one : HearingIsOne) (take_as_one : TakingIsOne) (ask_as_one :
   client_once state label conversation (Title text) p q h k = sym h ∙ k
   client_once state label conversation End p q h k = sym h ∙ k
 
-  -- and what a relay asks for
+  -- so has an event that a relay asks for
   asks_once : (state : ScriptState) (label : ℕ) (pulling : Pulling) (event : Option Event) (p q : Performed) → AsksOn state label pulling event p
       → AsksOn state label pulling event q → p ≡ q
   asks_once state label pulling event p q h k =
@@ -57,7 +57,7 @@ module _ (heard_as_one : HearingIsOne) (take_as_one : TakingIsOne) (ask_as_one :
       (ap (λ (x : NumberedState). record pulling { number = x.number }) same.0) (ap (λ (x : NumberedState). x.state) same.0) same.1
       ∙ k.3
 
-  -- and what comes to its connection
+  -- so has an input on its connection
   relay_once : (state : ScriptState) (label : ℕ) (pulling : Pulling) (input : Input) (p q : Performed)
       → ComesToRelay state label pulling input p → ComesToRelay state label pulling input q → p ≡ q
   relay_once state label pulling (Data bytes) p q h k =
@@ -73,7 +73,7 @@ module _ (heard_as_one : HearingIsOne) (take_as_one : TakingIsOne) (ask_as_one :
   comes_to_once state label (Client conversation) input p q h k = client_once state label conversation input p q h k
   comes_to_once state label (Relay pulling) input p q h k = relay_once state label pulling input p q h k
 
-  -- a delivery comes to one thing
+  -- a delivery has one result
   performed_once : (web : WebAnswers) (state : ScriptState) (delivery : Delivery) (p q : Performed) → IsPerformed web state delivery p → IsPerformed web state delivery q → p ≡ q
   performed_once web state (Open label peer) p q h k = h ∙ sym k
   performed_once web state (Pull label mount) p q h k = h ∙ sym k

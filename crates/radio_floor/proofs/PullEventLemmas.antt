@@ -1,4 +1,4 @@
--- What comes to a relay's connection comes to events.
+-- An input on a relay's connection yields events.
 use Rattle.std.proofs.Common.{◌≡◌, ℕ, zero, List, [], ◌∷◌, Option, None, Some, inl, inr, refl, sym, ap, subst, ◌∙◌}
 use Rattle.std.specs.Prelude.{map}
 use Rattle.std.specs.Option.{option_map}
@@ -18,7 +18,7 @@ use Rattle.radio_relay.specs.Pulling.{Pulling, NumberedState, state_after_reply,
 use Rattle.radio_relay.specs.Course.{Asks, AsksIf, BringsItems, ComesOf, Follows, GoesDown, GoesDownIfShut, Onwards}
 use Rattle.radio_floor.specs.ScriptEvents.{ComeAbout, MayHave}
 
--- these events come about of what is asked, and lead from the one state to the other
+-- of what is asked these events happen, and they lead from the one state to the other
 abbrev pub LeadBy : World → Event → List Event → World → Type 0
 LeadBy w last asked later = (events : List Event) × ComeAbout last asked events × (later ≡ world_after_all w events)
 
@@ -34,7 +34,7 @@ one_more last event asked events c = record {
   ];
 }
 
--- so they do of what a relay asks for, with the number that it has, or is given
+-- so it is with the events that a relay asks for, with the number that it has, or is given
 pub record PullLeads (w : World) (number : Option ℕ) (asked : ℕ → List Event) (later : World) : Type 0 where
   pub id : ℕ
   pub may : MayHave number id
@@ -42,7 +42,7 @@ pub record PullLeads (w : World) (number : Option ℕ) (asked : ℕ → List Eve
   pub come : ComeAbout (RelayDown id) (asked id) events
   pub leads : later ≡ world_after_all w events
 
--- none of what is asked comes about
+-- none of what is asked happens
 none_come : (last : Event) (asked : List Event) → ComeAbout last asked []
 none_come last asked = record { front = []; rest = asked; in_order = refl; come = inl refl }
 
@@ -115,7 +115,7 @@ module _ (number : Option ℕ) (event : Event) (w later : World) (after : Number
       → Onwards Step number (Some event) w (λ now mid. Rest now mid after later) after later → PullLeads w number whole later
   onwards_lead Rest rest o = asked_leads o.0 o.1 o.2 (follows_as o.0.state (rest o.0 o.1) (λ e. e.1) o.3)
 
--- what the items bring
+-- the events of the items
 brings_lead : (mount : List ℕ) (items : List PullItem) (number : Option ℕ) (w later : World) (after : NumberedState) → BringsItems Step mount number items w after later
     → PullLeads w number (λ id. map (event_of mount id) items) later
 brings_lead mount [] number w later after b = nothing_leads w later number (λ id. []) b.1

@@ -1,4 +1,4 @@
--- The server does what the state does, whatever state its core stands for.
+-- The server does what the state does, for each state that its core represents.
 use Rattle.std.proofs.Common.{◌≡◌, ℕ, List, [], Option, Result, refl, sym, ap, subst, ◌∙◌}
 use Rattle.radio_parts_station.specs.World.{World, opening}
 use Rattle.radio_core.specs.Represents.{Represents}
@@ -20,7 +20,7 @@ use Rattle.radio_script.proofs.SimulationLemmas.{runs, plays}
 abbrev pub server_conduct : Conduct ScriptServer
 server_conduct old delivery lines new = (new.web ≡ old.web) × Performs old.web old.handler.core old.connections delivery lines new.handler.core new.connections
 
--- the server answers by this, its core stands for the state's state, and the connections are the same
+-- the server has these answers and connections, and its core represents the script's state
 abbrev Same : WebAnswers → ScriptServer → ScriptState → Type 0
 Same web server state = (server.web ≡ web) × (w : World) × Represents server.handler.core w × (state ≡ script_state_of w server.connections)
 
@@ -35,7 +35,7 @@ does web server server' state delivery lines same performs =
           (subst (λ (x : WebAnswers). conduct x (script_state_of same.1 server.connections) delivery lines state') same.0 d.2),
     )
 
--- a new server stands for the opening state
+-- a new server represents the opening state
 opens : (web : WebAnswers) (server : ScriptServer) (settings : Settings) (lists : Lists) → server.web ≡ web → Represents server.handler.core (opening settings lists) → server.connections ≡ []
     → Same web server (opening_script settings lists)
 opens web server settings lists answers stands none = (answers, opening settings lists, stands, ap (script_state_of (opening settings lists)) (sym none))

@@ -1,4 +1,4 @@
--- What comes of a pull comes about alike from whatever stands for the same.
+-- Two servers that represent the same state have the same results of a pull.
 use Rattle.std.proofs.Common.{◌≡◌, ℕ, List, [], ◌∷◌, Option, None, Some, refl, sym, subst}
 use Rattle.radio_events.specs.declared.event.Event.{Event}
 use Rattle.radio_events.specs.declared.event.Event.TheVariants.{RelayDown}
@@ -84,7 +84,7 @@ module _ {S T : Type 0} (steps : Steps S) (others : Steps T) (Same : S → T →
       let c = comes_of pulling pulling' (items_of k.0.parts) k.0.standing state s s' t same k.2 in
       (c.0, c.1, (k.0, k.1, c.2))
 
--- a core does what the states do that it stands for
+-- a core does what the states that it represents do
 core_does : (core core' w : World) (event : Event) (reply : Reply) → Represents core w → core_steps core event reply core'
     → (w' : World) × Represents core' w' × Step w event reply w'
 core_does core core' w event reply stands c = let s = c.1 w stands in (s.0, s.2, s.1)

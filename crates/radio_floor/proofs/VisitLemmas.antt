@@ -1,4 +1,4 @@
--- What comes of a delivery for a label, from what comes of the visit of its row.
+-- The result of a delivery for a label, from the result of the visit of its row.
 use Rattle.std.proofs.Common.{◌≡◌, ℕ, List, [], ◌++◌, Option, None, Some, Result, Ok, Err, refl, sym, ap, subst, ◌∙◌}
 use Rattle.std.specs.Prelude.{find, MatchResult}
 use Rattle.std.specs.Option.{option_map}
@@ -24,7 +24,7 @@ module _ (label : ℕ) (input : Input) (connections connections' : List Labelled
       let state = script_state_of w connections in
       for_label state label (λ connection done. ComesTo state label connection input done) done
 
-  -- as it comes where this became of the label
+  -- the result, if the label's connection is this one
   abbrev ComesOf : World → Performed → Option (Option Connection) → Type 0
   ComesOf w done o =
       let state = script_state_of w connections in

@@ -1,4 +1,4 @@
--- What is said of the devices of a script that is played, weakened.
+-- What holds of the devices of a played script, weakened.
 use Rattle.std.proofs.Common.{ℕ, List, Option, None, Some}
 use Rattle.radio_script.specs.Plays.{IfKnown, Writes}
 

@@ -1,4 +1,4 @@
--- What a transcript says of the end of a connection.
+-- The word by which a transcript ends a connection.
 use Rattle.std.specs.Prelude.{◌≡◌, ℕ, List, [], ◌∷◌, codes, None, Some}
 use Rattle.radio_policy.specs.declared.rule.Rule.{Rule}
 use Rattle.radio_policy.specs.declared.rule.Status.{Status}
@@ -52,15 +52,15 @@ abbrev pub ClosedOnesAreDone : Type 0
 ClosedOnesAreDone = (state : ScriptState) (label : ℕ) (conversation : Conversation)
     → (closes state label conversation).lines ≡ Some (answer_lines label [] (Some (codes "done")))
 
--- a connection arrives that the policy denies: the lines show its rule's word, behind the answer that names the rule, if the rule has a status; an address
--- that is denied is shut without bytes
+-- a connection arrives that the policy denies: the lines show its rule's word. If the rule has a status, the answer that names it is before the word.
+-- a connection from a denied address is shut without bytes
 abbrev pub DeniedArrivalsAreTold : Type 0
 DeniedArrivalsAreTold = (web : WebAnswers) (state : ScriptState) (label : ℕ) (peer : Peer) (rule : Rule) → reply_to state.world (Arrive peer) ≡ Deny rule →
     (status_of rule ≡ None → (opens_connection web state label peer).lines ≡ Some (answer_lines label [] (Some (word_of rule))))
     × ((status : Status) → status_of rule ≡ Some status
     → (opens_connection web state label peer).lines ≡ Some (answer_lines label (answered_by web (denial_text status (word_of rule))) (Some (word_of rule))))
 
--- the connection itself refuses what came, by `bad-head` or `bad-method`, and its client leaves: the lines show the answer that names the rule, and its word
+-- the connection refuses its bytes, by `bad-head` or `bad-method`, and its client leaves. The lines show the answer that names the rule, and its word
 abbrev pub RefusalsAreTold : Type 0
 RefusalsAreTold = (state : ScriptState) (label : ℕ) (conversation : Conversation) (event : Event) (rule : Rule) (status : Status)
     → IsAbout conversation.says (Refusal rule) → reply_to state.world event ≡ Noted → status_of rule ≡ Some status

@@ -15,7 +15,7 @@ abbrev pub Performs : WebAnswers → World → List Labelled → Delivery → Op
 Performs web core connections delivery lines core' connections' = (w : World) → Represents core w →
     (w' : World) × Represents core' w' × IsPerformed web (script_state_of w connections) delivery (performed_as lines w' connections')
 
--- the delivery is performed, or its label is at fault; of want of memory nothing is said
+-- the delivery is performed, or its label is at fault. If memory was refused, nothing is stated
 abbrev pub PerformsAs : WebAnswers → Result (Unit {0}) PerformFault → World → List Labelled → Delivery → List ℕ → List ℕ → World → List Labelled → Type 0
 PerformsAs web (Ok done) core connections delivery lines lines' core' connections' = (text : List ℕ) × (lines' ≡ lines ++ text)
     × Performs web core connections delivery (Some text) core' connections'

@@ -46,13 +46,13 @@ AnswersAs core core' answered connection Done =
     (w : World) → Represents core w → (w' : World) × Represents core' w'
     × ((connections : List Labelled) (label : ℕ) → Done (script_state_of w connections) label (answered_under connections label answered connection w'))
 
--- the same of a relay, to whose master nothing more is said
+-- the same for a relay, which writes nothing more to its master
 abbrev pub PullsAs : World → World → State → Pulling → (ScriptState → ℕ → Performed → Type 0) → Type 0
 PullsAs core core' ends pulling Done =
     (w : World) → Represents core w → (w' : World) × Represents core' w'
     × ((connections : List Labelled) (label : ℕ) → Done (script_state_of w connections) label (pulled_on (script_state_of w connections) label pulling ends w'))
 
--- something arrives for what became of a label: its connection is served, if it has one; of want of memory nothing is said
+-- something arrives for a label, whose connection is served, if it has one. If memory was refused, nothing is stated
 abbrev pub AnswersOn : World → Input → Option Connection → Result (Option DeliveryAnswer) AllocError → World → Option Connection → Type 0
 AnswersOn core input None result core' connection' = (result ≡ Ok None) × (core' ≡ core) × (connection' ≡ None)
 AnswersOn core input (Some connection) result core' connection' =

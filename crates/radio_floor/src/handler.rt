@@ -68,7 +68,7 @@ impl Handler {
         }
     }
 
-    /// Bytes come on it.
+    /// Serves the bytes that arrive on the connection.
     fn hear(
         &mut self,
         connection: &mut Session,
@@ -81,7 +81,7 @@ impl Handler {
         self.exchange(connection, events)
     }
 
-    /// There is room for so many bytes on it.
+    /// Serves room for so many bytes on the connection.
     fn draw(&mut self, connection: &mut Session, room: u32) -> Result<DeliveryAnswer, OutOfMemory>
         ensures { IfOk result (λ answered. AnswersAs self.old.core self.new.core answered (Connection.Client connection.new)
             (λ state label done. exchanges state label connection.old (Event.Draw connection.old.id room ∷ []) ≡ done)) }
@@ -90,7 +90,7 @@ impl Handler {
         self.event(connection, Event::Draw { id, room })
     }
 
-    /// Its source names what is on the air.
+    /// Serves a title that its source names.
     fn title(
         &mut self,
         connection: &mut Session,
@@ -104,7 +104,7 @@ impl Handler {
         self.event(connection, Event::Title { id, text })
     }
 
-    /// The peer has closed it.
+    /// Ends the connection: the peer has closed it.
     fn close(&mut self, connection: &Session) -> Result<DeliveryAnswer, OutOfMemory>
         ensures { IfOk result (λ answered. AnswersAs self.old.core self.new.core answered (Connection.Client connection.now)
             (λ state label done. closes state label connection.now ≡ done)) }
@@ -116,7 +116,7 @@ impl Handler {
         })
     }
 
-    /// One event is exchanged on it.
+    /// Applies one event of the connection and writes its reply.
     fn event(
         &mut self,
         connection: &mut Session,
@@ -130,7 +130,7 @@ impl Handler {
         self.exchange(connection, events)
     }
 
-    /// Its events are exchanged with the server.
+    /// Applies the connection's events and writes their replies.
     fn exchange(
         &mut self,
         connection: &mut Session,

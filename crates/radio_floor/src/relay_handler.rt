@@ -46,7 +46,7 @@ impl Handler {
         }
     }
 
-    /// Bytes of the master's answer come on it.
+    /// Serves bytes of the master's answer that arrive on the connection.
     fn pull_in(&mut self, pull: &mut RelayPull, bytes: &[u8]) -> Result<State, OutOfMemory>
         ensures { IfOk result (λ ends. PullsAs self.old.core self.new.core ends pull.new
             (λ state label done. ComesToRelay state label pull.old (Input.Data bytes.now) done)) }
@@ -55,7 +55,7 @@ impl Handler {
         take(&mut self.core, pull, bytes)
     }
 
-    /// There is room for so many bytes on it.
+    /// Serves room for so many bytes on the connection.
     fn make_room(&mut self, pull: &mut RelayPull, room: u32) -> Result<State, OutOfMemory>
         ensures { IfOk result (λ ends. PullsAs self.old.core self.new.core ends pull.new
             (λ state label done. AsksOn state label pull.old (option_map (λ id. Event.Draw id room) pull.old.number) done)) }
@@ -64,7 +64,7 @@ impl Handler {
         self.ask(pull, event)
     }
 
-    /// The script names what is on the air.
+    /// Serves a title that the script names.
     fn name(&mut self, pull: &mut RelayPull, text: &[u8]) -> Result<State, OutOfMemory>
         ensures { IfOk result (λ ends. PullsAs self.old.core self.new.core ends pull.new
             (λ state label done. AsksOn state label pull.old (option_map (λ id. Event.Title id (cleaned max_title text.now)) pull.old.number) done)) }
@@ -74,7 +74,7 @@ impl Handler {
         self.ask(pull, event)
     }
 
-    /// An event is applied that the relay asks for, if it asks for one.
+    /// Applies the event that the relay asks for, if it asks for one.
     fn ask(&mut self, pull: &mut RelayPull, event: Option<Event>) -> Result<State, OutOfMemory>
         ensures { IfOk result (λ ends. PullsAs self.old.core self.new.core ends pull.new
             (λ state label done. AsksOn state label pull.old event done)) }
@@ -83,7 +83,7 @@ impl Handler {
         ask(&mut self.core, pull, event)
     }
 
-    /// The master has closed it.
+    /// Ends the pull: the master has closed the connection.
     fn hang_up(&mut self, pull: &RelayPull) -> Result<State, OutOfMemory>
         ensures { IfOk result (λ ends. PullsAs self.old.core self.new.core ends pull.now
             (λ state label done. ComesToRelay state label pull.now Input.End done)) }

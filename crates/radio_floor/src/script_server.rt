@@ -153,7 +153,7 @@ fn answer_arrival(
     Ok((connection, state))
 }
 
-/// Appends what a peer that has just come reads. Returns whether its connection goes on.
+/// Appends the bytes that a newly arrived peer reads. Returns whether its connection goes on.
 fn append_arrival(
     alloc: Global,
     web: WebAnswers,

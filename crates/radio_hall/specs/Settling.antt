@@ -122,7 +122,7 @@ pub record MergesPasses (control : List ControlLine) (mounts : List (List MountI
   pub merge : IsMerge control mounts order history
   pub keeps : All (λ pass. IsSubsequence (stamps pass) order) passes
 
--- the lists merge in an order that keeps that of each pass, and a core that steps through them from this state gives the same replies
+-- the lists merge in an order that keeps that of each pass. A core that steps through them from this state gives the same replies
 abbrev pub AreMerged : World → List ControlLine → List (List MountItem) → List (List ReceiptOf) → Type 0
 AreMerged opening control mounts passes = (history : List Entry) × IsRun opening history × MergesPasses control mounts passes history
 
@@ -156,7 +156,7 @@ Shows opening control mounts passes fault = AllStand control mounts passes × Sh
 abbrev pub IsCounted : ℕ → ℕ → SettleFault → Type 0
 IsCounted entries receipts fault = (fault ≡ OutOfMemory) ⊎ (fault ≡ Count entries receipts)
 
--- All passes are settled as this history: it merges the lists, each receipt is at its place, and each place of an entry has one receipt in all passes together.
+-- All passes are settled as this history: it merges the lists, and each receipt is at its place. Each place of an entry has one receipt in all passes.
 -- rule: Settled history
 pub record IsSettled (control : List ControlLine) (mounts : List (List MountItem)) (passes : List (List ReceiptOf)) (history : List Entry) : Type 0 where
   pub merges : MergesPasses control mounts passes history

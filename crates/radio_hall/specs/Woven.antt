@@ -21,7 +21,7 @@ AreWoven {A} (one ∷ others) all = (rest : List A) × IsInterleaved one rest al
 abbrev pub entries_of : List ReceiptOf → List Entry
 entries_of pass = map receipt_entry pass
 
--- A settled history is woven of the entries of all passes: each receipt's entry is there once, in the order of its pass, and no other.
+-- A settled history has the entry of each receipt of all passes once, in the order of its pass, and no other entry.
 -- rule: Settled history
 abbrev pub SettledHistoriesAreWoven : Type 0
 SettledHistoriesAreWoven = (control : List ControlLine) (mounts : List (List MountItem)) (passes : List (List ReceiptOf)) (history : List Entry)

@@ -14,11 +14,11 @@ use radio_merge::{Family, MountList};
 use radio_settings_values::Settings;
 use std::alloc::Global;
 
-/// Holds all passes of a server whose mounts' parts stand apart against the lists of the control and of all mounts, when nobody
-/// calls any more. Returns the one history that all lists are, through which a new core of these settings and lists steps with the
-/// same replies. The mounts' books are given in the order of their lists; one that is not there is read as an empty list. The faults
-/// are those of [`settle_family`]; `OutOfMemory` also if memory was refused for a mount's list. After a fault the books and the passes
-/// are gone.
+/// Compares all passes with the lists of the control and of all mounts, once no thread calls any more. The mounts' parts are apart
+/// from the control. Returns the one history of all lists. A new core of these settings and lists steps through it with the same
+/// replies. The mounts' books are given in the order of their lists; a missing book counts as an empty list. The faults are those
+/// of [`settle_family`]; `OutOfMemory` also if memory was refused for a mount's list. After a fault the books and the passes are
+/// gone.
 // rule: Settled history; Faults of settling
 pub fn settle_books<H: Origin>(
     alloc: Global,
@@ -30,7 +30,8 @@ pub fn settle_books<H: Origin>(
 ) -> Result<Vec<Entry>, SettleFault>
     // it is a run from the opening state
     ensures run { IfOk result (λ history. IsRun (opening settings lists) history.items) }
-    // it is a merge of the control's list and of one list for each mount; each receipt is at its place, in the order of its pass, and nothing else is there
+    // it is a merge of the control's list and of one list for each mount. Each receipt is at its place, in the order of its pass,
+    // and nothing else is in the history
     ensures settled { IfOk result (λ history. (items : List (List ItemOf)) × (length items ≡ length mounts.items) × IsSettled control.lines items passes.items history.items) }
     ensures total { IfOk result (λ history. length history.items ≡ sum_by length passes.items) }
     // a fault comes only if the lists and the passes show it, and no fault before it in the order

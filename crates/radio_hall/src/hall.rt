@@ -15,8 +15,8 @@ use radio_locks::Hall;
 use radio_settings_values::Settings;
 use std::alloc::Global;
 
-/// Holds all passes of a hall against its lists, once the threads have been joined. Returns the one history that all lists are, through
-/// which a new core of these settings and lists, which are those of the hall, steps with the same replies. The faults are those of
+/// Compares all passes of a hall with its lists, once the threads have been joined. Returns the one history of all lists. A new core of
+/// these settings and lists, which are those of the hall, steps through it with the same replies. The faults are those of
 /// [`settle_books`]; after one the hall and the passes are gone.
 // rule: Settled history
 pub fn settle<H: Origin>(
@@ -29,7 +29,8 @@ pub fn settle<H: Origin>(
     // it is a run from the opening state of these settings and lists, so from the hall's if they are the hall's
     ensures replays { IfOk result (λ history. IsRun (opening settings lists) history.items) }
     ensures run { H.opening ≡ opening settings lists → IfOk result (λ history. IsRun H.opening history.items) }
-    // it is a merge of the control's list and of those of the mounts; each receipt is at its place, in the order of its pass, and nothing else is there
+    // it is a merge of the control's list and of those of the mounts. Each receipt is at its place, in the order of its pass,
+    // and nothing else is in the history
     ensures settled { IfOk result (λ history. (lines : List LineOf) × (items : List (List ItemOf)) × IsSettled lines items passes.items history.items) }
     ensures total { IfOk result (λ history. length history.items ≡ sum_by length passes.items) }
     // a fault comes only if the lists and the passes show it

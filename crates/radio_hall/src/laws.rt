@@ -2,8 +2,7 @@
 
 ghost use Rattle.radio_hall.specs.Woven.{SettledHistoriesAreWoven};
 
-/// A settled history is woven of the entries of all passes. The entry of each receipt is in it once, in the order of its pass, and
-/// no other entry is.
+/// A settled history has the entry of each receipt of all passes once, in the order of its pass, and no other entry.
 // rule: Settled history
 pub fn settled_histories_are_woven()
     ensures { SettledHistoriesAreWoven }

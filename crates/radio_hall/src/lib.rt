@@ -2,17 +2,17 @@
 //! of a hall held against the one legal history, when nobody calls any more.
 //!
 //! - [`Hall`] has a lock for each mount and one for the control. Threads call it, each through its [`Pass`].
-//! - [`settle`] compares all passes of a hall with what it has stored, once the threads have been joined; [`settle_books`] those of
-//!   a server whose mounts' parts are apart from its control; [`settle_family`] those of a server that keeps a list for each mount
-//!   and one for its control. Read it first. [`SettleFault`] is what is wrong with them.
+//! - [`settle`] compares all passes of a hall with what it has stored, once the threads have been joined. Read it first.
+//!   [`settle_books`] compares those of a server whose mounts' parts are apart from its control. [`settle_family`] compares
+//!   those of a server that keeps a list for each mount and one for its control. [`SettleFault`] is what is wrong with them.
 //! - [`Intake`] is the queue from the acceptor to the workers, and [`Accepts`] says when the acceptor accepts.
 //! - [`Conn`] is a connection over a [`Line`]. A [`Worker`] admits and serves connections; [`run_workers`] runs one in each
 //!   thread. It calls a [`Gate`] before and after each write.
 //!
 //! - [`settled_histories_are_woven`]: a law, which runs no code, from the passes to the history.
 //!
-//! Only a server that stores its entries can be settled, so the program has no need of it: tests have, and whoever wants to see the
-//! history. What this crate only passes on has its contracts in the crate that it comes from.
+//! The program settles nothing, since only a server that stores its entries can be settled. Tests do, to see the history. The
+//! contracts of re-exported items are in the crates that define them.
 #![tactic(auto)]
 
 mod family;

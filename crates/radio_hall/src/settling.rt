@@ -15,11 +15,11 @@ use radio_merge::{Family, MergeFault, merge};
 use radio_settings_values::Settings;
 use std::alloc::Global;
 
-/// Holds all passes of a server against its lists, when nobody calls any more. Returns the one history that all lists are, through
-/// which a new core of these settings and lists steps with the same replies.
+/// Compares all passes of a server with its lists, once no thread calls any more. Returns the one history of all lists. A new
+/// core of these settings and lists steps through it with the same replies.
 ///
-/// The faults are looked for in the order in which [`SettleFault`] has them: all receipts for the first, then all for the next.
-/// `OutOfOrder` comes of one pass and one list first, and later of the merge, where it may come next to `Unlike`.
+/// It looks for the faults in the order in which [`SettleFault`] has them: in all receipts for the first, then in all for the next.
+/// `OutOfOrder` comes from one pass and one list first, and later from the merge, which may also find `Unlike`.
 /// `OutOfMemory` may come in place of each.
 // rule: Settled history; Faults of settling
 pub fn settle_family<H: Origin>(

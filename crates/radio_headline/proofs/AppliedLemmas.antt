@@ -1,4 +1,4 @@
--- The events that are applied are those that lead on, and what is told is what is told of the replies to them.
+-- The applied events are those that lead on, and what is written is what is written of the replies to them.
 use Rattle.std.proofs.Common.{◌≡◌, ◌==◌, ℕ, Bool, true, false, List, [], ◌∷◌, ◌++◌, Option, None, Some, refl, sym, ap, ◌∙◌, append_assoc}
 use Rattle.std.specs.Prelude.{if◌then◌else◌, option_map}
 use Rattle.std.proofs.lemmas.List.{append-nil}
@@ -43,7 +43,7 @@ applied_lead w id says (event ∷ asked) =
     then_leads w id event told told.state (exchanged (world_after w event) id told.says asked) (applied (world_after w event) id told.says asked)
     (applied_lead (world_after w event) id told.says asked)
 
--- what is told is told of the replies to them
+-- what is written is written of the replies to them
 then_told : (w : World) (id : ℕ) (event : Event) (of : Said) (state : State) (others : WorldExchange) (rest : List Event)
     → others.exchange.bytes ≡ told of.says (replies (entries (world_after w event) rest))
     → (then_exchanged (world_after w event) id event of state others).exchange.bytes
@@ -70,12 +70,12 @@ applied_tell w id says (event ∷ asked) =
     then_told w id event of of.state (exchanged (world_after w event) id of.says asked) rest (applied_tell (world_after w event) id of.says asked)
     ∙ sym (told_so w id event says of.state rest refl)
 
--- how replies are told after some
+-- how replies are written after some others
 abbrev pub said_all : Says → List Reply → Says
 said_all says [] = says
 said_all says (reply ∷ later) = said_all (said says reply).says later
 
--- what is told changes nothing of what the settings say
+-- writing a reply changes nothing of what the settings say
 noted_web : (says : Says) (closing : Option Closing) → (noted says closing).says.web ≡ says.web
 noted_web says None = refl
 noted_web says (Some closing) = by_count (closing.awaits == 0) where
@@ -161,7 +161,7 @@ goes_on w id says (event ∷ asked) run =
       all = then_all w id event says others rest asked of.state run (λ r. (goes_on later id of.says asked r).all);
     }
 
--- an answer, a denial, and that it was finished, are the last that is told
+-- an answer, a denial and the end by a rule are the last reply
 abbrev pub IsLast : Reply → Type 0
 IsLast (Text text) = Unit {0}
 IsLast (Deny rule) = Unit {0}
@@ -190,7 +190,7 @@ none_last says (e ∷ log) goes = (last_shuts says e.reply goes.0, none_last (sa
 abbrev pub IsLeaving : ℕ → Entry → Type 0
 IsLeaving id e = e.event ≡ Leave id
 
--- behind the last that is told a client but leaves
+-- after its last reply a client only leaves
 abbrev pub IsOrderly : ℕ → List Entry → Type 0
 IsOrderly id [] = Unit {0}
 IsOrderly id (e ∷ log) = (IsLast e.reply → Each (IsLeaving id) log) × IsOrderly id log
@@ -240,7 +240,7 @@ applied_each P w id says (event ∷ asked) l h =
     then_each P w id event of.state (applied (world_after w event) id of.says asked) h.0 l
     (applied_each P (world_after w event) id of.says asked l h.1)
 
--- nothing is about to be told as a last word where nothing was
+-- if no last word was to be written, none is
 counted_none : (says : Says) → says.closing ≡ None → option_map one_less says.closing ≡ None
 counted_none says e = ap (option_map one_less) e
 
@@ -271,7 +271,7 @@ pub nothing_later : (state : State) → while_open state [] ≡ []
 nothing_later Running = refl
 nothing_later (Shut ending) = refl
 
--- who leaves is told nothing then
+-- a client that leaves gets nothing then
 pub leaves_silently : (says : Says) (reply : Reply) → says.closing ≡ None → LeaveReply reply → told says (reply ∷ []) ≡ []
 leaves_silently says (Arrived id) e h = elim h [ ]
 leaves_silently says Feeding e h = elim h [ ]

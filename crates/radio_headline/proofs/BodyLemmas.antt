@@ -120,10 +120,10 @@ get_not web bytes log given g =
 relay_feeds_not : (log : List Entry) → OwnRelay None log → Each FeedsNot log
 relay_feeds_not log own = relay_asks_not IsSourcing (λ mount shown a. a) (λ id block a. a) (λ id text a. a) (λ id room a. a) (λ id a. a) None log own
 
--- where a mount is asked for, to feed it, a source's request was heard
+-- if a client asks to feed a mount, a source's request was read
 module _ (web : WebAnswers) (bytes : List ℕ) (log : List Entry) (given : List ℕ) (before behind : List Entry) (e : Entry) (parts : log ≡ before ++ e ∷ behind)
     (feeds : IsSourcing e.event) where
-  -- it feeds, and was told so
+  -- it feeds, and has read the reply that says so
   abbrev FeedsGreeted : Type 0
   FeedsGreeted = (f : Feeds bytes log) × IsGreeted web f given
 
@@ -136,7 +136,7 @@ module _ (web : WebAnswers) (bytes : List ℕ) (log : List Entry) (given : List 
   feeds_so (IsSource f told) = (f, told)
   feeds_so (IsPulling q) = never (relay_feeds_not log q.own)
 
--- a source's request, as it is heard with the bytes behind it
+-- a source's request, as it is read with the bytes after it
 framed_so : {F : Type 0} (start_at : F → Place) (hears : Option F → EventReading) (body : Place → EventReading) → ((f : F) → hears (Some f) ≡ body (start_at f))
     → (framing : Option F) (start : Place) → option_map start_at framing ≡ Some start → hears framing ≡ body start
 framed_so start_at hears body some None start e = cc
@@ -161,7 +161,7 @@ get_so conversation request behind source get =
 module _ (web : WebAnswers) (settled : IsStableReading ShowsRequest) (within : HeadsLieWithin ShowsRequest) (joined : (bytes : List ℕ) → concat (blocks_of bytes) ≡ bytes)
     (places : (place : Place) (first second : List ℕ) → after place (first ++ second) ≡ after (after place first) second)
     (data_joined : (place : Place) (first second : List ℕ) → data_of place (first ++ second) ≡ data_of place first ++ data_of (after place first) second) where
-  -- a source's bytes are heard as its request, and the data of its body behind it
+  -- a source's bytes are read as its request, and the data of its body after it
   record HeardBody (bytes : List ℕ) (log : List Entry) (f : Feeds bytes log) : Type 0 where
     pub behind : List Event
     pub is_request : IsRequest bytes f.id (asks_to_feed f.id f.request) behind
@@ -187,7 +187,7 @@ module _ (web : WebAnswers) (settled : IsStableReading ShowsRequest) (within : H
         greets = ap (λ (x : EventReading). x.conversation.says.greeting) (source_so c f.request rest f.start f.source f.framed) ∙ ap (λ (s : Says). s.greeting) d.says;
       }
 
-  -- and those of one who hears as its request
+  -- and a listener's bytes are read as its request
   pub heard_get : (bytes : List ℕ) (log : List Entry) (given : List ℕ) (g : ByGet web bytes log given) → IsRequest bytes g.id (asks_by_get web g.id g.request) []
   heard_get bytes log given g =
       let c = fresh web g.id g.peer in
@@ -294,7 +294,7 @@ module _ (web : WebAnswers) (settled : IsStableReading ShowsRequest) (within : H
       body : HeardBody (brought label) (log label) f
       body = heard_body (brought label) (log label) f
 
-      -- its request is heard so
+      -- its request is read so
       abbrev HeardSo : List ℕ → ℕ → Event → Type 0
       HeardSo bytes n e = (r : IsRequest bytes n e body.behind) × (r.heard.conversation.says.greeting ≡ greeting_of f.request)
 
@@ -316,7 +316,7 @@ module _ (web : WebAnswers) (settled : IsStableReading ShowsRequest) (within : H
             ∙ ap (λ (xs : List ℕ). xs ++ (front.rest ++ f.rest)) (sym all_noted);
       }
 
-      -- what it was told
+      -- what was written to it
       abbrev greeted_here : IsGreeted web f (given label)
       greeted_here = feeds_greeted.1
 
@@ -351,7 +351,7 @@ module _ (web : WebAnswers) (settled : IsStableReading ShowsRequest) (within : H
         too_late = λ rule e. told_as (Finished rule) e ∙ nothing_more (Finished rule) e tt;
       }
 
-    -- and so is what a listener asks for heard
+    -- and so is a listener's request
     module _ (label : ℕ) (asked : ListenRequest) (past later : List Happening) (parts : course ≡ past ++ on label (Listen asked) ∷ later) where
       pub listens_so : IsRequest (brought label) asked.id (Listen asked) []
       listens_so =

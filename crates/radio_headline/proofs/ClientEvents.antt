@@ -211,7 +211,7 @@ behind_is_his id (Title him text) h = ap (λ (n : ℕ). Some n) h
 behind_is_his id (Draw him room) h = ap (λ (n : ℕ). Some n) h
 behind_is_his id (Leave him) h = ap (λ (n : ℕ). Some n) h
 
--- it draws, tells titles or leaves
+-- it draws, sends titles or leaves
 abbrev pub IsIdleOrLeave : ℕ → Event → Type 0
 IsIdleOrLeave id event = IsIdle id event ⊎ (event ≡ Leave id)
 
@@ -260,7 +260,7 @@ module _ (web : WebAnswers) (w : World) (bytes : List ℕ) (log : List Entry) (g
     }
     by_state (Shut ending) e = record { own = client_owns now.id now.peer (others ++ new) (log ++ new) all all_his; facts = facts }
 
-  -- what is given is told of the replies still
+  -- what is given is what is written of the replies still
   module _ (before : Conversation) (t : IsTold web before log given) (same : now.says ≡ before.says) where
     says_now : now.says ≡ said_all (asking web) (replies log)
     says_now = same ∙ t.says

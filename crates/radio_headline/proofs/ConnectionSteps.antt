@@ -1,4 +1,4 @@
--- What comes to a client's connection leaves it so.
+-- The state of a client's connection after an input.
 use Rattle.std.proofs.Common.{◌≡◌, ◌⊎◌, inl, inr, ℕ, List, [], ◌∷◌, ◌++◌, drop, Some, refl, sym, ap, subst, ◌∙◌, append_assoc}
 use Rattle.std.specs.List.{concat}
 use Rattle.std.proofs.lemmas.List.{append-nil}
@@ -44,7 +44,7 @@ use Rattle.radio_answers.specs.declared.web_answers.WebAnswers.{WebAnswers}
 module _ (web : WebAnswers) (settled : IsStableReading ShowsRequest) (within : HeadsLieWithin ShowsRequest) (joined : (bytes : List ℕ) → concat (blocks_of bytes) ≡ bytes)
     (places : (place : Place) (first second : List ℕ) → after place (first ++ second) ≡ after (after place first) second)
     (data_joined : (place : Place) (first second : List ℕ) → data_of place (first ++ second) ≡ data_of place first ++ data_of (after place first) second) where
-  -- Something comes to a client's connection, whose conversation stood so.
+  -- An input arrives on a client's connection, whose conversation is in this state.
   module _ (w : World) (bytes : List ℕ) (log : List Entry) (given : List ℕ) (conversation : Conversation) (c : IsClient web bytes log given conversation) where
     abbrev Came : List ℕ → Conversation → List Event → Type 0
     Came = CameOn web w bytes log given conversation c
@@ -145,7 +145,7 @@ module _ (web : WebAnswers) (settled : IsStableReading ShowsRequest) (within : H
                 ∙ ap (λ (q : Place). after q (drop fed.0.length (bytes ++ more))) (sym fed.2)))
             stage run (inr h) = AfterBody fed.0 (fed.4 _) h
 
-      -- between them it draws, or tells titles
+      -- between them it draws, or sends titles
       idle_at_body : f.rest ≡ [] → conversation.hears ≡ Body (unfed (after f.start (drop f.length bytes))) → (events : List Event)
           → EachAsked (IsIdle id) events → Came (bytes ++ []) conversation events
       idle_at_body none hears events asked =
@@ -164,7 +164,7 @@ module _ (web : WebAnswers) (settled : IsStableReading ShowsRequest) (within : H
           settled_in web w bytes log given conversation c conversation (bytes ++ more) events refl refl (asked_as (IsIdle id) _ (λ e h. idle_is_his id e h) events asked)
           (λ run. AfterBody silent.0 (silent.4 _) hears) (IsSource silent.0 (silent.4 _))
 
-    -- nothing more is heard
+    -- nothing more is read
     after_refusal : Each AsksNothing log → conversation.hears ≡ Nothing → (later : List ℕ) (events : List Event) → EachAsked (IsIdle id) events
         → Came later conversation events
     after_refusal nothing hears later events asked =
@@ -209,7 +209,7 @@ module _ (web : WebAnswers) (settled : IsStableReading ShowsRequest) (within : H
       by_stage (AfterBody f told hears) = nothing_heard hears (after_body f told (same_arrival f.peer f.id _ f.in_order) hears more [] tt)
       by_stage (Refused nothing hears) = nothing_heard hears (after_refusal nothing hears (bytes ++ more) [] tt)
 
-    -- it draws, or tells a title
+    -- it draws, or sends a title
     pub idle_comes : (event : Event) → IsIdle id event → Came (bytes ++ []) conversation (event ∷ [])
     idle_comes event idle = by_stage c.stage where
       by_stage : Stage web bytes log given conversation → Came (bytes ++ []) conversation (event ∷ [])

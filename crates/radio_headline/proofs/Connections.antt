@@ -45,7 +45,7 @@ arrival peer id = record { event = Arrive peer; reply = Arrived id }
 abbrev pub events_of : List Entry → List Event
 events_of log = map (λ e. e.event) log
 
--- it draws, tells titles or leaves
+-- it draws, sends titles or leaves
 abbrev pub IsIdleOrLeaving : ℕ → Entry → Type 0
 IsIdleOrLeaving id e = IsIdle id e.event ⊎ (e.event ≡ Leave id)
 
@@ -62,7 +62,7 @@ IsBehindRequest id event = ⊥
 abbrev pub IsNoRequest : ℕ → Entry → Type 0
 IsNoRequest id e = IsBehindRequest id e.event
 
--- by this event a mount is asked for, to hear or to feed it, or a relay comes up there
+-- by this event a client asks to hear or to feed a mount, or a relay comes up there
 abbrev pub AsksForMount : Event → Type 0
 AsksForMount (Listen asked) = Unit {0}
 AsksForMount (Source asked) = Unit {0}
@@ -73,7 +73,7 @@ AsksForMount event = ⊥
 abbrev pub AsksNothing : Entry → Type 0
 AsksNothing e = AsksForMount e.event → ⊥
 
--- a GET was heard, and what was given is what is told of the replies
+-- a GET was read, and what was given is what is written of the replies
 pub record ByGet (web : WebAnswers) (bytes : List ℕ) (log : List Entry) (given : List ℕ) : Type 0 where
   pub id : ℕ
   pub peer : Peer
@@ -92,7 +92,7 @@ pub record ByGet (web : WebAnswers) (bytes : List ℕ) (log : List Entry) (given
   pub is_get : bytes_eq request.method (codes "GET") ≡ true
   pub is_told : given ≡ told (asking web) (replies log)
 
--- a source's request was heard, and what was pushed is a front of the data of its body
+-- a source's request was read, and what was pushed is a front of the data of its body
 pub record Feeds (bytes : List ℕ) (log : List Entry) : Type 0 where
   pub id : ℕ
   pub peer : Peer
@@ -129,7 +129,7 @@ pub record Pulls (bytes : List ℕ) (log : List Entry) : Type 0 where
   pub rest : List ℕ
   pub front : pushed (events_of behind) ++ rest ≡ sound_of_parts (stream_parts (stream_with interval) (drop length bytes))
 
--- what was given begins with what it was told of its request
+-- what was given begins with the reply to its request
 abbrev pub IsGreeted : (web : WebAnswers) → {bytes : List ℕ} {log : List Entry} → Feeds bytes log → List ℕ → Type 0
 IsGreeted web f given = Greeted web f.id f.idle f.request f.reply given
 
@@ -147,7 +147,7 @@ pub record IsClosed (web : WebAnswers) (bytes : List ℕ) (log : List Entry) (gi
   pub own : Each (IsOwn log) log
   pub facts : Facts web bytes log given
 
--- what was given is what is told of the replies, and the conversation goes on so
+-- what was given is what is written of the replies, and the conversation goes on from there
 pub record IsTold (web : WebAnswers) (conversation : Conversation) (log : List Entry) (given : List ℕ) : Type 0 where
   pub says : conversation.says ≡ said_all (asking web) (replies log)
   pub goes : IsOpen (asking web) (replies log)

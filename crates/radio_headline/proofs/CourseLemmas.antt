@@ -1,4 +1,4 @@
--- A script's deliveries come to a course, and each connection stands by what has happened on it.
+-- A script's deliveries yield a course, and the state of each connection follows from what has happened on it.
 use Rattle.std.proofs.Common.{◌≡◌, ℕ, List, [], ◌∷◌, ◌++◌, Option, None, Some, refl, sym, ap, subst, ◌∙◌}
 use Rattle.std.specs.Prelude.{map}
 use Rattle.std.specs.Option.{option_map}
@@ -68,7 +68,7 @@ module _ (web : WebAnswers) (settings : Settings) (lists : Lists) (settled : IsS
   w0 = opening settings lists
 
   module _ (done : List Delivery) (state : ScriptState) (past : List Happening) (lines : List TranscriptLine) (s : Stands web settings lists done state past lines) where
-    -- a delivery is performed, and things stand so
+    -- a delivery is performed, and this is the state then
     pub record Next (delivery : Delivery) (text : List ℕ) (later : ScriptState) : Type 0 where
       pub happenings : List Happening
       pub happen : Happens state delivery happenings
@@ -186,7 +186,7 @@ module _ (web : WebAnswers) (settings : Settings) (lists : Lists) (settled : IsS
       the_text : Some [] ≡ Some text → [] ≡ text
       the_text e = cc
 
-    -- something comes to a connection that is there
+    -- an input arrives on an open connection
     module _ (label : ℕ) (input : Input) where
       comes_there : (later : ScriptState) (events : List Event) (bytes : List ℕ) (word : Option (List ℕ)) (text : List ℕ) (new : Option Connection)
           → later.world ≡ world_after_all state.world events → later.connections ≡ with_connection state.connections label new
@@ -260,7 +260,7 @@ module _ (web : WebAnswers) (settings : Settings) (lists : Lists) (settled : IsS
           the_text : (pulled_on state label now ends w).lines ≡ Some text → written_lines label [] ends ≡ text
           the_text e = cc
 
-    -- something comes to a client's connection
+    -- an input arrives on a client's connection
     client_next : (label : ℕ) (conversation : Conversation) → connection_of state.connections label ≡ Some (Some (Client conversation)) → (input : Input)
         → (p : Performed) → ComesToClient state label conversation input p → (text : List ℕ) → p.lines ≡ Some text → Next (To label input) text p.state
     client_next label conversation known (Data bytes) p h text told =
@@ -304,7 +304,7 @@ module _ (web : WebAnswers) (settings : Settings) (lists : Lists) (settled : IsS
             (client label End conversation known)));
       }
 
-    -- something comes to a relay's connection
+    -- an input arrives on a relay's connection
     module _ (label : ℕ) (pulling : Pulling) (known : connection_of state.connections label ≡ Some (Some (Relay pulling))) where
       no_bytes_came : (input : Input) → bytes_in input ≡ [] → (connection : Option Connection) (events : List Event)
           → IsSo web (Some connection) (brought done label) (log_on w0 past label ++ entries state.world events) (given lines label ++ [])

@@ -1,4 +1,4 @@
--- The log of a connection on which a GET was heard.
+-- The log of a connection on which a GET was read.
 use Rattle.std.proofs.Common.{◌≡◌, ◌⊎◌, inl, inr, ℕ, Bool, true, false, List, [], ◌∷◌, ◌++◌, Option, None, Some, refl, sym, ap, subst, ◌∙◌}
 use Rattle.std.specs.Prelude.{if◌then◌else◌}
 use Rattle.std.specs.List.{AllByRecursion, flat_map}
@@ -54,7 +54,7 @@ pub orderly_second : (id : ℕ) (log more : List Entry) → IsOrderly id (log ++
 orderly_second id [] more h = h
 orderly_second id (e ∷ log) more h = orderly_second id log more h.1
 
--- by this event a mount is asked for, to hear it
+-- this event asks for a mount, to hear it
 abbrev pub IsGetting : Event → Type 0
 IsGetting (Listen asked) = Unit {0}
 IsGetting (Command asked) = Unit {0}
@@ -113,7 +113,7 @@ pub no_entry : (before behind : List Entry) (e : Entry) → [] ≡ before ++ e �
 no_entry [] behind e h = cc
 no_entry (x ∷ before) behind e h = cc
 
--- where a mount is asked for, to hear it, a GET was heard
+-- if a client asks to hear a mount, a GET was read
 module _ (web : WebAnswers) (bytes : List ℕ) (log : List Entry) (given : List ℕ) (before behind : List Entry) (e : Entry) (parts : log ≡ before ++ e ∷ behind)
     (listens : IsGetting e.event) where
   never : {A : Type 0} → Each GetsNot log → A
@@ -137,7 +137,7 @@ parted_at_get web bytes log given g before behind e parts l =
     ((λ k. k), each_as (IsIdling g.id) GetsNot (idle_not g.id) g.idle g.idles)
     (each_as (IsIdleOrLeaving g.id) GetsNot (idle_or_leaving_not g.id) g.behind g.no_more)).here
 
--- nothing was told while it waited
+-- nothing was written while it waited
 abbrev pub IsMute : Entry → Type 0
 IsMute e = (e.reply ≡ Stray) ⊎ ((rule : Rule) × (e.reply ≡ Finished rule))
 

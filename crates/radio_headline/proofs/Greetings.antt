@@ -1,4 +1,4 @@
--- What a source is told of its request.
+-- What a source reads of its request.
 use Rattle.std.proofs.Common.{◌≡◌, ℕ, List, [], ◌∷◌, ◌++◌, Option, refl, sym, ap, ◌∙◌, append_assoc}
 use Rattle.std.proofs.lemmas.List.{append-nil}
 use Rattle.radio_events.specs.declared.entry.Entry.{Entry}
@@ -21,12 +21,12 @@ use Rattle.radio_headline.proofs.Logs.{replies}
 use Rattle.radio_headline.proofs.AppliedLemmas.{IsLast, IsOpen, last_shuts, said_all}
 use Rattle.radio_answers.specs.declared.web_answers.WebAnswers.{WebAnswers}
 
--- how the reply to its request is told
+-- how the reply to its request is written
 abbrev pub greeted_says : (web : WebAnswers) → ℕ → List Entry → RequestParts → Option Closing → Says
 greeted_says web id idle request closing =
     record (said_all (asking web) (Arrived id ∷ replies idle)) { greeting = greeting_of request; closing = closing }
 
--- It was told that of the reply to its request, behind what it had been told before, and nothing behind a last word.
+-- The text of the reply to its request was written, after the text before it, and nothing after a last word.
 pub record Greeted (web : WebAnswers) (id : ℕ) (idle : List Entry) (request : RequestParts) (reply : Reply) (given : List ℕ) : Type 0 where
   pub goes : IsOpen (asking web) (Arrived id ∷ replies idle)
   pub closing : Option Closing
@@ -34,7 +34,7 @@ pub record Greeted (web : WebAnswers) (id : ℕ) (idle : List Entry) (request : 
   pub is_told : given ≡ told (asking web) (Arrived id ∷ replies idle) ++ ((said (greeted_says web id idle request closing) reply).bytes ++ rest)
   pub ends : IsLast reply → rest ≡ []
 
--- more may be told where that was no last word
+-- more may be written if that was no last word
 pub greeted_on : (web : WebAnswers) (id : ℕ) (idle : List Entry) (request : RequestParts) (reply : Reply) (given more : List ℕ) → Greeted web id idle request reply given
     → (IsLast reply → ⊥) → Greeted web id idle request reply (given ++ more)
 greeted_on web id idle request reply given more g goes_on =
@@ -49,7 +49,7 @@ greeted_on web id idle request reply given more g goes_on =
       ends = λ last. absurd (goes_on last);
     }
 
--- of events that are exchanged the first is told first, and what is last is told alone
+-- of exchanged events the first is written first, and a last reply is written alone
 pub record ToldFirst (w : World) (id : ℕ) (says : Says) (event : Event) (asked : List Event) : Type 0 where
   pub rest : List ℕ
   pub is_told : (exchanged w id says (event ∷ asked)).exchange.bytes ≡ (said says (reply_to w event)).bytes ++ rest

@@ -1,4 +1,4 @@
--- What comes to a client's connection while its head has not come.
+-- Inputs on a client's connection before its head is complete.
 use Rattle.std.proofs.Common.{◌≡◌, ◌⊎◌, inl, inr, ℕ, Bool, true, false, List, [], ◌∷◌, ◌++◌, drop, Some, Ok, refl, sym, ap, subst, ◌∙◌}
 use Rattle.std.specs.Prelude.{codes, if◌then◌else◌, option_map}
 use Rattle.std.specs.List.{concat}
@@ -48,7 +48,7 @@ use Rattle.radio_answers.specs.declared.web_answers.WebAnswers.{WebAnswers}
 module _ (web : WebAnswers) (settled : IsStableReading ShowsRequest) (within : HeadsLieWithin ShowsRequest) (joined : (bytes : List ℕ) → concat (blocks_of bytes) ≡ bytes)
     (places : (place : Place) (first second : List ℕ) → after place (first ++ second) ≡ after (after place first) second)
     (data_joined : (place : Place) (first second : List ℕ) → data_of place (first ++ second) ≡ data_of place first ++ data_of (after place first) second) where
-  -- Something comes to a client's connection, whose conversation stood so.
+  -- An input arrives on a client's connection, whose conversation is in this state.
   module _ (w : World) (bytes : List ℕ) (log : List Entry) (given : List ℕ) (conversation : Conversation) (c : IsClient web bytes log given conversation) where
     abbrev Came : List ℕ → Conversation → List Event → Type 0
     Came = CameOn web w bytes log given conversation c
@@ -79,7 +79,7 @@ module _ (web : WebAnswers) (settled : IsStableReading ShowsRequest) (within : H
             idling run = entries_each (IsIdle id) w (applied w now.id now.says events)
                 (subst (EachAsked (IsIdle id)) (sym (goes_on w now.id now.says events run).all) asked)
 
-      -- a GET is heard
+      -- a GET is read
       gets_at_head : (later : List ℕ) (request : RequestParts) (n : ℕ) → IsReading ShowsRequest later (Ok (Whole request n)) → is_source request ≡ false
           → bytes_eq request.method (codes "GET") ≡ true
           → Came later (get_heard (nothing_held conversation) request).conversation (asks_by_get web id request ∷ [])
@@ -120,7 +120,7 @@ module _ (web : WebAnswers) (settled : IsStableReading ShowsRequest) (within : H
               is_told = told_now web w later log given ((get_heard (nothing_held conversation) request).conversation) ((asks_by_get web id request) ∷ []) conversation t refl;
             }
 
-      -- a source's head is heard, and the first bytes of its body
+      -- a source's head is read, and the first bytes of its body
       feeds_at_head : (later : List ℕ) (request : RequestParts) (n : ℕ) (start : Place) → IsReading ShowsRequest later (Ok (Whole request n))
           → is_source request ≡ true → option_map start_of (framing_of request) ≡ Some start → (heard : EventReading)
           → Delivers settled within joined places data_joined (greeted (nothing_held conversation) request) (asks_to_feed id request ∷ []) start (drop n later) heard

@@ -1,4 +1,4 @@
--- What a head and a body are heard as, and more bytes behind them.
+-- How a head and a body are read, and more bytes after them.
 use Rattle.std.proofs.Common.{◌≡◌, ◌⊎◌, inl, inr, ℕ, Bool, true, false, List, [], ◌∷◌, ◌++◌, drop, Option, None, Some, Result, Ok, Err, refl, sym, ap, subst, ◌∙◌, append_assoc}
 use Rattle.std.specs.Prelude.{map, codes, if◌then◌else◌, length, option_map}
 use Rattle.std.specs.List.{concat}
@@ -60,7 +60,7 @@ module _ (settled : IsStableReading ShowsRequest) (within : HeadsLieWithin Shows
       (sym (append_assoc (pushed (events_of f.behind)) f.rest later) ∙ ap (λ (xs : List ℕ). xs ++ later) f.front
       ∙ sym (more_data bytes more f.request f.length f.start f.reading))
 
-  -- what a body is heard as
+  -- how a body is read
   pub record Delivers (conversation : Conversation) (before : List Event) (place : Place) (bytes : List ℕ) (heard : EventReading) : Type 0 where
     pub asked : List Event
     pub events : heard.events ≡ before ++ asked
@@ -111,7 +111,7 @@ module _ (settled : IsStableReading ShowsRequest) (within : HeadsLieWithin Shows
         hears = inr refl;
       }
 
-  -- what a head is heard as
+  -- how a head is read
   pub data HeadHeard (conversation : Conversation) (bytes : List ℕ) : EventReading → Type 0 where
     Unfinished : HeadHeard conversation bytes (record { events = []; conversation = record conversation { held = bytes } })
     IsRefused : (rule : Rule) → HeadHeard conversation bytes (refuses (nothing_held conversation) rule)

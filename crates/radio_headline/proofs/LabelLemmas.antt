@@ -109,7 +109,7 @@ with_elsewhere xs label other connection apart =
             the_label : (x : Labelled) → has_label label x ≡ true → x.label ≡ label
             the_label x e = grind (arith, nat_tests)
 
--- the lines of what a delivery comes to
+-- the lines of a delivery
 abbrev pub out_part : ℕ → List ℕ → List TranscriptLine
 out_part label [] = []
 out_part label (b ∷ bytes) = out label (b ∷ bytes) ∷ []

@@ -1,4 +1,4 @@
--- What is given to one who asks to hear a mount.
+-- What a client is given that asks to hear a mount.
 use Rattle.std.proofs.Common.{◌≡◌, inl, inr, ℕ, ◌==◌, Bool, true, false, List, [], ◌∷◌, ◌++◌, Option, None, Some, refl, sym, ap, subst, ◌∙◌}
 use Rattle.std.specs.Prelude.{if◌then◌else◌}
 use Rattle.std.specs.List.{AllByRecursion}
@@ -91,7 +91,7 @@ module _ (web : WebAnswers) (settings : Settings) (lists : Lists)
       (λ other. (each other).own)
       (none_nowhere label id course nowhere)
 
--- who has asked for nothing yet, and asks to hear, is not out of place
+-- a client that has asked for nothing yet, and asks to hear a mount, is not out of place
 module _ (w : World) (asked : ListenRequest)
     (allowed : (peer : Peer) → standing_of w asked.id ≡ Undecided peer → verdict_in (rows_to_listen w asked) ≡ Allow → ⊥) where
   at_page : (path : WebPath) (s : Standing) → IsNew s → standing_of w asked.id ≡ s → (asks_by w asked (Some path)).reply ≡ Stray → ⊥
@@ -178,7 +178,7 @@ module _ (web : WebAnswers) (settings : Settings) (lists : Lists)
         let both = sym taken.is_shown ∙ stray in
         cc
 
-  -- what is told behind the first of a log
+  -- what is written after the first entry of a log
   module _ (denied : (events : List Event) (event : Event) → DenialsAreThePolicys (run_after settings lists events) event)
       (begins : (events : List Event) (event : Event) → BeginsAtABlock (run_after settings lists events) event)
       (stretches : (events : List Event) (id : ℕ) → DrawsAreStretches settings lists events id)
@@ -241,7 +241,7 @@ module _ (web : WebAnswers) (settings : Settings) (lists : Lists)
       mute : Waited web g.idle
       mute = waited web g.idle g.goes.1 waits.1
 
-      -- behind its head stand the draws
+      -- the draws follow its head
       told_behind : given label ≡ told (asking web) (reply ∷ replies behind)
       told_behind =
           g.is_told
@@ -295,7 +295,7 @@ module _ (web : WebAnswers) (settings : Settings) (lists : Lists)
       reads_text : (text : CommandText) → reply ≡ Text text → given label ≡ text_answer web text
       reads_text text e = told_as (Text text) e ∙ append-nil (text_answer web text)
 
-    -- one who gives a command
+    -- a client gives a command
     pub answered_by : (label : ℕ) (asked : CommandRequest) (past later : List Happening) → course ≡ past ++ on label (Command asked) ∷ later
         → CommandIsAnswered settings lists brought course web given label asked past
     answered_by label asked past later parts = record {
@@ -303,7 +303,7 @@ module _ (web : WebAnswers) (settings : Settings) (lists : Lists)
       told = reads_text label (Command asked) tt past later parts;
     }
 
-    -- one who asks to hear a mount
+    -- a client asks to hear a mount
     module _ (label : ℕ) (asked : ListenRequest) (past later : List Happening) (parts : course ≡ past ++ on label (Listen asked) ∷ later) where
       abbrev at : World
       at = run_after settings lists (events_in past)

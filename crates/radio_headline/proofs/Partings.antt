@@ -1,4 +1,4 @@
--- Where in a log the one entry stands that is of a kind.
+-- The place in a log of its one entry of a kind.
 use Rattle.std.proofs.Common.{◌≡◌, List, [], ◌∷◌, ◌++◌, refl, sym, ap, subst, ◌∙◌}
 use Rattle.radio_events.specs.declared.entry.Entry.{Entry}
 use Rattle.radio_events.specs.declared.event.Event.{Event}

@@ -1,4 +1,4 @@
--- A script that is played to its end comes to the transcript of its deliveries.
+-- A script that is played to its end has the transcript of its deliveries.
 use Rattle.std.proofs.Common.{◌≡◌, ℕ, List, Option, None, Some}
 use Rattle.radio_settings_values.specs.declared.settings.Settings.{Settings}
 use Rattle.radio_access.specs.Lists.{Lists}

@@ -71,7 +71,7 @@ pub brings_noted : (w : World) (event : Event) → block_in (outcome w event).ch
 unfolding reply_to
 brings_noted w event = (forms_by w event (outcome w event) (way_of w event)).brings
 
--- how one may be replied who asks to hear
+-- the replies to a request to hear a mount
 pub data ListenReply : Reply → Type 0 where
   IsOutOfPlace : ListenReply Stray
   HasFinished : (rule : Rule) → ListenReply (Finished rule)
@@ -105,7 +105,7 @@ pub listen_reply : (w : World) (asked : ListenRequest) → ListenReply (reply_to
 unfolding reply_to
 listen_reply w asked = listen_by w asked (Listen asked) (outcome w (Listen asked)) refl (way_of w (Listen asked))
 
--- a client draws, or tells a title
+-- a client draws, or sends a title
 abbrev pub IsIdle : ℕ → Event → Type 0
 IsIdle id (Draw him room) = him ≡ id
 IsIdle id (Title him text) = him ≡ id

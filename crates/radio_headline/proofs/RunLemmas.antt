@@ -1,4 +1,4 @@
--- Whose numbers are whose, and who has asked for nothing yet, over a course.
+-- The clients of numbers, and clients that have asked for nothing yet, over a course.
 use Rattle.std.proofs.Common.{◌≡◌, ◌⊎◌, inl, inr, ℕ, ◌<◌, ◌≤◌, Bool, true, false, List, [], ◌∷◌, ◌++◌, Option, None, Some, refl, sym, ap, subst, ◌∙◌, arith}
 use Rattle.std.specs.Prelude.{if◌then◌else◌}
 use Rattle.std.specs.List.{AllByRecursion}
@@ -51,7 +51,7 @@ IsOwn log e = (id : ℕ) → client_in e.event ≡ Some id → HasNumber id log
 pub own_before : (log more : List Entry) (e : Entry) → IsOwn log e → IsOwn (log ++ more) e
 own_before log more e h id his = number_before id log more (h id his)
 
--- the moment is told
+-- the event is a clock's
 abbrev pub IsMoment : Event → Type 0
 IsMoment (Clock ms) = Unit {0}
 IsMoment event = ⊥
@@ -87,7 +87,7 @@ AreOn label id past = AllByRecursion (λ (h : Happening). client_in h.event ≡ 
 abbrev pub IsIdling : ℕ → Entry → Type 0
 IsIdling id e = IsIdle id e.event
 
--- it is told nothing, or that it was finished
+-- the reply is that of an event out of place, or of a finished client
 abbrev pub IsSilent : Entry → Type 0
 IsSilent e = (e.reply ≡ Stray) ⊎ ((rule : Rule) × (e.reply ≡ Finished rule))
 
@@ -181,7 +181,7 @@ module _ (settings : Settings) (lists : Lists)
         by_labels ih false e true f x (inr y) = ih x y
         by_labels ih false e false f x y = ih x y
 
-  -- who has asked for nothing has asked for nothing still, if all that it does is to draw and to tell titles
+  -- a client that has asked for nothing has asked for nothing still, if it only draws and sends titles
   still_new : (w : World) (event : Event) (id : ℕ) → (client_in event ≡ Some id → IsIdle id event) → (Cause : Rule → Type 0) → (s later : Standing)
       → ClientStep w Cause event id s later → IsNew s → IsNew later
   still_new w event id idle Cause s later (Stays _) n = n
@@ -235,7 +235,7 @@ module _ (settings : Settings) (lists : Lists)
     never (Undecided peer) d (AsksNothing _) = cc
     never (HasFinished rule) d (IsOut _) = cc
 
-  -- one who has asked for nothing idles
+  -- a client that has asked for nothing idles
   pub idles : (w : World) (past : List Happening) (label id : ℕ) → Reached w → AreOn label id past → IsNew (standing_of w id)
       → Each (IsIdling id) (log_on w past label) → Waits id (world_after_all w (events_in past)) (log_on w past label)
   idles w [] label id r on new idle = record { new = new; silent = tt }

@@ -1,4 +1,4 @@
--- Deliveries that come to a transcript come to a course.
+-- Deliveries that yield a transcript yield a course.
 use Rattle.std.proofs.Common.{◌≡◌, inl, inr, ℕ, ◌+◌, List, [], ◌∷◌, ◌++◌, Option, None, Some, refl, sym, ap, subst, ◌∙◌, append_assoc}
 use Rattle.std.specs.List.{concat}
 use Rattle.std.proofs.lemmas.List.{append-nil}
@@ -28,7 +28,7 @@ module _ (web : WebAnswers) (settings : Settings) (lists : Lists) (settled : IsS
     (afters : AfterPieces) (joined : (bytes : List ℕ) → concat (blocks_of bytes) ≡ bytes)
     (places : (place : Place) (first second : List ℕ) → after place (first ++ second) ≡ after (after place first) second)
     (data_joined : (place : Place) (first second : List ℕ) → data_of place (first ++ second) ≡ data_of place first ++ data_of (after place first) second) where
-  -- the deliveries come to a course
+  -- the deliveries yield a course
   pub record Came (done deliveries : List Delivery) (state last : ScriptState) (past : List Happening) (lines : List TranscriptLine) (number : ℕ)
       (text : List ℕ) (stop : Option ℕ) : Type 0 where
     pub course : List Happening

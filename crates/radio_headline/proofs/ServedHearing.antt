@@ -36,7 +36,7 @@ module _ (settled : IsStableReading ShowsRequest) (within : HeadsLieWithin Shows
   abbrev all : List ℕ
   all = s.given ++ bytes
 
-  -- what it has come to when this was heard
+  -- the connection's state after this reading
   abbrev pub then_heard : EventReading → Standing
   then_heard heard = record s { given = all; session = heard.conversation; pending = heard.events }
 
@@ -49,7 +49,7 @@ module _ (settled : IsStableReading ShowsRequest) (within : HeadsLieWithin Shows
   abbrev still_asking : (heard : EventReading) → IsAsking web peer id s → IsAsking web peer id (then_heard heard)
   still_asking heard a = record { idle = a.idle; arrived = a.arrived; idles = a.idles }
 
-  -- its head was heard, or a part of it
+  -- its head was read, or a part of it
   module _ (a : IsAsking web peer id s) (hears : s.session.hears ≡ HearsHead) (t : IsTold web s.session s.entries s.text) where
     keeps_web : s.session.says.web ≡ web
     keeps_web = ap (λ (x : Says). x.web) t.says ∙ web_stays (asking web) (replies s.entries)
@@ -109,7 +109,7 @@ module _ (settled : IsStableReading ShowsRequest) (within : HeadsLieWithin Shows
       sym (places f.feeds.start (drop f.feeds.length s.given) bytes)
       ∙ ap (after f.feeds.start) (sym (behind_head settled within joined places data_joined s.given bytes f.feeds.request f.feeds.length f.feeds.reading))
 
-  -- more of its body was heard
+  -- more of its body was read
   body_heard_on : (f : IsFeeding web peer id s) → s.pending ≡ [] → f.lost ≡ [] → (heard : EventReading)
       → Delivers settled within joined places data_joined (nothing_held s.session) [] (place_of f) bytes heard → HasHeard heard
   body_heard_on f none whole heard d = (

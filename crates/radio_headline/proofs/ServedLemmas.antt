@@ -60,7 +60,7 @@ all_leave_so w (h ∷ course) label =
       here true = (leaves_so w h.event, tt)
       here false = tt
 
--- nothing is told of it
+-- nothing is written of it
 told_leave : (says : Says) → says.closing ≡ None → (before : List Reply) (reply : Reply) → LeaveReply reply → told says (before ++ reply ∷ []) ≡ told says before
 told_leave says none [] reply l = leaves_silently says reply none l
 told_leave says none (x ∷ before) reply l =
@@ -76,7 +76,7 @@ module _ (settled : IsStableReading ShowsRequest) (within : HeadsLieWithin Shows
     (web : WebAnswers)
     (more_facts : (bytes more : List ℕ) (log : List Entry) (given : List ℕ) → Facts web bytes log given → Facts web (bytes ++ more) log given) where
   module _ (peer : Peer) (id : ℕ) where
-    -- the client leaves, whose connection has come to this
+    -- the client leaves, whose connection is in this state
     module _ (bytes : List ℕ) (log others : List Entry) (text : List ℕ) (arrived : log ≡ arrival peer id ∷ others) (orderly : IsOrderly id log) (reply : Reply)
         (l : LeaveReply reply) where
       abbrev left : List Entry
@@ -146,13 +146,13 @@ module _ (settled : IsStableReading ShowsRequest) (within : HeadsLieWithin Shows
     closed_known : (bytes : List ℕ) (log : List Entry) (text : List ℕ) → Known bytes log text → IsClosed web bytes log text
     closed_known bytes log text k = record { own = client_owns id peer k.others log k.arrived k.his; facts = k.facts }
 
-    -- how it stands as long as it goes on
+    -- its state as long as it goes on
     record Going (s : Standing) : Type 0 where
       pub same : s.session.id ≡ id
       pub not_last : Each IsNotLast s.entries
       pub goes : Goes web peer id s
 
-    -- what its course has come to
+    -- the state of its course
     record Came (s : Standing) : Type 0 where
       pub known : Known s.given s.entries s.text
       pub going : s.fate ≡ Open → Going s
@@ -287,7 +287,7 @@ module _ (settled : IsStableReading ShowsRequest) (within : HeadsLieWithin Shows
       subst (λ (bs : List ℕ). IsClosed web bs entries text) same_given
       (subst (λ (es : List Entry). IsClosed web pull.given es text) same_entries (pulls mount pull course text))
 
--- what comes on no connection tells a moment
+-- an event on no connection is a clock's
 pub nowhere_told : (course : List Happening) → AllByRecursion HasLabelOrMoment course → AllNowhere (λ h. IsMoment h.event) course
 nowhere_told [] told = tt
 nowhere_told (h ∷ course) told = ((λ none. let moment = told.0 none in subst IsMoment (sym moment.1) tt), nowhere_told course told.1)

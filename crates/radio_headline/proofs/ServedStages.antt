@@ -42,7 +42,7 @@ told_one : (says : Says) (reply : Reply) → told says (reply ∷ []) ≡ (said 
 told_one says reply =
     ap (λ (xs : List ℕ). (said says reply).bytes ++ xs) (nothing_later (said says reply).state) ∙ append-nil (said says reply).bytes
 
--- one more reply is told
+-- one more reply is written
 module _ (web : WebAnswers) (conversation : Conversation) (log : List Entry) (text : List ℕ) (t : IsTold web conversation log text) (one : Entry) where
   abbrev of : Said
   of = said conversation.says one.reply
@@ -78,7 +78,7 @@ module _ (web : WebAnswers) (peer : Peer) (id : ℕ) where
     pub arrived : s.entries ≡ arrival peer id ∷ idle
     pub idles : Each (IsIdling id) idle
 
-  -- a GET was heard, and is still to be applied
+  -- a GET was read, and is still to be applied
   pub record HasHeardGet (s : Standing) : Type 0 where
     pub request : RequestParts
     pub length : ℕ
@@ -87,7 +87,7 @@ module _ (web : WebAnswers) (peer : Peer) (id : ℕ) where
     pub is_get : bytes_eq request.method (codes "GET") ≡ true
     pub waits : s.pending ≡ asks_by_get web id request ∷ []
 
-  -- a source's head was heard: its request is still to be applied, and then the first of its body
+  -- a source's head was read: its request is still to be applied, and then the first of its body
   pub record HasHeardSource (s : Standing) (idle : List Entry) : Type 0 where
     pub request : RequestParts
     pub length : ℕ
@@ -160,7 +160,7 @@ module _ (web : WebAnswers) (peer : Peer) (id : ℕ) where
     abbrev now : Said
     now = said s.session.says reply
 
-    -- what comes of it
+    -- the state after it
     pub record IsApplied : Type 0 where
       pub his : client_in event ≡ Some id
       pub facts : Facts web s.given (s.entries ++ one ∷ []) (s.text ++ now.bytes)

@@ -22,7 +22,7 @@ use Rattle.radio_answers.specs.declared.web_answers.WebAnswers.{WebAnswers}
 pub logged : {A : Type 0} (first : A) (xs ys zs : List A) → first ∷ xs ++ ys ++ zs ≡ first ∷ xs ++ (ys ++ zs)
 logged first xs ys zs = append_assoc (first ∷ xs) ys zs
 
--- Something comes to a client's connection, whose conversation stood so.
+-- An input arrives on a client's connection, whose conversation is in this state.
 module _ (web : WebAnswers) (w : World) (bytes : List ℕ) (log : List Entry) (given : List ℕ) (conversation : Conversation) (c : IsClient web bytes log given conversation) where
   abbrev pub CameOn : List ℕ → Conversation → List Event → Type 0
   CameOn later now events =

@@ -119,7 +119,7 @@ module _ (settings : Settings) (lists : Lists)
   fed_all past (h ∷ rest) none fed =
       subst AreFed (append_assoc past (h ∷ []) rest) (fed_all (past ++ h ∷ []) rest none.1 (fed_more past h none.0 fed))
 
-  -- each of them sits in what is heard at the mount, and its session is fed
+  -- each of them sits in the session that the mount's listeners draw, and that session is fed
   abbrev pub SitsWith : List Happening → (Sitting → Type 0) → Type 0
   SitsWith course P = (past later : List Happening) (mount : List ℕ) (session : Session) (start : ℕ) → course ≡ past ++ later → AreFed past
       → heard_at (server_at past).station mount ≡ Some session → P (record { mount = mount; source = session.number; start = start })

@@ -98,7 +98,7 @@ going_notes : (log : List Entry) → Each (λ e. IsGoing e.event) log → Each N
 going_notes [] h = tt
 going_notes (e ∷ log) h = (no_block e.event e.reply (going_pushes e.event h.0), going_notes log h.1)
 
--- where nothing comes behind the last that is told, nothing comes behind a refusal
+-- if nothing follows the last reply, nothing follows a refusal
 refusal_is_last : (reply : Reply) → IsRefusal reply → IsLast reply
 refusal_is_last (Deny rule) h = tt
 refusal_is_last (Finished rule) h = tt
@@ -174,7 +174,7 @@ module _ (settings : Settings) (lists : Lists)
   behind_notes w id (RelayDown him) his n = no_block (RelayDown him) (reply_to w (RelayDown him)) refl
   behind_notes w id (Leave him) his n = no_block (Leave him) (reply_to w (Leave him)) refl
 
-  -- who feeds nothing, and does not ask to, brings nothing
+  -- a client that feeds nothing, and does not ask to, brings nothing
   brings_nothing : (w : World) (past : List Happening) (label id : ℕ) → IsReached w → id ≤ w.station.last_id → AllByRecursion (IsOnIt label id) past
       → Each (IsNoRequest id) (log_on w past label) → FeedsNothing (standing_of w id) → Each NotesNothing (log_on w past label)
   brings_nothing w [] label id r below on h n = tt

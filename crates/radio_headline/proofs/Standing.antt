@@ -1,4 +1,4 @@
--- How things stand on each connection, and when something happens on one.
+-- The state of each connection, and when something happens on one.
 use Rattle.std.proofs.Common.{◌≡◌, ℕ, ◌==◌, Bool, true, false, List, [], ◌∷◌, ◌++◌, Option, refl, sym, ap, subst, ◌∙◌}
 use Rattle.std.specs.Prelude.{map, if◌then◌else◌}
 use Rattle.std.proofs.lemmas.List.{append-nil}
@@ -44,7 +44,7 @@ module _ (web : WebAnswers) (settings : Settings) (lists : Lists) where
   abbrev w0 : World
   w0 = opening settings lists
 
-  -- how things stand after these deliveries
+  -- the state of all connections after these deliveries
   pub record Stands (done : List Delivery) (state : ScriptState) (past : List Happening) (lines : List TranscriptLine) : Type 0 where
     pub world : state.world ≡ run_after settings lists (events_in past)
     pub each : (label : ℕ) → IsSo web (connection_of state.connections label) (brought done label) (log_on w0 past label) (given lines label)
@@ -59,7 +59,7 @@ module _ (web : WebAnswers) (settings : Settings) (lists : Lists) where
   nowhere_on label [] = tt
   nowhere_on label (event ∷ events) = ((λ e. cc), nowhere_on label events)
 
-  -- something happens on the connection of a label, and the others stand as before
+  -- something happens on the connection of a label, and the others are unchanged
   pub record Changes (done : List Delivery) (state later : ScriptState) (past : List Happening) (lines : List TranscriptLine) (delivery : Delivery)
       (events : List Event) (told : List TranscriptLine) (label : ℕ) : Type 0 where
     pub world : later.world ≡ world_after_all state.world events

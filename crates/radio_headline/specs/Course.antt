@@ -59,7 +59,7 @@ log_on w (happening ∷ happenings) label = entry_on w happening label ++ log_on
 
 -- Of the events that a client's connection asks for.
 
--- this one is applied, and the others where it goes on; where it is shut the client leaves, unless that is what it has just done
+-- this event is applied, and the others if the connection goes on. If it is shut, its client leaves, unless the event was its leaving
 abbrev pub and_then : ℕ → Event → State → List Event → List Event
 and_then id event Running others = event ∷ others
 and_then id event (Shut ending) others = event ∷ (if is_leave event then [] else Leave id ∷ [])
@@ -119,7 +119,7 @@ abbrev pub arrival_at_label : ℕ → Peer → Option (Option Connection) → Li
 arrival_at_label label peer None = on label (Arrive peer) ∷ []
 arrival_at_label label peer (Some connection) = []
 
--- what happens at a delivery; where a relay connects nothing does
+-- what happens at a delivery; nothing does when a relay connects
 abbrev pub Happens : ScriptState → Delivery → List Happening → Type 0
 Happens state (Open label peer) happenings = happenings ≡ arrival_at_label label peer (connection_of state.connections label)
 Happens state (Pull label mount) happenings = happenings ≡ []

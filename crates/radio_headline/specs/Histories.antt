@@ -25,9 +25,9 @@ abbrev pub draws_noted : List Entry → ℕ → List Call
 draws_noted [] id = []
 draws_noted (e ∷ history) id = of_client e.event id (draws_of (e.reply ∷ [])) ++ draws_noted history id
 
--- each reply that was noted is that of a step from the state after the entries before it, and lawful. The data in the draws that were noted for a listener
--- are slices, joined in order, one for each of its sittings. Each slice is of what the source delivered in whose session it sat, or of nothing if it
--- waited for a session. The split between two slices is where it sat down
+-- each reply that was noted is that of a step from the state after the entries before it, and lawful. The data in the noted draws of a
+-- listener are slices, joined in order, one for each of its sittings. Each slice is of what the source of its session delivered, or
+-- is empty if it waited for a session. The split between two slices is where it sat down
 pub record IsLawfulHistory (settings : Settings) (lists : Lists) (history : List Entry) : Type 0 where
   pub replies : (before after : List Entry) (entry : Entry) → history ≡ before ++ entry ∷ after
       → entry.reply ≡ reply_to (run_after settings lists (events_noted before)) entry.event

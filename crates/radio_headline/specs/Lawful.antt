@@ -23,8 +23,8 @@ use Rattle.radio_laws.specs.Users.{SittersAreLetIn, UsersStep}
 use Rattle.radio_laws.specs.WalkingOn.{ListenersWalkOn, MovesAreWhole}
 
 module _ (settings : Settings) (lists : Lists) (events : List Event) (event : Event) where
-  -- Serving: what the policy allows happens. Data is what follows the listener's place in a stream that is open to it, with the last title. A listener that
-  -- is moved goes where its walk lands, or is finished by the rule that stops it.
+  -- Serving: what the policy allows happens. Data follow the listener's place in a stream that is open to it, with the last title. A moved
+  -- listener goes where its walk lands, or is finished by the rule that stops the walk.
   pub record IsServedLawfully : Type 0 where
     pub happens : Serves (run_after settings lists events)
     pub handed : AccessIsKept (run_after settings lists events) event
@@ -47,16 +47,16 @@ module _ (settings : Settings) (lists : Lists) (events : List Event) (event : Ev
     pub finished : FinishedAreTold settings lists events event
     pub nothing : ChangesNothing (run_after settings lists events) event
 
-  -- Limits: after the event no mount has more listeners than it may, nor a user twice if each may listen once. No listener is further behind than a queue is
-  -- long. After a moment nobody is there whose time is over.
+  -- Limits: after the event no mount has more listeners than allowed, nor a user twice if each may listen once. No listener is further behind
+  -- than a queue is long. After a moment nobody is there whose time is over.
   pub record IsWithinItsLimits : Type 0 where
     pub within : IsWithinLimits (world_after (run_after settings lists events) event)
     pub admits : AdmitsByLimits (run_after settings lists events) event
     pub near : NobodyLags (world_after (run_after settings lists events) event)
     pub in_time : (ms : ℕ) → NobodyOutstays (run_after settings lists events) ms
 
-  -- Listing: a client that may see a listing is shown what is there, and no other client is. What everybody or a relay is shown has no hidden mount.
-  -- Two runs that agree on what the viewer may see show the same bytes.
+  -- Listing: a client that may see a listing is shown the present state, and no other client is. What everybody or a relay is shown has no
+  -- hidden mount. Two runs that agree on what the viewer may see show the same bytes.
   pub record IsListedLawfully : Type 0 where
     pub only_who_may : OnlyWhoMayIsShown (run_after settings lists events) event
     pub who_may : WhoMayIsShown (run_after settings lists events)

@@ -1,4 +1,4 @@
--- What each client is given, over any course: `brought` are the bytes that came on the connection of each label, `given` those that were given to it.
+-- What each client is given, over any course. `brought` are the bytes that came on the connection of each label, `given` its replies' bytes.
 use Rattle.std.specs.Prelude.{◌≡◌, ℕ, List, [], ◌∷◌, ◌++◌, flat_map, map, Option, None, Some}
 use Rattle.std.specs.List.{AllByRecursion}
 use Rattle.radio_values.specs.declared.field.Shown.{Shown}
@@ -36,24 +36,24 @@ use Rattle.radio_headline.specs.Course.{Happening, events_in, on}
 use Rattle.radio_headline.specs.Lawful.{IsLawful}
 use Rattle.radio_headline.specs.Sources.{HasItsSource, IsRequest, RelaysDeliverTheirSound, SourcesDeliverTheirBodies}
 
--- the draws that the events hand to the listener of this number, in their order
+-- the draws of the listener of this number by the events, in their order
 abbrev pub draws_to : World → List Event → ℕ → List Call
 draws_to w [] id = []
 draws_to w (event ∷ events) id = of_client event id (draws_of (reply_to w event ∷ [])) ++ draws_to (world_after w event) events id
 
--- the data in the draws of a listener are slices joined in order, one for each of its sittings: of what the source delivered in whose session
--- it sat, from where it sat down
+-- the data in the draws of a listener are slices joined in order, one for each of its sittings. Each is of what the source of its session
+-- delivered, from where it sat down
 abbrev pub DrawsAreStretches : Settings → Lists → List Event → ℕ → Type 0
 DrawsAreStretches settings lists events id =
     let w = opening settings lists in
     AreStretches (delivered w events) (sittings w events id) (sound_of_calls (draws_to w events id))
 
--- the draws that an event hands to the listener of this number
+-- the draws of the listener of this number by an event
 abbrev pub draw_to : ℕ → World → Event → List Call
 draw_to id w event = of_client event id (draws_of (reply_to w event ∷ []))
 
--- the draws are cut where the listener sits down. The data of the draws from one sitting to the next, or to the end, are one slice of what the source
--- delivered in whose session it sat. The draws before the first sitting have no data. Joined in order, the parts are all its draws
+-- the draws are cut where the listener sits down. The data of the draws from one sitting to the next, or to the end, are one slice. The
+-- source of its session delivered it. The draws before the first sitting have no data. Joined in order, the parts are all its draws
 abbrev pub DrawsAreCut : Settings → Lists → List Event → ℕ → Type 0
 DrawsAreCut settings lists events id =
     let w = opening settings lists in
@@ -61,7 +61,7 @@ DrawsAreCut settings lists events id =
     (sound_of_calls cut.before ≡ []) × AreSlices (delivered w events) (sittings w events id) (map sound_of_calls cut.each)
     × (cut.before ++ flat_map (λ draws. draws) cut.each ≡ draws_to w events id)
 
--- Of a course of which each connection brought these bytes.
+-- Over a course, whose connections brought these bytes.
 module _ (settings : Settings) (lists : Lists) (brought : ℕ → List ℕ) (course : List Happening) where
   -- the server, when this has happened
   abbrev pub server_after : List Happening → World
@@ -73,9 +73,9 @@ module _ (settings : Settings) (lists : Lists) (brought : ℕ → List ℕ) (cou
 
   -- by what the settings say of answers
   module _ (web : WebAnswers) where
-    -- it is seated in the session of a source, or where one is awaited, and is given a head that shows what that session shows. Then come its draws, woven
-    -- as one stream at the interval that the head names, or their data alone if it names none. These data are slices, one for each time that it sat down.
-    -- Each time it sat with a source, or without data where one was awaited
+    -- it is seated in the session of a source, or where one is awaited, and reads a head that shows what that session shows. Then come its
+    -- draws, woven as one stream at the interval that the head names, or their data alone if it names none. These data are slices, one for
+    -- each time that it sat down. Each time it sat with a source, or without data where one was awaited
     pub record IsHearing (w : World) (asked : ListenRequest) (interval : Option ℕ) (head : StreamHead) (bytes : List ℕ) : Type 0 where
       pub is_seated : IsSeated w (Listen asked) interval head
       pub shows_his_source :
@@ -91,7 +91,7 @@ module _ (settings : Settings) (lists : Lists) (brought : ℕ → List ℕ) (cou
       pub are_cut : DrawsAreCut settings lists (events_in course) asked.id
       pub sits_with_sources : AllByRecursion SitsWithASource (sittings (opening settings lists) (events_in course) asked.id)
 
-    -- all that one is given who asked so, by the reply
+    -- all that a client reads that asked so, by the reply
     pub data IsGiven (w : World) (asked : ListenRequest) (bytes : List ℕ) : Reply → Type 0 where
       -- the policy denies it, by the first rule that held then, which it reads
       IsDenied : (rule : Rule) → Denies (rows_for w (Listen asked)) rule → bytes ≡ denial web rule → IsGiven w asked bytes (Deny rule)
@@ -101,20 +101,19 @@ module _ (settings : Settings) (lists : Lists) (brought : ℕ → List ℕ) (cou
       -- it was finished before it had asked
       IsTooLate : (rule : Rule) → bytes ≡ [] → IsGiven w asked bytes (Finished rule)
 
-    -- a client that asks so on the connection of the label, when this had happened: the bytes that have come are read as that request, and it is
-    -- given that
+    -- a client asks so on the connection of the label, after these happenings. Its bytes are read as that request, and it reads this answer
     pub record ListenerIsAnswered (given : ℕ → List ℕ) (label : ℕ) (asked : ListenRequest) (past : List Happening) : Type 0 where
       pub is_request : IsRequest (brought label) asked.id (Listen asked) []
       pub is_given : IsGiven (server_after past) asked (given label) (reply_to (server_after past) (Listen asked))
 
-    -- one who gives a command so: it reads what is said of it, or that the policy denies it, by the first rule that held then
+    -- a client gives a command so. It reads the command's answer, or the first rule that then denied it
     pub record CommandIsAnswered (given : ℕ → List ℕ) (label : ℕ) (asked : CommandRequest) (past : List Happening) : Type 0 where
       pub denied : (rule : Rule) → reply_to (server_after past) (Command asked) ≡ Deny rule
           → Denies (rows_for (server_after past) (Command asked)) rule × (given label ≡ denial web rule)
       pub told : (text : ShownText) → reply_to (server_after past) (Command asked) ≡ Text text → given label ≡ text_answer web text
 
-    -- one who asks to feed a mount so: the bytes that have come are read as that request. If the policy denies it, it reads the first rule that held then,
-    -- and nothing else. If it is admitted, it first reads that, or that it may go on if it had asked for that (RFC 9110, section 10.1.1)
+    -- a client asks to feed a mount so, and its bytes are read as that request. If the policy denies it, it reads the first rule that held
+    -- then, and nothing else. If it is admitted, it first reads that, or that it may go on if it had asked for that (RFC 9110, section 10.1.1)
     pub record SourceIsAnswered (given : ℕ → List ℕ) (label : ℕ) (asked : SourceRequest) (past : List Happening) : Type 0 where
       pub behind : List Event
       pub is_request : IsRequest (brought label) asked.id (Source asked) behind
@@ -125,31 +124,32 @@ module _ (settings : Settings) (lists : Lists) (brought : ℕ → List ℕ) (cou
       -- it was finished before it had asked
       pub too_late : (rule : Rule) → reply_to (server_after past) (Source asked) ≡ Finished rule → given label ≡ []
 
-    -- each who does
+    -- each client that asks to feed a mount
     abbrev pub SourcesAreAnswered : (ℕ → List ℕ) → Type 0
     SourcesAreAnswered given = (label : ℕ) (asked : SourceRequest) (past later : List Happening) → course ≡ past ++ on label (Source asked) ∷ later
         → SourceIsAnswered given label asked past
 
-    -- each who gives a command
+    -- each client that gives a command
     abbrev pub CommandsAreAnswered : (ℕ → List ℕ) → Type 0
     CommandsAreAnswered given = (label : ℕ) (asked : CommandRequest) (past later : List Happening) → course ≡ past ++ on label (Command asked) ∷ later
         → CommandIsAnswered given label asked past
 
-    -- each who asks to hear a mount
+    -- each client that asks to hear a mount
     abbrev pub ListenersAreGiven : (ℕ → List ℕ) → Type 0
     ListenersAreGiven given = (label : ℕ) (asked : ListenRequest) (past later : List Happening) → course ≡ past ++ on label (Listen asked) ∷ later
         → ListenerIsAnswered given label asked past
 
--- What the data of a source's body are (RFC 9112, section 6), and nothing that frames them. They are all of a plain body, so many bytes of a sized
--- one, and those of the chunks of a chunked one. A body with a byte that no chunked body has there ends by that fault.
+-- The data of a source's body (RFC 9112, section 6), without their framing. They are all of a plain body, so many bytes of a sized one,
+-- and those of the chunks of a chunked one. A body with a byte that no chunked body has there ends by that fault.
 pub record BodiesAreHeard : Type 0 where
   pub plain : PlainBodiesAreHeard
   pub sized : SizedBodiesAreHeard
   pub chunked : ChunkedBodiesAreHeard
   pub faulty : FaultyBodiesAreHeard
 
--- Over a course of these settings and lists, on whose connections these bytes were brought and those given: each event is lawful. Its sources deliver a front
--- of the data of their bodies, and its relays of the sound that they pull in. Each who asks to hear a mount is given slices of these, or reads why not.
+-- Over a course of these settings and lists, on whose connections these bytes were brought and those given: each event is lawful. Its
+-- sources deliver a front of the data of their bodies, and its relays of the sound that they pull in. Each client that asks to hear a
+-- mount reads slices of these, or why not.
 pub record CourseHearsSlices (web : WebAnswers) (settings : Settings) (lists : Lists) (course : List Happening) (brought given : ℕ → List ℕ) : Type 0 where
   pub lawful : (past later : List Happening) (happening : Happening) → course ≡ past ++ happening ∷ later
       → IsLawful settings lists (events_in past) happening.event

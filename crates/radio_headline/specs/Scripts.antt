@@ -46,7 +46,7 @@ abbrev pub ListenersHearSlices : Type 0
 ListenersHearSlices = (web : WebAnswers) (settings : Settings) (lists : Lists) (deliveries : List Delivery) (text : List ℕ) (stop : Option ℕ)
     → IsTranscriptOf web settings lists deliveries text stop → HearsSlices web settings lists deliveries text stop
 
--- So it is with each script that is played to its end: what was written hears slices of what its lines have delivered.
+-- The same holds of each script that is played to its end, and of the data that its lines deliver.
 abbrev pub PlayedScriptsHearSlices : Type 0
 PlayedScriptsHearSlices = (web : WebAnswers) (settings : Settings) (lists : Lists) (script left text : List ℕ) (done : Unit {0}) (turns : ℕ)
     → PlaysScript web settings lists script left (Ok done) text turns → HearsSlices web settings lists (deliveries_from 1 (script_lines script)) text None

@@ -16,8 +16,8 @@ use Rattle.radio_connections.specs.Course.{Arrival, Course as ConnectionCourse, 
 use Rattle.radio_headline.specs.Course.{Happening, log_on}
 use Rattle.radio_headline.specs.Listeners.{CourseHearsSlices}
 
--- the connection of a client that was let in has this course. By these settings of answers its line gave these bytes, these entries were made for it, and
--- this was written of the replies
+-- the connection of a client that was let in has this course. With these settings of answers its line gave these bytes. These entries were
+-- made for it, and this was written of the replies
 pub record HasCourse (web : WebAnswers) (id : ℕ) (bytes : List ℕ) (entries : List Entry) (text : List ℕ) : Type 0 where
   pub arrival : Arrival
   pub let_in : arrival.reply ≡ Arrived id
@@ -47,8 +47,8 @@ pub data HasHappened (web : WebAnswers) (bytes : List ℕ) (entries : List Entry
 abbrev pub HasLabelOrMoment : Happening → Type 0
 HasLabelOrMoment happening = happening.label ≡ None → (ms : ℕ) × (happening.event ≡ Clock ms)
 
--- Over any course from the opening state whose events are, under each label, those of a connection that is served event by event, or of a relay's pull: its
--- listeners are given slices of what the connections of its sources and relays brought.
+-- Over any course from the opening state, its listeners are given slices of what the connections of its sources and relays brought. Its events
+-- under each label are those of a connection that is served event by event, or of a relay's pull.
 abbrev pub ServedCoursesHearSlices : Type 0
 ServedCoursesHearSlices = (web : WebAnswers) (settings : Settings) (lists : Lists) (course : List Happening) (brought given : ℕ → List ℕ)
     → AllByRecursion HasLabelOrMoment course

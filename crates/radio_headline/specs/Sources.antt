@@ -41,7 +41,8 @@ pub record IsRequest (bytes : List ℕ) (id : ℕ) (request : Event) (behind : L
   pub begins : heard.events ≡ request ∷ behind
 
 -- On the connection of the label a source's request comes. All that the source delivers through the course is a front of the data behind the
--- request, as the bytes of its body are read. What is not delivered came when it was not admitted or had been ended, or is still to be delivered.
+-- request, as the bytes of its body are read. Undelivered data came when it was not admitted or had been ended, or are still to be
+-- delivered.
 pub record DeliversItsBody (settings : Settings) (lists : Lists) (brought : ℕ → List ℕ) (course : List Happening) (label : ℕ) (asked : SourceRequest)
     : Type 0 where
   pub behind : List Event
@@ -60,12 +61,12 @@ pub record DeliversItsSound (settings : Settings) (lists : Lists) (brought : ℕ
   pub undelivered : List ℕ
   pub is_front : sound_of_parts parts ≡ delivered (opening settings lists) (events_in course) number ++ undelivered
 
--- The number 0 is nobody's, and nothing is delivered under it: so nothing is heard while one waits for a session, which is to sit in one of this number.
+-- The number 0 is nobody's, and nothing is delivered under it. While a listener waits for a session it sits in one of this number, without data.
 abbrev pub NobodyDelivers : Settings → Lists → List Event → Type 0
 NobodyDelivers settings lists events = delivered (opening settings lists) events 0 ≡ []
 
--- This session is that of a source: one that has asked to feed its mount, or a relay that has come up there. It shows what that shows, by the settings.
--- Or it is none, and one is awaited there.
+-- This session is that of a source that has asked to feed its mount, or of a relay that has come up there. It shows what the source or relay
+-- shows, by the settings. Or there is no session, and one is awaited there.
 module _ (settings : Settings) (lists : Lists) (brought : ℕ → List ℕ) (course : List Happening) (mount : List ℕ) (number : ℕ) where
   pub record IsOfASource (shown_now : Shown) : Type 0 where
     pub label : ℕ
@@ -91,8 +92,8 @@ module _ (settings : Settings) (lists : Lists) (brought : ℕ → List ℕ) (cou
     pub still_shown : shown_now ≡ begun.shown
     pub delivers : DeliversItsSound settings lists brought course label number shown
 
-  -- it is none: a relay of the settings feeds the mount on demand, and one is awaited there; its number is nobody's, who delivers nothing, and it shows what
-  -- the settings say
+  -- there is none: a relay of the settings feeds the mount on demand, and one is awaited there. Its number is nobody's, under which nothing
+  -- is delivered, and it shows what the settings say
   pub record IsAwaited (shown_now : Shown) : Type 0 where
     pub on_demand : is_on_demand settings mount ≡ true
     pub shows : shown_now ≡ shown_for (opening settings lists).station mount shown_by_nobody
@@ -102,7 +103,7 @@ module _ (settings : Settings) (lists : Lists) (brought : ℕ → List ℕ) (cou
   abbrev pub HasItsSource : Shown → Type 0
   HasItsSource shown_now = IsOfASource shown_now ⊎ IsOfARelay shown_now ⊎ IsAwaited shown_now
 
--- each who asks to feed a mount
+-- each client that asks to feed a mount
 abbrev pub SourcesDeliverTheirBodies : Settings → Lists → (ℕ → List ℕ) → List Happening → Type 0
 SourcesDeliverTheirBodies settings lists brought course = (label : ℕ) (asked : SourceRequest) (past later : List Happening)
     → course ≡ past ++ on label (Source asked) ∷ later → DeliversItsBody settings lists brought course label asked

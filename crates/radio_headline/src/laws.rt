@@ -31,11 +31,11 @@ use radio_script::transcripts_are_read_one_way;
 use radio_session::{bodies_are_heard_as_their_data, listeners_are_told_what_they_draw};
 use radio_source::laws::pieces_are_joined;
 
-/// After any events, the data that a listener draws are slices of what the sources of its sessions delivered, one for
-/// each time that it sat down.
+/// After any events, a listener's draws are slices of what the sources of its sessions delivered, one for each time that it sat
+/// down.
 pub fn draws_are_stretches()
-    // over every run, the data in a listener's draws are slices, one for each of its sittings, of what the source delivered
-    // in whose session it sat
+    // over every run, the data in a listener's draws are slices, one for each of its sittings, of what the source of its session
+    // delivered
     ensures slices { (settings : Settings) (lists : Lists) (events : List Event) (id : ℕ) → DrawsAreStretches settings lists events id }
     // they are cut at the sittings: from one sitting to the next, or to the end, they are one slice
     ensures cut { (settings : Settings) (lists : Lists) (events : List Event) (id : ℕ) → DrawsAreCut settings lists events id }
@@ -66,25 +66,26 @@ pub fn events_are_lawful()
     whoever_may_is_served();
 }
 
-/// In every history that is a run from an opening state, the laws of every run hold at each entry, and a listener's
-/// draws, joined, are slices of what its sources delivered. `settle` of `radio_hall` gives such a history if it
-/// ends well.
+/// In every run from an opening state each entry is lawful, and each listener's joined draws are slices of what its sources
+/// delivered.
 // rule: Without gap or repeat
 pub fn histories_are_lawful()
+    // `settle` of `radio_hall` gives such a run, as a history, if it ends well. At each entry of it the laws of every run hold
     ensures { HistoriesAreLawful }
 {
     events_are_lawful();
     draws_are_stretches();
 }
 
-/// The law from bytes to bytes, over every script, and over every course that is served event by event. In such a course the
-/// events under each label are those of a client's connection or of a relay's pull. Behind its head each listener is given
-/// slices of what came on the connections of the sources and relays in whose sessions it sat. They come in the order of
-/// these sessions. If the listener asked for metadata, a metadata block follows each interval. A client that is denied reads
-/// the first rule that denied it.
+/// After its head each listener gets slices of what came on the connections of the sources and relays in whose sessions it
+/// sat.
 // rule: Without gap or repeat
 pub fn listeners_hear_slices()
+    // over every script, the slices come in the order of these sessions. If the listener asked for metadata, a metadata block
+    // follows each interval. A client that is denied reads the first rule that denied it
     ensures scripts { ListenersHearSlices }
+    // so they do over every course that is served event by event. Its events under each label are those of a client's connection or of
+    // a relay's pull
     ensures served { ServedCoursesHearSlices }
 {
     blocks_are_the_data();
@@ -111,7 +112,7 @@ pub fn listeners_hear_slices()
     events_are_lawful();
 }
 
-/// The law from bytes to bytes, of what [`play`](radio_floor::play) writes if it ends well.
+/// If [`play`](radio_floor::play) ends well, its output gives each listener slices of what the script's sources delivered.
 // rule: Line of a script
 pub fn played_scripts_hear_slices()
     ensures { PlayedScriptsHearSlices }

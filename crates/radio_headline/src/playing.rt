@@ -15,8 +15,8 @@ use radio_settings_values::Settings;
 use std::alloc::Global;
 
 /// Plays a script as [`play`](radio_floor::play) of `radio_floor` does, with the law from bytes to bytes as a clause.
-/// It reads the script line by line, runs each delivery through a server of these settings and lists, and writes its
-/// lines before it reads on. `web` is what the settings say of answers.
+/// It reads the script line by line, and runs each delivery through a server of these settings and lists. It writes a
+/// delivery's lines before it reads on. `web` is what the settings say of answers.
 ///
 /// - `Read`, `Write`: that device failed; an interrupted call, and a write that takes nothing, are failures too.
 /// - `Line`: that line of the script, counted from 1, is no delivery, or its label is at fault.

@@ -12,8 +12,8 @@ use Rattle.radio_parts_mount.specs.Stream.{data_at}
 use Rattle.radio_parts_station.specs.World.{World, standing_of}
 use Rattle.radio_parts_station.specs.Waiting.{heard_at}
 
--- these bytes are those that the listener may hear, which draws. They are at its place in what is heard at the mount where it sits, that mount is open to
--- it, and the title is the one it has
+-- these bytes are those that the drawing listener may hear. They are at its place in the session at its mount, and that mount is open to it.
+-- The title is that of the session
 -- rule: Open to the listener
 pub record IsHis (w : World) (event : Event) (bytes : List ℕ) (title : Option (List ℕ)) : Type 0 where
   pub id : ℕ
@@ -28,6 +28,6 @@ pub record IsHis (w : World) (event : Event) (bytes : List ℕ) (title : Option 
   pub is_title : title ≡ session.title
   pub is_open : IsOpenTo w id seat
 
--- what is handed out is the listener's to hear who asked for it
+-- a draw gets only what its listener may hear
 abbrev pub AccessIsKept : World → Event → Type 0
 AccessIsKept w event = (bytes : List ℕ) (title : Option (List ℕ)) → reply_to w event ≡ Drawn bytes title → IsHis w event bytes title

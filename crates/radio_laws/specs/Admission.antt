@@ -30,9 +30,9 @@ pub record IsEarliestStart (stream : WholeStream) (burst queue place : ℕ) : Ty
   pub in_the_queue : end_of stream - place ≤ queue
   pub earliest : (other : ℕ) → IsBlockStart stream other → end_of stream - other ≤ burst → end_of stream - other ≤ queue → place ≤ other
 
--- the listener has a seat in the session of a mount by which its walk came, and which let it in. The mount was live when it asked, or waited for a session
--- since a relay feeds it on demand. The listener is shown what the session shows. It begins at the earliest block start that this mount's `burst-size` and
--- the `queue-size` allow
+-- the listener has a seat in the session of a mount of its walk that let it in. The mount was live when it asked, or waited for a session
+-- since a relay feeds it on demand. The listener gets the session's head. It begins at the earliest block start that this mount's
+-- `burst-size` and the `queue-size` allow
 -- rule: Seat of a newcomer; Start of the burst; Waiting mount
 pub record IsSeated (w : World) (event : Event) (interval : Option ℕ) (head : StreamHead) : Type 0 where
   pub asked : ListenRequest
@@ -45,7 +45,7 @@ pub record IsSeated (w : World) (event : Event) (interval : Option ℕ) (head : 
   pub readers : head.allow_origin ≡ w.station.settings.web.allow_origin
   pub seat : Seat
   pub has_the_seat : seat_of (world_after w event).seats asked.id ≡ Some seat
-  -- at a mount by which a walk comes from the one that it asked for, among the first ten; the one that it asked for is its home
+  -- at one of the first ten mounts of the walk from the mount that it asked for, which is its home
   pub steps : ℕ
   pub not_too_far : steps < 10
   pub on_his_way : ComesBy w asked.mount steps seat.mount
@@ -63,6 +63,6 @@ pub record IsSeated (w : World) (event : Event) (interval : Option ℕ) (head : 
   pub without_metadata : asked.wants_metadata ≡ false → interval ≡ None
   pub starts : IsEarliestStart session.stream (options_for w.station.settings seat.mount).stream.burst_size w.station.settings.limits.queue_size seat.place
 
--- only who asks to hear a mount is seated, and it begins where its burst begins
+-- only a client that asks to hear a mount is seated, and it begins where its burst begins
 abbrev pub BeginsAtABlock : World → Event → Type 0
 BeginsAtABlock w event = (interval : Option ℕ) (head : StreamHead) → reply_to w event ≡ Seated interval head → IsSeated w event interval head

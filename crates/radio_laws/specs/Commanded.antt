@@ -50,8 +50,8 @@ pub data MayGive (w : World) (pair : Credentials) : TheCommand → Type 0 where
 abbrev pub IsLive : World → List ℕ → Type 0
 IsLive w mount = (session : Session) × (session_of w.station.live mount ≡ Some session)
 
--- what a command needs is there: a live mount. To move its listeners, there is another one; to finish a listener, it sits there. To change users,
--- there is a mount that has users, live or not; to take one away, it is one of them
+-- what a command needs is there: a live mount. To move its listeners, there is another live one; to finish a listener, it sits there.
+-- To change users, a mount has users, live or not; to delete a user, it is one of them
 -- rule: Commands are done
 abbrev pub HasTarget : World → TheCommand → Type 0
 HasTarget w (MoveClients mount destination) = IsLive w mount × IsLive w destination × (mount ≡ destination → ⊥)
@@ -93,13 +93,13 @@ pub record IsSourceKilled (w later : World) (mount : List ℕ) : Type 0 where
   pub is_over : session_of later.station.live mount ≡ None
   pub has_finished : standing_of later session.number ≡ Finished SourceKilled
 
--- how one fares who sat at a mount whose users have changed: it keeps its seat where they let it in, and else has lost it by `listener-password`
+-- a listener at a mount whose users have changed keeps its seat if they let it in, and else has lost it by `listener-password`
 pub data FaresByUsers (later : World) (mount : List ℕ) (id : ℕ) (seat : Seat) : Type 0 where
   IsLetIn : lets_in later.station.lists mount seat.pair ≡ true → seat_of later.seats id ≡ Some seat → FaresByUsers later mount id seat
   IsShutOut : lets_in later.station.lists mount seat.pair ≡ false → seat_of later.seats id ≡ None → standing_of later id ≡ Finished ListenerPassword
       → FaresByUsers later mount id seat
 
--- the users of the mount have changed. As many have lost their seats there as the text says, and each who sat there fares by the users as they are now
+-- the users of the mount have changed. The text says how many have lost their seats there, and each fares by the users as they are now
 pub record HaveChanged (w : World) (event : Event) (mount : List ℕ) : Type 0 where
   pub count : ℕ
   pub told : reply_to w event ≡ SaysText (EndedText count)
@@ -115,8 +115,7 @@ HasPassword w mount user password = (pair : Credentials) → pair.user ≡ user
 abbrev pub IsNoUser : World → List ℕ → List ℕ → Type 0
 IsNoUser w mount user = (pair : Credentials) → pair.user ≡ user → lets_in w.station.lists mount (Some pair) ≡ false
 
--- what a command is to do is done afterwards, and what is said of it is true: as many have gone to the destination, or have finished, as the text
--- says
+-- the command has done what it is for, and its reply is true: as many listeners have moved, or have finished, as the text says
 -- rule: Killed; Commands are done
 abbrev pub HasDone : World → Event → TheCommand → Type 0
 HasDone w event (MoveClients mount destination) = (count : ℕ) × (reply_to w event ≡ SaysText (Moved count))
@@ -141,8 +140,8 @@ mount_of (SetFallback mount fallback) = mount
 mount_of (AddUser mount user password) = mount
 mount_of (DeleteUser mount user) = mount
 
--- all else is as it was: other mounts' sessions, with their titles, their listeners, where these fall back, and who is let in there; the addresses that
--- are let in; and the settings
+-- all else is as it was. At other mounts these are the sessions with their titles, the listeners, their fallbacks, and who is let in.
+-- The addresses that are let in and the settings stay too
 -- rule: Commands are done
 pub record StaysBeside (w later : World) (mount : List ℕ) : Type 0 where
   pub sessions : (other : List ℕ) → bytes_eq mount other ≡ false → session_of later.station.live other ≡ session_of w.station.live other
@@ -154,7 +153,7 @@ pub record StaysBeside (w later : World) (mount : List ℕ) : Type 0 where
   pub addresses : (peer : Address) → passes later.station.lists peer ≡ passes w.station.lists peer
   pub time : later.station.time ≡ w.station.time
 
--- a command that the policy allows is done, the client who gave it has had its answer, and nothing changes beyond the mount that it names
+-- a command that the policy allows is done, its client is answered, and nothing changes beyond the mount that it names
 pub record IsCommandKept (w : World) (event : Event) (command : TheCommand) (id : ℕ) : Type 0 where
   pub done : HasDone w event command
   pub answered : standing_of (world_after w event) id ≡ Answered
@@ -164,7 +163,7 @@ pub record IsCommandKept (w : World) (event : Event) (command : TheCommand) (id 
 abbrev pub CommandsAreKept : World → Event → Type 0
 CommandsAreKept w event = (command : TheCommand) (c : IsCommanded w event command) → IsCommandKept w event command c.asked.id
 
--- whom a command has finished is handed nothing from then on, whatever happens
+-- a listener that a command has finished gets nothing from then on, whatever happens
 -- rule: Killed
 abbrev pub KilledHearNothing : World → Event → Type 0
 KilledHearNothing w event = (mount : List ℕ) (id : ℕ) → IsCommanded w event (KillClient mount id) → (more : List Event)

@@ -49,8 +49,8 @@ abbrev pub DenialsAreThePolicys : World → Event → Type 0
 DenialsAreThePolicys w event = (rule : Rule) → reply_to w event ≡ Deny rule
     → Denies (rows_for w event) rule × IsOnlyAnswered w (world_after w event) (client_in event)
 
--- the event asks the policy. A connection arrives, a source sends a block, or a relay comes up. Or a client that has asked for nothing yet asks to feed a
--- mount, gives a command, or asks to listen at a path that is none of the web site's
+-- the event asks the policy. A connection arrives, a source sends a block, or a relay comes up. Or a client that has asked for nothing yet
+-- asks to feed a mount, gives a command, or asks to listen. The path at which it asks to listen is none of the web site's
 pub data AsksThePolicy (w : World) : Event → Type 0 where
   ToArrive : (peer : Peer) → AsksThePolicy w (Arrive peer)
   ToFeed : (asked : SourceRequest) → IsUndecided w asked.id → AsksThePolicy w (Source asked)
@@ -63,15 +63,14 @@ pub data AsksThePolicy (w : World) : Event → Type 0 where
 abbrev pub ThePolicyDenies : World → Event → Type 0
 ThePolicyDenies w event = AsksThePolicy w event → (rule : Rule) → Denies (rows_for w event) rule → reply_to w event ≡ Deny rule
 
--- whoever comes from an address that the deny list has is denied for it, whatever else holds; and where an allow list does not have it, for that
+-- an address on the deny list is denied for it, whatever else holds; an address that an allow list lacks is denied for that
 -- rule: Address denied; Address not allowed
 pub record AddressesAreDenied (w : World) : Type 0 where
   pub denied : (peer : Peer) → is_denied w.station.lists peer ≡ true → reply_to w (Arrive peer) ≡ Deny AddressDenied
   pub not_allowed : (peer : Peer) → is_denied w.station.lists peer ≡ false → is_allowed w.station.lists peer ≡ false
       → reply_to w (Arrive peer) ≡ Deny AddressNotAllowed
 
--- a source feeds only the mount that it names, where it sent the user and the password of that mount's source, byte for byte, and a content type that is
--- carried
+-- a source feeds only the mount that it names. It sent the user and the password of that mount's source, byte for byte, and a carried content type
 pub record FeedsAsItsSource (w : World) (event : Event) : Type 0 where
   pub asked : SourceRequest
   pub wants : event ≡ Source asked
@@ -85,7 +84,7 @@ pub record FeedsAsItsSource (w : World) (event : Event) : Type 0 where
 abbrev pub OnlySourcesFeed : World → Event → Type 0
 OnlySourcesFeed w event = reply_to w event ≡ Feeding → FeedsAsItsSource w event
 
--- a mount of the settings, one that a relay feeds, and one that is live is never denied as one that the server does not know
+-- a mount of the settings, a mount that a relay feeds, and a live mount are never denied as unknown
 -- rule: No mount
 pub record KnownMountsAreKnown (w : World) (asked : ListenRequest) : Type 0 where
   pub in_settings : (mount : MountSetting) → Has mount w.station.settings.mounts → mount.name ≡ asked.mount → reply_to w (Listen asked) ≡ Deny NoMount → ⊥

@@ -25,7 +25,7 @@ HasLeft w id = (id ≤ w.station.last_id) × (standing_of w id ≡ Unknown)
 abbrev pub IsOutOfPlace : World → Event → Type 0
 IsOutOfPlace w event = outcome w event ≡ says Stray Nothing
 
--- through these events it does not come back, is handed nothing, and brings nothing
+-- through these events it does not come back, gets nothing, and brings nothing
 -- rule: Leaving
 pub record StaysGone (w : World) (events : List Event) (id : ℕ) : Type 0 where
   pub is_gone : HasLeft (world_after_all w events) id

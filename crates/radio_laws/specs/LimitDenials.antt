@@ -34,8 +34,9 @@ abbrev pub ByAMount : World → Event → (ListenRequest → List ℕ → Type 0
 ByAMount w event P = (asked : ListenRequest) × (event ≡ Listen asked) × (steps : ℕ) × (mount : List ℕ) × (steps < 10) × ComesBy w asked.mount steps mount
     × P asked mount
 
--- clients and sources are denied as too many only if there are as many as there may be. A mount is denied as full only if a walk comes to one that is full. A
--- user is denied as one that sits there only if a walk comes to a mount where it does. A walk is denied as too long only if ten mounts have passed it on
+-- clients and sources are denied as too many only if there are as many as allowed. A mount is denied as full only if a walk reaches a
+-- full one. A user is denied as one that sits there only if a walk reaches a mount where it sits. A walk is denied as too long only if
+-- ten mounts have passed it on
 -- rule: Too many clients; Too many sources
 pub record DeniesByLimits (w : World) (event : Event) : Type 0 where
   pub clients : reply_to w event ≡ Deny TooManyClients → w.station.settings.limits.clients ≤ length w.station.clients

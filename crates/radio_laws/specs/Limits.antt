@@ -44,7 +44,7 @@ pub record IsFullAt (w : World) (mount : List ℕ) : Type 0 where
   pub limited : most_at w mount ≡ Some most
   pub reached : most ≤ length (seats_at w.seats mount)
 
--- a client arrives only if fewer are there than may be, and a source or a relay feeds only if fewer sessions are live than may be
+-- a client arrives only if fewer are there than allowed. A source or a relay feeds only if fewer sessions are live than allowed
 -- rule: Too many clients; Too many sources; Relay is no client
 pub record AdmitsByLimits (w : World) (event : Event) : Type 0 where
   pub clients : (peer : Peer) (id : ℕ) → event ≡ Arrive peer → reply_to w event ≡ Arrived id → length w.station.clients < w.station.settings.limits.clients

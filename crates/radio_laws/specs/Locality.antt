@@ -34,8 +34,9 @@ pub data ListenersAgree (within : List ℕ → Bool) (a b : Listener) : Type 0 w
   SameListener : a ≡ b → ListenersAgree within a b
   LastBeyond : a.id ≡ b.id → within (last_mount a.seating) ≡ false → within (last_mount b.seating) ≡ false → ListenersAgree within a b
 
--- The states agree within reach, and on what is no mount's own: the moment, settings and lists, the fallbacks that were set, clients and relays. Beyond
--- it the same mounts are live, fed by the same sources; what they have sent, their titles, who sits there, and which of these have finished, may differ.
+-- The states agree within reach, and on what belongs to no mount: the moment, settings and lists, set fallbacks, clients and relays.
+-- Beyond reach the same mounts are live, fed by the same sources. What these have sent, their titles, the sitters there, and which of them
+-- have finished, may differ.
 -- rule: Reach of a start
 pub record AgreeWithin (within : List ℕ → Bool) (v w : World) : Type 0 where
   pub station : v.station ≡ record w.station { live = v.station.live }
@@ -45,7 +46,7 @@ pub record AgreeWithin (within : List ℕ → Bool) (v w : World) : Type 0 where
 abbrev pub IsAll : (List ℕ → Bool) → Type 0
 IsAll within = (mount : List ℕ) → within mount ≡ true
 
--- whoever walks from a mount within reach stays there: so is each mount to which its listeners fall back
+-- a walk from a mount within reach stays within reach: so is each mount to which its listeners fall back
 abbrev pub FallBackWithin : World → (List ℕ → Bool) → Type 0
 FallBackWithin w within = (mount next : List ℕ) → within mount ≡ true → FallsBack w mount next → within next ≡ true
 
@@ -85,7 +86,7 @@ AsksWithin w within (Asks (SetFallback mount fallback)) = Unit {0}
 AsksWithin w within (Asks (AddUser mount user password)) = within mount ≡ true
 AsksWithin w within (Asks (DeleteUser mount user)) = within mount ≡ true
 
--- whoever asks to hear a mount walks from it; Icecast's status, where it is asked for, shows all
+-- a client that asks to hear a mount walks from it. Icecast's status, if the client asks for it, shows all mounts
 pub record HearsWithin (w : World) (within : List ℕ → Bool) (path : List ℕ) : Type 0 where
   pub walks : WalksWithin w within path
   pub status : IsPath w path IcecastStatus → IsAll within

@@ -6,9 +6,9 @@ use Rattle.radio_parts_mount.specs.Sessions.{Session}
 use Rattle.radio_parts_station.specs.World.{World}
 use Rattle.radio_parts_station.specs.Waiting.{heard_at}
 
--- the mount where the listener of this number sits is open to it. It is live, in the session in which the listener was seated, or waits for one, as the
--- listener does. The listener's address passes the address lists. The mount has no users, or they accept the pair that the listener sent. If each user
--- may sit there once, no other listener that sits there sent its user
+-- the mount where the listener of this number sits is open to it. It is live, in the session in which the listener was seated, or both wait
+-- for one. The listener's address passes the address lists. The mount has no users, or they accept the pair that the listener sent.
+-- If each user may sit there once, no other listener that sits there sent its user
 -- rule: Open to the listener
 pub record IsOpenTo (w : World) (id : ℕ) (seat : Seat) : Type 0 where
   pub session : Session

@@ -23,9 +23,10 @@ pub record IsInTime (w : World) (ms : ℕ) : Type 0 where
   pub sources : (mount : List ℕ) (session : Session) → session_of w.station.live mount ≡ Some session
       → is_silent w.station.settings.limits.source_timeout ms session ≡ false
 
--- who is ended at this moment, by which rule. First each client that has asked for nothing in its time. Then each listener that has sat as long as its
--- mount allows, also if its session ends as well. Then each source that has sent nothing in its time. With it end those left at its mount, if the mount has
--- no fallback and waits for no other session. If a relay feeds the mount on demand, they wait there
+-- who is ended at this moment, and by which rule. First each client that has asked for nothing in its time.
+-- Then each listener that has sat as long as its home allows, also if its session ends as well.
+-- Then each source that has sent nothing in its time. With it end the listeners left at its mount, if that has no fallback and waits for
+-- no other session. If a relay feeds the mount on demand, they wait there
 -- rule: End at a waiting mount
 pub record IsEndedInOrder (w later : World) (ms : ℕ) : Type 0 where
   pub clients : (id : ℕ) (client : Client) → client_of w.station.clients id ≡ Some client

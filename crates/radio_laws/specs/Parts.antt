@@ -27,13 +27,12 @@ is_at mount seat = bytes_eq seat.mount mount
 abbrev pub seat_at : List ℕ → List Listener → ℕ → Option Seat
 seat_at mount listeners id = seat_if (is_at mount) (seat_of listeners id)
 
--- The part is what is at its mount: its session, and the listeners that sit there, each in its seat. It may have other listeners, or none but
--- them.
+-- The part has what is at its mount: the session, and the listeners that sit there, each in its seat. It may have more listeners than these.
 pub record IsPartOf (w : World) (p : Part) : Type 0 where
   pub live : session_of w.station.live p.mount ≡ p.session
   pub seats : (id : ℕ) → seat_at p.mount p.listeners id ≡ seat_at p.mount w.seats id
 
--- it has heard the stream up to this place
+-- the listener's place in the stream is this
 abbrev pub part_with_place : Part → ℕ → ℕ → Part
 part_with_place p him place = record p { listeners = with_place p.listeners him place }
 

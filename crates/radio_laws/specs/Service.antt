@@ -24,7 +24,7 @@ use Rattle.radio_values.specs.declared.field.Shown.{Shown}
 use Rattle.radio_laws.specs.Walks.{ComesBy}
 use Rattle.radio_parts_station.specs.Waiting.{heard_at}
 
--- a listener was seated in the session of a mount, or where one is awaited, by which a walk comes from the one that it asked for, and shown what it shows
+-- a listener was seated in the session of a mount of its walk, or where one is awaited, and got the session's head
 pub record IsSeatedByWalk (w : World) (asked : ListenRequest) : Type 0 where
   pub session : Session
   pub steps : ℕ
@@ -36,8 +36,8 @@ pub record IsSeatedByWalk (w : World) (asked : ListenRequest) : Type 0 where
   pub shows : head.shown ≡ session.shown
   pub sits : standing_of (world_after w (Listen asked)) asked.id ≡ Sits
 
--- a listener got the data at its place in the stream of its mount, as much as is there and as it has room for, and the title that it has. Its place is
--- behind them
+-- a listener got the data at its place in its mount's stream, as much as is there and as fits, and the stream's title.
+-- Its place is after the data
 -- rule: Draws
 pub record DrawsData (w : World) (id room : ℕ) : Type 0 where
   pub seat : Seat

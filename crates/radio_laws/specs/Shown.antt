@@ -109,8 +109,8 @@ Tells w Mounts text = (rows : List MountRow) × TellOf w w.station.live rows × 
 Tells w (Clients mount) text = (rows : List ListedListener) × TellOfListeners w (seats_at w.seats mount) rows × (text ≡ Json (listeners_text mount rows))
 Tells w Streams text = (rows : List MountRow) × TellOf w w.station.live rows × (text ≡ StreamList (stream_text rows))
 
--- a listing is shown to a client that may see it, if what it needs is there. The client is answered then. The listing says what is there, and nothing else
--- changes
+-- a listing is shown to a client that may see it, if what it needs is there. The client is answered then.
+-- The listing shows the present state, and nothing else changes
 pub record IsShownByRight (w : World) (event : Event) (text : ReplyText) : Type 0 where
   pub asked : CommandRequest
   pub is_event : event ≡ Command asked
@@ -129,8 +129,8 @@ pub data IsPath (w : World) (path : List ℕ) : WebPath → Type 0 where
   StatusIsOn : path ≡ codes "/status-json.xsl" → w.station.settings.web.icecast_status ≡ true → IsPath w path IcecastStatus
   PageIsOn : path ≡ codes "/" → w.station.settings.web.page ≡ true → IsPath w path AtPage
 
--- the text says what is there in Icecast's words on this visit. It has the public URL of the settings, or else the host by which the client calls the
--- server. It has the moment at which the server started, if the program says it
+-- the text shows the present state in Icecast's words on this visit. It has the public URL of the settings, or else the host that the
+-- client names for the server. It has the moment at which the server started, if the program gives one
 pub record TellsAsIcecast (w : World) (visit : PageVisit) (text : ReplyText) : Type 0 where
   pub rows : List MountRow
   pub of_the_live : TellOf w w.station.live rows
@@ -146,7 +146,7 @@ abbrev pub TellsAt : World → WebPath → PageVisit → ReplyText → Type 0
 TellsAt w IcecastStatus visit text = TellsAsIcecast w visit text
 TellsAt w AtPage visit text = text ≡ Page w.station.settings.web.allow_origin
 
--- what is at a path of the web site is shown to one who asks for it, who has had its answer then, and nothing changes but that
+-- a client that asks for a path of the web site sees what is there. The client is answered then, and nothing else changes
 pub record IsShownAtPath (w : World) (event : Event) (text : ReplyText) : Type 0 where
   pub asked : ListenRequest
   pub is_event : event ≡ Listen asked
@@ -215,14 +215,14 @@ abbrev pub AreAnsweredAlike : World → World → Listing → Type 0
 AreAnsweredAlike w v listing = (asked other : CommandRequest) (text said : ReplyText) → asked.asked ≡ AsksFor listing → other.asked ≡ AsksFor listing
     → reply_to w (Command asked) ≡ SaysText text → reply_to v (Command other) ≡ SaysText said → body_of text ≡ body_of said
 
--- in two states those who ask for Icecast's status on equal visits are answered by the same bytes, if the servers have one address and one public URL
+-- clients that ask for Icecast's status on equal visits get the same bytes in two states of servers with one address and one public URL
 abbrev pub AreVisitedAlike : World → World → Type 0
 AreVisitedAlike w v = (asked other : ListenRequest) (text said : ReplyText) → IsPath w asked.mount IcecastStatus → IsPath v other.mount IcecastStatus → asked.visit ≡ other.visit
     → w.station.settings.web.public_url ≡ v.station.settings.web.public_url → w.station.settings.listen.address ≡ v.station.settings.listen.address → w.station.settings.listen.port ≡ v.station.settings.listen.port
     → reply_to w (Listen asked) ≡ SaysText text → reply_to v (Listen other) ≡ SaysText said → body_of text ≡ body_of said
 
--- two states that agree on what everybody may see of the live mounts show everybody and every relay the same bytes, whatever else they hold. Those with
--- equal rows for a viewer show it the same
+-- two states that agree on what everybody may see of the live mounts show everybody and every relay the same bytes, whatever else they hold.
+-- Those with equal rows for a viewer show it the same
 -- rule: Hidden mounts
 pub record SightIsKept (w v : World) : Type 0 where
   pub status : seen_by_all w ≡ seen_by_all v → AreAnsweredAlike w v Status
@@ -242,7 +242,7 @@ pub record NoHiddenIsNamed (w : World) (asked : CommandRequest) (text : ReplyTex
 abbrev pub HiddenAreLeftOut : World → Type 0
 HiddenAreLeftOut w = (asked : CommandRequest) (text : ReplyText) → reply_to w (Command asked) ≡ SaysText text → NoHiddenIsNamed w asked text
 
--- nor in Icecast's words, which say where those mounts are heard
+-- nor in Icecast's words, which give the URLs of those mounts
 -- rule: Paths of the web site
 abbrev pub HiddenAreNotToldOnTheWeb : World → Type 0
 HiddenAreNotToldOnTheWeb w = (asked : ListenRequest) (text : ReplyText) → IsPath w asked.mount IcecastStatus → reply_to w (Listen asked) ≡ SaysText text

@@ -1,4 +1,4 @@
--- The stretches of which all that a listener is handed is made.
+-- The stretches that make up all that a listener gets.
 use Rattle.std.specs.Prelude.{◌≡◌, ◌⊎◌, ◌==◌, ℕ, ◌-◌, ◌≤◌, if◌then◌else◌, length, Option, Some, None, List, [], ◌∷◌, ◌++◌, take, drop}
 use Rattle.radio_settings_values.specs.declared.settings.Settings.{Settings}
 use Rattle.radio_access.specs.Lists.{Lists}
@@ -18,7 +18,7 @@ use Rattle.radio_parts_station.specs.Waiting.{heard_at}
 abbrev pub between : ℕ → ℕ → List ℕ → List ℕ
 between start stop bytes = take (stop - start) (drop start bytes)
 
--- a listener sits down: at this mount, in the session of this source, and this is the first place of its stream that it hears
+-- a listener sits down: at this mount, in the session of this source, and at this first place of its stream
 pub record Sitting : Type 0 where
   pub mount : List ℕ
   pub source : ℕ
@@ -74,21 +74,21 @@ AreStretches sent [] bytes = bytes ≡ []
 AreStretches sent (sitting ∷ others) bytes = (stop : ℕ) × (rest : List ℕ) × (sitting.start ≤ stop) × (stop ≤ length (sent sitting.source))
     × (bytes ≡ between sitting.start stop (sent sitting.source) ++ rest) × AreStretches sent others rest
 
--- over every run, all that a listener is handed is stretches, one for each of its sittings, of what the source of that sitting delivered
+-- over every run, all that a listener gets is stretches, one for each of its sittings, of what the source of that sitting delivered
 abbrev pub StretchesAreWhole : Settings → Lists → List Event → Type 0
 StretchesAreWhole settings lists events = (id : ℕ) → AreStretches (delivered (opening settings lists) events) (sittings (opening settings lists) events id)
     (handed (opening settings lists) events id)
 
--- over every run, what a listener gets from one sitting to the next, or to the end, is one slice. It is of what the source delivered in whose session
--- it sits, from where it sat down. Before the first it gets nothing
+-- over every run, what a listener gets from one sitting to the next, or to the end, is one slice. The source of its session delivered it.
+-- The slice begins where the listener sat down. Before the first sitting it gets nothing
 abbrev pub StretchesAreCut : Settings → Lists → List Event → Type 0
 StretchesAreCut settings lists events = (id : ℕ) → let w = opening settings lists in let cut = cut_at_sittings (λ v event. handed_at v event id) w events id in
     (cut.before ≡ []) × AreSlices (delivered w events) (sittings w events id) cut.each
 
--- what an event makes of a seat that a listener keeps. All of the seat stays but its place, which does not go back. Or a session begins at its mount,
--- which waited for one, and the listener hears it from its start. Or the event brings a move, which has taken the listener at its turn to the end of the
--- stream of the mount where its walk landed. All else of the seat stays then, and the session in which it sat is over, or it is called home. A seat is in
--- the session that its mount has, or waits for one
+-- what an event makes of a seat that a listener keeps. All of the seat stays but its place, which does not go back. Or a session begins
+-- at its mount, which waited for one, and the listener draws it from its start. Or a move by the event takes the listener at its turn
+-- to the end of the stream where its walk landed. All else of the seat stays then: its session is over, or it is called home.
+-- A seat is in the session that its mount has, or waits for one
 -- rule: Moved to the end; Session after a wait
 pub record KeepsItsMount (w : World) (event : Event) (id : ℕ) (seat : Seat) : Type 0 where
   pub session : Session

@@ -48,7 +48,7 @@ abbrev pub commanded_in : World → Event → ℕ → List (List ℕ)
 commanded_in w (Command asked) id = commanded_at w asked.asked id
 commanded_in w event id = []
 
--- the title that an event sets for the source of this number: by a command that names the mount that it feeds, or by the source itself
+-- the title that an event sets for the source of this number: by a command that names its mount, or by the source itself
 -- rule: Title of a session
 abbrev pub set_by : World → Event → Reply → ℕ → List (List ℕ)
 set_by w event reply id = if_done reply (commanded_in w event id) ++ of_client event id (if_noted reply (title_of_event event))

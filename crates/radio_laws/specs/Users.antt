@@ -26,9 +26,9 @@ pub data LetInStep (w : World) (event : Event) (mount : List ℕ) (pair : Creden
 pub record UsersStep (w : World) (event : Event) : Type 0 where
   pub pairs : (mount : List ℕ) (pair : Credentials)
       → LetInStep w event mount pair (lets_in w.station.lists mount (Some pair)) (lets_in (world_after w event).station.lists mount (Some pair))
-  -- whoever sends no pair is let in where it was
+  -- a listener that sends no pair is let in at the same mounts as before
   pub without : (mount : List ℕ) → lets_in (world_after w event).station.lists mount None ≡ lets_in w.station.lists mount None
-  -- and the addresses are let in that were
+  -- and the same addresses are let in as before
   pub addresses : (peer : Address) → passes (world_after w event).station.lists peer ≡ passes w.station.lists peer
 
 -- nobody sits at a mount whose users, as they are now, do not let it in

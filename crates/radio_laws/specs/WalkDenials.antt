@@ -38,7 +38,7 @@ pub data IsTurnedAway (w : World) (asked : ListenRequest) : Rule → Type 0 wher
   -- the mount that it asked for does not let it in, or has its user, even if that mount has no source or is full
   ByPair : lets_in w.station.lists asked.mount asked.pair ≡ false → IsTurnedAway w asked ListenerPassword
   ByUser : lets_in w.station.lists asked.mount asked.pair ≡ true → HasUserAt w asked.mount asked.pair → IsTurnedAway w asked UserTwice
-  -- that mount lets it in, and one of the first ten mounts of its walk stops it; or ten mounts have handed the walk on
+  -- that mount lets it in, and one of the first ten mounts of its walk stops it; or ten mounts have passed the walk on
   OnItsWay : (rule : Rule) (steps : ℕ) (mount : List ℕ) → lets_in w.station.lists asked.mount asked.pair ≡ true → steps < 10
       → ComesBy w asked.mount steps mount → StopsAt w asked.pair mount rule → IsTurnedAway w asked rule
   TooFar : (mount : List ℕ) → lets_in w.station.lists asked.mount asked.pair ≡ true → ComesBy w asked.mount 10 mount → IsTurnedAway w asked FallbackDepth

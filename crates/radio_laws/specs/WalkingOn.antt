@@ -22,10 +22,9 @@ use Rattle.radio_parts_mount.specs.Stream.{end_of}
 use Rattle.radio_parts_station.specs.World.{World}
 use Rattle.radio_parts_station.specs.Waiting.{heard_at, is_on_demand}
 
--- what a move makes of a listener that had this seat before. It goes on at the end of the stream of the mount to which its turn
--- takes it. Or it has finished where it sat, by the rule that leaves it out. Or it keeps its seat. If the session of its mount
--- has ended, it does not stay as it was. At a mount that a relay feeds on demand it then goes on, to wait there for the next
--- session
+-- what a move makes of a listener that had this seat before. It goes on at the end of the stream of the mount to which its turn takes it.
+-- Or the rule that leaves it out finishes it where it sat. Or it keeps its seat, but not if the session of its mount has ended.
+-- At a mount that a relay feeds on demand it goes on then, to wait there for the next session
 -- rule: Turns of a move; End at a waiting mount
 pub record FaresByHisTurn (before : World) (move : Move) (id : ℕ) (seat : Seat) : Type 0 where
   pub goes : (mount : List ℕ) → his_turn before move id ≡ GoesTo mount → (session : Session) × (heard_at before.station mount ≡ Some session)
@@ -43,7 +42,7 @@ abbrev pub ListenersWalkOn : World → Event → Type 0
 ListenersWalkOn w event = (move : Move) (before : World) → Brings w event move before → (id : ℕ) (seat : Seat) → seat_of before.seats id ≡ Some seat
     → FaresByHisTurn before move id seat
 
--- and at a source's or a relay's coming, end or leaving, and at a command that moves listeners or ends a session, that is the whole of what becomes of the seats
+-- nothing else happens to the seats when a source or relay comes up, ends or leaves, or a command moves listeners or ends a session
 -- rule: Changes of seats
 pub record MovesAreWhole (w : World) (event : Event) : Type 0 where
   pub at_its_coming : (asked : SourceRequest) (move : Move) (before : World) → event ≡ Source asked → Brings w event move before

@@ -6,14 +6,14 @@ use Rattle.radio_parts_station.specs.World.{World}
 use Rattle.radio_laws.specs.Limits.{IsFullAt}
 use Rattle.radio_parts_station.specs.Waiting.{heard_at}
 
--- the listeners of the mount fall back to the next one: `fallback-mount` names it and no command has said otherwise, or a command has said so
+-- the listeners of the mount fall back to the next one: a command has set it, or `fallback-mount` names it and no command set another
 -- rule: Fallback of a mount
 pub data FallsBack (w : World) (mount next : List ℕ) : Type 0 where
   ByTheSettings : (options_for w.station.settings mount).listeners.fallback_mount ≡ Some next → set_for w.station.fallbacks mount ≡ None → FallsBack w mount next
   ByACommand : (set : Fallback) → set_for w.station.fallbacks mount ≡ Some set → set.fallback ≡ Some next → FallsBack w mount next
 
--- a walk goes on from the mount to the next one, to which its listeners fall back. The mount has no source and waits for none, or as many sit there as may and
--- `fallback-when-full` is set
+-- a walk goes on from the mount to the next one, to which its listeners fall back. The mount has no source and waits for none, or it is full
+-- and `fallback-when-full` is set
 -- rule: Passing a walk on; End at a waiting mount
 pub data PassesWalkOn (w : World) (mount next : List ℕ) : Type 0 where
   HasNoSource : FallsBack w mount next → heard_at w.station mount ≡ None → PassesWalkOn w mount next

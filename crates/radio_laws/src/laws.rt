@@ -46,8 +46,8 @@ use radio_policy::denials_name_the_first_rule;
 // rule: First rule; Order for a listener; Address denied; Address not allowed; Source password; No mount
 // rule: End of a walk; Waiting is not live
 pub fn denials_are_the_policys()
-    // after any events, what is denied is what the policy denies then, by its first rule, and nothing has changed, except
-    // that an undecided client is answered
+    // after any events, what is denied is what the policy denies then, by its first rule. Nothing else changes, except that
+    // an undecided client is answered
     ensures denied { (settings : Settings) (lists : Lists) (events : List Event) (event : Event)
         → DenialsAreThePolicys (run_after settings lists events) event }
     // what the policy denies is denied: if it is asked, the reply denies by its first rule
@@ -60,8 +60,8 @@ pub fn denials_are_the_policys()
     ensures known { (settings : Settings) (lists : Lists) (events : List Event) (asked : ListenRequest)
         → KnownMountsAreKnown (run_after settings lists events) asked }
     // a listener is denied by the mount that it asked for, if that does not let it in or has its user. Else it is denied by
-    // the first that holds of `not-live`, `mount-full`, `listener-password` and `user-twice` at a mount of its walk, or
-    // because ten mounts have passed the walk on
+    // `not-live`, `mount-full`, `listener-password` or `user-twice`, the first that holds at a mount of its walk. Or ten
+    // mounts have passed the walk on
     ensures stops { (settings : Settings) (lists : Lists) (events : List Event) (asked : ListenRequest)
         → WalksAreStoppedInOrder (run_after settings lists events) asked }
 {
@@ -73,8 +73,8 @@ pub fn denials_are_the_policys()
 // rule: Killed; Source killed; Finishes are silent; End of a session
 pub fn finished_are_told()
     // a client that learns which rule finished it was finished by that rule at an earlier event, at which the rule's
-    // condition held. The event was the end of its mount's session, a block that left it too far behind, or a moment at
-    // which its time was over
+    // condition held. The event was the end of its mount's session, a block that left it too far behind, or the end of its
+    // time
     ensures finished { (settings : Settings) (lists : Lists) (events : List Event) (event : Event) → FinishedAreTold settings lists events event }
 {}
 
@@ -86,8 +86,8 @@ pub fn last_mounts_stay()
     // a listener that had a seat and was finished by an event other than a clock sat last at that seat's mount
     ensures finished { (settings : Settings) (lists : Lists) (events : List Event) (event : Event)
         → FinishedWhereHeSat (run_after settings lists events) event }
-    // so did, by a clock, a listener that has sat as long as it may. One that then loses its seat by the end of a session sat
-    // last where it had it before that end
+    // so did a listener that a clock finished since it has sat as long as it may. One that loses its seat by the end of a
+    // session, at the same clock, sat last where it had it before that end
     ensures timed_out { (settings : Settings) (lists : Lists) (events : List Event) (ms : ℕ)
         → EndedByClockWhereTheySat (run_after settings lists events) ms }
     // a finished listener keeps the rule, and the mount of its last seat, whatever happens, until it leaves
@@ -128,8 +128,8 @@ pub fn listeners_begin_at_a_block()
 /// there.
 // rule: Waiting mount; Pulls on demand
 pub fn mounts_wait_on_demand()
-    // a mount without a session waits for one only if a relay of the settings feeds it on demand, and it does wait if all
-    // that feed it do
+    // a mount without a session waits for one only if a relay of the settings feeds it on demand. It does wait if all that
+    // feed it do
     ensures waits { (settings : Settings) (mount : List ℕ) → WaitsOnDemand settings mount }
     // after any events, the mounts on demand where somebody sits are wanted, and no others
     ensures wanted { (settings : Settings) (lists : Lists) (events : List Event) → WantedAreSatAt (run_after settings lists events) }
@@ -161,14 +161,14 @@ pub fn stretches_are_whole()
         → SeatsKeepTheirMounts (run_after settings lists events) event }
 {}
 
-/// A move takes each listener where its walk lands at its turn, or finishes it by the rule that stops the walk; nothing
-/// else happens to seats.
+/// A move takes each listener where its walk lands, or the rule that stops the walk finishes it, and nothing else happens
+/// to seats.
 // rule: End of a session; Called home; Turns of a move; Changes of seats; Relay feeds; End at a waiting mount
 pub fn listeners_walk_on()
     // after any events, a move takes each listener, in the order of their numbers and by the state at its turn. The
-    // listener goes to the end of the stream of the mount where its walk lands, is finished by the rule that stops the
-    // walk, or stays as it is. If its mount's session has ended it does not stay as it was: at a mount that a relay
-    // feeds on demand it goes on to wait for the next one
+    // listener goes to the end of the stream where its walk lands, or stays as it is. Or the rule that stops the walk
+    // finishes it. If its mount's session has ended it does not stay as it was. At a mount that a relay feeds on demand it
+    // goes on to wait for the next one
     ensures turns { (settings : Settings) (lists : Lists) (events : List Event) (event : Event)
         → ListenersWalkOn (run_after settings lists events) event }
     // if a source comes up, ends or leaves, or a command moves listeners or ends a session, nothing else happens to the seats
@@ -179,13 +179,12 @@ pub fn listeners_walk_on()
 // rule: Admin password; Killed; Source killed; Who may command; Move clients; Metadata; Fallbacks; Change of users
 // rule: Users shut out; Commands are done
 pub fn commands_are_done()
-    // after any events, a client reads that a command was done only if it sent the user and the password of the
-    // admin, and what the command needs was there. For a title and a fallback, those of the mount's source suffice
-    // too
+    // after any events, a client reads that a command was done only if it sent the admin's user and password. Then
+    // what the command needs was there too. For a title and a fallback, the user and password of the mount's source suffice
     ensures may { (settings : Settings) (lists : Lists) (events : List Event) (event : Event) → OnlyWhoMayCommands (run_after settings lists events) event }
     // each client that may give one reads that it was done, if what it needs is there
     ensures served { (settings : Settings) (lists : Lists) (events : List Event) → WhoMayIsServed (run_after settings lists events) }
-    // a command that the policy allows is done: as many are moved, or finished, as its text says, its client is answered, and
+    // a command that the policy allows is done: as many are moved, or finished, as its text says. Its client is answered, and
     // nothing changes beyond the mount that it names
     ensures kept { (settings : Settings) (lists : Lists) (events : List Event) (event : Event) → CommandsAreKept (run_after settings lists events) event }
     // a fallback that was set for a mount stays, whatever happens, until a command sets another for it
@@ -195,12 +194,11 @@ pub fn commands_are_done()
         → KilledHearNothing (run_after settings lists events) event }
 {}
 
-/// Who is let in changes by commands alone, one user at a time, and nobody sits at a mount whose users do not let them
-/// in.
+/// Commands alone change who is let in, one user at a time, and nobody sits at a mount whose users do not let them in.
 // rule: Change of users; Closed to moves
 pub fn users_change_one_by_one()
-    // after any events, who is let in at a mount changes only for a user to whom a command gives a password, and for one whom
-    // a command deletes. No mount has users that had none, and the addresses that are let in stay
+    // after any events, who is let in at a mount changes only for a user that a command sets or deletes. No mount gains users
+    // that had none, and the addresses that are let in stay
     ensures steps { (settings : Settings) (lists : Lists) (events : List Event) (event : Event) → UsersStep (run_after settings lists events) event }
     // nobody sits at a mount whose users, as they are now, do not let them in
     ensures sitters { (settings : Settings) (lists : Lists) (events : List Event) → SittersAreLetIn (run_after settings lists events) }
@@ -210,14 +208,14 @@ pub fn users_change_one_by_one()
 // rule: Relay password; Public status; Who may see; One moment; Hidden mounts; Icecast status; Web page
 // rule: Paths of the web site; Waiting is not live
 pub fn sight_is_kept()
-    // after any events, what is shown of the station is what is there, and nothing of it changes. It is shown only to those
-    // who may see it: the status and the paths of the web site to everybody, the list of streams to a client that sent the
-    // relays' user and password, all of it to one that sent the admin's
+    // after any events, what is shown of the station is its present state, and nothing of it changes. The status and the
+    // paths of the web site are for everybody. The list of streams is for a client that sent the relays' user and
+    // password, and all of it for one that sent the admin's
     ensures may { (settings : Settings) (lists : Lists) (events : List Event) (event : Event) → OnlyWhoMayIsShown (run_after settings lists events) event }
     // each client that may see it is shown it, if the mount whose listeners it asks for is live
     ensures served { (settings : Settings) (lists : Lists) (events : List Event) → WhoMayIsShown (run_after settings lists events) }
-    // a client that asks for a path that `[web]` puts on is shown what is there: what is on air in Icecast's words, or the
-    // page
+    // a client that asks for a path that `[web]` puts on is shown what is there. That is what is on air in Icecast's words, or
+    // the page
     ensures visited { (settings : Settings) (lists : Lists) (events : List Event) → WhoVisitsIsShown (run_after settings lists events) }
     // no source feeds a mount of such a name
     ensures unfed { (settings : Settings) (lists : Lists) (events : List Event) → NobodyFeedsAPath (run_after settings lists events) }
@@ -225,8 +223,8 @@ pub fn sight_is_kept()
     ensures hidden { (settings : Settings) (lists : Lists) (events : List Event) → HiddenAreLeftOut (run_after settings lists events) }
     // nor in Icecast's words
     ensures untold { (settings : Settings) (lists : Lists) (events : List Event) → HiddenAreNotToldOnTheWeb (run_after settings lists events) }
-    // of any two stations, after any events of each, if they agree on what everybody may see of the live mounts that
-    // are not hidden: they show everybody and every relay the same bytes, whatever else they hold
+    // two stations, after any events of each, may agree on what everybody may see of the live mounts that are not hidden. Then
+    // they show everybody and every relay the same bytes, whatever else they hold
     ensures alike { (settings others : Settings) (lists files : Lists) (events more : List Event)
         → SightIsKept (run_after settings lists events) (run_after others files more) }
 {
@@ -246,9 +244,9 @@ pub fn listeners_are_told_titles()
 // rule: Lagged; Time over; Header timeout; Source silent; The clock; End at a waiting mount
 pub fn nobody_outstays()
     // after any events, a moment that has passed changes nothing. After any other clock no listener is there that has sat as
-    // long as its mount allows, no client that has asked for nothing in the time for it, and no source that has sent nothing
-    // in the time for it. Each of them is ended by its own rule: one that has sat out its time by `time-over`, also if its
-    // session ends as well. A listener at a mount that a relay feeds on demand waits there if its session ends
+    // long as its mount allows. No client is there that has asked for nothing in its time, and no source that has sent
+    // nothing in its time. Each of them is ended by its own rule. For a listener that has sat out its time it is `time-over`,
+    // also if its session ends as well. A listener at a mount that a relay feeds on demand waits there if its session ends
     ensures in_time { (settings : Settings) (lists : Lists) (events : List Event) (ms : ℕ) → NobodyOutstays (run_after settings lists events) ms }
     // what that time is, and how far behind is too far, in numbers
     ensures tests { TestsAreInNumbers }
@@ -269,14 +267,13 @@ pub fn who_left_is_gone()
         → StaysGone (run_after settings lists events) more id }
 {}
 
-/// An event depends on the mounts that it can reach, and changes no other. If its client is a listener,
-/// the mount where that sits, or sat last, is one of them.
+/// An event depends on the mounts that it can reach, and changes no other.
 // rule: Reach of a start; Reach of a block; Reach of an end; Reach of a listen; Reach of a listener
 // rule: Reach of a command; Reach of the clock; Beyond its reach
 pub fn events_go_by_their_mounts()
-    // of any two stations, after any events of each: if they agree on all that an event can reach, they answer it alike, and
-    // agree on that still. Which streams and listeners there are at other mounts, and which of these are finished, does not
-    // matter
+    // two stations, after any events of each, may agree on all that an event can reach. Then they answer it alike, and agree on
+    // that still. If the event's client is a listener, the mount where that sits, or sat last, is within reach.
+    // Which streams and listeners there are at other mounts, and which of these are finished, does not matter
     ensures alike { (settings others : Settings) (lists files : Lists) (events more : List Event) (within : List ℕ → Bool) (event : Event)
         → AnswersAlike within (run_after others files more) (run_after settings lists events) event }
     // what an event cannot reach stays: each other mount has the session that it had, and its sitters
@@ -296,23 +293,22 @@ pub fn parts_go_by_themselves()
     ensures titles { (settings : Settings) (lists : Lists) (events : List Event) → PartsAreTitled (run_after settings lists events) }
 {}
 
-/// A mount's part that has what a state has at its mount replies to a draw, block or title as the server does in that
-/// state. Afterwards it has what the state has there, and nothing changes at any other mount.
+/// A mount's part replies to a draw, block or title of its mount as the server does, and changes no other mount.
 // rule: Reach of a block; Reach of a listener
 pub fn own_steps_are_the_servers()
-    // in every state that a core represents
+    // this holds in every state that a core represents. A part that has what the state has at its mount replies as the server
+    // does in that state. Afterwards it has what the state has there, and nothing changes at any other mount
     ensures steps { (core w : World) → Represents core w → OwnStepsAreTheServers w }
-    // it does reply to each draw of a listener that sits there, and to each block and title of the source that feeds the
-    // mount
+    // it replies to each draw of a listener that sits there, and to each block and title of the source that feeds the mount
     ensures answered { (core w : World) → Represents core w → OwnStepsAreAnswered w }
 {}
 
-/// A control that was lent the parts of some mounts replies to an event that reaches no other as the server does,
-/// whatever there is at the other mounts.
+/// A control that was lent the parts of some mounts replies as the server does to an event that reaches no other mount.
 pub fn lent_parts_are_enough()
     // while a part is lent, every other mount is seen as before
     ensures others { (part there : MountPart) (before after : World) → IsLentTo part there before after → AgreeWithin (all_but part.mount) before after }
-    // a control replies as the server does in every state that agrees with it on the mounts that the event can reach
+    // a control replies as the server does in every state that agrees with it on the mounts that the event can reach. What is at
+    // the other mounts does not matter
     ensures replies { (core w lent : World) (within : List ℕ → Bool) (event : Event) → Represents core w → AgreeWithin within lent core
         → IsWithinReach core within event → with_counts (planned lent event).reply (counted lent (planned lent event).change) ≡ reply_to w event }
 {}

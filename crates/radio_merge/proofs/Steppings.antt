@@ -23,7 +23,7 @@ run_more : (w : World) (history : List Entry) (e : Entry) → IsRun w history �
 run_more w [] e run next = (next, tt)
 run_more w (x ∷ history) e run next = (run.0, run_more (world_after w x.event) history e run.1 next)
 
--- whatever state the core stands for, the entry is a step from it
+-- for each state that the core represents, the entry is a step from it
 abbrev pub Steps : World → Entry → World → Type 0
 Steps core e core' = (w : World) → Represents core w → (e.reply ≡ reply_to w e.event) × Represents core' (world_after w e.event)
 

@@ -8,7 +8,7 @@ use Rattle.radio_chronicle.specs.declared.stamp.Stamp.{Stamp}
 use Rattle.radio_parts_mount.specs.Items.{is_left_out, own_entry}
 use Rattle.radio_merge.specs.Merged.{IsMerge}
 
--- neither an own entry nor an end that a push made: an Attach, a title by a command, or a Detach by a command, a move or an end
+-- no own entry and no end by a push. It is an Attach, a title by a command, or a Detach by a command, a move or an end
 pub record IsMade (item : MountItem) : Type 0 where
   pub no_entry : own_entry item ≡ None
   pub no_lag : is_left_out item ≡ false

@@ -34,8 +34,8 @@ one_further at m n = record at { mounts = slice_set at.mounts m (n + 1) }
 abbrev pub beginning : List ControlLine → List (List MountItem) → Positions
 beginning control mounts = record { control = control; mounts = replicate (length mounts) 0 }
 
--- These places were taken in this order, with these entries, up to these positions: each list keeps its order, a control entry comes at its cuts
--- and takes the place of what it made, and ends that a push made are left out.
+-- These places were taken in this order, with these entries, up to these positions. Each list keeps its order. A control entry comes at its
+-- cuts and takes the place of what it made. Ends that a push made are left out.
 pub data Merged (control : List ControlLine) (mounts : List (List MountItem)) : List Stamp → List Entry → Positions → Type 0 where
   Begins : Merged control mounts [] [] (beginning control mounts)
   LeavesOut : (order : List Stamp) (history : List Entry) (at : Positions) (m n : ℕ) (item : MountItem) → Merged control mounts order history at

@@ -2,8 +2,8 @@
 
 ghost use Rattle.radio_merge.specs.Covered.{TheControlMakesTheRest};
 
-/// In merged lists, each item of a mount's list that is neither an own entry nor an end that a push made lies in the range of
-/// a cut: a control entry made it.
+/// In merged lists a cut covers each item of a mount's list that is neither an own entry nor an end by a push.
 pub fn the_control_makes_the_rest()
+    // the control entry of that cut made the item
     ensures { TheControlMakesTheRest }
 {}

@@ -17,9 +17,8 @@ use std::alloc::Global;
 
 /// Returns one history of all lists, through which a new core of these settings and lists steps with the same replies.
 ///
-/// Each list keeps its order, each control entry comes at its cuts, and the entries of each pass, which are given by their
-/// places, keep the order of the pass. `OutOfOrder` if no such order is found, `Unlike` if a reply differs, `OutOfMemory` if
-/// memory is refused.
+/// Each list keeps its order, and each control entry comes at its cuts. The entries of each pass, given by their places, keep the
+/// order of the pass. `OutOfOrder` if no such order is found, `Unlike` if a reply differs, `OutOfMemory` if memory is refused.
 pub fn merge(
     alloc: Global,
     settings: Settings,

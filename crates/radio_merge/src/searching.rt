@@ -71,8 +71,8 @@ impl<'a> Search<'a> {
         Ok(self.takes(next))
     }
 
-    /// The place of the next item of a mount's list, if that is an own entry, and comes before the next control entry that was lent
-    /// the mount.
+    /// The place of the next item of a mount's list, if that is an own entry. It comes before the next control entry that was lent the
+    /// mount.
     fn next_own(&self, mount: usize) -> Option<Stamp> {
         let (taken, item) = self.positions.next(self.family, mount)?;
         item.own_entry()?;

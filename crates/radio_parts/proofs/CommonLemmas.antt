@@ -38,7 +38,7 @@ use Rattle.radio_parts_mount.specs.Sessions.{Session, session_of}
 use Rattle.radio_policy.specs.declared.rule.Rule.{Rule}
 
 module _ (common : Common) where
-  -- a reply that gives no number, tells nothing, and says of no clock that it was heard, changes nothing
+  -- a reply that gives no number, no text and no new time changes nothing
   kept_by : (reply : Reply) → common_numbered common reply ≡ common → ((asked : Asked) → common_told common asked reply ≡ common)
       → ((ms : ℕ) → common_at common ms reply ≡ common) → (event : Event) → common_after common event reply ≡ common
   kept_by reply numbered told at (Arrive peer) = numbered
@@ -156,7 +156,7 @@ module _ (w : World) where
   common_by_way event o (Ticks ms not_passed) =
       silenced_common (before_silence w ms) (silent_in (before_silence w ms)) ∙ later_time (common_of w) ms not_passed
 
-  -- whatever number its reply tells
+  -- with any number in its reply
   pub common_planned : (event : Event) (counts : Carried)
       → common_of (kept_changed w (planned w event).change) ≡ common_after (common_of w) event (with_counts (planned w event).reply counts)
   common_planned event counts =
@@ -196,7 +196,7 @@ module _ (w : World) where
   common_worked_out (RelayDown id) o counts worked drawn = common_if_so (RelayDown id) o counts (worked tt)
   common_worked_out (Clock ms) o counts worked drawn = common_if_so (Clock ms) o counts (worked tt)
 
-  -- a change was made, and its reply tells its number
+  -- a change was made, and its reply names the number
   pub common_committed : {E : Type 0} (event : Event) (o : Outcome) (result : Result Reply E) (later : World) → (CanStep w event → o ≡ planned w event)
       → ((id room : ℕ) → event ≡ Draw id room → IsMove id o.change) → OnOk result (later ≡ kept_changed w o.change)
       → IfOk result (λ reply. reply ≡ with_counts o.reply (counted w o.change)) → IfOk result (λ reply. common_of later ≡ common_after (common_of w) event reply)

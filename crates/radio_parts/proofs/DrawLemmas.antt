@@ -1,4 +1,4 @@
--- a draw goes by the listener's seat, and by what is heard at its mount
+-- a draw depends on the listener's seat, and on the session at its mount
 use Rattle.std.proofs.Common.{◌≡◌, ℕ, Option, None, Some, refl, ap}
 use Rattle.std.specs.Option.{option_map_or}
 use Rattle.radio_seats_rows.specs.declared.seat.Seat.{Seat}

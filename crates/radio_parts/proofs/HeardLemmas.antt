@@ -1,4 +1,4 @@
--- what is heard at a mount: its session, or silence where it waits for one
+-- the session that listeners of a mount draw: its own, or silence while it waits for one
 use Rattle.std.proofs.Common.{◌≡◌, Bool, true, false, ℕ, Option, Some, None, List, refl, ap, sym, ◌∙◌}
 use Rattle.std.specs.Prelude.{if◌then◌else◌}
 use Rattle.std.specs.Option.{option_map_or, option_or}
@@ -42,7 +42,7 @@ module _ (station : StationState) (mount : List ℕ) where
   heard_end session e =
       heard_cases session e (λ live. ap end_in live) (λ none silent. ap end_in none ∙ ap (λ (x : Session). end_of x.stream) silent)
 
--- where the settings are the same, and the mount's session, so is what is heard there
+-- with the same settings and the same session, listeners of a mount draw the same
 pub heard_same : (station other : StationState) (mount : List ℕ) → station.settings ≡ other.settings → session_of station.live mount ≡ session_of other.live mount
     → heard_at station mount ≡ heard_at other mount
 heard_same station other mount settings live =

@@ -32,7 +32,7 @@ module _ (w : World) where
   shown_long event text (IsListing listing c) short = no_short listing short
   shown_long event text (IsAtPath asked path is_event is_path) short = no_short_page path asked.visit short
 
-  -- so it tells no number of those who were moved, or have finished
+  -- so it names no number of listeners moved or finished
   pub shown_untold : (event : Event) (text : ReplyText) → IsShownBy w event text → (counts : Carried) → told_counts text counts ≡ text
   shown_untold event text shown counts = untold text (shown_long event text shown) where
     untold : (text : ReplyText) → (IsShort text → ⊥) → told_counts text counts ≡ text

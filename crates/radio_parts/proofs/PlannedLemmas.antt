@@ -1,4 +1,4 @@
--- what was worked out of an event and told how many were moved, or have finished, is what comes of it
+-- the outcome as planned, with the numbers of listeners moved or finished, is the outcome of the event
 use Rattle.std.proofs.Common.{◌≡◌, ◌∙◌, ℕ, refl, ap, sym}
 use Rattle.radio_events.specs.declared.command.Command.{Command as TheCommand}
 use Rattle.radio_events.specs.declared.command.Command.TheVariants.{MoveClients, KillClient, KillSource, SetTitle, SetFallback, AddUser, DeleteUser}
@@ -23,7 +23,7 @@ use Rattle.radio_parts.proofs.ListingLemmas.{shown_untold}
 use Rattle.radio_parts.proofs.Ways.{way_of}
 
 module _ (w : World) where
-  -- what no command brings tells no number
+  -- only the reply to a command names a number
   plain_by : (event : Event) (o : Outcome) → Way w event o → ((asked : CommandRequest) → event ≡ Command asked → ⊥) → (counts : Carried)
       → with_counts o.reply counts ≡ o.reply
   plain_by event o (Misplaced _) other_than counts = refl
@@ -64,7 +64,7 @@ module _ (w : World) where
   planned_so (RelayDown id) = plain (RelayDown id) (λ asked e. cc)
   planned_so (Clock ms) = plain (Clock ms) (λ asked e. cc)
 
-  -- a draw tells none
+  -- the reply to a draw names none
   pub draw_untold : (id room : ℕ) (counts : Carried) → with_counts (draws w id room).reply counts ≡ (draws w id room).reply
   unfolding outcome
   draw_untold id room counts = plain_by (Draw id room) (draws w id room) (way_of w (Draw id room)) (λ asked e. cc) counts

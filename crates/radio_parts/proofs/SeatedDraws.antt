@@ -1,4 +1,4 @@
--- what a draw comes to, of one who has a seat and of one who has none
+-- the outcome of a draw, by a client with a seat and by a client without one
 use Rattle.std.proofs.Common.{◌≡◌, ℕ, Option, None, Some, refl, ap, ◌∙◌}
 use Rattle.radio_seats_rows.specs.declared.seat.Seat.{Seat}
 use Rattle.radio_seats_rows.specs.Seats.{seat_of}
@@ -12,7 +12,7 @@ use Rattle.radio_parts.specs.Draw.{hands_out, draws}
 use Rattle.radio_parts.specs.Outcomes.{if_sitting, out_of_place}
 use Rattle.radio_parts.proofs.DrawLemmas.{hands_out_at, draws_so}
 
--- one who has a seat is handed what stands at it
+-- a client with a seat draws the data at its place
 draws_at : (s : Standing) (found : Option Seat) (station : StationState) (id room : ℕ) (seat : Seat) → s ≡ Sits → found ≡ Some seat
     → if_sitting s (hands_out_at station id room found) ≡ hands_out id seat room (heard_at station seat.mount)
 draws_at s found station id room seat sits has = rw (sits, has) refl
@@ -22,7 +22,7 @@ pub draws_seated : (w : World) (id room : ℕ) (seat : Seat) → standing_of w i
 draws_seated w id room seat sits has =
     draws_so w id room ∙ draws_at (standing_of w id) (seat_of w.seats id) w.station id room seat sits has
 
--- one who has none is out of place
+-- a draw without a seat is out of place
 draws_by : (s : Standing) (station : StationState) (id room : ℕ) → if_sitting s (hands_out_at station id room None) ≡ out_of_place s
 draws_by Unknown station id room = refl
 draws_by (Undecided peer) station id room = refl

@@ -107,7 +107,7 @@ none_there : (found : Option Session) → is_some found ≡ false → found ≡ 
 none_there None e = refl
 none_there (Some session) e = cc
 
--- where a source may begin, it sent the pair, there are fewer sources than there may be, its mount has no session, and its type is carried
+-- a source that may begin sent the pair and its type is carried. There are fewer sources than allowed, and its mount has no session
 pub record MayBegin (its full live refused : Bool) : Type 0 where
   pub sent : its ≡ true
   pub has_room : full ≡ false
@@ -137,7 +137,7 @@ may_feed station asked v =
 pub may_begin : (w : World) (asked : SourceRequest) → verdict_in (rows_to_feed w.station asked) ≡ Allow → session_of w.station.live asked.mount ≡ None
 may_begin w asked v = none_there (session_of w.station.live asked.mount) (may_feed w.station asked v).is_free
 
--- where a relay may come up, there are fewer sources than there may be, its mount has no session, its type is carried, and there is a number left for it
+-- for a relay that may come up, there are fewer sources than allowed, and its mount has no session. Its type is carried, and a number is left for it
 pub record MayRise (full live refused spent : Bool) : Type 0 where
   pub has_room : full ≡ false
   pub is_free : live ≡ false
@@ -168,7 +168,7 @@ pub may_be_raised : (w : World) (mount : List ℕ) (shown : Shown) → verdict_i
     → session_of w.station.live mount ≡ None
 may_be_raised w mount shown v = none_there (session_of w.station.live mount) (may_come_up w.station mount shown v).is_free
 
--- who may arrive passes the address lists, and there is a number left for it
+-- a client that may arrive passes the address lists, and a number is left for it
 passes_by : (denied allowed full spent : Bool)
     → verdict_in (row AddressDenied denied ∷ row AddressNotAllowed (not allowed) ∷ row TooManyClients full ∷ row NumbersSpent spent ∷ []) ≡ Allow
     → ((not denied && allowed) ≡ true) × (spent ≡ false) × (full ≡ false)
@@ -195,7 +195,7 @@ has_room_left station peer v =
     let facts = arrive_facts station peer in
     (passes_by facts.address_is_denied facts.address_is_allowed facts.clients_are_full facts.number_is_spent v).2
 
--- who may listen is accepted at the mount that it asked for, where it does not sit already, and no rule stops its walk from there
+-- a client that may listen is accepted at the mount that it asked for and does not sit there already. No rule stops its walk from there
 pub record IsWelcome (accepted twice : Bool) (stop : Option Rule) : Type 0 where
   pub accepts : accepted ≡ true
   pub once : twice ≡ false

@@ -8,7 +8,7 @@ use Rattle.radio_parts_station.specs.World.{World}
 use Rattle.radio_parts_station.specs.Facts.{rows_to_arrive}
 use Rattle.radio_parts.specs.Outcomes.{says, on_verdict}
 
--- the next number is given to a client who has asked for nothing yet
+-- the next number is given to a client that has asked for nothing yet
 abbrev pub admits_client : World → Peer → Outcome
 admits_client w peer = says (Arrived (w.station.last_id + 1)) (Admit (w.station.last_id + 1) peer)
 

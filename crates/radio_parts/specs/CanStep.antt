@@ -1,4 +1,4 @@
--- What a step asks of the state: of one who draws, that it is known as a listener, and that what follows its place is not forgotten.
+-- What a step asks of the state. For a draw, the client is known as a listener, and the data after its place are not forgotten.
 use Rattle.std.specs.Prelude.{◌≡◌, ℕ, Some}
 use Rattle.radio_events.specs.declared.event.Event.{Event}
 use Rattle.radio_events.specs.declared.event.Event.TheVariants.{Arrive, Source, Push, SourceEnd, Title, Listen, Draw, Command, Leave}

@@ -18,7 +18,7 @@ use Rattle.radio_parts_facts.specs.Listings.{shown}
 use Rattle.radio_parts_station.specs.World.{World, standing_of}
 use Rattle.radio_parts.specs.Outcomes.{says, on_verdict, if_undecided}
 
--- what is said of a command that was done: how many it has moved, how many have finished since it changed the users of their mount, or that it was done
+-- the reply to a command that was done: how many listeners it moved, how many it finished by a change of their mount's users, or that it was done
 -- rule: Move clients
 abbrev pub said_of : TheCommand → Carried → ReplyText
 said_of (MoveClients mount destination) counts = Moved counts.moved
@@ -26,7 +26,7 @@ said_of (AddUser mount user password) counts = Ended counts.ended
 said_of (DeleteUser mount user) counts = Ended counts.ended
 said_of command counts = Done
 
--- the command is done, and the client who gave it has had its answer
+-- the command is done, and the client that gave it is answered
 abbrev pub obeys : World → ℕ → TheCommand → Outcome
 obeys w id command = says (SaysText (said_of command (counts_by w command))) (Obey id command)
 

@@ -16,14 +16,15 @@ use Rattle.radio_parts_station.specs.World.{World, standing_of}
 use Rattle.radio_parts.specs.Outcomes.{says, if_sitting}
 use Rattle.radio_parts_station.specs.Waiting.{silence_of}
 
--- the listener gets the data at its place, which moves past them, and the title of then; at a mount that waits for a session these are nothing
+-- the listener gets the data at its place, and the title of that moment; its place moves past the data.
+-- at a mount that waits for a session there are no data and no title
 abbrev pub hands_out : ℕ → Seat → ℕ → Option Session → Outcome
 hands_out id seat room None = says Stray Nothing
 hands_out id seat room (Some session) =
     let bytes = data_at session.stream seat.place room in
     says (Drawn bytes session.title) (Advance id (seat.place + length bytes))
 
--- the part as it is heard: where it has no session, but waits for one, nothing is to be heard yet
+-- the part as its listeners draw it: while it waits for a session it has an empty one
 abbrev pub as_heard : StationState → Part → Part
 as_heard station p = record p { session = option_or p.session (silence_of station p.mount) }
 
@@ -32,7 +33,7 @@ as_heard station p = record p { session = option_or p.session (silence_of statio
 abbrev pub part_draws : Part → ℕ → ℕ → Outcome
 part_draws p id room = option_map_or (λ seat. hands_out id seat room p.session) (seat_of p.listeners id) (says Stray Nothing)
 
--- it draws from what is heard at the mount of its seat
+-- it draws from the session at the mount of its seat
 abbrev pub draws_from : World → ℕ → ℕ → Seat → Outcome
 draws_from w id room seat = part_draws (as_heard w.station (part_at w seat.mount)) id room
 

@@ -17,8 +17,8 @@ use Rattle.radio_parts_facts.specs.Streams.{burst_of, head_of, interval_for}
 use Rattle.radio_parts.specs.Outcomes.{says, on_verdict, if_undecided}
 use Rattle.radio_parts_station.specs.Waiting.{heard_at}
 
--- the seat of a new listener whose walk landed at a mount with this session, or at one that waits for one. The mount that it asked for is its home, and it
--- begins at the start of a block
+-- the seat of a new listener whose walk landed at a mount with this session, or at one that waits for one.
+-- the mount that it asked for is its home, and it begins at the start of a block
 -- rule: Start of the burst
 abbrev pub first_seat : StationState → ListenRequest → Peer → Session → Seat
 first_seat station asked peer session = record {
@@ -32,13 +32,13 @@ first_seat station asked peer session = record {
   since = station.time;
 }
 
--- the listener sits down; where nothing is to be heard at the mount, at which no walk lands, nothing happens
+-- the listener sits down. If the mount has no session and waits for none, nothing happens; no walk lands there
 abbrev pub takes_seat : StationState → ListenRequest → Peer → Option Session → Outcome
 takes_seat station asked peer None = says Stray Nothing
 takes_seat station asked peer (Some session) =
     says (Seated (interval_for station asked.mount asked.wants_metadata) (head_of station session.shown)) (TakeSeat asked.id (first_seat station asked peer session))
 
--- it sits down where its walk lands; where it is stopped, which the policy denies, nothing happens
+-- it sits down where its walk lands. If a rule stops the walk, which the policy denies, nothing happens
 -- rule: Seat of a newcomer
 abbrev pub sits_where : StationState → ListenRequest → Peer → Landing → Outcome
 sits_where station asked peer (Stops rule) = says Stray Nothing

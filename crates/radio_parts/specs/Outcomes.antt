@@ -26,7 +26,7 @@ abbrev pub out_of_place : Standing → Outcome
 out_of_place (HasFinished rule) = says (Finished rule) Nothing
 out_of_place standing = says Stray Nothing
 
--- only a client who has asked for nothing yet may do it
+-- only a client that has asked for nothing yet may do it
 -- rule: Out of place
 abbrev pub if_undecided : Standing → (Peer → Outcome) → Outcome
 if_undecided (Undecided peer) go = go peer
@@ -44,7 +44,7 @@ abbrev pub unless_relayed : Bool → Outcome → Outcome
 unless_relayed true go = says Stray Nothing
 unless_relayed false go = go
 
--- only a listener who has a seat may do it
+-- only a listener that has a seat may do it
 -- rule: Out of place
 abbrev pub if_sitting : Standing → Outcome → Outcome
 if_sitting Sits go = go

@@ -30,7 +30,7 @@ asks_by w asked (Some path) = if_undecided (standing_of w asked.id) (λ _. shows
 abbrev pub asks_by_path : World → ListenRequest → Outcome
 asks_by_path w asked = asks_by w asked (web_path w.station.settings.web asked.mount)
 
--- the event asks to be shown something of the station, and this is it: a listing that the policy allows, or what is at a path of the web site
+-- the event asks to be shown something of the station, and this is it: a listing that the policy allows, or a page of the web site
 -- rule: Icecast status
 pub data IsShownBy (w : World) (event : Event) : ReplyText → Type 0 where
   IsListing : (listing : Listing) → IsListed w event listing → IsShownBy w event (shown w listing)

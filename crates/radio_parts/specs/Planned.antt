@@ -17,7 +17,7 @@ told_counts (Moved other) counts = Moved counts.moved
 told_counts (Ended other) counts = Ended counts.ended
 told_counts text counts = text
 
--- the reply, with these numbers of those who were moved, or have finished, if it names any
+-- the reply, with these numbers of listeners moved or finished, if it names any
 abbrev pub with_counts : Reply → Carried → Reply
 with_counts (SaysText text) counts = SaysText (told_counts text counts)
 with_counts reply counts = reply

@@ -63,7 +63,7 @@ pub data Way (w : World) : Event → Outcome → Type 0 where
   -- its client has finished, and the reply names the rule
   IsFinished : (event : Event) (id : ℕ) (rule : Rule) → client_in event ≡ Some id → standing_of w id ≡ HasFinished rule
       → Way w event (says (Finished rule) Nothing)
-  -- the policy denies it to one who did not ask for a mount
+  -- the policy denies it to a client that did not ask for a mount
   IsDenied : (event : Event) (rule : Rule) → verdict_in (rows_for w event) ≡ Denied rule → ((id : ℕ) → client_in event ≡ Some id → IsUndecided w id → ⊥)
       → Way w event (says (Deny rule) Nothing)
   -- the policy denies a client what it asks for, and it has had its answer

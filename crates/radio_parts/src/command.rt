@@ -76,7 +76,7 @@ impl Control {
     }
 }
 
-/// What is said of a command, before it is known how many it has moved or finished.
+/// Returns the reply to a command, before it is known how many listeners it has moved or finished.
 fn said_of(command: &Command) -> ReplyText
     ensures { (counts : CarriedOf) → result ≡ told_counts (said_of command.now counts) nobody }
 {

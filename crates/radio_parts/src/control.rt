@@ -140,7 +140,7 @@ impl Control {
     ///
     /// `OutOfMemory` if memory was refused; nothing has changed then.
     pub fn step(&mut self, event: Event) -> Result<Reply, OutOfMemory>
-        // of one who draws the client is known as a listener, and what follows its place is not forgotten
+        // for a draw, the client is known as a listener, and the data after its place are not forgotten
         ensures ok { CanStep self.old event → OnOk result (self.new ≡ control_after self.old event) }
         ensures told { CanStep self.old event → IfOk result (λ reply. reply ≡ control_reply self.old event) }
         // what all mounts have in common changes by the event and its reply alone, whatever was lent
@@ -185,7 +185,7 @@ impl Control {
         }
     }
 
-    /// A draw, as a step. It comes for each listener and block, so it makes no outcome, which is large.
+    /// Applies a draw. A draw happens for each listener and block, so it makes no outcome, which is large.
     fn step_drawing(&mut self, id: u64, room: u32) -> Result<Reply, OutOfMemory>
         ensures ok { MayDraw self.old id → OnOk result (self.new ≡ kept_changed self.old (draws self.old id room).change) }
         ensures told { MayDraw self.old id → IfOk result (λ reply. reply ≡ (draws self.old id room).reply) }
@@ -202,8 +202,7 @@ impl Control {
         Ok(reply)
     }
 
-    /// The listener, which sits at this mount, has heard its stream up to this place, if there is one.
-    /// It takes no memory.
+    /// Moves the listener, which sits at this mount, to this place of its stream, if there is one. It takes no memory.
     fn advance_at(&mut self, mount: &MountName, id: u64, place: Option<Place>)
         requires { sits_at self.old.seats id mount.now ≡ true }
         ensures { self.new ≡ kept_changed self.old (moves_to id place) }
@@ -213,7 +212,7 @@ impl Control {
         }
     }
 
-    /// Any event, as a step.
+    /// Applies any event.
     fn step_by_outcome(&mut self, event: Event) -> Result<Reply, OutOfMemory>
         ensures ok { CanStep self.old event → OnOk result (self.new ≡ kept_changed self.old (planned self.old event).change) }
         ensures told { CanStep self.old event → IfOk result (λ reply. reply ≡ with_counts (planned self.old event).reply (counted self.old (planned self.old event).change)) }

@@ -25,8 +25,7 @@ use radio_parts_table::Hearing;
 use radio_seats::LentSeat;
 use radio_values::MountName;
 
-/// The result of a draw: the reply, and the place up to which the listener has heard its stream then, if it gets any
-/// data.
+/// The result of a draw: the reply, and the listener's new place in its stream, if it gets any data.
 #[derive(Drop)]
 pub(crate) struct Drawing {
     pub reply: Reply,
@@ -50,7 +49,7 @@ impl Drawing {
         }
     }
 
-    /// This reply, and it hears on where it is.
+    /// Returns the result that has this reply and leaves the listener's place unchanged.
     fn of(reply: Reply) -> Drawing
         ensures { (result.reply ≡ reply) × (result.place ≡ None) }
     {
@@ -59,8 +58,8 @@ impl Drawing {
 }
 
 impl Control {
-    /// A listener has room for so many bytes. `OutOfMemory` if memory was refused. A client with a
-    /// seat is a listener, so the client is looked up only if it has none.
+    /// Draws at most `room` bytes for the listener of this number. `OutOfMemory` if memory was refused.
+    /// A client with a seat is a listener, so the client is looked up only if it has none.
     pub(crate) fn draw(&self, id: u64, room: u32) -> Result<Drawing, OutOfMemory>
         ensures { MayDraw self.now id → IfOk result (λ drawing. comes_to id drawing ≡ draws self.now id room) }
     {
@@ -73,7 +72,7 @@ impl Control {
         }
     }
 
-    /// A client that has no seat draws.
+    /// Returns the result of a draw by a client that has no seat.
     pub(crate) fn draw_without_seat(&self, id: u64) -> Drawing
         ensures { comes_to id result ≡ out_of_place (standing_of self.now id) }
     {
@@ -113,7 +112,7 @@ impl Control {
         })
     }
 
-    /// At a mount that waits for a session one whose place is this is handed nothing.
+    /// Draws nothing for a listener at this place of a mount that waits for a session.
     fn hand_out_nothing(&self, place: Place, mount: &MountName) -> Drawing
         ensures { (id room : ℕ) (seat : SeatOf) → seat.place ≡ place → comes_to id result ≡ hands_out id seat room (silence_of self.now.station mount.now) }
     {

@@ -32,7 +32,7 @@ struct AdmittedGuest {
 }
 
 impl Control {
-    /// A client wants to hear a mount. `OutOfMemory` if memory was refused.
+    /// Returns the outcome of a request to hear a mount. `OutOfMemory` if memory was refused.
     pub(crate) fn listen(&self, asked: ListenRequest) -> Result<Outcome, OutOfMemory>
         ensures { IfOk result (λ o. o ≡ listen_outcome self.now asked) }
     {

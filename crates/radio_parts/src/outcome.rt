@@ -35,7 +35,7 @@ impl Outcome {
         }
     }
 
-    /// The policy denies by the rule what the client asks for, who has had its answer then.
+    /// Returns the outcome of a request that the policy denies by the rule: the client is answered.
     pub(crate) fn refused(rule: Rule, id: u64) -> Outcome
         ensures { result ≡ says (Reply.Deny rule) (Change.Answer id) }
     {

@@ -1,4 +1,4 @@
-//! What a client is shown whose path is one of the web site's.
+//! What the server shows of the web site's paths.
 
 ghost use Rattle.std.specs.Prelude.{◌≡◌, IfOk};
 ghost use Rattle.radio_parts.specs.Outcomes.{if_undecided};
@@ -15,8 +15,8 @@ use radio_parts_station::Standing;
 use radio_settings_values::WebPath;
 
 impl Control {
-    /// A client asks for a path. It is shown what is there if the path is one of the web site's, and
-    /// else asks to hear a mount. `OutOfMemory` if memory was refused.
+    /// Answers a client that asks for a path. It shows what is there if the path is one of the web site's, and
+    /// else lets the client ask to hear a mount. `OutOfMemory` if memory was refused.
     pub(crate) fn get(&self, asked: ListenRequest) -> Result<Outcome, OutOfMemory>
         ensures { IfOk result (λ o. o ≡ asks_by_path self.now asked) }
     {

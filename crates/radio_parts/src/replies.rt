@@ -1,4 +1,4 @@
-//! Equal replies, for whoever keeps a record of them.
+//! Equal replies, for callers that record them.
 
 ghost use Rattle.std.specs.Prelude.{◌≡◌, ◌∷◌, [], IsOk, IfOk};
 ghost use Rattle.radio_events.specs.Replies.{HoldsNoText};

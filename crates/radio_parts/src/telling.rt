@@ -7,7 +7,7 @@ ghost use Rattle.radio_events.specs.declared.reply.Reply.{Reply as ReplyOf};
 use radio_events::{Reply, ReplyText};
 use radio_fallback::Carried;
 
-/// Returns the reply with these numbers of those who were moved or have finished, if it names any.
+/// Returns the reply with these numbers of listeners moved or finished, if it names any.
 pub(crate) fn with_counts(reply: Reply, counts: Carried) -> Reply
     ensures { result ≡ with_counts reply counts }
 {

@@ -1,4 +1,4 @@
--- Conversations that hear alike, whatever was said in them.
+-- Conversations that read alike, whatever was written in them.
 use Rattle.std.proofs.Common.{◌≡◌, ℕ, Bool, true, false, List, [], ◌∷◌, ◌++◌, Option, None, Some, Result, Ok, Err, drop, refl, sym, ap, subst, ◌∙◌}
 use Rattle.std.specs.Prelude.{codes, if◌then◌else◌}
 use Rattle.std.specs.Str.{bytes_eq}
@@ -35,7 +35,7 @@ alike_self c = record { id = refl; held = refl; hears = refl; web = refl }
 pub alike_then : (c d e : Conversation) → IsAlike c d → IsAlike d e → IsAlike c e
 alike_then c d e a b = record { id = a.id ∙ b.id; held = a.held ∙ b.held; hears = a.hears ∙ b.hears; web = a.web ∙ b.web }
 
--- the same events were heard, and the conversations go on alike
+-- the same events were read, and the conversations go on alike
 pub record AreSo (k h : EventReading) : Type 0 where
   pub events : k.events ≡ h.events
   pub conversation : IsAlike k.conversation h.conversation
@@ -108,7 +108,7 @@ reading_so c d a bytes (Ok (Whole request length)) =
     (is_source request) (bytes_eq request.method (codes "GET"))
 reading_so c d a bytes (Err fault) = refuses_so c d a BadHead
 
--- what is heard in the one is heard in the other
+-- what is read in the one is read in the other
 module _ (c d : Conversation) (a : IsAlike c d) (bytes : List ℕ) (h : EventReading) where
   abbrev HearsSo : Hears → Type 0
   HearsSo v = (k : EventReading) × HearsAs v c bytes k × AreSo k h

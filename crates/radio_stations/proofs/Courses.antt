@@ -27,11 +27,11 @@ use Rattle.radio_stations.proofs.Alike.{IsAlike, alike_self}
 use Rattle.radio_stations.proofs.Joined.{IsTogether, heard_together}
 use Rattle.radio_stations.proofs.Weaving.{asked_then, drawn_then}
 
--- what waits to be applied is the rest of what was heard, or a draw, and then that is all
+-- what waits to be applied is the rest of what was read, or a draw, and nothing after that
 abbrev pub Waits : ℕ → List Event → List Atom → Type 0
 Waits id pending unapplied = (unapplied ≡ atoms pending) ⊎ ((unapplied ≡ []) × (room : ℕ) × (pending ≡ Draw id room ∷ []))
 
--- how it stands as long as it goes on
+-- its state as long as it goes on
 pub record Goes (id : ℕ) (s : Standing) (unread : List ℕ) (unapplied : List Atom) (left : List Entry) (heard : EventReading) : Type 0 where
   pub all_read : unread ≡ []
   pub here : left ≡ []

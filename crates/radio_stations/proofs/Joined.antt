@@ -1,4 +1,4 @@
--- What is heard of some bytes and then of more is heard of both in one piece.
+-- Bytes that are read, and more bytes after them, are read as both in one piece.
 use Rattle.std.proofs.Common.{◌≡◌, inl, inr, ℕ, List, [], ◌∷◌, ◌++◌, Result, Ok, Err, refl, sym, ap, subst, ◌∙◌, append_assoc}
 use Rattle.std.proofs.lemmas.List.{append-nil}
 use Rattle.std.proofs.lemmas.List.Concat.{flat_map-append}
@@ -17,7 +17,7 @@ use Rattle.radio_session.specs.Hearing.{EventReading, HearsAs, IsHeard, body_hea
 use Rattle.radio_stations.specs.Meaning.{IsHeardInOne}
 use Rattle.radio_stations.proofs.Alike.{IsAlike, AreSo, alike_then, hears_so}
 
--- both together are heard somehow
+-- both together have a reading
 module _ (settled : IsStableReading ShowsRequest) (c : Conversation) (first more : List ℕ) (one : EventReading) where
   abbrev WholeAs : Hears → Type 0
   WholeAs v = (whole : EventReading) × HearsAs v c (first ++ more) whole
@@ -47,7 +47,7 @@ module _ (settled : IsStableReading ShowsRequest) (c : Conversation) (first more
   whole_of : (next : EventReading) → IsHeard c first one → IsHeard one.conversation more next → WholeAs c.hears
   whole_of next was is = by_kind next is c.hears refl was
 
--- and it is what is heard of the one, and then of the other in a conversation that hears as the first goes on
+-- and it is the reading of the one, and then of the other in a conversation that reads on as the first
 pub record IsTogether (c : Conversation) (bytes : List ℕ) (one next : EventReading) : Type 0 where
   pub whole : EventReading
   pub is_heard : IsHeardInOne c bytes whole
@@ -80,7 +80,7 @@ module _ (settled : IsStableReading ShowsRequest) (pieces : PiecesAreHeardAsOne)
             }) same.conversation;
       }
 
-  -- nothing was heard before
+  -- nothing was read before
   begins : (then_heard : EventReading) → IsHeard one.conversation more then_heard → AreSo then_heard next → (first ≡ []) × (one ≡ unheard c)
       → IsTogether c (first ++ more) one next
   begins then_heard is same none = record {

@@ -40,7 +40,7 @@ moments_so : (made : List Made) → AllByRecursion (λ m. HasLabelOrMoment (happ
 moments_so [] told = tt
 moments_so (m ∷ made) told = (told.0, moments_so made told.1)
 
--- what has happened on the connection, and what it was told; and that its client may be let go behind that
+-- what has happened on the connection, and what was written to it. Its client may be let go after that
 record IsKnownOf (web : WebAnswers) (c : Connection) (entries : List Entry) : Type 0 where
   pub text : List ℕ
   pub handed : IsHanded c.status.fate text c.taken c.outgoing
@@ -91,7 +91,7 @@ of_connection : (web : WebAnswers) (c : Connection) (entries : List Entry) → I
 of_connection web c entries of =
     subst (λ (es : List Entry). IsKnownOf web c es) (sym of.in_order) (by_reply web of.peer c of.applied of.reply of.served)
 
--- what has happened under a label, and what its connection was told
+-- what has happened under a label, and what was written to its connection
 record IsKnown (web : WebAnswers) (place : UnderLabel) (entries : List Entry) : Type 0 where
   pub text : List ℕ
   pub handed : IsHandedTo place text

@@ -39,7 +39,7 @@ none_behind (x ∷ xs) ys e = absurd (cc)
 abbrev came_so : WebAnswers → Peer → Reply → Arrival
 came_so web peer reply = record { web = web; peer = peer; reply = reply }
 
--- how it stands says what its bytes mean
+-- the state of the connection gives what its bytes mean
 served_so : IsStableReading ShowsRequest → PiecesAreHeardAsOne → (web : WebAnswers) (peer : Peer) (id : ℕ) (c : Connection) (applied : List Entry)
     → Stands (came_so web peer (Arrived id)) c (entry (Arrive peer) (Arrived id) ∷ applied) → IsServedThrough web peer id c applied
 served_so settled pieces web peer id c applied st =

@@ -22,7 +22,7 @@ pub data HasDrawsAmong (id : ℕ) : List Event → List Event → Type 0 where
   asks : (event : Event) (applied asked : List Event) → HasDrawsAmong id applied asked → HasDrawsAmong id (event ∷ applied) (event ∷ asked)
   draws : (room : ℕ) (applied asked : List Event) → HasDrawsAmong id applied asked → HasDrawsAmong id (Draw id room ∷ applied) asked
 
--- this is heard of the bytes as they come in one piece; where none came, nothing was heard
+-- this is the reading of the bytes in one piece; without bytes nothing was read
 abbrev pub IsHeardInOne : Conversation → List ℕ → EventReading → Type 0
 IsHeardInOne conversation bytes heard = ((bytes ≡ []) × (heard ≡ unheard conversation)) ⊎ IsHeard conversation bytes heard
 
@@ -35,8 +35,9 @@ pub record HasShut (entries : List Entry) : Type 0 where
   pub ending : Ending
   pub shut : (said says last.reply).state ≡ Shut ending
 
--- Since a client arrived from this peer, to be answered by these settings, and was given this number, its line gave these bytes, and these entries were applied
--- for it. They are, in order, the events that the bytes mean, in one piece, with its draws among them, and its leaving at the end.
+-- A client arrived from this peer, to be answered by these settings, and was given this number. Since then its line gave these bytes, and these
+-- entries were applied for it. They are, in order, the events that the bytes mean in one piece, with its draws among them. Its leaving is
+-- the last.
 pub record MeansItsBytes (web : WebAnswers) (peer : Peer) (id : ℕ) (given : List ℕ) (fate : Fate) (applied : List Entry) : Type 0 where
   -- what was read, and what came after the end of the conversation, or as it was cut off
   pub read : List ℕ

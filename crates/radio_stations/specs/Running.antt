@@ -22,15 +22,15 @@ module _ (Slot : Type 0) (pass_of : Slot → Option (List ReceiptOf)) where
   abbrev pub slot_passes : List Slot → List (List ReceiptOf)
   slot_passes slots = filter_map pass_of slots
 
-  -- The slots before and after workers worked at them, over a hall that stores its entries and began in this state. No pass had a receipt, and what was done
-  -- through each is the work of the worker there.
+  -- The slots before and after workers worked at them, over a hall that stores its entries and began in this state. No pass had a receipt. What
+  -- was done through each pass is the work of the worker there.
   pub record AreWorkedAt (start : World) (web : WebAnswers) (before after : List Slot) : Type 0 where
     pub count : length after ≡ length before
     pub no_receipts : All (λ slot. IfSome (pass_of slot) (λ receipts. receipts ≡ [])) before
     pub work : (i : ℕ) (d : Slot) → i < length before
         → IsWorkOf (IsCalled true start) (MayBeRefused true) web (pass_of (slice_index_or before i d)) (pass_of (slice_index_or after i d))
 
--- What a relay's thread did over such a hall: by its pass it made pulls of its relay and nothing else. The pass had no receipt as it began.
+-- What a relay's thread did over such a hall: it made only pulls of its relay by its pass. The pass had no receipt as it began.
 pub record RelayAtHall (start : World) : Type 0 where
   pub relay : RelaySetting
   pub pass : List ReceiptOf
@@ -46,9 +46,9 @@ pub record AreWorkersAt (start : World) (web : WebAnswers) (all : List (List Rec
   pub passes : passes_of workers ≡ all
   pub own : HaveOwnLabels workers
 
--- Whatever workers did at the slots of a hall, and relays' threads over it: they have labels of their own, and what they made is of their connections and
--- pulls. If `settle` ends well with the passes at the slots and those of the relays' threads, its history is of all of them. The last three premises are what
--- `settle` ensures of its history.
+-- Workers at the slots of a hall, and relays' threads over it, have labels of their own. What they made is of their connections and pulls.
+-- If `settle` ends well with the passes at the slots and those of the relays' threads, its history is of all of them. The last three
+-- premises are what `settle` ensures of its history.
 abbrev pub RunningStationsHearSlices : (Slot : Type 0) → Type 0
 RunningStationsHearSlices Slot = (pass_of : Slot → Option (List ReceiptOf)) (start : World) (web : WebAnswers) (before after : List Slot)
     (relays : List (RelayAtHall start)) → AreWorkedAt Slot pass_of start web before after

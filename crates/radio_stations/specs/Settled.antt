@@ -16,7 +16,7 @@ use Rattle.radio_serving.specs.Watching.{WatchedOf, WatchedSteps}
 use Rattle.radio_stations.specs.Stations.{AreDisjoint, StationHearsSlices, both_rolls}
 use Rattle.radio_stations.specs.Work.{HasWorked, IsOfConnections, Made, Roll, made_entries, nobody_came}
 
--- What a worker or a relay's thread did from this state of a hall that stores its entries, with these settings of answers. Its pass had no receipt as it began.
+-- What a worker or a relay's thread did from this state of a hall that stores its entries, with these settings. Its pass had no receipt as it began.
 pub record WorkAtHall (start : World) (web : WebAnswers) : Type 0 where
   pub made : List Made
   pub roll : Roll
@@ -44,8 +44,8 @@ module _ {start : World} {web : WebAnswers} where
   HaveOwnLabels [] = Unit {0}
   HaveOwnLabels (worker ∷ workers) = AreDisjoint worker.roll (joint_roll workers) × HaveOwnLabels workers
 
--- The history is woven of what each of these made. So it is of the connections and pulls of all of them, and its listeners are given slices of what their sources
--- brought.
+-- The history is woven of what each of these made. So it is of the connections and pulls of all of them, and its listeners are given slices of
+-- what their sources brought.
 pub record IsOfWorkers {start : World} {web : WebAnswers} (settings : Settings) (lists : Lists) (workers : List (WorkAtHall start web)) (history : List Entry) : Type 0 where
   pub made : List Made
   pub same : made_entries made ≡ history
@@ -53,8 +53,8 @@ pub record IsOfWorkers {start : World} {web : WebAnswers} (settings : Settings) 
   pub of_connections : IsOfConnections web made (joint_roll workers)
   pub hears : StationHearsSlices web settings lists made (joint_roll workers)
 
--- If `settle` ends well with the passes of these, and no label is known to two of them, then its history is of them. The last three premises are what `settle`
--- ensures of its history.
+-- If `settle` ends well with the passes of these, and no label is known to two of them, then its history is of them. The last three premises
+-- are what `settle` ensures of its history.
 abbrev pub SettledStationsHearSlices : Type 0
 SettledStationsHearSlices = (start : World) (web : WebAnswers) (settings : Settings) (lists : Lists) (workers : List (WorkAtHall start web))
     (control : List ControlLine) (mounts : List (List MountItem)) (history : List Entry)

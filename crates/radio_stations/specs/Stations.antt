@@ -23,8 +23,8 @@ given_by unknown = []
 given_by closed = []
 given_by (pulled given) = given
 
--- The line of the connection there took this text, and what still waits to be written is the rest of it. If it was cut off, its line took a front of it; if it
--- was closed, all of it. No replies are written in a pull.
+-- The line of the connection there took this text, and the bytes that still wait to be written are the rest of it. If it was cut off, its line
+-- took a front of it; if it was closed, all of it. No replies are written in a pull.
 abbrev pub IsHandedTo : UnderLabel → List ℕ → Type 0
 IsHandedTo (here c) text = IsHanded c.status.fate text c.taken c.outgoing
 IsHandedTo (gone c) text = IsHanded c.status.fate text c.taken c.outgoing
@@ -32,14 +32,14 @@ IsHandedTo unknown text = text ≡ []
 IsHandedTo closed text = text ≡ []
 IsHandedTo (pulled given) text = text ≡ []
 
--- What the replies say under each label is handed to the line of its connection. Over the course of the history, from the bytes that came under each label and
--- by what the replies say, each listener is given slices of what its sources brought: their lines, or the answers of relays' masters.
+-- The line of each label's connection takes what the replies there say. Over the course of the history each listener is given slices of what
+-- its sources brought. These are the bytes of their lines, or of the answers of relays' masters.
 pub record StationHearsSlices (web : WebAnswers) (settings : Settings) (lists : Lists) (made : List Made) (roll : Roll) : Type 0 where
   pub says : ℕ → List ℕ
   pub handed : (label : ℕ) → IsHandedTo (roll label) (says label)
   pub hears : CourseHearsSlices web settings lists (course_of made) (λ label. given_by (roll label)) says
 
--- In a history that is a run from the opening state, and is of connections and pulls, the listeners are given slices of what its sources brought.
+-- If a history is a run from the opening state, of connections and pulls, its listeners are given slices of what its sources brought.
 abbrev pub StationsHearSlices : Type 0
 StationsHearSlices = (web : WebAnswers) (settings : Settings) (lists : Lists) (made : List Made) (roll : Roll)
     → IsRun (opening settings lists) (made_entries made) → IsOfConnections web made roll → StationHearsSlices web settings lists made roll

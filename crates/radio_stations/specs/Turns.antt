@@ -17,23 +17,23 @@ use Rattle.radio_connections.specs.Course.{LetsNobodyIn}
 use Rattle.radio_connections.specs.Serving.{IsHanded, ServesInTurn, Stands}
 use Rattle.radio_stations.specs.Meaning.{MeansItsBytes}
 
--- A connection was let in under this number, and these entries were made for it since. Its arrival and these are the course of one connection: the bytes that
--- its line took, followed by those that still wait to be written, are the bytes of the replies. If it was cut off, its line took a front of them; if it was
--- closed, all of them. And the entries are those that its bytes mean.
+-- A connection was let in under this number, and these entries were made for it since. Its arrival and these are the course of one connection.
+-- The bytes that its line took, followed by those that still wait to be written, are the bytes of the replies. If it was cut off, its line
+-- took a front of them; if it was closed, all of them. The entries are those that its bytes mean.
 pub record IsServedThrough (web : WebAnswers) (peer : Peer) (id : ℕ) (c : Connection) (applied : List Entry) : Type 0 where
   pub same : c.id ≡ id
   pub stands : Stands (record { web = web; peer = peer; reply = Arrived id }) c (entry (Arrive peer) (Arrived id) ∷ applied)
   pub means : MeansItsBytes web peer id c.given c.status.fate applied
 
--- A connection whose client was not let in, by this reply, is nobody's, and nothing is applied for it. The bytes that its line took, and those that still wait, are those of
--- that reply; if it was cut off, its line took a front of them.
+-- A connection whose client was not let in, by this reply, is nobody's, and nothing is applied for it. The bytes that its line took, and those
+-- that still wait, are those of that reply. If it was cut off, its line took a front of them.
 pub record IsNotLetIn (web : WebAnswers) (reply : Reply) (c : Connection) (applied : List Entry) : Type 0 where
   pub none : applied ≡ []
   pub nobodys : c.status.has_left ≡ true
   pub handed : IsHanded c.status.fate (said (asking web) reply).bytes c.taken c.outgoing
 
 module _ {S : Type 0} (steps : Steps S) where
-  -- its part of one turn: the moment, for how long its line may take nothing, whether there was news, and the server and the connection before and after it
+  -- its part of one turn: the moment, how long its line may take nothing, whether there was news. And the server and the connection before and after it
   pub record ConnectionTurn : Type 0 where
     pub ms : ℕ
     pub patience : ℕ
@@ -53,13 +53,13 @@ module _ {S : Type 0} (steps : Steps S) where
   abbrev pub applied_in : List ConnectionTurn → List Entry
   applied_in turns = flat_map (λ (turn : ConnectionTurn). turn.serves.entries) turns
 
-  -- Whatever turns a connection has had since it was let in, it is served through them.
+  -- In any turns since a connection was let in, it is served through them.
   abbrev pub ConnectionsMeanTheirBytes : Type 0
   ConnectionsMeanTheirBytes = (web : WebAnswers) (peer : Peer) (id : ℕ) (first last : Connection) (turns : List ConnectionTurn)
       → IsTakenIn (record { web = web; peer = peer; reply = Arrived id }) [] [] first → AreTurnsOf first turns last
       → IsServedThrough web peer id last (applied_in turns)
 
-  -- Whatever turns a connection has had whose client was not let in, it is only answered.
+  -- In any turns of a connection whose client was not let in, it is only answered.
   abbrev pub StrangersAreOnlyAnswered : Type 0
   StrangersAreOnlyAnswered = (web : WebAnswers) (peer : Peer) (reply : Reply) (first last : Connection) (turns : List ConnectionTurn) → LetsNobodyIn reply
       → IsTakenIn (record { web = web; peer = peer; reply = reply }) [] [] first → AreTurnsOf first turns last

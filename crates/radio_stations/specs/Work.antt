@@ -23,8 +23,8 @@ use Rattle.radio_headline.specs.Course.{Happening}
 use Rattle.radio_headline.specs.Served.{HasLabelOrMoment}
 use Rattle.radio_stations.specs.Turns.{IsServedThrough, IsNotLetIn}
 
--- what a worker has under a label: nothing yet, a connection, one that it has let go, none, since that was closed as it came, or the bytes of a master's answer
--- in one pull of a relay
+-- what a worker has under a label: nothing yet, a connection, one that it has let go, or none since it closed it on arrival.
+-- A relay's thread has the bytes of a master's answer in one pull
 pub data UnderLabel : Type 0 where
   unknown : UnderLabel
   here : Connection → UnderLabel
@@ -85,8 +85,8 @@ pub record IsOfItsPull (given : List ℕ) (entries : List Entry) : Type 0 where
   pub same_given : pull.given ≡ given
   pub same_entries : pull.entries ≡ entries
 
--- These entries are those under a label: none where nobody came; those of its connection; behind them the leaving of its client, if that was let go; the
--- arrival alone, if the connection was closed as it came; those of a relay's pull.
+-- These entries are those under a label: none if nobody came, or those of its connection. The leaving of its client follows them, if that was
+-- let go. Only the arrival is there if the connection was closed as it came. Or they are those of a relay's pull.
 abbrev pub IsUnder : WebAnswers → UnderLabel → List Entry → Type 0
 IsUnder web unknown entries = entries ≡ []
 IsUnder web (here c) entries = IsOfItsConnection web entries c
@@ -98,15 +98,15 @@ IsUnder web (pulled given) entries = IsOfItsPull given entries
 abbrev pub happening : Made → Happening
 happening m = record { label = m.label; event = m.done.event }
 
--- Of connections that are answered by these settings, and of pulls: what was made under each label is that of the connection or the pull there, and what was
--- made under none are clock events.
+-- What was made under each label is that of the connection or the pull there. What was made under no label are clock events. The
+-- connections are answered by these settings.
 pub record IsOfConnections (web : WebAnswers) (made : List Made) (roll : Roll) : Type 0 where
   pub labels : (label : ℕ) → IsUnder web (roll label) (entries_on label made)
   pub moments : AllByRecursion (λ m. HasLabelOrMoment (happening m)) made
 
 module _ {S : Type 0} (steps : Steps S) (web : WebAnswers) where
-  -- What a worker made over a server, by these settings of answers, and what it then has under each label. It told the moment; it took in a connection under a
-  -- new label, or closed it as it came; it served one of its connections in a turn; and as it stopped, it let clients go that
+  -- What a worker made over a server, by these settings of answers, and what it then has under each label. It applied the clock. It took in a
+  -- connection under a new label, or closed it as it came. It served one of its connections in a turn. As it stopped, it let clients go that
   -- had not left. A relay's thread made a pull under a new label.
   pub data HasWorked (first : S) : List Made → S → Roll → Type 0 where
     nothing_yet : HasWorked first [] first nobody_came
@@ -133,7 +133,7 @@ module _ {S : Type 0} (steps : Steps S) (web : WebAnswers) where
   abbrev pub WorkIsOfItsConnections : Type 0
   WorkIsOfItsConnections = (first last : S) (made : List Made) (roll : Roll) → HasWorked first made last roll → IsOfConnections web made roll
 
--- Of a hall that stores its entries: what the pass of a worker or a relay's thread gained are the receipts of all that it made, in that order, and no others.
+-- If a hall stores its entries, a pass gained the receipts of all that its worker or relay's thread made, in order, and no others.
 abbrev pub PassesAreOfTheirWork : Type 0
 PassesAreOfTheirWork = (opening : World) (web : WebAnswers) (first last : WatchedOf (List ReceiptOf)) (made : List Made) (roll : Roll)
     → HasWorked (WatchedSteps (IsCalled true opening)) web first made last roll

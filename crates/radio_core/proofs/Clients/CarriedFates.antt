@@ -39,7 +39,7 @@ found_there : {A : Type 0} (found : Option A) → is_some found ≡ true → (x 
 found_there None e = cc
 found_there (Some x) e = (x, refl)
 
--- the end that is seen of a stream is that of what is heard there
+-- the end of a stream, as a walk sees it, is that of the session that listeners of the mount draw
 at_its_end : (station : StationState) (to : List ℕ) (session : Session) (seat : Seat) → heard_at station to ≡ Some session
     → seat_at_end (sight_of station) to seat ≡ moved_into session seat
 at_its_end station to session seat heard =
@@ -64,7 +64,7 @@ module _ (C : ℕ → Rule → Type 0) (M : ℕ → Session → Type 0) (S : ℕ
   abbrev relay : Option Relay
   relay = relay_of w.station.relays id
 
-  -- it stands as its place in the table says
+  -- its standing is the one that its row in the table gives
   stands_by : (listener : Option Listener) → listener_of after.seats id ≡ listener → standing_of after id ≡ standing_of_found relay listener client
   stands_by listener e =
       ap (λ l. standing_of_found (relay_of station.relays id) l (client_of station.clients id)) e

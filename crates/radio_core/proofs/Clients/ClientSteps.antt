@@ -1,4 +1,4 @@
--- what an event does to how one client stands
+-- what an event does to the standing of one client
 use Rattle.std.proofs.Common.{◌≡◌, ◌⊎◌, inl, inr, ℕ, ◌<◌, true, false, List, Some, refl, ap, sym, subst, ◌∙◌}
 use Rattle.radio_policy.specs.declared.rule.Rule.{Rule}
 use Rattle.radio_access.specs.Lists.{passes}

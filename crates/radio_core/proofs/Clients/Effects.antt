@@ -1,4 +1,4 @@
--- what an event does to how clients stand
+-- what an event does to the standings of clients
 use Rattle.std.proofs.Common.{◌≡◌, true, false, ℕ, ◌+◌, ◌==◌, Some, None, List, refl, ap, sym, ◌∙◌}
 use Rattle.radio_addr.specs.declared.peer.Peer.{Peer}
 use Rattle.radio_policy.specs.declared.rule.Rule.{Rule}
@@ -38,13 +38,13 @@ use Rattle.radio_core.proofs.Sessions.TickLemmas.{ClockCarries, ticked_fates}
 use Rattle.radio_core.proofs.Clients.Obeyed.{LeavesFor, Takes, obeyed, is_answered, others_stood}
 use Rattle.radio_parts.proofs.Ways.{way_of, may_arrive}
 
--- by its own event nobody finishes, or comes to have asked for nothing
+-- nobody finishes by its own event, and nobody is again yet to ask after it
 abbrev pub HasActed : Standing → Type 0
 HasActed (Undecided peer) = ⊥
 HasActed (Finished rule) = ⊥
 HasActed standing = Unit {0}
 
--- a client stands as before, or is finished, or stops feeding by its own doing
+-- a client keeps its standing, or is finished, or stops feeding by its own doing
 pub data IsSwept (w later : World) (event : Event) (id : ℕ) : Type 0 where
   GoesOnAs : standing_of later id ≡ standing_of w id → IsSwept w later event id
   IsOut : (rule : Rule) → Cause w later event id rule → standing_of later id ≡ Finished rule → seat_of later.seats id ≡ None → IsSwept w later event id
@@ -66,16 +66,16 @@ swept w later event M S L id own (HasStopped mount why feeding done none over) =
 swept w later event M S L id own (IsMoved old session carries left had has same live opens) = GoesOnAs same
 
 pub data Effect (w later : World) (event : Event) (reply : Reply) : Type 0 where
-  -- everybody stands as before
+  -- everybody keeps their standing
   Same : ((id : ℕ) → standing_of later id ≡ standing_of w id) → Effect w later event reply
   -- a client has arrived
   Joins : (peer : Peer) → passes w.station.lists peer ≡ true → reply ≡ Arrived (w.station.last_id + 1) → Turns w later (w.station.last_id + 1) (Undecided peer)
       → Effect w later event reply
   -- a relay has come up
   Rises : (mount : List ℕ) → reply ≡ Arrived (w.station.last_id + 1) → Turns w later (w.station.last_id + 1) (Feeds mount) → Effect w later event reply
-  -- the event's client stands otherwise
+  -- the event's client has another standing
   Acts : (him : ℕ) (now : Standing) → client_in event ≡ Some him → HasActed now → Turns w later him now → Effect w later event reply
-  -- some are finished, one perhaps stops feeding, and the others stand as before
+  -- some are finished, at most one stops feeding, and the others keep their standing
   Sweeps : ((id : ℕ) → IsSwept w later event id) → Effect w later event reply
 
 -- a block comes: who is too far behind is finished

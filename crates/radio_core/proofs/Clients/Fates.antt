@@ -30,13 +30,14 @@ IsActive (Feeds mount) = Unit {0}
 IsActive Sits = Unit {0}
 IsActive standing = ⊥
 
--- nothing more is to come for it, by its own doing
+-- it can do nothing more
 abbrev pub IsDone : Standing → Type 0
 IsDone Answered = Unit {0}
 IsDone Unknown = Unit {0}
 IsDone standing = ⊥
 
--- why a rule ends for a client what it ends, why it is moved into a session, why a source stops feeding, and what of the mount that one who is moved leaves
+-- the causes for which a rule ends a client, a client is moved into a session, or a source stops feeding,
+-- and what holds of the mount that a moved client leaves
 pub data Fate (C : ℕ → Rule → Type 0) (M : ℕ → Session → Type 0) (S : ℕ → Type 0) (L : World → Seat → Session → Type 0) (w later : World) (id : ℕ) : Type 0 where
   -- a client goes on as it was, in the same session
   GoesOn : standing_of later id ≡ standing_of w id → seat_of later.seats id ≡ seat_of w.seats id

@@ -67,7 +67,7 @@ not_undecided Sits peer acted e = cc
 not_undecided Answered peer acted e = cc
 
 module _ (w : World) (s : IsSound w) (event : Event) where
-  -- others stand as before, or are finished
+  -- others keep their standing, or are finished
   stands_by : (id : ℕ) → (client_in event ≡ Some id → ⊥) → Effect w (world_after w event) event (reply_to w event) → StandsOn w event id
   stands_by id not (Same same) = inl (same id)
   stands_by id not (Joins peer passing arrived t) = by_number (w.station.last_id + 1) id (λ same. inr (inr (arrived ∙ ap (λ (n : ℕ). Arrived n) same)))
@@ -84,7 +84,7 @@ module _ (w : World) (s : IsSound w) (event : Event) where
   pub others_hold : OthersStandOn w event
   others_hold id not = stands_by id not (effect_of w s event)
 
-  -- who stands finished after an event stood so before, or is finished by it
+  -- a client that is finished after an event was finished before it, or the event finishes it
   finished_by : (id : ℕ) (rule : Rule) → standing_of (world_after w event) id ≡ HasFinished rule → Effect w (world_after w event) event (reply_to w event)
       → (standing_of w id ≡ HasFinished rule) ⊎ Finishes w event id rule
   finished_by id rule e (Same same) = inl (sym (same id) ∙ e)
@@ -147,7 +147,7 @@ module _ (w : World) (s : IsSound w) (event : Event) where
       → (standing_of w id ≡ Undecided peer) ⊎ HasArrived id peer
   undecided_before id peer e = undecided_by id peer e (effect_of w s event)
 
--- who is told that it was finished stands so
+-- a client whose reply says that it was finished has that standing
 told_by : (w : World) (event : Event) (o : Outcome) → RuleNamed w event o → (rule : Rule) → o.reply ≡ Finished rule
     → (id : ℕ) × (client_in event ≡ Some id) × (standing_of w id ≡ HasFinished rule)
 told_by w event o (TellsHisRule him by its known) rule d = let same : by ≡ rule = cc in (him, its, known ∙ ap (λ (r : Rule). HasFinished r) same)

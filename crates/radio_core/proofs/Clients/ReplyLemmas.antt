@@ -1,4 +1,4 @@
--- each reply fits the client to whom it is told
+-- each reply fits the client that gets it
 use Rattle.std.proofs.Common.{◌≡◌, ℕ, ◌+◌, ◌<◌, List, Option, refl, ap, sym, ◌∙◌, arith}
 use Rattle.radio_addr.specs.declared.peer.Peer.{Peer}
 use Rattle.radio_events.specs.declared.reply.StreamHead.{StreamHead}

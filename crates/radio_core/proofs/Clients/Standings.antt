@@ -1,4 +1,4 @@
--- how clients and relays stand after each change
+-- the standings of clients and relays after each change
 use Rattle.std.proofs.Common.{◌≡◌, true, false, ℕ, ◌==◌, Option, Some, None, is_some, List, refl, ap, sym, ◌∙◌, arith}
 use Rattle.std.proofs.lemmas.Bool.Decides.{nat_tests}
 use Rattle.radio_policy.specs.declared.rule.Rule.{Rule}
@@ -30,7 +30,7 @@ use Rattle.radio_seats_rows.proofs.GivenLaws.{listener_hearing}
 use Rattle.std.specs.Option.{option_map}
 use Rattle.radio_parts_station.specs.StationState.{StationState}
 
--- one client stands so from now on, and the others as before
+-- one client has this standing from now on, and the others keep theirs
 pub record Turns (w later : World) (him : ℕ) (now : Standing) : Type 0 where
   pub his : standing_of later him ≡ now
   pub others : (id : ℕ) → (him == id) ≡ false → standing_of later id ≡ standing_of w id
@@ -47,7 +47,7 @@ no_relay_asks (Some relay) peer e = by_state relay.state e where
   by_state (RelayFeeds mount) h = cc
   by_state (RelayEnded rule) h = cc
 
--- each client stands somehow
+-- each client has a standing
 no_unknown_seating : (seating : Seating) → standing_seated seating ≡ Unknown → ⊥
 no_unknown_seating (HasSeat seat) e = cc
 no_unknown_seating (HasFinished rule mount) e = cc
@@ -75,7 +75,7 @@ module _ (w : World) (id : ℕ) where
   abbrev listener_row : Option Listener
   listener_row = listener_of w.seats id
 
-  -- where there is no client, it stands as a relay
+  -- if no client has the number, the standing is that of a relay
   pub stands_as_relay : client_of w.station.clients id ≡ None → standing_of w id ≡ standing_of_relay relay_row
   stands_as_relay none = ap (standing_of_found relay_row listener_row) none
 
@@ -201,7 +201,7 @@ module _ (w : World) (id : ℕ) where
       (is_new_relay w.station.relays new id itself) (no_client_there w id unknown) refl
       (λ him other. beside_new_relay w.station.relays new him other) (λ him other. refl) (λ him other. refl)
 
--- a listener hears on, and stands as before
+-- a listener that draws keeps its standing
 heard_on : (place : ℕ) (seating : Seating) → standing_seated (heard_to place seating) ≡ standing_seated seating
 heard_on place (HasSeat seat) = refl
 heard_on place (HasFinished rule mount) = refl
@@ -235,7 +235,7 @@ stays_hearing w him place listener found id = by_number him id his others where
   others : (him == id) ≡ false → standing_of (changed w (Advance him place)) id ≡ standing_of w id
   others other = ap (λ l. standing_of_found (relay_of w.station.relays id) l (client_of w.station.clients id)) (beside_moved w.seats him id other place)
 
--- who hears a session that begins at its mount stands as before
+-- a listener keeps its standing when a session begins at its mount
 given_seated : (mount : List ℕ) (session : ℕ) (seating : Seating) → standing_seated (in_session_at mount session seating) ≡ standing_seated seating
 given_seated mount session (HasSeat seat) = refl
 given_seated mount session (HasFinished rule last) = refl

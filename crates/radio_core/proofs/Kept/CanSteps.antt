@@ -1,4 +1,4 @@
--- what a step asks holds of each state for which a core stands, and of each event that takes no memory
+-- the conditions of a step hold in each state that a core represents, and for each event that takes no memory
 use Rattle.std.proofs.Common.{◌≡◌, ℕ, Option, Some, None, refl}
 use Rattle.radio_events.specs.declared.event.Event.{Event}
 use Rattle.radio_events.specs.declared.event.Event.TheVariants.{Arrive, Source, Push, SourceEnd, Title, Listen, Draw, Command, Leave}

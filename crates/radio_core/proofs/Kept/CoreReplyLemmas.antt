@@ -1,4 +1,4 @@
--- cores reply as the states that they stand for
+-- cores give the replies of the states that they represent
 use Rattle.std.proofs.Common.{◌≡◌, ℕ, ◌+◌, Option, Some, None, List, length, refl, ap, sym, ◌∙◌}
 use Rattle.std.specs.Prelude.{nat_lt}
 use Rattle.std.specs.Option.{option_map}

@@ -218,7 +218,7 @@ not_behind : {queue : ℕ} (there : Bool) (lag : ℕ) → there ≡ true → (th
 not_behind {queue} true lag e h = ltb-false queue lag h
 not_behind false lag e h = cc
 
--- what a seat keeps by: it holds at the start, at the end, of a burst and further on, and where the stream grows and the seat stays
+-- what holds of each seat. It holds at the start, at the end, of a burst and further on, and when the stream grows and the seat stays
 pub record HoldsOn (P : WholeStream → ℕ → Type 0) (w : World) : Type 0 where
   pub at_none : (place : ℕ) → P no_data place
   pub at_end : (mount : List ℕ) (session : Session) → session_of w.station.live mount ≡ Some session → P session.stream (end_of session.stream)

@@ -34,7 +34,7 @@ module _ (w : World) (rise : Each HasRisingStarts w.station.live) where
   pub has_session : (mount : List ℕ) → is_some (session_of kept_station.live mount) ≡ is_some (session_of w.station.live mount)
   has_session mount = ap is_some (kept_found queue w.station.live mount) ∙ is_some_mapped (kept_session queue) (session_of w.station.live mount)
 
-  -- what is heard is so, but that of its stream only a queue is kept
+  -- each mount has the same session for its listeners, but only a queue of its stream is kept
   pub heard_kept : (mount : List ℕ) → heard_at kept_station mount ≡ option_map (kept_session queue) (heard_at w.station mount)
   heard_kept mount =
       ap (λ (found : Option Session). option_or found (silence_of w.station mount)) (kept_found queue w.station.live mount)

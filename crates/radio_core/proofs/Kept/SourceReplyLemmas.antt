@@ -1,4 +1,4 @@
--- What a source is replied goes by its data.
+-- The replies to a source depend on its data.
 use Rattle.std.proofs.Common.{◌≡◌, ◌⊎◌, inl, inr, ℕ, ◌+◌, Bool, true, false, List, [], ◌∷◌, ◌++◌, length, length-append, Option, None, Some, is_some, refl, ap}
 use Rattle.std.proofs.Common.{sym, subst, ◌∙◌, arith}
 use Rattle.std.specs.Prelude.{find, nat_lt, if◌then◌else◌}
@@ -79,7 +79,7 @@ stays_spent (Some session) block rest e = by_test (nat_lt largest_number (end_of
   by_test false t d = cc
 
 module _ (w : World) (id : ℕ) (block : List ℕ) (valid : IsBlock block) where
-  -- what comes of the block, by how the client stands, and by whether the numbers are spent
+  -- the outcome of the block, by the client's standing, and by whether the numbers are spent
   abbrev by_number : List ℕ → Bool → Outcome
   by_number mount b = on_verdict (if b then Denied NumbersSpent else Allow) Nothing (takes_in mount block)
 

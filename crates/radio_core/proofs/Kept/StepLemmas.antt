@@ -25,17 +25,17 @@ use Rattle.radio_seats_rows.specs.declared.seat.Seat.{Seat}
 use Rattle.radio_seats_rows.specs.Seats.{seat_of, last_mount_of}
 use Rattle.radio_parts_facts.specs.Wanted.{wanted}
 
--- the opening state stands for itself
+-- the opening state represents itself
 pub opening_represents : (settings : Settings) (lists : Lists) → Represents (opening settings lists) (opening settings lists)
 unfolding Represents
 opening_represents settings lists = record { shows = refl; rise = tt; kept = λ id seat session e f. cc; sound = sound_opening settings lists }
 
--- a core has the settings of whatever state it stands for
+-- a core has the settings of each state that it represents
 pub keeps_settings : (core w : World) → Represents core w → core.station.settings ≡ w.station.settings
 unfolding Represents
 keeps_settings core w stands = ap (λ (x : World). x.station.settings) stands.shows
 
--- the mounts are wanted that are in whatever state it stands for
+-- a core wants the same mounts as each state that it represents
 pub wants_alike : (core w : World) → Represents core w → wanted core ≡ wanted w
 unfolding Represents
 wants_alike core w stands = ap wanted stands.shows
@@ -68,7 +68,7 @@ seat_sits now stands id seat has =
     ap (λ (x : World). standing_of x id) shows
     ∙ stands.1.sound.sitting id seat (sym (ap (λ (x : World). seat_of x.seats id) shows) ∙ has)
 
--- an outcome that was worked out and committed is a step, from whatever state the core stood for
+-- an outcome that was worked out and committed is a step, from each state that the core represented
 module _ (now later : World) (event : Event) (o : Outcome) (is_planned : o ≡ planned now event) where
   -- the reply, with the number of those who were moved, or have finished
   abbrev told_reply : Reply
@@ -98,7 +98,7 @@ module _ (now later : World) (event : Event) (o : Outcome) (is_planned : o ≡ p
         },
       )
 
-  -- so it stands for a state still
+  -- so it still represents a state
   pub still_stands : {A E : Type 0} (result : Result A E) → OnOk result (later ≡ kept_changed now o.change) → OnErr result (later ≡ now) → StandsForSome now
       → StandsForSome later
   unfolding StandsForSome
@@ -120,7 +120,7 @@ module _ (now later : World) (event : Event) (o : Outcome) (is_planned : o ≡ p
       (told_reply, s.0, s.1, told, s.2)
   steps_done (Err refused) ok told w stands = tt
 
--- and a core replies as the state for which it stands
+-- a core gives the reply of each state that it represents
 pub replies_alike : (core w : World) → Represents core w → (event : Event) → reply_to core event ≡ reply_to w event
 unfolding Represents reply_to
 replies_alike core w stands event =

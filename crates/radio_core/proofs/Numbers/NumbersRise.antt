@@ -88,7 +88,7 @@ pub record AreInOrder (w : World) : Type 0 where
   pub fresh : (id : ℕ) → IsYetToAsk (standing_of w id) → IsFree id (rows w)
   pub alone : AreAlone (relay_ids w) (ids w) (rows w)
 
--- one client stands otherwise from now on, and not as one who has yet to ask
+-- one client has another standing from now on, and is not yet to ask
 turned : (w later : World) (him : ℕ) (now : Standing) → Turns w later him now → (IsYetToAsk now → ⊥)
     → ((id : ℕ) → IsYetToAsk (standing_of w id) → IsFree id (rows later)) → (id : ℕ) → IsYetToAsk (standing_of later id) → IsFree id (rows later)
 turned w later him now t never before id yet =

@@ -199,7 +199,7 @@ module _ (w : World) (s : IsSound w) (inv : AreInOrder w) where
       relay_goes him (changed w (Forget him)) refl refl refl (numbers_without row_of him w.seats) relay
 
 module _ (w : World) (s : IsSound w) (inv : AreInOrder w) where
-  -- where none of that number is there, its leaving is told to be stray
+  -- if nobody has that number, the reply to its leaving is that of an event out of place
   left_is_known : (event : Event) (id : ℕ) → event ≡ Leave id → (outcome w event).reply ≡ Noted → standing_of w id ≡ Unknown → ⊥
   unfolding outcome
   left_is_known event id leaves noted unknown =

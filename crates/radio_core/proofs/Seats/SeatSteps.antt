@@ -66,7 +66,7 @@ use Rattle.radio_seats_rows.proofs.GivenLaws.{seat_hearing, seat_of_hearing}
 use Rattle.radio_core.proofs.Seats.GivenSeats.{sat_elsewhere}
 use Rattle.radio_values.specs.declared.field.Shown.{Shown}
 
--- all that an event can do to a seat: nothing, hand out what stands at its place, give one to who had none, carry it along, take it away
+-- an event does one of these to a seat: nothing, draw the data at its place, give one to a client that had none, move it, take it away
 data Turn (w later : World) (event : Event) (id : ℕ) : Option Seat → List ℕ → Option Seat → Type 0 where
   Rests : (seat : Option Seat) → Turn w later event id seat [] seat
   Draws : (seat : Seat) (session : Session) (room : ℕ) → event ≡ Draw id room → heard_at w.station seat.mount ≡ Some session
@@ -147,7 +147,7 @@ module _ (w : World) (s : IsSound w) (id : ℕ) where
       (λ other. stays now (Listen asked) bytes (seat_of (changed w (TakeSeat asked.id seat)).seats id) none
       (beside_new_seat w s asked peer session undecided live id other))
 
-  -- it is handed what stands at its place
+  -- it draws the data at its place
   hands_at : (him room : ℕ) (seat : Seat) (session : Session) → standing_of w him ≡ Sits → seat_of w.seats him ≡ Some seat
       → heard_at w.station seat.mount ≡ Some session
       → Turn w (changed w (Advance him (seat.place + length (data_at session.stream seat.place room)))) (Draw him room) id mine
@@ -183,7 +183,7 @@ module _ (w : World) (s : IsSound w) (id : ℕ) where
     by_fate (HasStopped other why feeds done gone over) = absurd why
     by_fate (IsMoved old session carries left had has same live opens) = absurd carries
 
-  -- a source, or a relay, comes up: it hears it where it waited for it, rests where it is, or comes home
+  -- a source, or a relay, comes up: a listener that waited for it draws it, keeps its place, or is called home
   module _ (event : Event) (him : ℕ) (mount : List ℕ) (shown : Shown) (station : StationState) (settings : station.settings ≡ w.station.settings)
       (begins : station.live ≡ with_session w.station.live (opened mount him shown w.station.time)) (not_live : session_of w.station.live mount ≡ None)
       (past : (him == 0) ≡ false)
@@ -213,7 +213,7 @@ module _ (w : World) (s : IsSound w) (id : ℕ) where
     Takes who session = TakesTo w event who session.mount × (session.mount ≡ mount)
         × ((options_for w.station.settings mount).listeners.fallback_override ≡ true)
 
-    -- who sat there had heard nothing
+    -- a listener that sat there had drawn nothing
     waited : (old : Seat) → seat_of w.seats id ≡ Some old → old.mount ≡ mount → (old.session ≡ 0) × (old.place ≡ 0)
     waited old had same =
         let before = s.seated id old had in

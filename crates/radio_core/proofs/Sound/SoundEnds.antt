@@ -161,7 +161,7 @@ module _ (w : World) (s : IsSound w) (him : ℕ) (mount : List ℕ) (feeding : s
   pub order_then : AreByNumber (session_ended w mount).seats
   order_then = order_carried (session_over w mount) (SessionEnds mount) s.by_number
 
-  -- its data have come to their end
+  -- its data have ended
   abbrev ended : World
   ended = changed w (End him mount)
 

@@ -62,7 +62,7 @@ module _ (w : World) (s : IsSound w) (him : ℕ) (mount : List ℕ) (shown : Sho
   t' : Turns w after_given him (Feeds mount)
   t' = turns_given w station mount him him (Feeds mount) t
 
-  -- who sat there had heard nothing
+  -- a listener that sat there had drawn nothing
   pub waited : (id : ℕ) (old : Seat) → seat_of w.seats id ≡ Some old → old.mount ≡ mount → (old.session ≡ 0) × (old.place ≡ 0)
   waited id old had same =
       let before = s.seated id old had in

@@ -31,7 +31,7 @@ IsLiveStill station mount session =
     (now : Session) × (session_of station.live mount ≡ Some now) × (now.number ≡ session.number) × (end_of session.stream ≤ end_of now.stream)
 
 module _ (w : World) (s : IsSound w) where
-  -- who is seated is seated still, where there is the same to be heard
+  -- a listener keeps a sound seat if each mount has the same session for its listeners
   pub seated_still : (later : World) → ((mount : List ℕ) → heard_at later.station mount ≡ heard_at w.station mount) → (seat : Seat)
       → IsSeatedIn w seat → IsSeatedIn later seat
   seated_still later heard seat old = record {

@@ -100,7 +100,7 @@ has_asked number event entries after a =
       cut = subst IsCut (sym a.in_order) ((λ r. d.going), d.cut);
     }
 
--- By these entries of a relay of this number a front of this sound is pushed. If the pull goes on and the relay is up, all of it is.
+-- By these entries of a relay of this number a front of this sound is pushed. If the pull goes on and the relay is up, all of it is pushed.
 pub record HasBrought (number : Option ℕ) (sound : List ℕ) (entries : List Entry) (after : NumberedState) : Type 0 where
   pub own : OwnRelay number entries
   pub stands : after.number ≡ number_after number entries

@@ -233,7 +233,7 @@ module _ (w : World) (s : IsSound w) (event : Event) where
     after w event c (λ later. IsNoUser later mount user) (user_gone w.station.lists mount user (deleted_has_users w event c)),
   )
 
-  -- whoever sits elsewhere keeps its seat
+  -- a listener at another mount keeps its seat
   keeps_away : (v : World) (move : Move) (mount : List ℕ) → AreByNumber v.seats
       → ((seat : Seat) → concerns move seat.mount seat.home ≡ true → bytes_eq seat.mount mount ≡ true) → (id : ℕ) (seat : Seat)
       → seat_of v.seats id ≡ Some seat → bytes_eq mount seat.mount ≡ false → seat_of (carried_along v move).seats id ≡ Some seat

@@ -1,4 +1,4 @@
--- who was finished is handed nothing any more
+-- a listener that was finished gets nothing any more
 use Rattle.std.proofs.Common.{◌≡◌, ◌++◌, ℕ, ◌≤◌, ◌<◌, Option, None, List, [], ◌∷◌, refl, ap, ◌∙◌, arith}
 use Rattle.radio_policy.specs.declared.rule.Rule.{Rule}
 use Rattle.radio_seats_rows.specs.declared.seat.Seat.{Seat}

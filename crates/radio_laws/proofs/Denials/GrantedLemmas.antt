@@ -1,4 +1,4 @@
--- what is granted by an outcome, which its reply tells
+-- what an outcome grants, as its reply says
 use Rattle.std.proofs.Common.{◌≡◌, ℕ, ◌+◌, Bool, true, false, Some, List, refl}
 use Rattle.radio_policy.specs.declared.judgement.Verdict.TheVariants.{Allow}
 use Rattle.radio_policy.specs.Verdicts.{verdict_in}
@@ -46,13 +46,13 @@ grants (Drawn bytes title) = true
 grants (SaysText text) = true
 grants reply = false
 
--- it tells that the event was out of place, or that its client has finished
+-- the reply says that the event was out of place, or that its client has finished
 abbrev pub is_idle : Reply → Bool
 is_idle Stray = true
 is_idle (Finished rule) = true
 is_idle reply = false
 
--- whoever is told the text has asked to be shown something of the station, or has given a command
+-- a client that gets this text has asked to be shown something of the station, or has given a command
 pub data IsToldFor (w : World) (event : Event) (text : ReplyText) : Type 0 where
   ByShowing : (asker : ℕ) (peer : Peer) → client_in event ≡ Some asker → standing_of w asker ≡ Undecided peer → IsShownBy w event text → IsToldFor w event text
   ByDoing : (command : TheCommand) → IsCommanded w event command → said_of command (counts_by w command) ≡ text → IsToldFor w event text

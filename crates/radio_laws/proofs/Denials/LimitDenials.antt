@@ -155,7 +155,7 @@ module _ (w : World) where
   by_asking meant rule is no_number no_command (RelayDown id) v arrives feeds hears rises = cc
   by_asking meant rule is no_number no_command (Clock ms) v arrives feeds hears rises = cc
 
-  -- the limits deny only who wants to hear a mount
+  -- the limits deny only a client that asks to hear a mount
   only_listeners : {A : Type 0} (rule : Rule) → is_limit rule ≡ true → (event : Event) → verdict_in (rows_for w event) ≡ Denied rule
       → ((asked : ListenRequest) → event ≡ Listen asked → verdict_in (rows_for w (Listen asked)) ≡ Denied rule → A) → A
   only_listeners rule limit event v goes =
@@ -183,7 +183,7 @@ module _ (w : World) where
       only_listeners FallbackDepth refl event v (λ asked same denied. let at = deep_where w asked (why_denied w asked FallbackDepth denied) in
       (asked, same, at.0, at.1))
 
-  -- whoever may not arrive since there are as many clients as may be, or not feed since there are as many sources
+  -- a client is denied its arrival since as many are there as allowed, and a source its mount since there are as many sources
   many_clients : (event : Event) → verdict_in (rows_for w event) ≡ Denied TooManyClients → w.station.settings.limits.clients ≤ length w.station.clients
   many_clients event v =
       by_asking is_of_clients TooManyClients refl refl (of_no_command is_of_clients refl refl refl refl refl refl refl refl refl refl refl) event v
@@ -232,7 +232,7 @@ module _ (w : World) where
     depth = λ d. denied_by FallbackDepth event (outcome w event) (rule_named w event) d (deep_there event);
   }
 
-  -- whoever arrives or feeds finds room
+  -- an admitted client, and an admitted source, finds room
   admits_by : (event : Event) (o : Outcome) → Granted w event o → Admits w event o.reply
   admits_by event o (AdmitsClient peer change is allowed) =
       record {

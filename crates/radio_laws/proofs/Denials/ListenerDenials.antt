@@ -33,7 +33,7 @@ abbrev is_of_names : Rule → Bool
 is_of_names NoMount = true
 is_of_names rule = false
 
--- why a listener is denied: by the path or the name, by what it finds at the mount that it asked for, or by where its walk stops
+-- why a listener is denied: by the path or name, by the mount that it asked for, or by the mount that stops its walk
 pub data IsDeniedBy (known accepted twice : Bool) (stop : Option Rule) : Rule → Type 0 where
   ByPath : IsDeniedBy known accepted twice stop BadMount
   ByName : known ≡ false → IsDeniedBy known accepted twice stop NoMount

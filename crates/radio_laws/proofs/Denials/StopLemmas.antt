@@ -67,7 +67,7 @@ module _ (w : World) where
         stops_by (is_some (heard_at w.station mount)) (is_full_for (sight_of w.station) w.seats mount) (lets_in w.station.lists mount pair)
         (is_twice_for (sight_of w.station) w.seats pair mount) refl refl refl refl rule e
 
-  -- why a listener is denied: first by the path and the name, then by who is let in at the mount that it asked for, and then by its walk
+  -- a listener is denied first by the path and the name, then by the mount that it asked for, and then by its walk
   module _ (asked : ListenRequest) where
     same_rule : (a b : Rule) → a ≡ b → IsTurnedAway w asked a → IsTurnedAway w asked b
     same_rule a b same away = subst (λ (r : Rule). IsTurnedAway w asked r) same away

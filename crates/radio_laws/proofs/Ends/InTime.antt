@@ -1,4 +1,4 @@
--- after the clock was heard, nobody is there whose time is over
+-- after a clock event nobody is there whose time is over
 use Rattle.std.proofs.Common.{◌≡◌, Bool, true, false, ℕ, Option, Some, None, List, [], ◌∷◌, refl, ap}
 use Rattle.std.proofs.Common.{sym, ◌∙◌}
 use Rattle.std.specs.Prelude.{if◌then◌else◌, fold, not}

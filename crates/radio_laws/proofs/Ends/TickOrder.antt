@@ -163,7 +163,7 @@ module _ (w : World) (s : IsSound w) (ms : ℕ) where
         let feeds : standing_of w session.number ≡ Feeds mount = feeding in cc
 
   module _ (id : ℕ) (seat : Seat) where
-    -- whoever sits elsewhere keeps its seat when a session ends
+    -- a listener at another mount keeps its seat when a session ends
     pub still_there : (during : World) (mount : List ℕ) → AreByNumber during.seats → seat_of during.seats id ≡ Some seat
         → bytes_eq seat.mount mount ≡ false → seat_of (session_ended during mount).seats id ≡ Some seat
     still_there during mount order has away =

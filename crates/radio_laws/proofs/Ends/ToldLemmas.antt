@@ -1,4 +1,4 @@
--- the law of those who are told that they were finished
+-- the law of clients whose reply says that they were finished
 use Rattle.std.proofs.Common.{◌≡◌, ◌⊎◌, inl, inr, ℕ, List, [], ◌∷◌, ◌++◌, refl, ap}
 use Rattle.radio_policy.specs.declared.rule.Rule.{Rule}
 use Rattle.radio_settings_values.specs.declared.settings.Settings.{Settings}
@@ -14,7 +14,7 @@ use Rattle.radio_core.proofs.Sound.SoundRuns.{sound_after, sound_opening}
 use Rattle.radio_laws.specs.FinishesTold.{WasFinished, FinishedAreTold}
 use Rattle.radio_core.proofs.Clients.FinishLemmas.{finish_step, finished_told}
 
--- from any state on: who stands finished in the end stood so at the start, or one of the events has finished it
+-- from any state on: a client that is finished in the end was finished at the start, or one of the events has finished it
 record Put (w : World) (events : List Event) (id : ℕ) (rule : Rule) : Type 0 where
   before : List Event
   event : Event

@@ -103,7 +103,7 @@ module _ (w : World) where
     tt,
   )
 
-  -- and whoever may is allowed it
+  -- and a client that may see it is allowed it
   is_admins : (pair : Credentials) (listing : Listing) → (user : pair.user ≡ w.station.settings.access.admin.username)
       → pair.password ≡ w.station.settings.access.admin.password → is_admin_pair w.station.settings (Some pair) ≡ true
   is_admins pair listing user password = is_its w.station.settings.access.admin pair user password
@@ -135,7 +135,7 @@ module _ (w : World) where
       refl
   is_allowed listing sent (AsTheAdmin _ pair admin) there = allowed_all listing (Some pair) (is_admins pair listing admin.user admin.password) there
 
--- what comes of a listing that the policy allows
+-- the outcome of a listing that the policy allows
 shows_so : (w : World) (id : ℕ) (listing : Listing) (now : Standing) (peer : Peer) (verdict : Verdict) (asked : Asked) → now ≡ Undecided peer → verdict ≡ Allow
     → asked ≡ AsksFor listing → if_undecided now (λ _. on_verdict verdict (Answer id) (does_asked w id asked)) ≡ shows w id listing
 shows_so w id listing now peer verdict asked e v is = rw (e, v, is) refl

@@ -1,4 +1,4 @@
--- what the rows of listings tell
+-- what the rows of listings say
 use Rattle.std.proofs.Common.{◌≡◌, ℕ, Bool, true, false, Option, Some, List, [], ◌∷◌, refl, ap, ◌∙◌, arith}
 use Rattle.std.specs.Prelude.{map}
 use Rattle.std.specs.Option.{option_map, option_map_or}
@@ -78,7 +78,7 @@ module _ (w : World) where
   abbrev rows_at : List Listener → List ℕ → List ListedListener
   rows_at seats mount = map (listener_row w.station.time) (guests_at seats mount)
 
-  -- whoever sits there has its row
+  -- each listener that sits there has its row
   module _ (mount : List ℕ) (listener : Listener) (seats : List Listener) (rest : TellOfListeners w (seats_at seats mount) (rows_at seats mount)) where
     by_mount : (seat : Seat) (here : Bool) → listener.seating ≡ Sits seat → bytes_eq seat.mount mount ≡ here
         → TellOfListeners w (seats_at (listener ∷ seats) mount) (rows_at (listener ∷ seats) mount)
@@ -97,7 +97,7 @@ module _ (w : World) where
   pub rows_tell : TellOf w w.station.live (mount_rows w)
   rows_tell = tell_of w.station.live
 
-  -- what is shown tells what is there
+  -- a listing shows the present state
   pub tells : (listing : Listing) → Tells w listing (shown w listing)
   tells Status = (mount_rows w, rows_tell, refl)
   tells Stats = (mount_rows w, rows_tell, refl)

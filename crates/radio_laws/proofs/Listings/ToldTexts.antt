@@ -1,4 +1,4 @@
--- why a text is told
+-- why a client gets a text
 use Rattle.std.proofs.Common.{◌≡◌, ap, subst, true}
 use Rattle.radio_events.specs.declared.event.Event.{Event}
 use Rattle.radio_events.specs.declared.reply.Reply.TheVariants.{Text as SaysText}

@@ -79,7 +79,7 @@ is_path w asked path e =
     by_side (inl h) = subst (IsPath w asked) (sym h.0) (StatusIsOn ((bytes_eq-Decides asked (codes "/status-json.xsl")).0 h.1.named) h.1.put_on)
     by_side (inr h) = subst (IsPath w asked) (sym h.0) (PageIsOn ((bytes_eq-Decides asked (codes "/")).0 h.1.named) h.1.put_on)
 
--- what is shown tells what is there
+-- a page shows the present state
 pub tells_at : (w : World) (path : WebPath) (visit : PageVisit) → TellsAt w path visit (page_at w path visit)
 tells_at w IcecastStatus visit = record {
   rows = mount_rows w;

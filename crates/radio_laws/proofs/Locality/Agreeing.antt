@@ -243,7 +243,7 @@ module _ (within : List ℕ → Bool) where
       pub with_ended_alike : ListenersDo (with_ended xs p rule) (with_ended ys p rule)
       with_ended_alike = agree_each (ListenersAgree within) (finished_if p rule) ended_alike xs ys r
 
-    -- all at a mount hear a session that has begun there
+    -- all listeners at a mount draw a session that has begun there
     module _ (mount : List ℕ) (session : ℕ) where
       hearing_last : (seating : Seating) → last_mount (in_session_at mount session seating) ≡ last_mount seating
       hearing_last (Sits seat) = refl

@@ -33,7 +33,7 @@ module _ {X : Type 0} (R : X → X → Type 0) where
   agree_equal same [] (y ∷ ys) r = absurd r
   agree_equal same (x ∷ xs) [] r = absurd r
 
-  -- what goes by each element alike
+  -- a function that has the same value for elements that agree
   module _ {Y : Type 0} (f : X → Y) (alike : (x y : X) → R x y → f x ≡ f y) where
     pub agree_mapped : (xs ys : List X) → AllAgree R xs ys → map f xs ≡ map f ys
     agree_mapped [] [] r = refl
@@ -48,7 +48,7 @@ module _ {X : Type 0} (R : X → X → Type 0) where
     agree_kept [] (y ∷ ys) r = absurd r
     agree_kept (x ∷ xs) [] r = absurd r
 
-  -- a test that goes by each element alike
+  -- a test that has the same result for elements that agree
   module _ (p : X → Bool) (alike : (x y : X) → R x y → p x ≡ p y) where
     pub agree_any : (xs ys : List X) → AllAgree R xs ys → list_any p xs ≡ list_any p ys
     agree_any [] [] r = refl

@@ -1,4 +1,4 @@
--- what comes of an event in states that agree on all that it can reach
+-- the outcome of an event in states that agree on all that it can reach
 use Rattle.std.proofs.Common.{◌≡◌, Bool, true, false, ℕ, Option, Some, None, List, refl, ap, sym, ◌∙◌}
 use Rattle.std.specs.Option.{option_map_or}
 use Rattle.std.specs.Str.{bytes_eq}
@@ -70,7 +70,7 @@ module _ (within : List ℕ → Bool) (w : World) (live : List Session) (seats :
     by_parts : (l : List Session) (t : List Listener) → l ≡ w.station.live → t ≡ w.seats → in_place w l t ≡ w
     by_parts l t e f = rw (e, f) refl
 
-  -- how a client stands
+  -- the standing of a client
 
   pub standing_alike : (id : ℕ) → LastWithin w within id → standing_of v id ≡ standing_of w id
   standing_alike id near = ap (λ (found : Option Listener). standing_of_found (relay_of w.station.relays id) found (client_of w.station.clients id)) (listener_same within seats w.seats s id near)

@@ -121,7 +121,7 @@ module _ (within : List ℕ → Bool) (w : World) (live : List Session) (r : Ses
       pub lands_within : (mount to : List ℕ) (pair : Option Credentials) → within mount ≡ true → landing other there pair mount ≡ Lands to → within to ≡ true
       lands_within mount to pair near lands = lands_by 10 mount to pair near (walks_ten other there pair mount ∙ lands)
 
-  -- a move that goes by mounts within reach alone; one that calls listeners home may find them at any
+  -- a move over mounts within reach alone. One that calls listeners home may find them at any mount
   abbrev pub MovesWithin : Move → Type 0
   MovesWithin (Ended mount) = (within mount ≡ true) × Onward
   MovesWithin (Up mount) = ⊥
@@ -162,7 +162,7 @@ module _ (within : List ℕ → Bool) (w : World) (live : List Session) (r : Ses
       turn_alike : turn_of one move here id ≡ turn_of other move there id
       turn_alike = by_seats (seat_of here id) (seat_of there id) (seat_alike within here there s id)
 
-      -- whoever goes sits within reach, and so will it
+      -- a listener that moves sits within reach, and still does afterwards
       goes_by : (m : Move) → MovesWithin m → (pair : Option Credentials) (to : List ℕ) → turn_by other (without_listener there id) pair m ≡ GoesTo to → within to ≡ true
       goes_by (Ended mount) goes pair to e =
           by_landing (landing other (without_listener there id) pair mount) refl e where
@@ -188,7 +188,7 @@ module _ (within : List ℕ → Bool) (w : World) (live : List Session) (r : Ses
         by_test true is goes = (goes_by move near seat.pair to goes, (seat, refl, concerned move near seat is))
         by_test false is goes = cc
 
-    -- and so sits whoever is left out
+    -- and so does a listener that the move leaves out
     pub out_within : (seats : List Listener) (id : ℕ) (rule : Rule) (seat : Seat) → turn_of other move seats id ≡ IsOut rule → seat_of seats id ≡ Some seat
         → within seat.mount ≡ true
     out_within seats id rule seat e has = by_test (concerns move seat.mount seat.home) refl (ap (turn_in other (without_listener seats id) move) (sym has) ∙ e) where

@@ -84,7 +84,7 @@ module _ (within : List ℕ → Bool) (w : World) (s : IsSound w) (event : Event
   session_kept mount _ _ (Ends session why) e out = let there : Near mount = ends_near mount session e why in cc
   session_kept mount _ _ (IsKilled session c) e out = let there : Near mount = (asks_within within w event (KillSource mount) c near).there in cc
 
-  -- a move that the event brings goes by mounts within reach, where not all are
+  -- the event's move is over mounts within reach, if not all are
   live_itself : (x : World) → SessionsDo within x.station.live x.station.live
   live_itself x = agree_all (SessionsAgree within) (λ a. SameSession refl) x.station.live
 

@@ -1,4 +1,4 @@
--- what an event does goes by the mounts that it can reach
+-- what an event does depends on the mounts that it can reach
 use Rattle.std.proofs.Common.{◌≡◌, Bool, true, false, ℕ, Option, Some, None, List, refl, ap, sym, subst, ◌∙◌}
 use Rattle.std.specs.Prelude.{◌+◌, length}
 use Rattle.std.proofs.lemmas.Slice.Eq.{bytes_eq-Decides}
@@ -65,7 +65,7 @@ asks_within within w event command c near =
     let its : ReachesWithin w within (Command c.asked) = subst (ReachesWithin w within) c.is_event near in
     subst (AsksWithin w within) c.is_asked its
 
--- states agree that come to such as agree
+-- states agree if they are equal to states that agree
 comes_alike : (within : List ℕ → Bool) (a b x y : World) → a ≡ x → b ≡ y → AgreeWithin within x y → AgreeWithin within a b
 comes_alike within a b x y one two agree =
     subst (λ (c : World). AgreeWithin within c b) (sym one) (subst (λ (c : World). AgreeWithin within x c) (sym two) agree)
@@ -93,7 +93,7 @@ module _ (within : List ℕ → Bool) (w : World) (live : List Session) (seats :
   all_agree all change =
       subst (λ (x : World). AgreeWithin within (changed x change) (changed w change)) (sym (all_one within w live seats r s all)) (agrees within (changed w change))
 
-  -- a session begins, and those hear it who wait for one
+  -- a session begins, and the listeners that wait for one draw it
   heard_by_all : (id : ℕ) (mount : List ℕ) (shown : Shown)
       → SessionsDo within (with_session live (opened mount id shown w.station.time)) (with_session w.station.live (opened mount id shown w.station.time))
       × ListenersDo within (with_session_at seats mount id) (with_session_at w.seats mount id)

@@ -1,4 +1,4 @@
--- what is heard at a mount, whether it has a session or waits for one, and who hears it
+-- the session that listeners of a mount draw, whether the mount is live or waits, and which listeners draw it
 use Rattle.std.proofs.Common.{◌≡◌, true, false, Bool, Option, Some, None, is_some, refl, List, ℕ, ap, subst, ◌∙◌}
 use Rattle.std.specs.Prelude.{if◌then◌else◌}
 use Rattle.std.specs.Option.{option_or}
@@ -21,20 +21,20 @@ rising_heard w s mount session hears =
     heard_cases w.station mount session hears (s.starts mount session)
     (λ none silent. subst (λ (x : Session). AreRising x.stream.starts (end_of x.stream)) silent tt)
 
--- where no relay feeds the mount on demand, nothing is heard without a session
+-- if no relay feeds the mount on demand, its listeners draw nothing without a session
 pub nothing_heard : (station : StationState) (mount : List ℕ) → is_on_demand station.settings mount ≡ false → session_of station.live mount ≡ None
     → heard_at station mount ≡ None
 nothing_heard station mount never none =
     ap (λ (found : Option Session). option_or found (silence_of station mount)) none
     ∙ ap (λ (b : Bool). if b then Some (silence_at station mount) else None) never
 
--- where one does, there is something to be heard
+-- if one does, they draw a session, or wait for one
 pub heard_on_demand : (station : StationState) (mount : List ℕ) → is_on_demand station.settings mount ≡ true → is_some (heard_at station mount) ≡ true
 heard_on_demand station mount waits = by_found (session_of station.live mount) where
   by_found : (found : Option Session) → is_some (option_or found (silence_of station mount)) ≡ true
   by_found (Some session) = refl
   by_found None = ap (λ (b : Bool). is_some (if b then Some (silence_at station mount) else None)) waits
 
--- listeners who are given a session stand in the order of their numbers still
+-- listeners that get a session are in the order of their numbers still
 pub order_given : (mount : List ℕ) (session : ℕ) (seats : List Listener) → AreByNumber seats → AreByNumber (with_session_at seats mount session)
 order_given mount session seats order = same_order seats (with_session_at seats mount session) (numbers_hearing mount session seats) order

@@ -68,7 +68,7 @@ module _ (w : World) (s : IsSound w) (id : ℕ) (asks : (peer : Peer) → standi
   abbrev StepsTo : List Listener → Type 0
   StepsTo later = RowStep (listener_of w.seats id) (listener_of later id)
 
-  -- whoever sits down is another
+  -- the listener that sits down is another one
   another : (him : ℕ) (peer : Peer) → standing_of w him ≡ Undecided peer → (him == id) ≡ false
   another him peer undecided = by_number him id (λ same. absurd (asks peer (ap (standing_of w) (sym same) ∙ undecided))) (λ apart. apart)
 
@@ -106,7 +106,7 @@ module _ (w : World) (s : IsSound w) (id : ℕ) (asks : (peer : Peer) → standi
   event_step : (event : Event) → EventStep w event id (world_after w event).seats
   event_step event = by_table event (world_after w event).seats (table_step w event)
 
--- whoever has a seat is last at its mount
+-- a listener with a seat sits last at its mount
 pub last_where_he_sits : (w : World) → IsLastWhereHeSits w
 last_where_he_sits w id seat has =
     let listener = listener_seated w.seats id seat has in
@@ -115,7 +115,7 @@ last_where_he_sits w id seat has =
       at_seat (HasSeat held) e = let same : held ≡ seat = cc in ap (λ (x : Seat). Some x.mount) same
       at_seat (HasLostIt rule last) e = cc
 
--- and so was whoever loses it
+-- and so does a listener that loses it
 pub finished_where_he_sat : (w : World) → IsSound w → (event : Event) → FinishedWhereHeSat w event
 finished_where_he_sat w s event no_clock id seat rule has over =
     by_step (event_step w s id (λ peer e. let sat = s.sitting id seat has in cc) event) where

@@ -173,7 +173,7 @@ module _ (w : World) (s : IsSound w) (l : Within w) where
         omega (arith, below, one_more_at w.seats asked.id new mount))
         (λ apart. omega (arith, no_more_elsewhere w.seats asked.id new mount apart, l.not_too_many mount most limit))
 
-    -- whoever sat there before did not send its user
+    -- no listener that sat there before sent its user
     nobody_else : (mount user : List ℕ) (other : ℕ) → allows_duplicates_at w mount ≡ false → SitsAs later.seats asked.id mount user
         → SitsAs w.seats other mount user → ⊥
     nobody_else mount user other once his theirs =

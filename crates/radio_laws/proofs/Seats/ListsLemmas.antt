@@ -38,7 +38,7 @@ use Rattle.radio_laws.proofs.Commands.UserChanges.{left, still_let_in, users_ste
 use Rattle.radio_core.proofs.Sound.SoundRuns.{sound_after, sound_opening}
 use Rattle.radio_laws.specs.Users.{SittersAreLetIn}
 
--- the address of the seat passes the address lists, and its mount lets in whoever sent its pair
+-- the address of the seat passes the address lists, and its mount lets in its pair
 pub record IsLetIn (lists : Lists) (seat : Seat) : Type 0 where
   pub passing : passes lists seat.peer ≡ true
   pub accepted : lets_in lists seat.mount seat.pair ≡ true

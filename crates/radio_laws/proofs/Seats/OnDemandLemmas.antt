@@ -62,7 +62,7 @@ waits_on_demand settings mount = record {
   each = λ fed all. feeds settings.relays mount fed.relay fed.is_one fed.its_mount all;
 }
 
--- what is heard at a mount without a session is so since a relay feeds it on demand
+-- a mount without a session has listeners only because a relay feeds it on demand
 pub awaited_there : (station : StationState) (mount : List ℕ) (session : Session) → heard_at station mount ≡ Some session → session_of station.live mount ≡ None
     → IsFedOnDemand station.settings mount
 awaited_there station mount session hears none = by_test (is_on_demand station.settings mount) refl where

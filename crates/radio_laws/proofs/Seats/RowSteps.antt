@@ -86,7 +86,7 @@ module _ (seats : List Listener) (id : ℕ) where
       (ap (seat_of (with_place seats him place)) (sym same) ∙ has_heard seats him place seat has))
       (λ apart. IsSame (beside_moved seats him id apart place))
 
-  -- who hears a session that has begun at its mount sits there still
+  -- a listener at a mount whose session begins sits there still
   pub step_given : (mount : List ℕ) (session : ℕ) (later : Option Listener) → RowStep (listener_of (with_session_at seats mount session) id) later
       → RowStep (listener_of seats id) later
   step_given mount session later step =

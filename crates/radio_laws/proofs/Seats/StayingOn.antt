@@ -59,7 +59,7 @@ found_own him (x ∷ xs) order (inr later) =
     find_later (is_listener him.id) x xs (less_apart x.id him.id (above_in x.id him xs (sorted_head nat_cmp x.id numbers order) later))
     ∙ found_own him xs (sorted_tail nat_cmp x.id numbers order) later
 
--- whoever sits at the mount whose session has ended goes where its walk lands
+-- a listener at the mount whose session has ended goes where its walk lands
 pub walks_from : (sight : Sight) (others : List Listener) (mount : List ℕ) (seat : Seat) → seat.mount ≡ mount
     → turn_in sight others (Ended mount) (Some seat) ≡ walks_on (landing sight others seat.pair mount)
 walks_from sight others mount seat there = chosen (bytes_eq seat.mount mount) ((bytes_eq-Decides seat.mount mount).1 there) where
@@ -87,13 +87,13 @@ module _ (mount : List ℕ) where
       let his = held_there (listener_of seats him) seat has at in
       omega (arith, removed, his)
 
--- the listeners are the same, and nobody has come to the mount
+-- the listeners are the same, and no new one sits at the mount
 record NobodyCameTo (mount : List ℕ) (seats later : List Listener) : Type 0 where
   pub same : numbers_of later ≡ numbers_of seats
   pub no_more : count_at later mount ≤ count_at seats mount
   pub sat : (id : ℕ) (user : List ℕ) → SitsAs later id mount user → SitsAs seats id mount user
 
--- nobody comes to a mount by the turns that come of the end of its session
+-- no new listener sits at a mount after the turns by which its session's end moves them
 module _ (sight : Sight) (mount : List ℕ) (seats : List Listener) (order : AreByNumber seats) where
   at_most_one : (b : Bool) → one b ≤ 1
   at_most_one true = omega arith

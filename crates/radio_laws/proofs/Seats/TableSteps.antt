@@ -58,7 +58,7 @@ pub data TableStep (w : World) (event : Event) : List Listener → Type 0 where
   SitsDown : (asked : ListenRequest) (peer : Peer) (session : Session) → standing_of w asked.id ≡ Undecided peer
       → walks_to w.station w.seats asked.mount asked.pair ≡ Lands session.mount → heard_at w.station session.mount ≡ Some session
       → TableStep w event (with_seat w.seats asked.id (first_seat w.station asked peer session))
-  -- one is handed data, and its place moves on
+  -- a listener gets data, and its place moves on
   IsHanded : (him place : ℕ) (seat : Seat) → seat_of w.seats him ≡ Some seat → TableStep w event (with_place w.seats him place)
   -- one who leaves has no row any more
   IsGone : (him : ℕ) → Leaving w him event → TableStep w event (without_listener w.seats him)
@@ -68,7 +68,7 @@ pub data TableStep (w : World) (event : Event) : List Listener → Type 0 where
   HasTicked : (ms : ℕ) → event ≡ Clock ms → TableStep w event (ticked w ms).seats
 
 module _ (w : World) where
-  -- whoever's connection is closed leaves, where that is noted
+  -- a client whose connection is closed leaves, if the reply is `Noted`
   leaves_by : (event : Event) (him : ℕ) (change : Change) → Closes w him event → outcome w event ≡ says Noted change → Leaving w him event
   unfolding reply_to
   leaves_by event him change (OfClient no_relay) is = AsClient no_relay

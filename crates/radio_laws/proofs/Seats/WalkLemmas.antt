@@ -56,7 +56,7 @@ module _ (w : World) (pair : Option Credentials) where
   abbrev sight : Sight
   sight = sight_of w.station
 
-  -- where a mount hands on to the next, it does so by its settings
+  -- a mount passes a walk on to the next one by its settings
   hands_by : (mount next : List ℕ) (live full : Bool) → is_some (heard_at w.station mount) ≡ live → is_full_for sight w.seats mount ≡ full
       → (if not live || full && (options_for w.station.settings mount).listeners.fallback_when_full
       then fallback_of w.station mount else None) ≡ Some next → PassesWalkOn w mount next

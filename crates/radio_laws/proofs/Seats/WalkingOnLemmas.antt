@@ -69,7 +69,7 @@ found_there (Some x) e = (x, refl)
 abbrev AreInPlace : World → Type 0
 AreInPlace w = Within w × SittersAreLetIn w
 
--- at a mount that a relay feeds on demand, whoever sits there goes on when its session ends
+-- at a mount that a relay feeds on demand, a listener goes on when its session ends
 waits_on : (before : World) (mount : List ℕ) → AreByNumber before.seats → AreInPlace before → (id : ℕ) (seat : Seat) → seat_of before.seats id ≡ Some seat
     → seat.mount ≡ mount → is_on_demand before.station.settings mount ≡ true → his_turn before (Ended mount) id ≡ GoesTo mount
 waits_on before mount order place id seat has there on_demand =
@@ -261,7 +261,7 @@ module _ (w : World) where
   ending him event move before e (ByMoving _ mount destination c) = let other = c.is_event in cc
   ending him event move before e (ByComingUp asked peer stood allowed calls) = cc
 
-  -- whoever feeds goes, whose connection is closed
+  -- a client that feeds leaves when its connection is closed
   goes_so : (he : ℕ) (mount : List ℕ) (event : Event) → Closes w he event → standing_of w he ≡ Feeds mount → outcome w event ≡ says Noted (EndAndLeave he mount)
   unfolding outcome
   goes_so he mount event (OfClient no_relay) feeding =

@@ -45,7 +45,7 @@ pub data IsOldOrEmpty (w : World) (session : Session) : Type 0 where
   IsOld : (mount : List ℕ) → session_of w.station.live mount ≡ Some session → IsOldOrEmpty w session
   IsEmpty : session.stream.bytes ≡ [] → session.title ≡ None → IsNewcomer w session.number → IsOldOrEmpty w session
 
--- a block or a title by the source of a mount, or what a command does, or neither data nor a title, and each session then is old or empty
+-- a block or a title by a mount's source, or what a command does. Or neither data nor a title, and each session then is old or empty
 pub data Brought (w : World) : Event → Outcome → Type 0 where
   BringsBlock : (id : ℕ) (mount block : List ℕ) → standing_of w id ≡ Feeds mount → Brought w (Push id block) (says Noted (Receive mount block))
   BringsTitle : (id : ℕ) (mount text : List ℕ) → standing_of w id ≡ Feeds mount → Brought w (Title id text) (says Noted (SetTitle mount text))
@@ -58,7 +58,7 @@ module _ (w : World) (s : IsSound w) where
   as_it_was : (mount : List ℕ) (session : Session) → session_of w.station.live mount ≡ Some session → IsOldOrEmpty w session
   as_it_was mount session live = IsOld mount live
 
-  -- what is live beside a session that has ended
+  -- the sessions that are live after another has ended
   left_over : (ended mount : List ℕ) (session : Session) → session_of (without_session w.station.live ended) mount ≡ Some session → IsOldOrEmpty w session
   left_over ended mount session live = IsOld mount (was_live w ended mount session live)
 

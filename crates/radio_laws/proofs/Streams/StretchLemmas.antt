@@ -61,7 +61,7 @@ IsNext sent (Some seat) bytes = IsSlice sent (sitting_of_seat seat) bytes
 abbrev IsCutSo : (ℕ → List ℕ) → Option Seat → List Sitting → Cut ℕ → Type 0
 IsCutSo sent seat sittings cut = IsNext sent seat cut.before × AreSlices sent sittings cut.each
 
--- what an event hands out, and does to its seat, goes before what comes then; all that is sent in the end begins with what was sent so far
+-- the data and the seats of an event are before those of later events. All that is sent in the end begins with what was sent so far
 module _ (w : World) (s : IsSound w) (sent more : ℕ → List ℕ) (whole : (mount : List ℕ) (session : Session) → heard_at w.station mount ≡ Some session
     → session.stream.bytes ≡ sent session.number) where
   abbrev all : ℕ → List ℕ
@@ -138,7 +138,7 @@ record Sent (w : World) (sent : ℕ → List ℕ) : Type 0 where
   pub none_yet : (id : ℕ) (peer : Peer) → standing_of w id ≡ Undecided peer → sent id ≡ []
   pub none_above : (id : ℕ) → w.station.last_id < id → sent id ≡ []
 
--- so is what is heard at a mount that waits: nothing
+-- so is the session at a mount that waits for one: it is empty
 whole_heard : (w : World) (sent : ℕ → List ℕ) → Sent w sent → (mount : List ℕ) (session : Session) → heard_at w.station mount ≡ Some session
     → session.stream.bytes ≡ sent session.number
 whole_heard w sent h mount session hears =
@@ -260,7 +260,7 @@ stretches_cut settings lists events id =
     all_cut (opening settings lists) (sound_opening settings lists) (λ n. [])
     (record { whole = λ mount session e. cc; by_nobody = refl; none_yet = λ n peer e. cc; none_above = λ n h. refl }) id events
 
--- joined, they are all that is handed
+-- joined, they are all that the listener gets
 handed_cut : (w : World) (events : List Event) (id : ℕ) → (cut_from w events id).before ++ concat (cut_from w events id).each ≡ handed w events id
 handed_cut w [] id = refl
 handed_cut w (event ∷ events) id =

@@ -61,7 +61,7 @@ record Told (w : World) (told : ℕ → List (List ℕ)) : Type 0 where
   pub none_yet : (id : ℕ) (peer : Peer) → standing_of w id ≡ Undecided peer → told id ≡ []
   pub none_above : (id : ℕ) → w.station.last_id < id → told id ≡ []
 
--- where nobody feeds no title is heard
+-- a mount that nobody feeds shows no title
 told_heard : (w : World) (told : ℕ → List (List ℕ)) → Told w told → (mount : List ℕ) (session : Session) → heard_at w.station mount ≡ Some session
     → session.title ≡ last_or None (told session.number)
 told_heard w told h mount session hears =

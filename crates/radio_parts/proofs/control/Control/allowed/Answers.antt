@@ -12,7 +12,7 @@ use Rattle.radio_parts.specs.Planned.{uncounted}
 use Rattle.radio_parts.proofs.LentState.{lent_state}
 use Rattle.radio_parts.proofs.control.Control.allowed.Goals as goal
 
--- what is shown tells no number
+-- a listing names no number of listeners moved or finished
 untold : (w : World) (id : ℕ) (listing : Listing) → says (SaysText (shown w listing)) (Answer id) ≡ uncounted (shows w id listing)
 untold w id Status = refl
 untold w id Stats = refl

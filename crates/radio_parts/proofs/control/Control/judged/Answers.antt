@@ -15,7 +15,7 @@ use Rattle.radio_parts.specs.Planned.{uncounted}
 use Rattle.radio_parts.proofs.LentState.{lent_state}
 use Rattle.radio_parts.proofs.control.Control.judged.Goals as goal
 
--- what comes of the command by the verdict
+-- the outcome of the command by the verdict
 abbrev come_of : World → CommandRequest → Verdict → Outcome
 come_of w asked verdict = uncounted (on_verdict verdict (Answer asked.id) (does_asked w asked.id asked.asked))
 

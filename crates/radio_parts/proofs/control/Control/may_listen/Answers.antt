@@ -20,7 +20,7 @@ use Rattle.radio_parts_station.specs.World.{World, standing_of}
 use Rattle.radio_seats_rows.specs.declared.seat.Listener.{Listener}
 use Rattle.radio_parts.proofs.control.Control.may_listen.Goals as goal
 
--- the policy judges by the facts of the mount that the path names, as the station and the listeners stand
+-- the policy judges by the facts of the mount that the path names, from the present station and listeners
 judged : (w : World) (station : StationState) (seats : List Listener) (asked : ListenRequest) (mount : List ℕ) (facts : ListenFacts) (verdict : Verdict)
     → station ≡ w.station → seats ≡ w.seats → names_mount station.settings asked.mount ≡ true → mount ≡ asked.mount
     → facts ≡ listen_facts_at station seats mount asked.pair → verdict ≡ verdict_in (listen_rows (Some facts)) → verdict_in (rows_to_listen w asked) ≡ verdict
