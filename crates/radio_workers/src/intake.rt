@@ -6,7 +6,7 @@ ghost use Rattle.radio_workers.specs.Passes.{IsTakenOrLeft, all_parts, joined, u
 
 use crate::OutOfMemory;
 use crate::pass::IntakePass;
-use crate::rule::{Balance, Ledger, OnePart, PutsOne, TakesOne, Together};
+use crate::rule::{Balance, OnePart, PutsOne, TakesOne, Together, Transfers};
 use crossbeam_queue::RuledArrayQueue;
 use std::alloc::Global;
 use std::marker::Model;
@@ -19,7 +19,7 @@ pub const ROOM: usize = 1024;
 /// drops the connections that are left. In contracts it is which intake it is.
 #[derive(Drop)]
 pub struct Intake<L> {
-    queue: RuledArrayQueue<L, Ledger<L>, Balance>,
+    queue: RuledArrayQueue<L, Transfers<L>, Balance>,
 }
 
 impl<L> Model for Intake<L> {
@@ -40,8 +40,8 @@ impl<L> Intake<L> {
     pub fn new(alloc: Global) -> Result<(Intake<L>, IntakePass<L>), OutOfMemory>
         ensures whole { IfOk result (λ made. made.1 ≡ unused made.0 all_parts) }
     {
-        let (queue, ledger) = RuledArrayQueue::ruled(alloc, ROOM)?;
-        Ok((Intake { queue }, IntakePass { ledger }))
+        let (queue, transfers) = RuledArrayQueue::ruled(alloc, ROOM)?;
+        Ok((Intake { queue }, IntakePass { transfers }))
     }
 
     /// A pass for another thread, with one part of those that this pass has.
@@ -51,8 +51,8 @@ impl<L> Intake<L> {
         ensures pass { pass.new ≡ record pass.old { parts = pass.old.parts - 1 } }
         ensures other { result ≡ unused self.now 1 }
     {
-        let ledger = self.queue.another::<OnePart>(&mut pass.ledger);
-        IntakePass { ledger }
+        let transfers = self.queue.another::<OnePart>(&mut pass.transfers);
+        IntakePass { transfers }
     }
 
     /// Takes another pass back: its parts, and what was put and taken through it.
@@ -60,8 +60,9 @@ impl<L> Intake<L> {
         requires own { (pass.old.intake ≡ self.now) × (other.intake ≡ self.now) }
         ensures both { pass.new ≡ joined pass.old other }
     {
-        let IntakePass { ledger } = other;
-        self.queue.absorb::<Together>(&mut pass.ledger, ledger);
+        let IntakePass { transfers } = other;
+        self.queue
+            .absorb::<Together>(&mut pass.transfers, transfers);
     }
 
     /// Puts a connection behind those that wait. `Err` gives it back: at one moment of the call there
@@ -75,7 +76,8 @@ impl<L> Intake<L> {
         // who has all parts gets it back exactly if [`ROOM`] are left
         ensures room { pass.old.parts ≡ all_parts → MatchResult result (λ _. length pass.old.put < length pass.old.taken + ROOM) (λ _. length pass.old.put ≡ length pass.old.taken + ROOM) }
     {
-        self.queue.push_as::<PutsOne, R>(rt, &mut pass.ledger, line)
+        self.queue
+            .push_as::<PutsOne, R>(rt, &mut pass.transfers, line)
     }
 
     /// Takes the connection that waits longest. `None` only if at one moment of the call there was
@@ -87,7 +89,7 @@ impl<L> Intake<L> {
         // for who has all parts, nothing is left then: what was put was taken
         ensures empty { pass.old.parts ≡ all_parts → IfNone result (IsTakenOrLeft pass.old.put pass.old.taken []) }
     {
-        self.queue.pop_as::<TakesOne, R>(rt, &mut pass.ledger)
+        self.queue.pop_as::<TakesOne, R>(rt, &mut pass.transfers)
     }
 
     /// With all parts in one pass: how many connections are left, and that what was put is what was
@@ -98,6 +100,6 @@ impl<L> Intake<L> {
         ensures same { pass.new ≡ pass.old }
         ensures left { (left : List L) × (length left ≡ result) × IsTakenOrLeft pass.old.put pass.old.taken left }
     {
-        self.queue.len_as::<TakesOne, R>(rt, &mut pass.ledger)
+        self.queue.len_as::<TakesOne, R>(rt, &mut pass.transfers)
     }
 }

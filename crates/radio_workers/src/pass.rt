@@ -1,6 +1,6 @@
 //! What was put into an intake and taken from it by one thread.
 
-use crate::rule::Ledger;
+use crate::rule::Transfers;
 use crossbeam_queue::Pass;
 use std::marker::Model;
 
@@ -9,17 +9,17 @@ use std::marker::Model;
 /// dropped its parts are gone: the intake serves on, and nobody tallies it any more.
 #[derive(Drop)]
 pub struct IntakePass<L> {
-    pub(crate) ledger: Pass<L, Ledger<L>>,
+    pub(crate) transfers: Pass<L, Transfers<L>>,
 }
 
 impl<L> Model for IntakePass<L> {
     ghost use Rattle.std.specs.Prelude.{◌≡◌, ◌<◌, []};
-    ghost use Rattle.crossbeam_queue.specs.Passes.{view as ledger_of};
+    ghost use Rattle.crossbeam_queue.specs.Passes.{view as transfers_of};
     ghost use Rattle.radio_workers.specs.Passes.{PassRecord};
 
     ghost Value = { PassRecord L };
 
-    ghost view = { λ p. record { intake = p.ledger.table_id; parts = (ledger_of p.ledger).parts; put = (ledger_of p.ledger).put; taken = (ledger_of p.ledger).taken } };
+    ghost view = { λ p. record { intake = p.transfers.table_id; parts = (transfers_of p.transfers).parts; put = (transfers_of p.transfers).put; taken = (transfers_of p.transfers).taken } };
 
-    ghost invariant = { λ p. (p.ledger.me.1 ≡ []) × (0 < (ledger_of p.ledger).parts) };
+    ghost invariant = { λ p. (p.transfers.me.1 ≡ []) × (0 < (transfers_of p.transfers).parts) };
 }

@@ -6,7 +6,7 @@ use std::collections::LinkedList;
 
 /// What a thread has put and taken, and its parts of the right to know the whole. No value of it is
 /// made.
-pub(crate) struct Ledger<L> {
+pub(crate) struct Transfers<L> {
     parts: u64,
     put: LinkedList<L>,
     taken: LinkedList<L>,
@@ -15,7 +15,7 @@ pub(crate) struct Ledger<L> {
 /// What was put by all is what was taken by all, and what is left.
 pub(crate) struct Balance;
 
-impl<L> Protocol<L, Ledger<L>> for Balance {
+impl<L> Protocol<L, Transfers<L>> for Balance {
     ghost use Rattle.radio_workers.specs.Passes.{all_parts};
     ghost use Rattle.radio_workers.specs.Balance.{IsBalanced, idle};
 
@@ -27,7 +27,7 @@ impl<L> Protocol<L, Ledger<L>> for Balance {
 /// One part is cut off, for another thread, which has put and taken nothing yet.
 pub(crate) struct OnePart;
 
-impl<L> Split<Ledger<L>> for OnePart {
+impl<L> Split<Transfers<L>> for OnePart {
     ghost use Rattle.radio_workers.specs.Balance.{idle, less_one};
 
     ghost left = { less_one };
@@ -38,10 +38,10 @@ impl<L> Split<Ledger<L>> for OnePart {
 /// What two threads have put and taken, as of one.
 pub(crate) struct Together;
 
-impl<L> Join<Ledger<L>> for Together {
-    ghost use Rattle.radio_workers.specs.Balance.{idle, sum_of_ledgers};
+impl<L> Join<Transfers<L>> for Together {
+    ghost use Rattle.radio_workers.specs.Balance.{idle, sum_of_transfers};
 
-    ghost both = { sum_of_ledgers };
+    ghost both = { sum_of_transfers };
 
     ghost spent = { idle 0 };
 }
@@ -49,7 +49,7 @@ impl<L> Join<Ledger<L>> for Together {
 /// A connection is put; who has all parts knows that there was room.
 pub(crate) struct PutsOne;
 
-impl<L> Outcome<L, Ledger<L>> for PutsOne {
+impl<L> Outcome<L, Transfers<L>> for PutsOne {
     ghost use Rattle.radio_workers.specs.Balance.{IsPut};
 
     ghost then = { IsPut };
@@ -58,20 +58,20 @@ impl<L> Outcome<L, Ledger<L>> for PutsOne {
 /// A connection is taken.
 pub(crate) struct TakesOne;
 
-impl<L> Outcome<L, Ledger<L>> for TakesOne {
+impl<L> Outcome<L, Transfers<L>> for TakesOne {
     ghost use Rattle.radio_workers.specs.Balance.{IsTaken};
 
     ghost then = { IsTaken };
 }
 
 /// Who has all parts knows what is left.
-impl<L> Lesson<L, Ledger<L>> for PutsOne {
+impl<L> Lesson<L, Transfers<L>> for PutsOne {
     ghost use Rattle.radio_workers.specs.Balance.{IsKnown};
 
     ghost fact = { IsKnown };
 }
 
-impl<L> Lesson<L, Ledger<L>> for TakesOne {
+impl<L> Lesson<L, Transfers<L>> for TakesOne {
     ghost use Rattle.radio_workers.specs.Balance.{IsKnown};
 
     ghost fact = { IsKnown };

@@ -3,5 +3,5 @@ use Rattle.radio_workers.specs.Passes.{PassRecord}
 use Rattle.radio_workers.proofs.Balances.{splits}
 use Rattle.radio_workers.proofs.intake.Intake.split.Goals as goal
 
-pub another-ledger-requires-clause-rule : goal.another-ledger-requires-clause-rule
-another-ledger-requires-clause-rule g c = splits _ _ (subst (λ (pass : PassRecord g.row.L.Denot). 1 < pass.parts) (sym c.pass.view_is) c.requires.parts)
+pub another-transfers-requires-clause-rule : goal.another-transfers-requires-clause-rule
+another-transfers-requires-clause-rule g c = splits _ _ (subst (λ (pass : PassRecord g.row.L.Denot). 1 < pass.parts) (sym c.pass.view_is) c.requires.parts)
