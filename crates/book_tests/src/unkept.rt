@@ -1,4 +1,4 @@
-//! A hall that stores nothing answers what a core answers.
+//! A hall that stores nothing answers what a core answers: with receipts, and as workers call it.
 
 ghost use Rattle.std.specs.Prelude.{◌≡◌, ◌^◌};
 ghost use Rattle.radio_access.specs.Lists.{no_lists};
@@ -7,7 +7,7 @@ ghost use Rattle.radio_parts_station.specs.World.{opening};
 use radio_access::Lists;
 use radio_book::{Origin, PASSES, Pass, Receipt, Unkept};
 use radio_core::Core;
-use radio_events::{Event, Reply};
+use radio_events::{Event, OutOfMemory, Reply, SharedServer};
 use radio_locks::Hall;
 use radio_merge::is_same_reply;
 use radio_settings::SettingsFault;
@@ -25,6 +25,8 @@ struct Beside<'a, R: Wait, H: Origin> {
     hall: &'a Hall<Unkept, H>,
     pass: &'a mut Pass<Unkept, H>,
     core: &'a mut Core,
+    /// Whether the hall is called as workers call it.
+    as_worker: bool,
     /// How many calls were answered alike.
     alike: usize,
 }
@@ -32,20 +34,43 @@ struct Beside<'a, R: Wait, H: Origin> {
 impl<'a, R: Wait, H: Origin> Beside<'a, R, H> {
     /// Calls the hall; the reply is counted, if it is as was wanted and nothing is noted.
     fn call_hall(&mut self, event: Event, want: &Reply) -> Option<u64> {
-        match self.hall.apply(self.rt, self.pass, event) {
-            Ok(receipt) => {
-                self.count(&receipt, want);
-                drop(receipt);
+        let reply = if self.as_worker {
+            self.reply(event)
+        } else {
+            self.reply_of_receipt(event)
+        };
+        match reply {
+            Ok(reply) => {
+                if is_same_reply(&reply, want) {
+                    self.alike = self.alike.saturating_add(1);
+                }
+                drop(reply);
                 Some(number_given(want))
             }
             Err(_) => None,
         }
     }
 
-    fn count(&mut self, receipt: &Receipt, want: &Reply) {
-        if receipt.stamp().serial == 0 && is_same_reply(receipt.reply(), want) {
-            self.alike = self.alike.saturating_add(1);
+    /// Returns the hall's reply, as workers call it.
+    fn reply(&mut self, event: Event) -> Result<Reply, OutOfMemory> {
+        match event {
+            Event::Draw { id, room } => {
+                SharedServer::draw(self.hall, self.rt, self.pass, id, room)
+            }
+            event => SharedServer::apply(self.hall, self.rt, self.pass, event),
         }
+    }
+
+    /// Returns the reply of the hall's receipt; `Stray` if the receipt has a place, which it must not have.
+    fn reply_of_receipt(&mut self, event: Event) -> Result<Reply, OutOfMemory> {
+        let receipt = self.hall.apply(self.rt, self.pass, event)?;
+        let serial = receipt.stamp().serial;
+        let reply = receipt.into_reply();
+        if serial == 0 {
+            return Ok(reply);
+        }
+        drop(reply);
+        Ok(Reply::Stray)
     }
 }
 
@@ -72,6 +97,7 @@ fn count_alike<H: Origin, R: Wait>(
     core: &mut Core,
     settings: Settings,
     blank: Blank,
+    as_worker: bool,
 ) -> usize
     requires opening { H.opening ≡ opening settings no_lists }
     requires ledger { (blank.name ≡ H.name) × (blank.parts ≡ H.parts) × (blank.parts ≡ 2 ^ 32) }
@@ -80,7 +106,7 @@ fn count_alike<H: Origin, R: Wait>(
         return 0;
     };
     match hall.pass(rt) {
-        Some(mut pass) => count_through(rt, alloc, core, &hall, &mut pass),
+        Some(mut pass) => count_through(rt, alloc, core, &hall, &mut pass, as_worker),
         None => 0,
     }
 }
@@ -91,34 +117,41 @@ fn count_through<H: Origin, R: Wait>(
     core: &mut Core,
     hall: &Hall<Unkept, H>,
     pass: &mut Pass<Unkept, H>,
+    as_worker: bool,
 ) -> usize {
     let mut beside = Beside {
         rt,
         hall,
         pass,
         core,
+        as_worker,
         alike: 0,
     };
     serve(alloc, &mut beside, "/a");
     beside.alike
 }
 
-fn alike_beside<R: Wait>(rt: &R, alloc: Global, core: &mut Core) -> Result<usize, SettingsFault> {
+fn alike_beside<R: Wait>(
+    rt: &R,
+    alloc: Global,
+    core: &mut Core,
+    as_worker: bool,
+) -> Result<usize, SettingsFault> {
     let settings = settings(alloc, "")?;
     let blank = Blank::new(PASSES);
-    Ok(count_alike::<Brand, R>(rt, alloc, core, settings, blank))
+    Ok(count_alike::<Brand, R>(rt, alloc, core, settings, blank, as_worker))
 }
 
-fn alike(rt: &impl Wait, alloc: Global) -> Result<usize, SettingsFault> {
+fn alike(rt: &impl Wait, alloc: Global, as_worker: bool) -> Result<usize, SettingsFault> {
     let mut core = core(alloc, "")?;
-    let alike = alike_beside(rt, alloc, &mut core);
+    let alike = alike_beside(rt, alloc, &mut core, as_worker);
     drop(core);
     alike
 }
 
 /// Whether all 100 calls are answered alike.
-fn are_alike(rt: &impl Wait, alloc: Global) -> bool {
-    match alike(rt, alloc) {
+fn are_alike(rt: &impl Wait, alloc: Global, as_worker: bool) -> bool {
+    match alike(rt, alloc, as_worker) {
         Ok(count) => count == CALLS,
         Err(_) => false,
     }
@@ -127,5 +160,5 @@ fn are_alike(rt: &impl Wait, alloc: Global) -> bool {
 // rule: Legal history; Reserved ends
 #[test]
 fn the_same_calls_unkept(rt: HostRuntime) {
-    assert!(rt; are_alike(&rt, rt.alloc()));
+    assert!(rt; are_alike(&rt, rt.alloc(), false) && are_alike(&rt, rt.alloc(), true));
 }

@@ -41,7 +41,7 @@ enough_for_leaver gone came ids None at = rw at (omega arith)
 enough_for_leaver gone came ids (Some i) at =
     let here = position-Some (λ other. is_same gone other) ids i gone at in rw at (omega (arith, length-remove ids i here.0))
 
--- room for the event and for the end of who may be let in is room for who is there then
+-- room for the event, and for the end of a client or relay that it may let in, is room for those present afterwards
 pub enough : (leaver : Option Newcomer) (event : Event) (reply : Reply) (ids : List Newcomer)
     → length (present_by leaver (newcomer_by event reply) ids) + 1 ≤ length ids + room_by leaver (is_arrival event) ids
 enough None event reply ids = enough_for_newcomer event reply ids
@@ -53,13 +53,13 @@ stays_by_own ids (Title id text) reply own = refl
 stays_by_own ids (Draw id room) reply own = refl
 stays_by_own ids event reply own = absurd (false≢true own)
 
--- nobody comes or goes by a block, a title or a draw
+-- a block, a title or a draw lets nobody in and ends nobody
 pub own_noted : (stamps stamps' : List ReceiptOf) (s : ReceiptOf) (ids : List Newcomer) → ids ≡ present_of stamps → stamps' ≡ stamps ++ s ∷ []
     → is_part_event s.event ≡ true → ids ≡ present_of stamps'
 own_noted stamps stamps' s ids here more own =
     here ∙ sym (ap present_of more ∙ present_of_more stamps s ∙ stays_by_own (present_of stamps) s.event s.reply own)
 
--- who is there after a call whose receipt is added
+-- the clients and relays present after a call whose receipt is added
 pub noted : (stamps stamps' : List ReceiptOf) (s : ReceiptOf) (ids ids' : List Newcomer) (leaver newcomer : Option Newcomer)
     → ids ≡ present_of stamps → stamps' ≡ stamps ++ s ∷ []
     → leaver ≡ leaver_of s.event → newcomer ≡ newcomer_by s.event s.reply → ids' ≡ present_by leaver newcomer ids → ids' ≡ present_of stamps'
@@ -78,6 +78,6 @@ arrival_room_by ids (Arrive peer) is = refl
 arrival_room_by ids (RelayUp mount shown) is = refl
 arrival_room_by ids event is = absurd (false≢true is)
 
--- who comes needs room for the end too
+-- an arrival needs room for its end too
 pub arrival_room : (ids : List Newcomer) (event same : Event) → same ≡ event → is_arrival same ≡ true → room_for ids event ≡ 2
 arrival_room ids event same eq is = arrival_room_by ids event (sym (ap is_arrival eq) ∙ is)

@@ -10,7 +10,7 @@ use Rattle.radio_chronicle.specs.OwnSteps.{answered_here, once, part_here, CanDr
 use Rattle.radio_chronicle.specs.Stamps.{stamp}
 use Rattle.radio_chronicle.specs.declared.own_steps.Twice.{Twice}
 use Rattle.radio_chronicle.specs.declared.stamp.Stamp.{Stamp}
-use Rattle.radio_book.specs.MountBooks.{once_in, own_in, reply_in, with_mount_part, BookOfMount, CanOwn, IsDone, IsInList, IsNotHere, IsNowhere, IsOf, IsOwnStep, IsReplyHere}
+use Rattle.radio_book.specs.MountBooks.{once_in, own_in, with_mount_part, BookOfMount, CanOwn, IsDone, IsInList, IsNotHere, IsNowhere, IsOf, IsOwnStep, IsReplyHere}
 use Rattle.radio_book.specs.declared.mount_book.Own.{Own}
 
 -- the answer of the part of this book, which becomes that
@@ -32,13 +32,7 @@ module _ (book : BookOfMount) (later : Option MountPart) (event : Event) where
   done_so place copy (Ok (Elsewhere other)) is = not_here other is
   done_so place copy (Err refused) is = tt
 
-  reply_so : (answered : Result PartAnswer AllocError) → IsAnswerOf book later event answered
-      → IfOk (reply_in answered) (λ reply. IsReplyHere book event reply (with_mount_part later book))
-  reply_so (Ok (Replied reply)) is = replied_here reply is
-  reply_so (Ok (Elsewhere other)) is = not_here other is
-  reply_so (Err refused) is = tt
-
-  -- what a call ensures of the answer, if what follows the place of one who draws is not forgotten
+  -- what a call ensures of the answer, if the data after a drawing listener's place are not forgotten
   abbrev pub Answers : Result PartAnswer AllocError → Type 0
   Answers answered = (CanDrawHere book.part event → IfOk answered (λ answer. answer ≡ answered_here book.part event))
       × (CanDrawHere book.part event → OnOk answered (later ≡ part_here book.queue book.moment book.part event))
@@ -56,16 +50,6 @@ module _ (book : BookOfMount) (later : Option MountPart) (event : Event) where
       subst (λ (b : BookOfMount). IfOk result (λ own. IsDone b event own (with_mount_part later book))) is
       (subst (λ (r : Result Own AllocError). IfOk r (λ own. IsDone book event own (with_mount_part later book))) (sym comes)
       (done_so place copy answered (answer_of answered answers can_it)))
-
-  -- or replied so
-  pub reply_here : (now : BookOfMount) (answered : Result PartAnswer AllocError) (result : Result (Option Reply) AllocError)
-      → book ≡ now → result ≡ reply_in answered → Answers answered
-      → CanOwn now event → IfOk result (λ reply. IsReplyHere now event reply (with_mount_part later book))
-  reply_here now answered result is comes answers can =
-      let can_it : CanOwn book event = subst (λ (b : BookOfMount). CanOwn b event) (sym is) can in
-      subst (λ (b : BookOfMount). IfOk result (λ reply. IsReplyHere b event reply (with_mount_part later book))) is
-      (subst (λ (r : Result (Option Reply) AllocError). IfOk r (λ reply. IsReplyHere book event reply (with_mount_part later book))) (sym comes)
-      (reply_so answered (answer_of answered answers can_it)))
 
 -- the event of another is not done here
 pub others_not_here : (book : BookOfMount) (event : Event) → IsNoPartsOwn event → IsNotHere book event book

@@ -1,4 +1,4 @@
--- How entries make the control, and whose reply the control's is.
+-- How entries make the control, and which control makes a reply.
 use Rattle.std.specs.Prelude.{◌≡◌, ℕ, Bool, true, false, List, [], ◌∷◌, Option, None, Some}
 use Rattle.radio_chronicle.specs.declared.line.ControlLine.{ControlLine}
 use Rattle.radio_chronicle.specs.declared.line.ControlLine.TheVariants.{Cut, Made}
@@ -19,7 +19,7 @@ use Rattle.radio_book.specs.Clocks.{LeavesParts}
 use Rattle.radio_book.specs.LentParts.{AreLent, ControlState, IsControlAsBefore, IsControlStep}
 use Rattle.radio_book.specs.MountBooks.{BookOfMount}
 
--- the mount that who stands so feeds, if it feeds one
+-- the mount that a client of this standing feeds, if it feeds one
 abbrev pub mount_fed : Standing → Option (List ℕ)
 mount_fed (Feeds mount) = Some mount
 mount_fed standing = None
@@ -34,7 +34,7 @@ entries_in (Made entry ∷ lines) = entry ∷ entries_in lines
 abbrev pub IsOpening : World → Type 0
 IsOpening w = (settings : Settings) × (lists : Lists) × (w ≡ opening_of settings lists)
 
--- The control of a server that opened so can be so: as it was opened, or as it is after a step over parts that were lent, or once parts were lent and taken back.
+-- A control of a server with this opening state: as it was opened, after a step over lent parts, or after parts were lent and taken back.
 -- rule: Legal history
 pub data CanBe (opening : World) : World → Type 0 where
   opens : IsOpening opening → CanBe opening opening
@@ -42,7 +42,7 @@ pub data CanBe (opening : World) : World → Type 0 where
       → IsControlStep books before event reply back after → CanBe opening after
   stays : (before after : World) → CanBe opening before → (books back : List BookOfMount) → IsControlAsBefore books before back after → CanBe opening after
 
--- What all mounts have in common is what these entries have made of that of the opening state. If entries are stored, they are those of the list.
+-- These entries turn the common state of the opening into that of the control. If entries are stored, they are those of the list.
 -- rule: Legal history
 pub record IsMadeByEntries (keeps : Bool) (opening : World) (lines : List ControlLine) (control : World) : Type 0 where
   pub entries : List Entry

@@ -30,7 +30,7 @@ AreLent reached (book ∷ books) (one ∷ lent) before after =
     (between : World) × IsLentOrStays reached book one before between × AreLent reached books lent between after
 AreLent reached books lent before after = ⊥
 
--- the mount's part is taken out again; or the book has it, or the mount has none, or memory is refused. The book has the control's time.
+-- the control gives the mount's part back, or the book kept it, or the mount has none, or memory is refused. The book has the control's time.
 abbrev pub IsBack : BookOfMount → BookOfMount → World → World → Type 0
 IsBack lent back before after = ((back ≡ with_moment before.station.time lent) × (after ≡ before)) ⊎
     ((part : MountPart) × (back ≡ with_mount_part (Some part) (with_moment before.station.time lent)) × IsTakenOut lent.mount part before after)

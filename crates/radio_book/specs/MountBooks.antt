@@ -1,4 +1,4 @@
--- A mount's part that stands apart from the control, and is lent to it.
+-- A mount's part that is kept apart from the control, and is lent to it.
 use Rattle.std.specs.Prelude.{◌≡◌, ℕ, ◌+◌, ◌-◌, List, [], ◌∷◌, ◌++◌, Option, None, Some, Result, Ok, Err}
 use Rattle.std.specs.declared.alloc.AllocError.{AllocError}
 use Rattle.radio_chronicle.specs.Stamps.{stamp}
@@ -29,7 +29,7 @@ pub record BookOfMount : Type 0 where
   -- of the mount's stream at least so many bytes are kept
   pub queue : ℕ
 
--- what follows the place of one who draws is not forgotten
+-- for a draw, the data after the listener's place are not forgotten
 abbrev pub CanOwn : BookOfMount → Event → Type 0
 CanOwn book event = CanDrawHere book.part event
 
@@ -97,12 +97,6 @@ abbrev pub IsReplyHere : BookOfMount → Event → Option Reply → BookOfMount 
 IsReplyHere before event (Some reply) after = IsOwnStep before event reply after
 IsReplyHere before event None after = IsNotHere before event after
 
--- the reply of a part's answer, if it knows the client
-abbrev pub reply_in : Result PartAnswer AllocError → Result (Option Reply) AllocError
-reply_in (Ok (Replied reply)) = Ok (Some reply)
-reply_in (Ok (GivenBack event)) = Ok None
-reply_in (Err refused) = Err refused
-
 -- the receipts, with that of the event
 abbrev pub noted_own : Own → List ReceiptOf → List ReceiptOf
 noted_own (DoneHere receipt) receipts = receipts ++ receipt ∷ []
@@ -118,6 +112,6 @@ abbrev pub IsNowhere : Own → Type 0
 IsNowhere (DoneHere receipt) = receipt.stamp ≡ stamp 0 0
 IsNowhere (Elsewhere same) = Unit {0}
 
--- for how many lines there has to be room before an entry that is lent so many parts, where so many ends are reserved and so many more may be
+-- how many lines need room before an entry that is lent so many parts, if so many ends are reserved and so many more may be
 abbrev pub lines_for : ℕ → ℕ → ℕ → ℕ
 lines_for reserved more lent = (reserved + more) + (reserved + more) + (lent - 1)

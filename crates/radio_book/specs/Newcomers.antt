@@ -1,4 +1,4 @@
--- Who came by a caller's calls, and what is reserved for each: an entry for its end.
+-- Clients and relays that a caller's calls let in, and the entry that is reserved for the end of each.
 use Rattle.std.specs.Prelude.{ℕ, Bool, true, false, List, [], ◌∷◌, ◌++◌, ◌==◌, Option, None, Some, if◌then◌else◌}
 use Rattle.std.specs.List.{position, remove}
 use Rattle.std.specs.Option.{is_some}
@@ -19,7 +19,7 @@ is_same (Client a) (Client b) = b == a
 is_same (Relay a) (Relay b) = b == a
 is_same one other = false
 
--- whose end this is: a client leaves, or a relay goes down
+-- the client or relay that the event ends: the client leaves, or the relay goes down
 abbrev pub leaver_of : Event → Option Newcomer
 leaver_of (Leave id) = Some (Client id)
 leaver_of (RelayDown id) = Some (Relay id)
@@ -31,13 +31,13 @@ is_arrival (Arrive peer) = true
 is_arrival (RelayUp mount shown) = true
 is_arrival event = false
 
--- who has come, if the reply lets it in
+-- the new client or relay, if the reply lets it in
 abbrev pub newcomer_by : Event → Reply → Option Newcomer
 newcomer_by (Arrive peer) (Arrived id) = Some (Client id)
 newcomer_by (RelayUp mount shown) (Arrived id) = Some (Relay id)
 newcomer_by event reply = None
 
--- where it stands among these
+-- its position among these
 abbrev pub position_among : Newcomer → List Newcomer → Option ℕ
 position_among one present = position (λ other. is_same one other) present
 
@@ -53,7 +53,7 @@ abbrev pub present_by : Option Newcomer → Option Newcomer → List Newcomer �
 present_by None newcomer present = with_newcomer newcomer present
 present_by (Some gone) newcomer present = without_newcomer (position_among gone present) present
 
--- who is there after a call, of those who were there before it: who was let in has come, and whose end it was has gone
+-- the clients and relays present after a call: those present before it, with the one that it let in, or without the one that it ended
 abbrev pub present_after : List Newcomer → Event → Reply → List Newcomer
 present_after present event reply = present_by (leaver_of event) (newcomer_by event reply) present
 
@@ -61,7 +61,7 @@ abbrev pub present_from : List Newcomer → List ReceiptOf → List Newcomer
 present_from present [] = present
 present_from present (s ∷ stamps) = present_from (present_after present s.event s.reply) stamps
 
--- who was let in by these calls, and has not gone by them
+-- the clients and relays that these calls let in and have not ended
 abbrev pub present_of : List ReceiptOf → List Newcomer
 present_of stamps = present_from [] stamps
 
@@ -70,7 +70,8 @@ present_of stamps = present_from [] stamps
 abbrev pub is_here : Newcomer → List ReceiptOf → Bool
 is_here one stamps = is_some (position_among one (present_of stamps))
 
--- for how many entries room must be found before an event: its own, and that of the end of who may be let in; the end of who is here has its room
+-- how many entries an event must find room for: its own, and the end of a client or relay that it may let in.
+-- the end of one that is present has its room already
 abbrev pub room_by : Option Newcomer → Bool → List Newcomer → ℕ
 room_by None came present = if came then 2 else 1
 room_by (Some gone) came present = if is_some (position_among gone present) then 0 else 1

@@ -9,7 +9,7 @@ use Rattle.radio_events.specs.declared.reply.Reply.{Reply}
 use Rattle.radio_events.specs.declared.reply.Reply.TheVariants.{Feeding}
 use Rattle.radio_chronicle.specs.declared.stamp.Stamp.{Stamp}
 
--- at this place of a list stands this event with this reply
+-- this place of a list has this event with this reply
 -- rule: Receipts
 pub record ReceiptOf : Type 0 where
   pub stamp : Stamp

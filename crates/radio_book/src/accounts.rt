@@ -286,8 +286,8 @@ impl<C: Chronicle, H: Origin> Accounts<C, H> {
     }
 }
 
-/// Returns for how many lines there has to be room before an entry that is lent so many parts: for it and its cuts, and then for
-/// two lines for each end that is reserved, of which so many more may be reserved.
+/// Returns how many lines need room before an entry over `lent` parts: those of the entry and its cuts, and two for each
+/// end. `reserved` ends are reserved, and `more` others may be.
 fn lines_for(reserved: usize, more: usize, lent: usize) -> Option<usize>
     ensures value { IfSome result (λ lines. lines ≡ lines_for reserved more lent) }
     ensures some { more ≡ 0 → lent ≤ 1 → reserved + reserved < 2 ^ 64 → IsSome result }

@@ -117,7 +117,7 @@ impl<C: Chronicle, H: Origin> Book<C, H> {
         ensures unkept { C.KEEPS ≡ false → (self.new.lines ≡ self.old.lines) × (pass.new ≡ pass.old) × IfOk result (λ receipt. receipt.stamp ≡ stamp 0 0) }
         ensures err { OnErr result (IsRefused lent.old self.old.control lent.new self.new.control) }
         ensures err_lines { OnErr result ((self.new.lines ≡ self.old.lines) × (pass.new ≡ pass.old)) }
-        // the end of who was let in by the receipts of this pass, and has not gone by them, is never refused if it is lent one part
+        // the end of a client or relay that this pass let in and has not ended is never refused if it is lent one part
         ensures leave { (one : Newcomer) → leaver_of event ≡ Some one → is_here one pass.old ≡ true → length lent.old ≤ 1 → IsOk result }
         // if nothing is stored, the end of a session and of a connection, and the clock, are never refused
         ensures frees { C.KEEPS ≡ false → EventTakesNoMemory event → IsOk result }

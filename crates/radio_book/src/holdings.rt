@@ -11,8 +11,8 @@ use radio_events::{Event, Reply};
 use std::alloc::Global;
 use std::sync::ledger::{Ledger, Share};
 
-/// The receipts of a caller's calls, and who came by them and has not gone by them, for each of whom
-/// the book has an entry reserved. There is room for the receipt of each such end.
+/// The receipts of a caller's calls, and the clients and relays that these let in and have not ended. The book has
+/// an entry reserved for the end of each of these, and there is room for its receipt.
 #[derive(Drop)]
 pub(crate) struct Holdings<L: Ledger> {
     pub(crate) receipts: Vec<Receipt>,
@@ -81,7 +81,7 @@ impl<L: Ledger> Holdings<L> {
         self.receipts.push_reserved(receipt);
     }
 
-    /// Adds the receipt of a call, for which there is room, and notes who came or went by it.
+    /// Adds the receipt of a call, for which there is room, and notes the client or relay that it let in or ended.
     pub(crate) fn note(&mut self, ends: &mut ReservedEnds<L>, receipt: Receipt)
         requires room { vec_len self.old.receipts + vec_len self.old.present + room_for self.old.present.items receipt.event ≤ vec_capacity self.old.receipts }
         requires present { is_arrival receipt.event ≡ true → vec_len self.old.present < vec_capacity self.old.present }
@@ -102,7 +102,7 @@ impl<L: Ledger> Holdings<L> {
     }
 }
 
-/// Removes who leaves, or adds who comes; the book has an entry less reserved, or one more.
+/// Removes the client or relay that leaves, or adds the new one. The book has one reserved entry less then, or one more.
 fn come_and_go<L: Ledger>(
     ends: &mut ReservedEnds<L>,
     share: &mut Share<L>,
@@ -129,7 +129,7 @@ fn come_and_go<L: Ledger>(
     }
 }
 
-/// Removes who goes, if it is among those who are there; the book has an entry less reserved.
+/// Removes the client or relay that leaves, if it is present. The book has one reserved entry less then.
 fn goes<L: Ledger>(
     ends: &mut ReservedEnds<L>,
     share: &mut Share<L>,
@@ -180,21 +180,21 @@ fn is_arrival(event: &Event) -> bool
     matches!(event, Event::Arrive { .. } | Event::RelayUp { .. })
 }
 
-/// Returns whose end the call of the receipt was.
+/// Returns the client or relay that the receipt's call ended.
 fn leaver_in(receipt: &Receipt) -> Option<Newcomer>
     ensures { result ≡ leaver_of receipt.now.event }
 {
     leaver_of(receipt.event())
 }
 
-/// Returns who has come by the call of the receipt.
+/// Returns the client or relay that the receipt's call let in.
 fn newcomer_in(receipt: &Receipt) -> Option<Newcomer>
     ensures { result ≡ newcomer_by receipt.now.event receipt.now.reply }
 {
     newcomer_by(receipt.event(), receipt.reply())
 }
 
-/// Returns who has come, if the reply lets it in.
+/// Returns the new client or relay, if the reply lets it in.
 fn newcomer_by(event: &Event, reply: &Reply) -> Option<Newcomer>
     ensures { result ≡ newcomer_by event.now reply.now }
 {

@@ -3,7 +3,7 @@
 ghost use Rattle.std.specs.Prelude.{◌≡◌, ◌+◌, ◌≤◌, ◌<◌, true, false, None, IfOk, IsTrue, OnErr, vec_len, vec_capacity};
 ghost use Rattle.radio_book.specs.Clocks.{IsNotDue};
 ghost use Rattle.radio_book.specs.LentParts.{IsBack, IsLentOrStays};
-ghost use Rattle.radio_book.specs.MountBooks.{noted_own, once_in, own_in, reply_in, CanOwn, IsCut, IsDone, IsInList, IsNowhere, IsOf, IsReplyHere};
+ghost use Rattle.radio_book.specs.MountBooks.{noted_own, once_in, own_in, CanOwn, IsCut, IsDone, IsInList, IsNowhere, IsOf, IsReplyHere};
 ghost use Rattle.radio_chronicle.specs.Stamps.{stamp};
 ghost use Rattle.radio_events.specs.declared.event.Event.TheVariants.{Draw};
 ghost use Rattle.radio_chronicle.specs.OwnSteps.{is_part_event, IsAlike};
@@ -146,9 +146,10 @@ impl<C: Chronicle> MountBook<C> {
         ensures done { CanOwn self.old (Draw id room) → IfOk result (λ reply. IsReplyHere self.old (Draw id room) reply self.new) }
         ensures err { OnErr result (self.new ≡ self.old) }
     {
-        let event = Event::Draw { id, room };
-        let answered = step_here(self.alloc, &mut self.part, self.moment, self.queue, event);
-        reply_in(answered)
+        let Some(part) = &mut self.part else {
+            return Ok(None);
+        };
+        part.draw(self.alloc, id, room)
     }
 
     /// Puts the part, if it is here and the event reaches it, in the place of that which the control has. It takes no memory.
@@ -334,20 +335,6 @@ fn own_of(answered: Result<PartAnswer, OutOfMemory>, copy: Event) -> Result<Own,
             drop(copy);
             Err(refused)
         }
-    }
-}
-
-/// Returns the reply of a part's answer; `None` if it does not know the client.
-fn reply_in(answered: Result<PartAnswer, OutOfMemory>) -> Result<Option<Reply>, OutOfMemory>
-    ensures { result ≡ reply_in answered }
-{
-    match answered {
-        Ok(PartAnswer::Replied(reply)) => Ok(Some(reply)),
-        Ok(PartAnswer::Elsewhere(event)) => {
-            drop(event);
-            Ok(None)
-        }
-        Err(refused) => Err(refused),
     }
 }
 

@@ -5,8 +5,8 @@ ghost use Rattle.std.specs.Prelude.{◌≡◌, ◌+◌, ◌≤◌, ◌<◌, ◌^
 use std::sync::ledger;
 use std::sync::ledger::{Ledger, Share};
 
-/// For how many entries of ends a book has room reserved: one for each client who was let in. Each caller's share
-/// is how many of them are its own.
+/// How many entries of ends a book has reserved: one for each client or relay that was let in. A caller's share says
+/// how many of them are its own.
 #[derive(Drop)]
 pub(crate) struct ReservedEnds<L: Ledger> {
     pub(crate) reserved: usize,
@@ -23,7 +23,7 @@ impl<L: Ledger> ReservedEnds<L> {
         ReservedEnds { reserved: 0, book }
     }
 
-    /// Reserves one more entry for the one whose share it is.
+    /// Reserves one more entry for the caller of this share.
     pub(crate) fn grow(&mut self, share: &mut Share<L>)
         requires part { 0 < share.old.parts }
         requires fits { self.old.reserved + 1 < 2 ^ 64 }
@@ -36,7 +36,7 @@ impl<L: Ledger> ReservedEnds<L> {
         *reserved += 1;
     }
 
-    /// Reserves one entry less for the one whose share it is.
+    /// Reserves one entry less for the caller of this share.
     pub(crate) fn shrink(&mut self, share: &mut Share<L>)
         requires { 0 < share.old.amount }
         ensures reserved { self.new.reserved + 1 ≡ self.old.reserved }

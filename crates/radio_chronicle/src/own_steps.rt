@@ -119,6 +119,7 @@ fn step_twice(
 }
 
 /// Returns the reply twice. If memory is refused for that, whoever has drawn is set back.
+// rule: Receipts
 fn twice_or_set_back(
     part: &mut ListedPart,
     drawer: Option<Drawer>,

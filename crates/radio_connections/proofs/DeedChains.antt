@@ -12,12 +12,12 @@ use Rattle.radio_connections.specs.Duties.{IsReadOnce, LacksMemory}
 use Rattle.radio_connections.specs.Duties.{HasEnded, ClientHasLeft, AreAtMostHeard, IsUnasked, IsAtMostDraw, draw_room_for}
 use Rattle.radio_connections.specs.Rooms.{draw_room}
 use Rattle.radio_connections.specs.Serving.{IsServed, IsOneDraw}
-use Rattle.radio_connections.specs.Answering.{IsUnwritten, AreOf, IsHeardOn}
+use Rattle.radio_connections.specs.Answering.{IsAnswered, IsUnwritten, AreOf, IsHeardOn}
 use Rattle.radio_connections.specs.Leaving.{IsSame, Listens, Leaves, DrawsFor, Draws}
 use Rattle.radio_connections.specs.Connections.{Refused, one_refusal}
 use Rattle.radio_connections.proofs.Calling.{later_same, later_none, later_by_refusal, lacks_on, unread_same, once_between}
 use Rattle.radio_connections.proofs.Standing.{IsOne, left_on}
-use Rattle.radio_connections.proofs.Deeds.{open_from, over_from, not_over, served_then, served_by_none, served_by_note}
+use Rattle.radio_connections.proofs.Deeds.{open_from, over_from, not_over, served_then, served_by_draw, served_by_none, served_by_note}
 use Rattle.std.proofs.lemmas.Bool.{false≢true}
 use Rattle.radio_session.specs.Conversation.{Conversation}
 use Rattle.radio_session.specs.Hearing.{IsHeard}
@@ -30,6 +30,22 @@ module _ {S : Type 0} (steps : Steps S) where
 
   pub chain_one : (from to : S) (e : Entry) → steps from e.event e.reply to → Chain steps from (e ∷ []) to
   chain_one from to e s = (to, s, refl)
+
+  -- it draws: a draw of a connection that is seen as this one is answered
+  pub draws_for_one : (room : ℕ) {from to : S} {seen c c' : Connection} → seen ≡ c → c.status.fate ≡ Open → (entries : List Entry)
+      → Chain steps from entries to → IsAnswered (Draw seen.id room) seen entries c' → DrawsFor steps room from c to c'
+  draws_for_one room {from} {to} {seen} {c} {c'} is goes entries chain answered =
+      let a : IsAnswered (Draw c.id room) c entries c' = subst (λ (o : Connection). IsAnswered (Draw o.id room) o entries c') is answered in
+      record {
+        entries = entries;
+        chain = chain;
+        served = served_by_draw c c' room entries goes a;
+        drawn = a.made;
+        once = a.once;
+        sits = a.seat refl;
+        asked = a.asked;
+        spared = a.spared;
+      }
 
   -- its client leaves
   pub leaves_so : (from to : S) (c c' : Connection) → ((reply : Reply) × steps from (Leave c.id) reply to) → is_open c.status.fate ≡ false

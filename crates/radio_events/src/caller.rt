@@ -46,6 +46,10 @@ impl<'a, R: Wait, S: SharedServer> Server for Caller<'a, R, S> {
         self.server.apply(self.rt, &mut self.pass, event)
     }
 
+    fn draw(&mut self, id: u64, room: u32) -> Result<Reply, OutOfMemory> {
+        self.server.draw(self.rt, &mut self.pass, id, room)
+    }
+
     fn last_mount(&self, id: u64) -> Option<MountName> {
         self.server.last_mount(self.rt, id)
     }

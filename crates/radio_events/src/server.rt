@@ -2,6 +2,7 @@
 
 ghost use Rattle.std.specs.Prelude.{◌≡◌, IfOk, OnErr};
 ghost use Rattle.radio_events.specs.declared.event.Event.{Event as EventOf};
+ghost use Rattle.radio_events.specs.declared.event.Event.TheVariants.{Draw};
 
 use crate::{Event, OutOfMemory, Reply};
 use radio_values::MountName;
@@ -21,6 +22,16 @@ pub trait Server {
         ensures ok { IfOk result (λ reply. steps self.old event reply self.new) }
         ensures err { OnErr result (self.new ≡ self.old) }
         ensures refused { OnErr result (refuses self.old event) };
+
+    /// Applies an [`Event::Draw`] of the listener of this number, which has room for so many bytes. Draws are most of what a
+    /// server does, so it may answer them by a shorter way. `OutOfMemory` if memory was refused; nothing has changed then.
+    fn draw(&mut self, id: u64, room: u32) -> Result<Reply, OutOfMemory>
+        ensures ok { IfOk result (λ reply. steps self.old (Draw id room) reply self.new) }
+        ensures err { OnErr result (self.new ≡ self.old) }
+        ensures refused { OnErr result (refuses self.old (Draw id room)) }
+    {
+        self.apply(Event::Draw { id, room })
+    }
 
     /// The mount where the listener of this number sits, or sat last, if it is one. It takes no memory.
     fn last_mount(&self, id: u64) -> Option<MountName>;

@@ -2,6 +2,7 @@
 
 ghost use Rattle.std.specs.Prelude.{◌≡◌, IfOk, OnErr};
 ghost use Rattle.radio_events.specs.declared.event.Event.{Event as EventOf};
+ghost use Rattle.radio_events.specs.declared.event.Event.TheVariants.{Draw};
 
 use crate::{Event, OutOfMemory, Reply};
 use radio_values::MountName;
@@ -34,6 +35,22 @@ pub trait SharedServer {
         ensures ok { IfOk result (λ reply. steps pass.old event reply pass.new) }
         ensures err { OnErr result (pass.new ≡ pass.old) }
         ensures refused { OnErr result (refuses pass.old event) };
+
+    /// Applies an [`Event::Draw`] of the listener of this number, which has room for so many bytes, for the one who has this
+    /// pass. `OutOfMemory` if memory was refused; nothing has changed then.
+    fn draw<R: Wait>(
+        &self,
+        rt: &R,
+        pass: &mut Self::Pass,
+        id: u64,
+        room: u32,
+    ) -> Result<Reply, OutOfMemory>
+        ensures ok { IfOk result (λ reply. steps pass.old (Draw id room) reply pass.new) }
+        ensures err { OnErr result (pass.new ≡ pass.old) }
+        ensures refused { OnErr result (refuses pass.old (Draw id room)) }
+    {
+        self.apply(rt, pass, Event::Draw { id, room })
+    }
 
     /// The mount where the listener of this number sits, or sat last, if it is one. It takes no memory.
     fn last_mount<R: Wait>(&self, rt: &R, id: u64) -> Option<MountName>;

@@ -1,10 +1,9 @@
--- What callers are told, and what passes gain.
-use Rattle.std.proofs.Common.{◌≡◌, ℕ, Bool, true, false, List, [], ◌∷◌, ◌++◌, Result, Ok, Err, IfOk, OnErr, refl, ap, sym, subst, ◌∙◌, append_assoc, append-nil}
+-- The results of calls, and what passes gain.
+use Rattle.std.proofs.Common.{◌≡◌, ℕ, Bool, true, false, List, [], ◌∷◌, ◌++◌, Result, Ok, Err, IfOk, OnErr, refl, ap, sym, ◌∙◌, append_assoc, append-nil}
 use Rattle.std.specs.declared.alloc.AllocError.{AllocError}
 use Rattle.radio_events.specs.declared.event.Event.{Event}
 use Rattle.radio_events.specs.declared.event.Event.TheVariants.{Draw}
 use Rattle.radio_events.specs.declared.reply.Reply.{Reply}
-use Rattle.radio_events.specs.Events.{EventTakesNoMemory}
 use Rattle.radio_parts_station.specs.World.{World}
 use Rattle.radio_events.specs.declared.entry.Entry.{Entry}
 use Rattle.radio_book.specs.Receipts.{ReceiptOf, receipt_of}
@@ -23,16 +22,16 @@ gained opening before after (e ∷ entries) c =
     )
 
 -- by a draw of which nothing is stored
-pub drawn : (keeps : Bool) (opening : World) (before now : List ReceiptOf) (event draw : Event) (result : Result Reply AllocError) → keeps ≡ false → event ≡ draw
-    → IfOk result (λ reply. ∥ IsReplied opening draw reply ∥₁) → IfOk result (λ reply. IsCalled keeps opening before event reply now)
-drawn keeps opening before now event draw (Ok reply) unkept is legal = record {
-  legal = subst (λ (e : Event). ∥ IsReplied opening e reply ∥₁) (sym is) legal;
+pub drawn : (keeps : Bool) (opening : World) (before now : List ReceiptOf) (draw : Event) (result : Result Reply AllocError) → keeps ≡ false
+    → IfOk result (λ reply. ∥ IsReplied opening draw reply ∥₁) → IfOk result (λ reply. IsCalled keeps opening before draw reply now)
+drawn keeps opening before now draw (Ok reply) unkept legal = record {
+  legal = legal;
   gains = λ kept. let both : true ≡ false = sym kept ∙ unkept in cc;
 }
-drawn keeps opening before now event draw (Err refused) unkept is legal = tt
+drawn keeps opening before now draw (Err refused) unkept legal = tt
 
-pub draw_refused : (keeps : Bool) (before : List ReceiptOf) (event : Event) (id room : ℕ) (result : Result Reply AllocError) → keeps ≡ false
-    → event ≡ Draw id room → OnErr result (MayBeRefused keeps before event)
-draw_refused keeps before event id room (Ok reply) unkept is = tt
-draw_refused keeps before event id room (Err refused) unkept is =
-    record { other = λ kept. let both : true ≡ false = sym kept ∙ unkept in cc; takes = λ same small. subst EventTakesNoMemory is small }
+pub draw_refused : (keeps : Bool) (before : List ReceiptOf) (id room : ℕ) (result : Result Reply AllocError) → keeps ≡ false
+    → OnErr result (MayBeRefused keeps before (Draw id room))
+draw_refused keeps before id room (Ok reply) unkept = tt
+draw_refused keeps before id room (Err refused) unkept =
+    record { other = λ kept. let both : true ≡ false = sym kept ∙ unkept in cc; takes = λ same small. small }

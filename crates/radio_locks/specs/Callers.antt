@@ -1,4 +1,4 @@
--- What a caller of a hall is told, and what its pass gains.
+-- The result of a hall's call, and what the caller's pass gains.
 use Rattle.std.specs.Prelude.{◌≡◌, ℕ, Bool, true, false, List, [], ◌∷◌, ◌++◌, map, Result, IfOk, OnErr}
 use Rattle.std.specs.declared.alloc.AllocError.{AllocError}
 use Rattle.radio_events.specs.declared.event.Event.{Event}
@@ -15,7 +15,7 @@ use Rattle.radio_book.specs.Receipts.{receipt_entry, has_fed, receipt_of, Receip
 use Rattle.radio_locks.specs.Replies.{IsReplied}
 use Rattle.radio_events.specs.Servers.{Chain}
 
--- the event is not the end of a client that was let in by these receipts, has not left by them and has never fed by them
+-- the event does not end a client that these receipts let in, that has not left by them and has never fed by them
 abbrev pub IsNotItsEnd : List ReceiptOf → Event → Type 0
 IsNotItsEnd receipts event = (id : ℕ) → event ≡ Leave id → is_here (Client id) receipts ≡ true → has_fed id receipts ≡ false → ⊥
 
@@ -27,7 +27,7 @@ Gains keeps before event reply now = keeps ≡ true → (stamp : Stamp) × (now 
 -- rule: Legal history
 pub record IsResultOfCall (keeps : Bool) (opening : World) (before : List ReceiptOf) (event : Event) (result : Result ReceiptOf AllocError) (now : List ReceiptOf) : Type 0 where
   pub event_is : IfOk result (λ receipt. receipt.event ≡ event)
-  -- the reply is a part's own, or that of a control of which its list tells, over the parts that it was lent
+  -- the reply is a part's own, or that of a control that its entries have made, over the parts that it was lent
   pub legal : IfOk result (λ receipt. ∥ IsReplied opening event receipt.reply ∥₁)
   -- if entries are stored, the pass gains the receipt; if they are not, nothing is noted
   pub kept : keeps ≡ true → IfOk result (λ receipt. now ≡ before ++ receipt ∷ [])
@@ -40,7 +40,8 @@ pub record IsCalled (keeps : Bool) (opening : World) (before : List ReceiptOf) (
   pub legal : ∥ IsReplied opening event reply ∥₁
   pub gains : Gains keeps before event reply now
 
--- Memory may be refused for it: if entries are stored, it is not the end of a client of the caller's that has never fed; if none are, it takes memory.
+-- Memory may be refused for this event. If entries are stored, it does not end a client of the caller's that has never fed.
+-- If none are stored, it takes memory.
 -- rule: Refused memory
 pub record MayBeRefused (keeps : Bool) (before : List ReceiptOf) (event : Event) : Type 0 where
   pub other : keeps ≡ true → IsNotItsEnd before event

@@ -8,7 +8,7 @@ use Rattle.radio_events.specs.declared.event.Event.{Event}
 use Rattle.radio_events.specs.declared.reply.Reply.{Reply}
 use Rattle.radio_parts_station.specs.World.{World}
 
--- the reply is a mount's part's own, or that of a control of which its list tells, over the parts that it was lent
+-- the reply is a mount's part's own, or that of a control that its entries have made, over the parts that it was lent
 -- rule: Order of calls
 pub data IsReplied (opening : World) (event : Event) (reply : Reply) : Type 0 where
   ByMount : (before after : BookOfMount) → (CanOwn before event → IsOwnStep before event reply after) → IsReplied opening event reply

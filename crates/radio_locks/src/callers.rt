@@ -32,10 +32,23 @@ impl<C: Chronicle, H: Origin> SharedServer for Hall<C, H> {
         pass: &mut Pass<C, H>,
         event: Event,
     ) -> Result<Reply, OutOfMemory> {
-        match event {
+        let receipt = Hall::apply(self, rt, pass, event)?;
+        Ok(receipt.into_reply())
+    }
+
+    // rule: Legal history
+    fn draw<R: Wait>(
+        &self,
+        rt: &R,
+        pass: &mut Pass<C, H>,
+        id: u64,
+        room: u32,
+    ) -> Result<Reply, OutOfMemory> {
+        if C::KEEPS {
+            SharedServer::apply(self, rt, pass, Event::Draw { id, room })
+        } else {
             // nothing notes it, so it needs no receipt
-            Event::Draw { id, room } if !C::KEEPS => self.draw(rt, pass, id, room),
-            event => self.reply(rt, pass, event),
+            self.draw_unkept(rt, pass, id, room)
         }
     }
 

@@ -1,8 +1,7 @@
 //! Replies without receipts.
 
-ghost use Rattle.std.specs.Prelude.{◌≡◌, false, IfOk, OnErr};
+ghost use Rattle.std.specs.Prelude.{◌≡◌, false, IfOk};
 ghost use Rattle.radio_events.specs.declared.event.Event.TheVariants.{Draw};
-ghost use Rattle.radio_locks.specs.Callers.{IsCalled, MayBeRefused};
 ghost use Rattle.radio_locks.specs.Replies.{IsReplied, IsRepliedIf};
 
 use crate::{Hall, OutOfMemory};
@@ -11,24 +10,9 @@ use radio_events::{Event, Reply};
 use std::sync::Wait;
 
 impl<C: Chronicle, H: Origin> Hall<C, H> {
-    /// Applies one event, as [`Hall::apply`], and returns its reply.
-    pub(crate) fn reply<R: Wait>(
-        &self,
-        rt: &R,
-        pass: &mut Pass<C, H>,
-        event: Event,
-    ) -> Result<Reply, OutOfMemory>
-        ensures ok { IfOk result (λ reply. IsCalled C.KEEPS H.opening pass.old event reply pass.new) }
-        ensures err { OnErr result (pass.new ≡ pass.old) }
-        ensures refused { OnErr result (MayBeRefused C.KEEPS pass.old event) }
-    {
-        let receipt = self.apply(rt, pass, event)?;
-        Ok(receipt.into_reply())
-    }
-
     /// Draws for this client, which has room for so many bytes, as [`Hall::apply`], if nothing is stored: first where it was attached
     /// last. `OutOfMemory` if memory was refused.
-    pub(crate) fn draw<R: Wait>(
+    pub(crate) fn draw_unkept<R: Wait>(
         &self,
         rt: &R,
         pass: &mut Pass<C, H>,

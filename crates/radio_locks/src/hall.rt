@@ -74,7 +74,7 @@ impl<C: Chronicle, H: Origin> Hall<C, H> {
     /// Returns a pass with no receipt yet. `None` only once [`PASSES`](radio_book::PASSES) were taken.
     pub fn pass<R: Wait>(&self, rt: &R) -> Option<Pass<C, H>>
         ensures empty { IfSome result (λ pass. pass ≡ []) }
-        // there is none only if the control's book, of which its list tells, has no pass left
+        // there is none only if the control's book, which its entries have made, has no pass left
         ensures none { IfNone result (∥ HasNoPass C.KEEPS H.opening ∥₁) }
     {
         self.control.lock(rt).control.pass()
@@ -103,7 +103,8 @@ impl<C: Chronicle, H: Origin> Hall<C, H> {
     ) -> Result<Receipt, OutOfMemory>
         // a receipt of the event with a legal reply, which the pass gains if entries are stored; or memory was refused
         ensures called { IsResultOfCall C.KEEPS H.opening pass.old event result pass.new }
-        // if entries are stored, the end of a client of this pass that has never fed by it is never refused; if none are, no end is, nor the clock
+        // if entries are stored, the end of a client of this pass that has never fed by it is never refused
+        // if none are stored, no end is refused, nor the clock
         ensures refused { OnErr result (MayBeRefused C.KEEPS pass.old event) }
     {
         match own_client(&event) {
@@ -231,7 +232,7 @@ impl<C: Chronicle, H: Origin> Hall<C, H> {
     /// Returns the mounts where somebody sits, which relays feed on demand, in the order of their bytes. It makes no entry and no
     /// receipt. `OutOfMemory` if memory was refused.
     pub fn wanted<R: Wait>(&self, rt: &R) -> Result<Vec<MountName>, OutOfMemory>
-        // they are wanted by a control of which its list tells, over the parts that it was lent
+        // they are wanted by a control that its entries have made, over the parts that it was lent
         ensures { IfOk result (λ mounts. ∥ AreWantedThere H.opening mounts.items ∥₁) }
     {
         let mut locked = self.enter(rt);
@@ -363,7 +364,7 @@ fn is_fallback_set(applied: &Result<Receipt, OutOfMemory>) -> bool {
     sets && matches!(receipt.reply(), Reply::Text(_))
 }
 
-/// Forgets where the client or relay was whose connection the event closes, if it is such a one.
+/// Forgets the mount of the client or relay whose connection the event closes, if it closes one.
 fn forget_leaver<C: Chronicle, H: Origin>(pass: &mut Pass<C, H>, event: &Event)
     ensures { pass.new ≡ pass.old }
 {

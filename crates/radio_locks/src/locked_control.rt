@@ -29,8 +29,8 @@ impl<C: Chronicle, H: Origin> LockedControl<C, H> {
         self.lists.get(&mount)
     }
 
-    /// Returns whose parts the event has to be lent. A client that has never fed by this pass leaves with one part at most, if
-    /// entries are stored.
+    /// Returns the mounts whose parts are lent to the event. A client that has never fed by this pass leaves with one part at
+    /// most, if entries are stored.
     pub(crate) fn concerned(&self, pass: &Pass<C, H>, event: &Event) -> Concerned
         ensures { (id : ℕ) → event.now ≡ Leave id → C.KEEPS ≡ true → has_fed id pass.now ≡ false → IsOneAtMost result }
     {

@@ -62,8 +62,8 @@ impl<C: Chronicle, H: Origin> Hall<C, H> {
         }
     }
 
-    /// Adds a book of the mount, if one is named that has none, with a lock that holds nothing yet. A book at whose mount nothing
-    /// has happened becomes this one's. `OutOfMemory` if memory was refused.
+    /// Adds a book of the mount, if one is named that has none, with a lock that holds nothing yet. If nothing has happened at
+    /// the mount of a lent book, it reuses that book. `OutOfMemory` if memory was refused.
     pub(crate) fn add_book<R: Wait>(
         &self,
         rt: &R,

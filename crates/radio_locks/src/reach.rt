@@ -8,14 +8,14 @@ use radio_events::{Asked, Command, ListenRequest, Listing};
 use radio_settings_values::{ListenerOptions, WebPath};
 use radio_values::MountName;
 
-/// How long a chain of fallbacks is at most whose mounts are looked up one by one.
+/// The longest chain of fallbacks whose mounts are looked up one by one.
 const MOST_FALLBACKS: usize = 10;
 
 /// The lists of the mounts that were found so far.
 #[derive(Drop)]
 struct Reach {
     lists: ListNumbers,
-    /// Whether they are too many, or can't be told.
+    /// Whether they are too many, or unknown.
     is_all: bool,
 }
 
@@ -42,7 +42,7 @@ impl Reach {
         true
     }
 
-    /// Returns whose parts an event has to be lent that reaches these mounts.
+    /// Returns the mounts whose parts are lent to an event that reaches these mounts.
     fn concerned(self) -> Concerned {
         let Reach { lists, is_all } = self;
         if is_all {
@@ -54,8 +54,8 @@ impl Reach {
 }
 
 impl<C: Chronicle, H: Origin> LockedControl<C, H> {
-    /// Returns what a source or a relay reaches that is to feed this mount, and where its client sat last, if it is one. All, if it
-    /// calls its listeners home, since these may sit at any mount.
+    /// Returns the mounts that a source or a relay reaches when it starts to feed this mount, and the mount where its client sat
+    /// last, if it is one. It reaches all if it calls its listeners home, since these may sit at any mount.
     pub(crate) fn reached_by_start(&self, path: &[u8], id: Option<u64>) -> Concerned {
         let mut reach = Reach::new();
         if let Some(mount) = MountName::read(path) {
@@ -135,8 +135,8 @@ impl<C: Chronicle, H: Origin> LockedControl<C, H> {
         }
     }
 
-    /// Adds the mount and those to which its listeners fall back, one after another. All, if a command has set a fallback: what
-    /// was set can't be told.
+    /// Adds the mount and those to which its listeners fall back, one after another. It adds all if a command has set a
+    /// fallback, since the new fallback is unknown here.
     fn add_chain(&self, reach: &mut Reach, from: &MountName) {
         reach.is_all = reach.is_all || self.has_set_fallback;
         let mut mount = *from;

@@ -1,7 +1,7 @@
 //! A part with the list of what happened to it.
 
 ghost use Rattle.std.specs.Prelude.{◌≡◌, [], false, None, Some, find, filter, IsTrue, OnOk, OnErr, IfOk};
-ghost use Rattle.std.specs.Option.{option_copied, option_map_or};
+ghost use Rattle.std.specs.Option.{option_copied, option_map, option_map_or};
 ghost use Rattle.radio_tables.specs.Lists.{Each};
 ghost use Rattle.radio_attachments.specs.Rows.{is_attached, lags, AreInOrder};
 ghost use Rattle.radio_parts_mount.specs.Kept.{longer_kept};
@@ -10,7 +10,7 @@ ghost use Rattle.radio_parts_mount.specs.Sessions.{with_title};
 ghost use Rattle.radio_parts_mount.specs.Attached.{advanced_there, on_part, place_in, with_boxed, with_sitters, without_id, without_lagging};
 ghost use Rattle.radio_parts_mount.specs.ByLists.{IsList, IsListIf};
 ghost use Rattle.radio_parts_mount.specs.Parts.{with_session_changed, with_session_in};
-ghost use Rattle.radio_parts_mount.specs.Steps.{part_answers, part_after, CanDraw};
+ghost use Rattle.radio_parts_mount.specs.Steps.{part_answers, part_after, part_hands, part_heard, portion_reply, CanDraw, KeepsFor};
 
 use crate::item::Attaching;
 use crate::list::{KeptItems, PartList};
@@ -23,7 +23,7 @@ use crate::step::PartAnswer;
 use crate::{NewSession, OutOfMemory, Session};
 use radio_attachments::{AttachmentTree, BoxedAttachment};
 use radio_blocks::Block;
-use radio_events::Event;
+use radio_events::{Event, Reply};
 use radio_seats::Seats;
 use radio_tables::Row;
 use radio_values::{MountName, Title};
@@ -272,7 +272,18 @@ impl ListedPart {
         self.step_listed(alloc, moment, queue, event)
     }
 
-    /// The same if a list is kept.
+    /// Draws for the listener, as [`MountPart::draw`]. A list is given up, since only [`ListedPart::step`] notes a draw.
+    /// `OutOfMemory` if memory was refused; nothing has changed then.
+    pub fn draw(&mut self, alloc: Global, id: u64, room: u32) -> Result<Option<Reply>, OutOfMemory>
+        ensures reply { KeepsFor id self.old → IfOk result (λ reply. reply ≡ option_map portion_reply (part_hands self.old id room)) }
+        ensures ok { KeepsFor id self.old → OnOk result (self.new ≡ part_heard self.old id room) }
+        ensures err { OnErr result (self.new ≡ self.old) }
+    {
+        self.list.give_up();
+        self.part.draw(alloc, id, room)
+    }
+
+    /// The same as [`ListedPart::step`] if a list is kept.
     #[cold]
     fn step_listed(
         &mut self,

@@ -1,7 +1,7 @@
 //! A server, and whether what was asked of it may bring something to listeners.
 
 use crate::found::{Found, Take};
-use crate::kind::kind_of;
+use crate::kind::{Kind, kind_of};
 use crate::sources::Sources;
 use crate::{OutOfMemory, Server};
 use radio_events::{Event, Reply};
@@ -76,6 +76,7 @@ impl<S: Server + Drop> Watched<S> {
 
 impl<S: Server + Drop> Server for Watched<S> {
     ghost use Rattle.std.specs.Prelude.{◌≡◌, IfOk, OnErr};
+    ghost use Rattle.radio_events.specs.declared.event.Event.TheVariants.{Draw};
     ghost use Rattle.radio_serving.specs.Watching.{WatchedSteps};
 
     ghost steps = { WatchedSteps S.steps };
@@ -97,6 +98,20 @@ impl<S: Server + Drop> Server for Watched<S> {
             }
             Err(refused) => Err(refused),
         }
+    }
+
+    /// The same for a draw, which brings nothing to others: it notes whether there may be more for the listener.
+    fn draw(&mut self, id: u64, room: u32) -> Result<Reply, OutOfMemory>
+        ensures ok { IfOk result (λ reply. WatchedSteps S.steps self.old (Draw id room) reply self.new) }
+        ensures err { OnErr result (self.new ≡ self.old) }
+        ensures refused { OnErr result (S.refuses self.old.server (Draw id room)) }
+    {
+        let drawn = self.server.draw(id, room);
+        if let Ok(reply) = &drawn {
+            self.found
+                .set(self.found.get().after(Kind::Own, reply, false));
+        }
+        drawn
     }
 
     fn last_mount(&self, id: u64) -> Option<MountName> {

@@ -72,7 +72,12 @@ pub(crate) fn answer_all<S: Server, L: Line>(
 }
 
 /// Appends a reply to what is pending, and returns what becomes of the connection by that.
-fn append(outgoing: &mut Outgoing, session: &mut Session, reply: &Reply, account: &Account) -> Fate
+pub(crate) fn append(
+    outgoing: &mut Outgoing,
+    session: &mut Session,
+    reply: &Reply,
+    account: &Account,
+) -> Fate
     ensures appended { IsAppendedAs result reply.now session.old outgoing.old session.new outgoing.new }
     // it is not closed by that, and cut off only if the session fails
     ensures closed { result ≡ Closed → ⊥ }

@@ -5,12 +5,11 @@ ghost use Rattle.radio_connections.specs.declared.conn.Fate.TheVariants.{Open};
 ghost use Rattle.radio_connections.specs.Leaving.{Draws, DrawsFor};
 ghost use Rattle.radio_connections.specs.Rooms.{draw_room, fills_room};
 
-use crate::serving::answering::answer;
+use crate::serving::answering::append;
 use crate::serving::{ASKED_AFTER_MS, Now};
-use crate::{Conn, ConnStatus, Line, Server};
+use crate::{Conn, ConnStatus, Fate, Line, Server};
 use radio_blocks::Pieces;
-use radio_events::{Event, Reply};
-use radio_notes::{Log, Notice};
+use radio_events::Reply;
 
 /// For how many bytes of data a listener has room in a turn.
 pub const DRAW_ROOM: u32 = 65536;
@@ -19,7 +18,7 @@ pub const DRAW_ROOM: u32 = 65536;
 /// Without news it also draws if nothing was asked for it in half a second. A draw without room is
 /// made then for one that has no seat: its reply says by which rule it was finished, if it was.
 // rule: Drawing
-pub(crate) fn draw<S: Server, L: Line>(server: &mut S, conn: &mut Conn<L>, now: Now, log: &Log)
+pub(crate) fn draw<S: Server, L: Line>(server: &mut S, conn: &mut Conn<L>, now: Now)
     ensures { Draws S.steps now.ms now.news server.old conn.old server.new conn.new }
 {
     if !conn.status.fate.is_open() {
@@ -30,9 +29,9 @@ pub(crate) fn draw<S: Server, L: Line>(server: &mut S, conn: &mut Conn<L>, now: 
     }
     conn.status.asked_ms = now.ms;
     if conn.status.sits {
-        draw_for(server, conn, DRAW_ROOM, log);
+        draw_for(server, conn, DRAW_ROOM);
     } else {
-        draw_for(server, conn, 0, log);
+        draw_for(server, conn, 0);
     }
 }
 
@@ -78,11 +77,22 @@ fn is_full(pieces: &Pieces) -> bool
     left == 0
 }
 
-// rule: Drawing
-fn draw_for<S: Server, L: Line>(server: &mut S, conn: &mut Conn<L>, room: u32, log: &Log)
+/// Draws for the client, which has room for so many bytes, and appends the reply. The connection has ended if that shuts it, and is cut
+/// off if memory is refused. The reply is data, or the rule by which the listener was finished: there is nothing to log of it yet.
+// rule: Drawing; Connection without memory
+fn draw_for<S: Server, L: Line>(server: &mut S, conn: &mut Conn<L>, room: u32)
     requires { conn.old.status.fate ≡ Open }
     ensures { DrawsFor S.steps room server.old conn.old server.new conn.new }
 {
-    let event = Event::Draw { id: conn.id, room };
-    answer(server, conn, event, Notice::Nothing, log);
+    match conn.refusals.draw(server, conn.id, room) {
+        Ok(reply) => {
+            conn.status.is_behind = fills_room(&reply);
+            conn.status.fate = append(&mut conn.outgoing, &mut conn.session, &reply, &conn.account);
+            drop(reply);
+        }
+        Err(_) => {
+            conn.account.note_no_memory();
+            conn.status.fate = Fate::Cut;
+        }
+    }
 }

@@ -1,6 +1,7 @@
 //! The end of a client.
 
-ghost use Rattle.std.specs.Prelude.{◌≡◌};
+ghost use Rattle.std.specs.Prelude.{◌≡◌, false};
+ghost use Rattle.radio_connections.specs.Connections.{is_open};
 ghost use Rattle.radio_connections.specs.Leaving.{HasAskedToLeave, Leaves};
 
 use crate::refusals::Refusals;
@@ -15,6 +16,15 @@ pub(crate) fn leave<S: Server, L: Line>(server: &mut S, conn: &mut Conn<L>)
     if conn.status.fate.is_open() {
         return;
     }
+    leave_over(server, conn);
+}
+
+/// The same of a connection that is over. It is no part of what is done for each at each turn.
+#[cold]
+fn leave_over<S: Server, L: Line>(server: &mut S, conn: &mut Conn<L>)
+    requires { is_open conn.old.status.fate ≡ false }
+    ensures { Leaves S.steps server.old conn.old server.new conn.new }
+{
     if conn.status.has_left {
         return;
     }

@@ -105,7 +105,7 @@ fn work<S: Server, L: Line>(
         Fate::Open => {
             conn.status.moved_ms = now.ms;
             listen(server, conn, buffer, now, log);
-            draw(server, conn, now, log);
+            draw(server, conn, now);
         }
         Fate::Ended => linger(conn, buffer, now),
         Fate::Closed => (),
